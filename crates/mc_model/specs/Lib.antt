@@ -1,0 +1,3 @@
+pub mod Ids
+pub mod Chain
+pub mod Example
