@@ -1,0 +1,12 @@
+//! Nodes, incarnations, moments and message ids, of which only those in range exist.
+#![tactic(auto)]
+
+mod fault;
+mod id;
+mod number;
+#[cfg(test)]
+mod tests;
+
+pub use fault::TypeFault;
+pub use id::{MsgId, ids_are_their_texts};
+pub use number::{Incarnation, Moment, NodeNo};

@@ -1,0 +1,155 @@
+//! Numbers that keep their ranges.
+
+ghost use Rattle.std.specs.Prelude.{◌≡◌, ◌↔◌, ◌+◌, min, ℕ, IsOk, IfOk, IfErr};
+ghost use Rattle.mc_model.specs.Ids.{IsNode, IsIncarnation, IsMoment};
+ghost use Rattle.mc_types.specs.declared.fault.TypeFault.TheVariants.{OutOfRange};
+
+use crate::fault::TypeFault;
+use std::marker::Model;
+
+/// The number of a node, 1 to 9.
+#[derive(Clone, Copy, Debug, PartialEq, Eq, PartialOrd, Ord)]
+pub struct NodeNo {
+    number: u8,
+}
+
+impl Model for NodeNo {
+    ghost Value = { ℕ };
+
+    ghost view = { λ node. node.number };
+
+    ghost invariant = { λ node. IsNode node.number };
+
+    ghost inverse = { λ number. record { number = number } };
+}
+
+impl NodeNo {
+    /// The node of this number; OutOfRange where it is not 1 to 9.
+    pub fn make(number: u8) -> Result<NodeNo, TypeFault>
+        ensures made { IsOk result ↔ IsNode number }
+        ensures value { IfOk result (λ node. node ≡ number) }
+        ensures fault { IfErr result (λ fault. fault ≡ OutOfRange) }
+    {
+        if number < 1 || number > 9 {
+            return Err(TypeFault::OutOfRange);
+        }
+        Ok(NodeNo { number })
+    }
+
+    /// The node of a number that is known to be one.
+    pub fn of(number: u8) -> NodeNo
+        requires { IsNode number }
+        ensures { result ≡ number }
+    {
+        NodeNo { number }
+    }
+
+    /// 1 to 9.
+    pub fn number(self) -> u8
+        ensures value { result ≡ self }
+        ensures range { IsNode self }
+    {
+        self.number
+    }
+}
+
+/// How often a node has started, 1 to 9999.
+#[derive(Clone, Copy, Debug, PartialEq, Eq, PartialOrd, Ord)]
+pub struct Incarnation {
+    starts: u16,
+}
+
+impl Model for Incarnation {
+    ghost Value = { ℕ };
+
+    ghost view = { λ incarnation. incarnation.starts };
+
+    ghost invariant = { λ incarnation. IsIncarnation incarnation.starts };
+
+    ghost inverse = { λ starts. record { starts = starts } };
+}
+
+impl Incarnation {
+    /// The incarnation of this number; OutOfRange where it is not 1 to 9999.
+    pub fn make(number: u16) -> Result<Incarnation, TypeFault>
+        ensures made { IsOk result ↔ IsIncarnation number }
+        ensures value { IfOk result (λ incarnation. incarnation ≡ number) }
+        ensures fault { IfErr result (λ fault. fault ≡ OutOfRange) }
+    {
+        if number < 1 || number > 9999 {
+            return Err(TypeFault::OutOfRange);
+        }
+        Ok(Incarnation { starts: number })
+    }
+
+    /// The incarnation of a number that is known to be one.
+    pub fn of(number: u16) -> Incarnation
+        requires { IsIncarnation number }
+        ensures { result ≡ number }
+    {
+        Incarnation { starts: number }
+    }
+
+    /// 1 to 9999.
+    pub fn number(self) -> u16
+        ensures value { result ≡ self }
+        ensures range { IsIncarnation self }
+    {
+        self.starts
+    }
+}
+
+/// A moment in whole seconds since 1970-01-01T00:00:00Z, from 946684800 (the start of 2000) to 4102444799 (the end
+/// of 2099).
+#[derive(Clone, Copy, Debug, PartialEq, Eq, PartialOrd, Ord)]
+pub struct Moment {
+    seconds: u32,
+}
+
+impl Model for Moment {
+    ghost Value = { ℕ };
+
+    ghost view = { λ moment. moment.seconds };
+
+    ghost invariant = { λ moment. IsMoment moment.seconds };
+
+    ghost inverse = { λ seconds. record { seconds = seconds } };
+}
+
+impl Moment {
+    /// The least moment, 946684800, at which the clock of a node begins.
+    pub fn least() -> Moment
+        ensures { result ≡ 946684800 }
+    {
+        Moment { seconds: 946684800 }
+    }
+
+    /// The moment of so many seconds; OutOfRange where they are none.
+    pub fn make(seconds: u32) -> Result<Moment, TypeFault>
+        ensures made { IsOk result ↔ IsMoment seconds }
+        ensures value { IfOk result (λ moment. moment ≡ seconds) }
+        ensures fault { IfErr result (λ fault. fault ≡ OutOfRange) }
+    {
+        if seconds < 946684800 || seconds > 4102444799 {
+            return Err(TypeFault::OutOfRange);
+        }
+        Ok(Moment { seconds })
+    }
+
+    /// The seconds since 1970-01-01T00:00:00Z.
+    pub fn seconds(self) -> u32
+        ensures value { result ≡ self }
+        ensures range { IsMoment self }
+    {
+        self.seconds
+    }
+
+    /// So many seconds later, and the greatest moment, 4102444799, where that would be past it.
+    pub fn later(self, seconds: u32) -> Moment
+        ensures { result ≡ min (self + seconds) 4102444799 }
+    {
+        Moment {
+            seconds: self.seconds.saturating_add(seconds).min(4102444799),
+        }
+    }
+}
