@@ -1,0 +1,4 @@
+pub mod CommandCodes
+pub mod StatusCodes
+pub mod StateCodes
+pub mod TagCodes

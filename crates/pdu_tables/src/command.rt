@@ -1,0 +1,114 @@
+ghost use Rattle.std.specs.Prelude.{◌≡◌, ◌↔◌, ◌≤◌, ◌^◌, IsTrue, IfSome, Some};
+ghost use Rattle.pdu_tables.specs.CommandCodes.{command_code, command_of};
+
+/// A command of SMPP 3.4 (section 5.1.2.1) that the centre knows, by its command_id. The rest are answered by a
+/// generic_nack.
+#[derive(Clone, Copy, Debug, PartialEq, Eq)]
+pub enum Command {
+    /// `generic_nack`, 0x8000_0000.
+    GenericNack,
+    /// `bind_receiver`, 0x0000_0001.
+    BindReceiver,
+    /// `bind_receiver_resp`, 0x8000_0001.
+    BindReceiverResp,
+    /// `bind_transmitter`, 0x0000_0002.
+    BindTransmitter,
+    /// `bind_transmitter_resp`, 0x8000_0002.
+    BindTransmitterResp,
+    /// `query_sm`, 0x0000_0003.
+    QuerySm,
+    /// `query_sm_resp`, 0x8000_0003.
+    QuerySmResp,
+    /// `submit_sm`, 0x0000_0004.
+    SubmitSm,
+    /// `submit_sm_resp`, 0x8000_0004.
+    SubmitSmResp,
+    /// `deliver_sm`, 0x0000_0005.
+    DeliverSm,
+    /// `deliver_sm_resp`, 0x8000_0005.
+    DeliverSmResp,
+    /// `unbind`, 0x0000_0006.
+    Unbind,
+    /// `unbind_resp`, 0x8000_0006.
+    UnbindResp,
+    /// `cancel_sm`, 0x0000_0008.
+    CancelSm,
+    /// `cancel_sm_resp`, 0x8000_0008.
+    CancelSmResp,
+    /// `bind_transceiver`, 0x0000_0009.
+    BindTransceiver,
+    /// `bind_transceiver_resp`, 0x8000_0009.
+    BindTransceiverResp,
+    /// `enquire_link`, 0x0000_0015.
+    EnquireLink,
+    /// `enquire_link_resp`, 0x8000_0015.
+    EnquireLinkResp,
+}
+
+impl Command {
+    ghost use Rattle.pdu_tables.specs.declared.command.Command.{Command};
+
+    /// The command_id that stands for it.
+    pub fn code(self) -> u32
+        ensures { result ≡ command_code self }
+    {
+        match self {
+            Command::GenericNack => 0x8000_0000,
+            Command::BindReceiver => 0x0000_0001,
+            Command::BindReceiverResp => 0x8000_0001,
+            Command::BindTransmitter => 0x0000_0002,
+            Command::BindTransmitterResp => 0x8000_0002,
+            Command::QuerySm => 0x0000_0003,
+            Command::QuerySmResp => 0x8000_0003,
+            Command::SubmitSm => 0x0000_0004,
+            Command::SubmitSmResp => 0x8000_0004,
+            Command::DeliverSm => 0x0000_0005,
+            Command::DeliverSmResp => 0x8000_0005,
+            Command::Unbind => 0x0000_0006,
+            Command::UnbindResp => 0x8000_0006,
+            Command::CancelSm => 0x0000_0008,
+            Command::CancelSmResp => 0x8000_0008,
+            Command::BindTransceiver => 0x0000_0009,
+            Command::BindTransceiverResp => 0x8000_0009,
+            Command::EnquireLink => 0x0000_0015,
+            Command::EnquireLinkResp => 0x8000_0015,
+        }
+    }
+
+    /// Whether it answers a request; generic_nack does.
+    pub fn is_response(self) -> bool
+        ensures { IsTrue result ↔ (2 ^ 31 ≤ command_code self) }
+    {
+        self.code() >= 0x8000_0000
+    }
+
+    /// What a command_id stands for; none where it is not in the table.
+    pub fn of_code(code: u32) -> Option<Command>
+        ensures table { result ≡ command_of code }
+        ensures known { IfSome result (λ command. command_code command ≡ code) }
+        ensures only { (command : Command) → command_code command ≡ code → result ≡ Some command }
+    {
+        match code {
+            0x8000_0000 => Some(Command::GenericNack),
+            0x0000_0001 => Some(Command::BindReceiver),
+            0x8000_0001 => Some(Command::BindReceiverResp),
+            0x0000_0002 => Some(Command::BindTransmitter),
+            0x8000_0002 => Some(Command::BindTransmitterResp),
+            0x0000_0003 => Some(Command::QuerySm),
+            0x8000_0003 => Some(Command::QuerySmResp),
+            0x0000_0004 => Some(Command::SubmitSm),
+            0x8000_0004 => Some(Command::SubmitSmResp),
+            0x0000_0005 => Some(Command::DeliverSm),
+            0x8000_0005 => Some(Command::DeliverSmResp),
+            0x0000_0006 => Some(Command::Unbind),
+            0x8000_0006 => Some(Command::UnbindResp),
+            0x0000_0008 => Some(Command::CancelSm),
+            0x8000_0008 => Some(Command::CancelSmResp),
+            0x0000_0009 => Some(Command::BindTransceiver),
+            0x8000_0009 => Some(Command::BindTransceiverResp),
+            0x0000_0015 => Some(Command::EnquireLink),
+            0x8000_0015 => Some(Command::EnquireLinkResp),
+            _ => None,
+        }
+    }
+}

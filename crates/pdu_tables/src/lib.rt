@@ -1,0 +1,16 @@
+//! The numbers of SMPP 3.4: commands, statuses, states of messages, tags of optional parameters, and the limits
+//! of fields.
+#![tactic(auto)]
+
+mod command;
+pub mod limits;
+mod state;
+mod status;
+mod tag;
+#[cfg(test)]
+mod tests;
+
+pub use command::Command;
+pub use state::State;
+pub use status::Status;
+pub use tag::Tag;
