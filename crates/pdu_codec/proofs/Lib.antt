@@ -1,0 +1,8 @@
+pub mod Optional
+pub mod FieldLaws
+pub mod TlvLaws
+pub mod SubmitLaws
+pub mod PduLaws
+pub mod NoMemory
+pub mod BodyLaws
+pub mod PduSpelling

@@ -1,0 +1,21 @@
+use Rattle.std.proofs.Common.{ℕ, List, ◌∙◌, sym, arith}
+use Rattle.pdu_codec.proofs.TlvLaws.{tlv-length, is_some-next, optional-cut, optional-whole}
+use Rattle.pdu_codec.proofs.fields.check_optional.Goals as goal
+
+pub loop-after-smaller : goal.loop-after-smaller
+loop-after-smaller c =
+    let x : (ℕ × List ℕ) × List ℕ = ((c.in-Some.field-0-0, c.in-Some.field-0-1.now), c.in-Some.after.now) in
+    omega (arith, tlv-length c.loop-after.rest.now x c.in-Some.ensures)
+
+pub loop-after-preserved : goal.loop-after-preserved
+loop-after-preserved c =
+    let x : (ℕ × List ℕ) × List ℕ = ((c.in-Some.field-0-0, c.in-Some.field-0-1.now), c.in-Some.after.now) in
+    is_some-next c.loop-after.rest.now x c.in-Some.ensures ∙ c.loop-after.invariant
+
+pub returns-then-not-is_empty : goal.returns-then-not-is_empty
+returns-then-not-is_empty c =
+    optional-cut c.args.octets.now c.loop-after.rest.now c.if-octets-gt-OPTIONAL_PARAMETERS.false c.in_default.ensures c.loop-after.invariant (sym c.if-not-is_empty.ensures)
+
+pub returns : goal.returns
+returns c =
+    optional-whole c.args.octets.now c.loop-after.rest.now c.if-octets-gt-OPTIONAL_PARAMETERS.false c.loop-after.invariant (sym c.if-not-is_empty.ensures)

@@ -1,0 +1,6 @@
+pub mod Text
+pub mod Tlv
+pub mod Grammar
+pub mod Pdu
+pub mod Submit
+pub mod Laws

@@ -1,0 +1,92 @@
+//! Bodies of PDUs, read to their last octet. Memory is taken once the whole body is found to be one.
+
+ghost use Rattle.std.specs.Prelude.{◌≡◌};
+ghost use Rattle.pdu_codec.specs.Pdu.{IsMade, bind_at, bind_answer_at, query_at, query_answer_at, message_id_at};
+
+use crate::fault::{Field, PduFault};
+use crate::fields::{check_optional, nothing_at, octet_at, text_at};
+use crate::pdu::{Address, Bind, BindAnswer, Query, QueryAnswer};
+use crate::text::Text;
+use crate::tlv::Tlvs;
+use pdu_tables::limits;
+use std::alloc::Global;
+
+/// What a bind has (SMPP 3.4, section 4.1.5).
+pub fn bind_of(alloc: Global, octets: &[u8]) -> Result<Bind, PduFault>
+    ensures { IsMade result (bind_at octets.now) }
+{
+    let (system_id, rest) = text_at(Field::SystemId, limits::SYSTEM_ID, octets)?;
+    let (password, rest) = text_at(Field::Password, limits::PASSWORD, rest)?;
+    let (system_type, rest) = text_at(Field::SystemType, limits::SYSTEM_TYPE, rest)?;
+    let (interface_version, rest) = octet_at(Field::InterfaceVersion, rest)?;
+    let (addr_ton, rest) = octet_at(Field::AddrTon, rest)?;
+    let (addr_npi, rest) = octet_at(Field::AddrNpi, rest)?;
+    let (address_range, rest) = text_at(Field::AddressRange, limits::ADDRESS_RANGE, rest)?;
+    nothing_at(rest)?;
+    Ok(Bind {
+        system_id: Text::of(alloc, system_id)?,
+        password: Text::of(alloc, password)?,
+        system_type: Text::of(alloc, system_type)?,
+        interface_version,
+        addr_ton,
+        addr_npi,
+        address_range: Text::of(alloc, address_range)?,
+    })
+}
+
+/// What the response to a bind has (section 4.1.6).
+pub fn bind_answer_of(alloc: Global, octets: &[u8]) -> Result<BindAnswer, PduFault>
+    ensures { IsMade result (bind_answer_at octets.now) }
+{
+    let (system_id, tlvs) = text_at(Field::SystemId, limits::SYSTEM_ID, octets)?;
+    check_optional(tlvs)?;
+    Ok(BindAnswer {
+        system_id: Text::of(alloc, system_id)?,
+        tlvs: Tlvs::of(alloc, tlvs)?,
+    })
+}
+
+/// The message_id of the response to a submit_sm (section 4.4.2).
+pub fn message_id_of(alloc: Global, octets: &[u8]) -> Result<Text<65>, PduFault>
+    ensures { IsMade result (message_id_at octets.now) }
+{
+    let (message_id, rest) = text_at(Field::MessageId, limits::MESSAGE_ID, octets)?;
+    nothing_at(rest)?;
+    Ok(Text::of(alloc, message_id)?)
+}
+
+/// What a query_sm has (section 4.8.1).
+pub fn query_of(alloc: Global, octets: &[u8]) -> Result<Query, PduFault>
+    ensures { IsMade result (query_at octets.now) }
+{
+    let (message_id, rest) = text_at(Field::MessageId, limits::MESSAGE_ID, octets)?;
+    let (ton, rest) = octet_at(Field::SourceAddrTon, rest)?;
+    let (npi, rest) = octet_at(Field::SourceAddrNpi, rest)?;
+    let (digits, rest) = text_at(Field::SourceAddr, limits::ADDRESS, rest)?;
+    nothing_at(rest)?;
+    Ok(Query {
+        message_id: Text::of(alloc, message_id)?,
+        source: Address {
+            ton,
+            npi,
+            digits: Text::of(alloc, digits)?,
+        },
+    })
+}
+
+/// What the response to a query_sm has (section 4.8.2).
+pub fn query_answer_of(alloc: Global, octets: &[u8]) -> Result<QueryAnswer, PduFault>
+    ensures { IsMade result (query_answer_at octets.now) }
+{
+    let (message_id, rest) = text_at(Field::MessageId, limits::MESSAGE_ID, octets)?;
+    let (final_date, rest) = text_at(Field::FinalDate, limits::TIME, rest)?;
+    let (message_state, rest) = octet_at(Field::MessageState, rest)?;
+    let (error_code, rest) = octet_at(Field::ErrorCode, rest)?;
+    nothing_at(rest)?;
+    Ok(QueryAnswer {
+        message_id: Text::of(alloc, message_id)?,
+        final_date: Text::of(alloc, final_date)?,
+        message_state,
+        error_code,
+    })
+}

@@ -1,0 +1,26 @@
+//! PDUs of SMPP 3.4, from octets and to octets.
+#![tactic(auto)]
+
+mod bodies;
+mod fault;
+mod fields;
+mod header;
+mod laws;
+mod pdu;
+mod reading;
+mod submit;
+mod text;
+mod tlv;
+mod writing;
+
+pub use fault::{Field, PduFault};
+pub use header::{Header, read_header};
+pub use laws::{read_is_written, written_is_read};
+pub use pdu::{Address, Bind, BindAnswer, Body, Message, Pdu, Query, QueryAnswer};
+pub use reading::decode;
+pub use text::{ShortMessage, Text};
+pub use tlv::{Tlv, Tlvs};
+pub use writing::encode;
+
+#[cfg(test)]
+mod tests;
