@@ -1,0 +1,14 @@
+-- The state of a chain, as message_state tells it (SMPP 3.4, 5.2.28).
+use Rattle.std.specs.Prelude.{Option, Some, None}
+use Rattle.mc_model.specs.Chain.{Final, Delivered, Expired, Deleted, Undeliverable, Rejected}
+use Rattle.pdu_tables.specs.declared.state.State.{State}
+use Rattle.pdu_tables.specs.declared.state.State.TheVariants as states
+
+-- ENROUTE where there is no final state
+abbrev pub state_of : Option Final → State
+state_of None = states.Enroute
+state_of (Some Delivered) = states.Delivered
+state_of (Some Expired) = states.Expired
+state_of (Some Deleted) = states.Deleted
+state_of (Some Undeliverable) = states.Undeliverable
+state_of (Some Rejected) = states.Rejected

@@ -1,0 +1,6 @@
+-- What was taken, as the model's.
+use Rattle.mc_model.specs.Chain.{Address}
+use Rattle.pdu_codec.specs.declared.pdu.Address.{Address as Wire}
+
+abbrev pub address_of : Wire → Address
+address_of a = record { ton = a.ton; npi = a.npi; digits = a.digits }

@@ -1,0 +1,161 @@
+//! Decrees.
+
+ghost use Rattle.std.specs.Prelude.{◌≡◌, ◌≤◌, ◌↔◌, Some, IfSome, IfOk, IsSome};
+ghost use Rattle.mc_model.specs.Chain.{error_by};
+ghost use Rattle.fate_chain.specs.Kinds.{final_of};
+ghost use Rattle.fate_chain.specs.States.{state_of};
+
+use crate::submission::Submission;
+use mc_types::{Incarnation, Moment, NodeNo};
+use pdu_tables::State;
+use std::alloc::AllocError;
+use std::marker::Model;
+
+/// The node that made a decree, and its incarnation then.
+#[derive(Clone, Copy, Debug, PartialEq, Eq)]
+pub struct Author {
+    pub node: NodeNo,
+    pub incarnation: Incarnation,
+}
+
+/// Why an attempt or a message failed, 0 to 999.
+#[derive(Clone, Copy, Debug, PartialEq, Eq)]
+pub struct ErrorCode {
+    number: u16,
+}
+
+impl Model for ErrorCode {
+    ghost use Rattle.std.specs.Prelude.{◌≤◌, ℕ};
+
+    ghost Value = { ℕ };
+
+    ghost view = { λ error. error.number };
+
+    ghost invariant = { λ error. error.number ≤ 999 };
+
+    ghost inverse = { λ number. record { number = number } };
+}
+
+impl ErrorCode {
+    /// The error of this number; none where it is above 999.
+    pub fn make(number: u16) -> Option<ErrorCode>
+        ensures made { IsSome result ↔ (number ≤ 999) }
+        ensures value { IfSome result (λ error. error ≡ number) }
+    {
+        if number > 999 {
+            return None;
+        }
+        Some(ErrorCode { number })
+    }
+
+    /// The error of a number that is known to be one.
+    pub fn of(number: u16) -> ErrorCode
+        requires { number ≤ 999 }
+        ensures { result ≡ number }
+    {
+        ErrorCode { number }
+    }
+
+    /// 0 to 999.
+    pub fn number(self) -> u16
+        ensures value { result ≡ self }
+        ensures range { self ≤ 999 }
+    {
+        self.number
+    }
+}
+
+/// A final state (SMPP 3.4, section 5.2.28) that a message of this centre may have.
+#[derive(Clone, Copy, Debug, PartialEq, Eq)]
+pub enum Final {
+    Delivered,
+    Expired,
+    Deleted,
+    Undeliverable,
+    Rejected,
+}
+
+impl Final {
+    /// The message_state of a message that has it.
+    pub fn state(self) -> State
+        ensures { result ≡ state_of (Some (final_of self)) }
+    {
+        match self {
+            Final::Delivered => State::Delivered,
+            Final::Expired => State::Expired,
+            Final::Deleted => State::Deleted,
+            Final::Undeliverable => State::Undeliverable,
+            Final::Rejected => State::Rejected,
+        }
+    }
+}
+
+/// What a decree decides.
+#[derive(Debug, Drop)]
+pub enum Kind {
+    /// The message is taken.
+    Taken(Submission),
+    /// Its attempt of this number, from 1, is begun.
+    Attempt(u8),
+    /// That attempt failed.
+    Failed(ErrorCode),
+    /// The message has this final state.
+    Fate(Final, ErrorCode),
+}
+
+impl Kind {
+    /// The same once more.
+    pub fn copy(&self) -> Result<Kind, AllocError>
+        ensures { IfOk result (λ kind. kind ≡ self.now) }
+    {
+        match self {
+            Kind::Taken(message) => Ok(Kind::Taken(message.copy()?)),
+            Kind::Attempt(number) => Ok(Kind::Attempt(*number)),
+            Kind::Failed(error) => Ok(Kind::Failed(*error)),
+            Kind::Fate(last, error) => Ok(Kind::Fate(*last, *error)),
+        }
+    }
+}
+
+/// A decree on a message.
+#[derive(Debug, Drop)]
+pub struct Decree {
+    pub author: Author,
+    pub moment: Moment,
+    pub kind: Kind,
+}
+
+impl Model for Decree {
+    ghost use Rattle.mc_model.specs.Chain.{Decree};
+    ghost use Rattle.fate_chain.specs.Kinds.{author_of, kind_of};
+
+    ghost Value = { Decree };
+
+    ghost view = { λ d. record { author = author_of d.author; moment = d.moment; kind = kind_of d.kind } };
+}
+
+impl Decree {
+    /// The same decree once more.
+    pub fn copy(&self) -> Result<Decree, AllocError>
+        ensures { IfOk result (λ decree. decree ≡ self.now) }
+    {
+        Ok(Decree {
+            author: self.author,
+            moment: self.moment,
+            kind: self.kind.copy()?,
+        })
+    }
+
+    /// The error of the message after it, 0 to 999, by the error before it.
+    pub fn error_after(&self, before: u16) -> u16
+        requires { before ≤ 999 }
+        ensures error { result ≡ error_by self.now.kind before }
+        ensures range { result ≤ 999 }
+    {
+        match self.kind {
+            Kind::Taken(_) => 0,
+            Kind::Attempt(_) => before,
+            Kind::Failed(error) | Kind::Fate(_, error) => error.number(),
+        }
+    }
+}

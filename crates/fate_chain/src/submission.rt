@@ -1,0 +1,91 @@
+//! What was taken.
+
+ghost use Rattle.std.specs.Prelude.{◌≡◌, IfOk};
+
+use mc_types::Moment;
+use pdu_codec::{Address, ShortMessage, Text, Tlvs};
+use std::alloc::AllocError;
+use std::marker::Model;
+
+/// What a submit_sm asked for, as it was taken (SMPP 3.4, section 4.4.1).
+#[derive(Debug, Drop)]
+pub struct Submission {
+    /// The account that sent it.
+    pub submitter: Text<16>,
+    /// The account that it goes to.
+    pub target: Text<16>,
+    pub service_type: Text<6>,
+    pub source: Address,
+    pub destination: Address,
+    pub esm_class: u8,
+    pub protocol_id: u8,
+    pub priority_flag: u8,
+    pub registered_delivery: u8,
+    pub data_coding: u8,
+    /// The moment from which it is tried.
+    pub schedule: Moment,
+    /// The moment from which it is no longer tried.
+    pub expiry: Moment,
+    pub text: ShortMessage,
+    /// The optional parameters that are passed on, in their order.
+    pub passed: Tlvs,
+}
+
+impl Model for Submission {
+    ghost use Rattle.mc_model.specs.Chain.{Submission};
+    ghost use Rattle.fate_chain.specs.Submissions.{address_of};
+
+    ghost Value = { Submission };
+
+    ghost view = { λ s. record {
+      submitter = s.submitter;
+      target = s.target;
+      service_type = s.service_type;
+      source = address_of s.source;
+      destination = address_of s.destination;
+      esm_class = s.esm_class;
+      protocol_id = s.protocol_id;
+      priority_flag = s.priority_flag;
+      registered_delivery = s.registered_delivery;
+      data_coding = s.data_coding;
+      schedule = s.schedule;
+      expiry = s.expiry;
+      text = s.text;
+      passed = s.passed;
+    } };
+}
+
+impl Submission {
+    /// The same once more.
+    pub fn copy(&self) -> Result<Submission, AllocError>
+        ensures { IfOk result (λ message. message ≡ self.now) }
+    {
+        Ok(Submission {
+            submitter: self.submitter.copy()?,
+            target: self.target.copy()?,
+            service_type: self.service_type.copy()?,
+            source: copy_of(&self.source)?,
+            destination: copy_of(&self.destination)?,
+            esm_class: self.esm_class,
+            protocol_id: self.protocol_id,
+            priority_flag: self.priority_flag,
+            registered_delivery: self.registered_delivery,
+            data_coding: self.data_coding,
+            schedule: self.schedule,
+            expiry: self.expiry,
+            text: self.text.copy()?,
+            passed: self.passed.copy()?,
+        })
+    }
+}
+
+/// The same address once more.
+fn copy_of(address: &Address) -> Result<Address, AllocError>
+    ensures { IfOk result (λ copied. copied ≡ address.now) }
+{
+    Ok(Address {
+        ton: address.ton,
+        npi: address.npi,
+        digits: address.digits.copy()?,
+    })
+}
