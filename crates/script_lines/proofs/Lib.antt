@@ -1,0 +1,4 @@
+pub mod LineLemmas
+pub mod BufferLemmas
+pub mod WordLemmas
+pub mod SaidLemmas

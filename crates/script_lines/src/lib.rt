@@ -1,0 +1,11 @@
+//! The lines of a script, read from any reader, and what each of them says.
+#![tactic(auto)]
+
+mod buffer;
+mod line;
+mod octets;
+#[cfg(test)]
+mod tests;
+
+pub use buffer::{Found, LineBuffer, ReadFault, lines_are_read};
+pub use line::{Line, MOST_OCTETS, read_line, spelled_so};
