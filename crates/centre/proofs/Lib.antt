@@ -1,0 +1,6 @@
+pub mod Frames
+pub mod Ids
+pub mod Retained
+pub mod Running
+pub mod Settling
+pub mod Steps

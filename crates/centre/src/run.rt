@@ -1,0 +1,146 @@
+//! Running a script.
+
+ghost use Rattle.std.specs.Prelude.{◌≡◌, ◌≤◌, IfOk, Some};
+ghost use Rattle.script_lines.specs.Said.{said_by};
+ghost use Rattle.centre.specs.Script.{step_by};
+ghost use Rattle.centre.specs.Outcome.{IsStep, IsStepBy, SerialFits, IsStarted, WritesLine, IsOutcome};
+
+use crate::state::Centre;
+use script_lines::{Found, Line, LineBuffer, read_line};
+use std::alloc::{AllocError, Global};
+use std::io::{Read, Write};
+use thiserror::Error;
+
+/// Why a script ends before its end.
+#[derive(Clone, Copy, Debug, PartialEq, Eq, Error)]
+pub enum ScriptFault {
+    /// 1: this line, counted from 1, is bad. The output of the lines before it was written, and nothing else.
+    #[error("bad line {0}")]
+    BadLine(u64),
+    /// 2: the script could not be read, or had no end within 2^40 reads. The output of whole lines was written.
+    #[error("the script could not be read")]
+    Read,
+    /// 3: the output could not be written. Of what was written nothing is said.
+    #[error("the output could not be written")]
+    Write,
+    /// 4: there was no memory. The output of whole lines was written.
+    #[error("there was not enough memory")]
+    Memory,
+}
+
+/// Runs a script: reads its lines, and writes the output of each before it reads the next. `Ok` at its end.
+pub fn run_script<R: Read, W: Write>(
+    alloc: Global,
+    reader: &mut R,
+    writer: &mut W,
+) -> Result<(), ScriptFault>
+    ensures { IsOutcome result (R.remaining reader.old) (R.remaining reader.new) (W.contents writer.old) (W.contents writer.new) }
+{
+    let Ok(mut buffer) = LineBuffer::make(alloc) else {
+        return Err(ScriptFault::Memory);
+    };
+    let mut stage = None;
+    let mut number = 0u64;
+    'lines: loop {
+        let Ok(found) = buffer.find_line(reader) else {
+            return Err(ScriptFault::Read);
+        };
+        match found {
+            Found::End => return Ok(()),
+            Found::TooLong => return Err(ScriptFault::BadLine(number + 1)),
+            Found::Last(count) => {
+                let line = &buffer.octets()[..count];
+                return write_line(alloc, &mut stage, line, number + 1, writer);
+            }
+            Found::Line(count) => {
+                let line = &buffer.octets()[..count];
+                if let Err(fault) = write_line(alloc, &mut stage, line, number + 1, writer) {
+                    return Err(fault);
+                }
+                buffer.take_off(count + 1);
+                number += 1;
+            }
+        }
+    }
+}
+
+/// Does what the line of this number says, and writes its output.
+fn write_line<W: Write>(
+    alloc: Global,
+    stage: &mut Option<Centre>,
+    line: &[u8],
+    number: u64,
+    writer: &mut W,
+) -> Result<(), ScriptFault>
+    ensures { WritesLine result stage.old line.now number stage.new (W.contents writer.old) (W.contents writer.new) }
+{
+    let mut text = Vec::new(alloc);
+    let Ok(is_good) = step(alloc, stage, line, &mut text) else {
+        return Err(ScriptFault::Memory);
+    };
+    if !is_good {
+        return Err(ScriptFault::BadLine(number));
+    }
+    match writer.write_all(&text) {
+        Ok(()) => Ok(()),
+        Err(_) => Err(ScriptFault::Write),
+    }
+}
+
+/// Does what a line says: adds its output to the text, and answers whether the line is good.
+fn step(
+    alloc: Global,
+    stage: &mut Option<Centre>,
+    line: &[u8],
+    text: &mut Vec<u8>,
+) -> Result<bool, AllocError>
+    ensures { IfOk result (λ good. IsStep stage.old line.now good stage.new text.old.items text.new.items) }
+{
+    match read_line(alloc, line)? {
+        None => Ok(false),
+        Some(said) => act(alloc, stage, said, text),
+    }
+}
+
+/// Does what a good line says, if it may stand there.
+fn act(
+    alloc: Global,
+    stage: &mut Option<Centre>,
+    said: Line,
+    text: &mut Vec<u8>,
+) -> Result<bool, AllocError>
+    requires { SerialFits (said_by said) }
+    ensures { IfOk result (λ good. IsStepBy (step_by stage.old (Some (said_by said))) good stage.new text.old.items text.new.items) }
+{
+    match said {
+        Line::Skipped => Ok(true),
+        Line::Nodes(serial) => Ok(start(alloc, stage, serial)),
+        Line::Frame(session, octets) => match stage {
+            None => Ok(false),
+            Some(centre) => {
+                centre.frame(alloc, session, &octets, text)?;
+                Ok(true)
+            }
+        },
+        Line::Settle => match stage {
+            None => Ok(false),
+            Some(centre) => {
+                centre.settle(alloc, text)?;
+                Ok(true)
+            }
+        },
+    }
+}
+
+/// Starts the centre, unless one is there.
+fn start(alloc: Global, stage: &mut Option<Centre>, serial: u32) -> bool
+    requires least { 1 ≤ serial }
+    requires most { serial ≤ 99999 }
+    ensures { IsStarted stage.old result stage.new serial }
+{
+    if stage.is_some() {
+        return false;
+    }
+    *stage = Some(Centre::start(alloc, serial));
+    true
+}

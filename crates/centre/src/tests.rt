@@ -1,0 +1,181 @@
+//! Scripts with their outputs, from outside.
+
+use crate::run::{ScriptFault, run_script};
+use std::alloc::{AllocError, Global};
+use std::io;
+use std::io::{Read, Write};
+use std::test::*;
+
+/// A script, its output, and its bad line, if it has one.
+struct Row {
+    name: &'static str,
+    script: &'static str,
+    output: &'static str,
+    bad: Option<u64>,
+}
+
+const ROWS: [Row; 12] = [
+    Row {
+        name: "bind_twice",
+        script: "nodes 1\npdu 1 1 0000001e000000090000000000000001736d653100707731000034000000\npdu 1 1 0000001e000000090000000000000001736d653100707731000034000000\n",
+        output: "pdu 1 1 0000001c80000009000000000000000143454e545245000210000134\npdu 1 1 00000010800000090000000500000001\n",
+        bad: None,
+    },
+    Row {
+        name: "enquire_link",
+        script: "nodes 1\npdu 1 1 0000001e000000090000000000000001736d653100707731000034000000\npdu 1 1 00000010000000150000000000000001\n",
+        output: "pdu 1 1 0000001c80000009000000000000000143454e545245000210000134\npdu 1 1 00000010800000150000000000000001\n",
+        bad: None,
+    },
+    Row {
+        name: "query_cut_and_query_too_long",
+        script: "nodes 1\npdu 1 1 0000001e000000090000000000000001736d653100707731000034000000\npdu 1 1 0000002000000003000000000000000331303030313030303031000101313434\npdu 1 1 00000022000000030000000000000003313030303130303030310001013134340000\npdu 1 1 00000010000000150000000000000001\n",
+        output: "pdu 1 1 0000001c80000009000000000000000143454e545245000210000134\npdu 1 1 00000010800000000000000200000003\npdu 1 1 00000010800000000000000200000003\npdu 1 1 00000010800000150000000000000001\n",
+        bad: None,
+    },
+    Row {
+        name: "settle_twice",
+        script: "nodes 1\npdu 1 1 0000001e000000090000000000000001736d653100707731000034000000\npdu 1 1 0000002900000004000000000000000200010131343400010131353500000000000000000000024869\nsettle\nsettle\n",
+        output: "pdu 1 1 0000001c80000009000000000000000143454e545245000210000134\npdu 1 1 0000001b8000000400000000000000023130303031303030303100\n",
+        bad: None,
+    },
+    Row {
+        name: "source_of_20_digits",
+        script: "nodes 1\npdu 1 1 0000001e000000090000000000000001736d653100707731000034000000\npdu 1 1 0000003a000000040000000000000002000101313131313131313131313131313131313131313100010131353500000000000000000000024869\nsettle\n",
+        output: "pdu 1 1 0000001c80000009000000000000000143454e545245000210000134\npdu 1 1 0000001b8000000400000000000000023130303031303030303100\n",
+        bad: None,
+    },
+    Row {
+        name: "source_of_21_digits",
+        script: "nodes 1\npdu 1 1 0000001e000000090000000000000001736d653100707731000034000000\npdu 1 1 0000003b00000004000000000000000200010131313131313131313131313131313131313131313100010131353500000000000000000000024869\n",
+        output: "pdu 1 1 0000001c80000009000000000000000143454e545245000210000134\npdu 1 1 00000010800000040000000a00000002\n",
+        bad: None,
+    },
+    Row {
+        name: "submit_and_query",
+        script: "nodes 1\npdu 1 1 0000001e000000090000000000000001736d653100707731000034000000\npdu 1 1 0000002900000004000000000000000200010131343400010131353500000000000001000000024869\nsettle\npdu 1 1 000000210000000300000000000000033130303031303030303100010131343400\nsettle\n",
+        output: "pdu 1 1 0000001c80000009000000000000000143454e545245000210000134\npdu 1 1 0000001b8000000400000000000000023130303031303030303100\npdu 1 1 0000001e8000000300000000000000033130303031303030303100000100\n",
+        bad: None,
+    },
+    Row {
+        name: "submit_before_a_bind",
+        script: "nodes 1\npdu 1 1 0000002900000004000000000000000200010131343400010131353500000000000001000000024869\n",
+        output: "pdu 1 1 00000010800000040000000400000002\n",
+        bad: None,
+    },
+    Row {
+        name: "text_of_254_octets",
+        script: "nodes 1\npdu 1 1 0000001e000000090000000000000001736d653100707731000034000000\npdu 1 1 0000012500000004000000000000000200010131343400010131353500000000000000000000fe6161616161616161616161616161616161616161616161616161616161616161616161616161616161616161616161616161616161616161616161616161616161616161616161616161616161616161616161616161616161616161616161616161616161616161616161616161616161616161616161616161616161616161616161616161616161616161616161616161616161616161616161616161616161616161616161616161616161616161616161616161616161616161616161616161616161616161616161616161616161616161616161616161616161616161616161616161616161616161616161616161616161616161616161616161\nsettle\n",
+        output: "pdu 1 1 0000001c80000009000000000000000143454e545245000210000134\npdu 1 1 0000001b8000000400000000000000023130303031303030303100\n",
+        bad: None,
+    },
+    Row {
+        name: "text_of_255_octets",
+        script: "nodes 1\npdu 1 1 0000001e000000090000000000000001736d653100707731000034000000\npdu 1 1 0000012600000004000000000000000200010131343400010131353500000000000000000000ff616161616161616161616161616161616161616161616161616161616161616161616161616161616161616161616161616161616161616161616161616161616161616161616161616161616161616161616161616161616161616161616161616161616161616161616161616161616161616161616161616161616161616161616161616161616161616161616161616161616161616161616161616161616161616161616161616161616161616161616161616161616161616161616161616161616161616161616161616161616161616161616161616161616161616161616161616161616161616161616161616161616161616161616161616161\n",
+        output: "pdu 1 1 0000001c80000009000000000000000143454e545245000210000134\npdu 1 1 00000010800000040000000100000002\n",
+        bad: None,
+    },
+    Row {
+        name: "unknown_command_and_short_length",
+        script: "nodes 1\npdu 1 1 0000001e000000090000000000000001736d653100707731000034000000\npdu 1 1 00000010000000210000000000000007\npdu 1 1 0000000f0000001500000000000000\n",
+        output: "pdu 1 1 0000001c80000009000000000000000143454e545245000210000134\npdu 1 1 00000010800000000000000300000007\npdu 1 1 00000010800000000000000200000000\ngone 1 1\n",
+        bad: None,
+    },
+    Row {
+        name: "wrong_password",
+        script: "nodes 1\npdu 1 1 0000001e000000090000000000000001736d653100707732000034000000\n",
+        output: "pdu 1 1 00000010800000090000000e00000001\n",
+        bad: None,
+    },
+];
+
+const BIND: &[u8] =
+    b"nodes 1\npdu 1 1 0000001e000000090000000000000001736d653100707731000034000000\n";
+
+const BOUND: &[u8] = b"pdu 1 1 0000001c80000009000000000000000143454e545245000210000134\n";
+
+#[test]
+fn rows_are_written(rt: HostRuntime) -> Result<(), Fail> {
+    for row in &ROWS {
+        let mut output = Vec::new(rt.alloc());
+        let outcome = run_script(rt.alloc(), &mut row.script.as_bytes(), &mut output);
+        let wanted = row
+            .bad
+            .map_or(Ok(()), |number| Err(ScriptFault::BadLine(number)));
+        assert_eq!(rt; outcome, wanted, "{}", row.name);
+        assert_eq!(rt; output.as_slice(), row.output.as_bytes(), "{}", row.name);
+    }
+    Ok(())
+}
+
+/// A script whose third line begins so and goes on with as many of this octet as make it this long.
+fn long_script(
+    alloc: Global,
+    start: &[u8],
+    octet: u8,
+    length: usize,
+) -> Result<Vec<u8>, AllocError> {
+    let mut script = Vec::from_slice(alloc, BIND)?;
+    script.extend_from_slice(start)?;
+    for _ in start.len()..length {
+        script.push(octet)?;
+    }
+    Ok(script)
+}
+
+#[test]
+fn long_lines_are_bad(rt: HostRuntime) -> Result<(), Fail> {
+    let alloc = rt.alloc();
+    let mut spaced = long_script(alloc, b"pdu 1 1 ", b'0', 19990)?;
+    spaced.extend_from_slice(b"          \n")?;
+    let longer = long_script(alloc, b"pdu 1 1 0", b'0', 20001)?;
+    for script in [spaced, longer] {
+        let mut output = Vec::new(alloc);
+        let outcome = run_script(alloc, &mut script.as_slice(), &mut output);
+        assert_eq!(rt; outcome, Err(ScriptFault::BadLine(3)));
+        assert_eq!(rt; output.as_slice(), BOUND);
+    }
+    Ok(())
+}
+
+/// A reader that gives its octets and then fails.
+#[derive(Drop)]
+struct Failing<'a>(&'a [u8]);
+
+impl Read for Failing<'_> {
+    fn read(&mut self, buffer: &mut [u8]) -> io::Result<usize> {
+        if self.0.is_empty() {
+            return Err(io::Error::from(io::ErrorKind::BrokenPipe));
+        }
+        self.0.read(buffer)
+    }
+}
+
+/// A writer that takes no octet.
+#[derive(Drop)]
+struct Full;
+
+impl Write for Full {
+    fn write(&mut self, _octets: &[u8]) -> io::Result<usize> {
+        Err(io::Error::from(io::ErrorKind::BrokenPipe))
+    }
+
+    fn flush(&mut self) -> io::Result<()> {
+        Ok(())
+    }
+}
+
+#[test]
+fn failing_ends_are_told(rt: HostRuntime) -> Result<(), Fail> {
+    let alloc = rt.alloc();
+    let mut output = Vec::new(alloc);
+    let outcome = run_script(alloc, &mut Failing(BIND), &mut output);
+    assert_eq!(rt; outcome, Err(ScriptFault::Read));
+    assert_eq!(rt; output.as_slice(), BOUND);
+    let mut script = BIND;
+    assert_eq!(rt;
+        run_script(alloc, &mut script, &mut Full),
+        Err(ScriptFault::Write)
+    );
+    Ok(())
+}
