@@ -48,7 +48,7 @@ impl<const LIMIT: usize> Text<LIMIT> {
         ensures octets { result.now ≡ self.now }
         ensures text { IsText LIMIT self.now }
     {
-        &self.octets
+        self.octets.as_slice()
     }
 
     /// Whether it has no octet.
@@ -115,8 +115,7 @@ impl ShortMessage {
     pub fn copy(&self) -> Result<Self, AllocError>
         ensures { IfOk result (λ message. message ≡ self.now) }
     {
-        Ok(ShortMessage {
-            octets: self.octets.clone()?,
-        })
+        let octets = self.octets.clone()?;
+        Ok(ShortMessage { octets })
     }
 }

@@ -6,7 +6,7 @@ pub const HEADER: usize = 16;
 pub const PDU: usize = 8192;
 /// The most octets that the optional parameters of a PDU may have here, their tags and lengths counted.
 pub const OPTIONAL_PARAMETERS: usize = 7000;
-/// The most octets of a short_message (section 5.2.21).
+/// The most octets of a short_message (section 5.2.22).
 pub const SHORT_MESSAGE: usize = 254;
 
 pub const SYSTEM_ID: usize = 16;
