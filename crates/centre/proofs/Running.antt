@@ -4,15 +4,13 @@ use Rattle.std.proofs.lemmas.List.{append-nil, length-append, length-drop, drop_
 use Rattle.std.proofs.lemmas.Option.{slice_get_within, get_or_from_slice_get}
 use Rattle.std.specs.Prelude.{◌⊎◌}
 use Rattle.std.specs.Io.KnownBytes.{Consumes, Appends, Keeps, IsAtEnd}
-use Rattle.script_lines.specs.Lines.{Held, Grew, lines_of, BeginsWithLine, IsLastLine, BeginsTooLong}
+use Rattle.script_lines.specs.Lines.{Held, Grew, lines_of, BeginsWithLine, IsLastLine, BeginsTooLong, LinesAreRead}
 use Rattle.centre.specs.Script.{Stage, Stepped, after, step_of, text_from, bad_from, text_of, bad_line}
 use Rattle.script_lines.specs.Said.{Said, said_of}
-use Rattle.script_lines.proofs.LineLemmas.{lines_of-next, lines_of-last, lines_of-too_long, lines_of-begins_with}
-use Rattle.script_lines.proofs.SaidLemmas.{spelled_so}
 use Rattle.centre.specs.Outcome.{AreLines, Writes, WritesLine, IsWhole, IsDecided, StopsAt, StopsBetween, IsOutcome}
 use Rattle.centre.specs.declared.run.ScriptFault.{ScriptFault}
 use Rattle.centre.specs.declared.run.ScriptFault.TheVariants.{BadLine, Read, Write, Memory}
-use Rattle.centre.proofs.Steps.{step_of-said}
+use Rattle.centre.proofs.Steps.{SaysItsSpelling, step_of-said}
 
 -- Whole lines were done, and what is held follows them; they lead to this stage.
 pub record Progress (before left written out : Option (List ℕ)) (held : Held) (stage : Stage) (number : ℕ) : Type 0 where
@@ -187,40 +185,40 @@ refused_at number told before left written out now s e keeps =
 
 -- ---- the first line of what is held
 
-not_said : (line : List ℕ) (said : Option Said) → said_of line ≡ said → 20000 < length line → said ≡ None
-not_said line None e long = refl
-not_said line (Some said) e long = absurd (omega (arith, ((spelled_so line said).0 e).short))
+not_said : SaysItsSpelling → (line : List ℕ) (said : Option Said) → said_of line ≡ said → 20000 < length line → said ≡ None
+not_said spelled line None e long = refl
+not_said spelled line (Some said) e long = absurd (omega (arith, ((spelled line said).0 e).short))
 
 -- a line that is too long is bad
-pub too_long_first : (held : List ℕ) (stage : Stage) → BeginsTooLong held → (more : List ℕ) → BadFirst held stage more
-too_long_first held stage long more =
-    let first = lines_of-too_long held more long in
+pub too_long_first : LinesAreRead → SaysItsSpelling → (held : List ℕ) (stage : Stage) → BeginsTooLong held → (more : List ℕ) → BadFirst held stage more
+too_long_first laws spelled held stage long more =
+    let first = laws.too_long held more long in
     record {
       line = first.0;
       lines = first.1;
       first = first.2;
-      bad = step_of-said stage first.0 None (not_said first.0 (said_of first.0) refl first.3);
+      bad = step_of-said stage first.0 None (not_said spelled first.0 (said_of first.0) refl first.3);
     }
 
-pub line_first : (held : List ℕ) (stage : Stage) (count : ℕ) → BeginsWithLine count held → step_of stage (take count held) ≡ None → (more : List ℕ) → BadFirst held stage more
-line_first held stage count begins bad more = record {
+pub line_first : LinesAreRead → (held : List ℕ) (stage : Stage) (count : ℕ) → BeginsWithLine count held → step_of stage (take count held) ≡ None → (more : List ℕ) → BadFirst held stage more
+line_first laws held stage count begins bad more = record {
   line = take count held;
   lines = lines_of (drop (count + 1) held ++ more);
-  first = lines_of-begins_with count held more begins;
+  first = laws.begins count held more begins;
   bad = bad;
 }
 
 some_octets : (count : ℕ) (held : List ℕ) → IsLastLine count held → held ≡ [] → ⊥
 some_octets count held last none = absurd (omega (arith, last.some, last.all, ap length none))
 
-last_lines : (count : ℕ) (held : List ℕ) → IsLastLine count held → lines_of held ≡ held ∷ []
-last_lines count held last = lines_of-last held (some_octets count held last) last.line
+last_lines : LinesAreRead → (count : ℕ) (held : List ℕ) → IsLastLine count held → lines_of held ≡ held ∷ []
+last_lines laws count held last = laws.last held (some_octets count held last) last.line
 
-pub last_first : (held : List ℕ) (stage : Stage) (count : ℕ) → IsLastLine count held → step_of stage held ≡ None → BadFirst held stage []
-last_first held stage count last bad = record {
+pub last_first : LinesAreRead → (held : List ℕ) (stage : Stage) (count : ℕ) → IsLastLine count held → step_of stage held ≡ None → BadFirst held stage []
+last_first laws held stage count last bad = record {
   line = held;
   lines = [];
-  first = ap lines_of (append-nil held) ∙ last_lines count held last;
+  first = ap lines_of (append-nil held) ∙ last_lines laws count held last;
   bad = bad;
 }
 
@@ -243,10 +241,10 @@ unfolding bad_from
 bad_of_nothing stage number = refl
 
 -- the last line was good, and its text was written
-pub whole_with : (before left written out now : Option (List ℕ)) (held : Held) (stage new : Stage) (number count : ℕ)
+pub whole_with : LinesAreRead → (before left written out now : Option (List ℕ)) (held : Held) (stage new : Stage) (number count : ℕ)
     → Progress before left written out held stage number → IsLastLine count held.octets → IsAtEnd left → Writes stage held.octets new out now → IsWhole before left written now
-whole_with before left written out now held stage new number count p last ended w =
-    let lines = last_lines count held.octets last in
+whole_with laws before left written out now held stage new number count p last ended w =
+    let lines = last_lines laws count held.octets last in
     let told : text_of (p.done ++ held.octets) ≡ text_of p.done ++ w.done.text =
     p.text_on held.octets ∙ ap (λ ls. text_of p.done ++ text_from stage ls) lines
     ∙ ap (λ t. text_of p.done ++ t) (text_of_first stage held.octets [] w.done w.step ∙ ap (λ t. w.done.text ++ t) (text_of_nothing w.done.stage) ∙ append-nil w.done.text) in
@@ -270,13 +268,13 @@ pub within_held : (count : ℕ) (octets : List ℕ) → BeginsWithLine count oct
 within_held count octets h = let within : count < length octets = slice_get_within octets count 10 h.feed in omega arith
 
 -- one more line is done
-advanced : (before left written out now : Option (List ℕ)) (held rest : Held) (stage new : Stage) (number count : ℕ)
+advanced : LinesAreRead → (before left written out now : Option (List ℕ)) (held rest : Held) (stage new : Stage) (number count : ℕ)
     → Progress before left written out held stage number → BeginsWithLine count held.octets → Writes stage (take count held.octets) new out now
     → rest.octets ≡ drop (count + 1) held.octets → rest.reads_left ≡ held.reads_left → Progress before left written now rest new (number + 1)
-advanced before left written out now held rest stage new number count p begins w dropped reads =
+advanced laws before left written out now held rest stage new number count p begins w dropped reads =
     let line = take count held.octets in
     let done = p.done ++ (line ++ 10 ∷ []) in
-    let next : (more : List ℕ) → lines_of ((line ++ 10 ∷ []) ++ more) ≡ line ∷ lines_of more = λ more. ap lines_of (append_assoc line (10 ∷ []) more) ∙ lines_of-next line more begins.line in
+    let next : (more : List ℕ) → lines_of ((line ++ 10 ∷ []) ++ more) ≡ line ∷ lines_of more = λ more. ap lines_of (append_assoc line (10 ∷ []) more) ∙ laws.next line more begins.line in
     let text_next : (more : List ℕ) → text_of (done ++ more) ≡ (text_of p.done ++ w.done.text) ++ text_from w.done.stage (lines_of more) =
     λ more. ap text_of (append_assoc p.done (line ++ 10 ∷ []) more) ∙ p.text_on ((line ++ 10 ∷ []) ++ more)
     ∙ ap (λ ls. text_of p.done ++ text_from stage ls) (next more)
@@ -319,35 +317,35 @@ nothing_done before written = record {
 all_taken : (count : ℕ) (octets : List ℕ) → length octets ≡ count → take count octets ≡ octets
 all_taken count octets e = take_all count octets (omega (arith, e))
 
-pub after_last : (r : Result (Unit {0}) ScriptFault) (before left written out now : Option (List ℕ)) (held : Held) (stage new : Stage) (number count : ℕ) (octets : List ℕ)
+pub after_last : LinesAreRead → (r : Result (Unit {0}) ScriptFault) (before left written out now : Option (List ℕ)) (held : Held) (stage new : Stage) (number count : ℕ) (octets : List ℕ)
     → octets ≡ held.octets → Progress before left written out held stage number → IsLastLine count held.octets → IsAtEnd left
     → WritesLine r stage (take count octets) (number + 1) new out now → IsOutcome r before left written now
-after_last (Ok done) before left written out now held stage new number count octets same p last ended w =
-    whole_with before left written out now held stage new number count p last ended (subst (λ line. Writes stage line new out now) (ap (take count) same ∙ all_taken count held.octets last.all) w)
-after_last (Err (BadLine told)) before left written out now held stage new number count octets same p last ended w =
+after_last laws (Ok done) before left written out now held stage new number count octets same p last ended w =
+    whole_with laws before left written out now held stage new number count p last ended (subst (λ line. Writes stage line new out now) (ap (take count) same ∙ all_taken count held.octets last.all) w)
+after_last laws (Err (BadLine told)) before left written out now held stage new number count octets same p last ended w =
     let bad : step_of stage held.octets ≡ None = ap (step_of stage) (sym (ap (take count) same ∙ all_taken count held.octets last.all)) ∙ w.bad in
-    refused_at number told before left written out now (stops_at_end before left written out held stage number p (last_first held.octets stage count last bad) ended) w.counted w.text
-after_last (Err Read) before left written out now held stage new number count octets same p last ended w = absurd w
-after_last (Err Write) before left written out now held stage new number count octets same p last ended w = tt
-after_last (Err Memory) before left written out now held stage new number count octets same p last ended w = between_kept before left written out now held stage number p w
+    refused_at number told before left written out now (stops_at_end before left written out held stage number p (last_first laws held.octets stage count last bad) ended) w.counted w.text
+after_last laws (Err Read) before left written out now held stage new number count octets same p last ended w = absurd w
+after_last laws (Err Write) before left written out now held stage new number count octets same p last ended w = tt
+after_last laws (Err Memory) before left written out now held stage new number count octets same p last ended w = between_kept before left written out now held stage number p w
 
-pub after_line : (fault : ScriptFault) (before left written out now : Option (List ℕ)) (held : Held) (stage new : Stage) (number count : ℕ) (octets : List ℕ)
+pub after_line : LinesAreRead → (fault : ScriptFault) (before left written out now : Option (List ℕ)) (held : Held) (stage new : Stage) (number count : ℕ) (octets : List ℕ)
     → octets ≡ held.octets → Progress before left written out held stage number → BeginsWithLine count held.octets
     → WritesLine (Err fault) stage (take count octets) (number + 1) new out now → IsOutcome (Err fault) before left written now
-after_line (BadLine told) before left written out now held stage new number count octets same p begins w =
+after_line laws (BadLine told) before left written out now held stage new number count octets same p begins w =
     let bad : step_of stage (take count held.octets) ≡ None = ap (λ t. step_of stage (take count t)) (sym same) ∙ w.bad in
-    refused_at number told before left written out now (stops_for_good before left written out held stage number p (line_first held.octets stage count begins bad)) w.counted w.text
-after_line Read before left written out now held stage new number count octets same p begins w = absurd w
-after_line Write before left written out now held stage new number count octets same p begins w = tt
-after_line Memory before left written out now held stage new number count octets same p begins w = between_kept before left written out now held stage number p w
+    refused_at number told before left written out now (stops_for_good before left written out held stage number p (line_first laws held.octets stage count begins bad)) w.counted w.text
+after_line laws Read before left written out now held stage new number count octets same p begins w = absurd w
+after_line laws Write before left written out now held stage new number count octets same p begins w = tt
+after_line laws Memory before left written out now held stage new number count octets same p begins w = between_kept before left written out now held stage number p w
 
-pub after_too_long : (before left written out : Option (List ℕ)) (held : Held) (stage : Stage) (number : ℕ)
+pub after_too_long : LinesAreRead → SaysItsSpelling → (before left written out : Option (List ℕ)) (held : Held) (stage : Stage) (number : ℕ)
     → Progress before left written out held stage number → BeginsTooLong held.octets → StopsAt (number + 1) before left written out
-after_too_long before left written out held stage number p long =
-    subst (λ n. StopsAt n before left written out) (sym (add-one number)) (stops_for_good before left written out held stage number p (too_long_first held.octets stage long))
+after_too_long laws spelled before left written out held stage number p long =
+    subst (λ n. StopsAt n before left written out) (sym (add-one number)) (stops_for_good before left written out held stage number p (too_long_first laws spelled held.octets stage long))
 
-pub after_good_line : (before left written out now : Option (List ℕ)) (held rest : Held) (stage new : Stage) (number count : ℕ) (octets : List ℕ)
+pub after_good_line : LinesAreRead → (before left written out now : Option (List ℕ)) (held rest : Held) (stage new : Stage) (number count : ℕ) (octets : List ℕ)
     → octets ≡ held.octets → Progress before left written out held stage number → BeginsWithLine count held.octets → Writes stage (take count octets) new out now
     → rest.octets ≡ drop (count + 1) held.octets → rest.reads_left ≡ held.reads_left → Progress before left written now rest new (number + 1)
-after_good_line before left written out now held rest stage new number count octets same p begins w dropped reads =
-    advanced before left written out now held rest stage new number count p begins (subst (λ t. Writes stage (take count t) new out now) same w) dropped reads
+after_good_line laws before left written out now held rest stage new number count octets same p begins w dropped reads =
+    advanced laws before left written out now held rest stage new number count p begins (subst (λ t. Writes stage (take count t) new out now) same w) dropped reads

@@ -6,7 +6,7 @@ ghost use Rattle.centre.specs.Script.{step_by};
 ghost use Rattle.centre.specs.Outcome.{IsStep, IsStepBy, SerialFits, IsStarted, WritesLine, IsOutcome};
 
 use crate::state::Centre;
-use script_lines::{Found, Line, LineBuffer, read_line};
+use script_lines::{Found, Line, LineBuffer, lines_are_read, read_line, spelled_so};
 use std::alloc::{AllocError, Global};
 use std::io::{Read, Write};
 use thiserror::Error;
@@ -36,6 +36,9 @@ pub fn run_script<R: Read, W: Write>(
 ) -> Result<(), ScriptFault>
     ensures { IsOutcome result (R.remaining reader.old) (R.remaining reader.new) (W.contents writer.old) (W.contents writer.new) }
 {
+    // What the proof takes of lines and of what they say; neither call does anything.
+    lines_are_read();
+    spelled_so();
     let Ok(mut buffer) = LineBuffer::make(alloc) else {
         return Err(ScriptFault::Memory);
     };
@@ -96,6 +99,7 @@ fn step(
 ) -> Result<bool, AllocError>
     ensures { IfOk result (λ good. IsStep stage.old line.now good stage.new text.old.items text.new.items) }
 {
+    spelled_so();
     match read_line(alloc, line)? {
         None => Ok(false),
         Some(said) => act(alloc, stage, said, text),
