@@ -46,5 +46,11 @@ fn serve_arguments<R: Env + Input + Print + Eprint + AllocGlobal>(rt: &R) -> io:
 }
 
 fn main(rt: HostRuntime) -> ExitCode {
-    ExitCode::from(serve_arguments(&rt).unwrap_or(1))
+    match serve_arguments(&rt) {
+        Ok(status) => ExitCode::from(status),
+        Err(error) => {
+            let _ = eprintln!(rt; "{error}");
+            ExitCode::FAILURE
+        }
+    }
 }
