@@ -1,0 +1,4 @@
+pub mod Majorities
+pub mod Stable
+pub mod Fates
+pub mod Lengths

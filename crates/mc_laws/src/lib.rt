@@ -1,0 +1,8 @@
+//! The laws over ballots, majorities, chains and whole runs. The functions do nothing: their contracts are the laws.
+#![tactic(auto)]
+
+mod chains;
+mod synod;
+
+pub use chains::{a_fate_is_the_end, chains_are_short, newest_decree_says_the_state};
+pub use synod::{ballots_have_their_parts, choice_is_stable, majorities_meet};
