@@ -4,3 +4,10 @@ pub mod Example
 pub mod Majority
 pub mod Ballot
 pub mod OneSlot
+pub mod Packet
+pub mod Acceptor
+pub mod Actor
+pub mod Knowledge
+pub mod Proposal
+pub mod Replies
+pub mod World

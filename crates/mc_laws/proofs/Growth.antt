@@ -1,0 +1,165 @@
+-- What every act leaves as it was, or lets grow.
+use Rattle.std.proofs.Common.{◌≡◌, ◌⊎◌, ℕ, suc, ◌<◌, ◌≤◌, Bool, true, false, List, [], ◌∷◌, ◌++◌, Option, Some, None, refl, sym, ◌∙◌, ap, subst, inl, inr, arith}
+use Rattle.std.specs.Prelude.{◌==◌, if◌then◌else◌}
+use Rattle.mc_model.specs.OneSlot.{Vote, In}
+use Rattle.mc_model.specs.Packet.{Slot, same_slot, Packet}
+use Rattle.mc_model.specs.Acceptor.{Record, Records, with_record, after_promise, after_vote}
+use Rattle.mc_model.specs.Actor.{Actor}
+use Rattle.mc_model.specs.World.{World, Act, Receives, Promises, Votes, Refuses, Tells, Prepares, Proposes, Begins, Asks, Settles, Replies, Reports, Grants, Answers, Abandons, Ticks, Stops, Restarts, Deed, Cast, cast, May, after, changed, records_by, actor_by, votes_by, sent_by}
+use Rattle.mc_laws.proofs.Membership.{in_right, in_either, of_only, same_number, slots_same, either}
+
+-- ---- what an act does to a record
+
+-- the record that an act makes new
+abbrev pub IsNew : Records → Act → Slot → Record → Type 0
+IsNew records (Promises slot ballot sent) other new = (other ≡ slot) × (new ≡ after_promise (records slot) ballot)
+IsNew records (Votes slot vote sent) other new = (other ≡ slot) × (new ≡ after_vote vote)
+IsNew records act other new = ⊥
+
+with_cases : (records : Records) (slot : Slot) (new : Record) (other : Slot) (test : Bool) → same_slot other slot ≡ test → (with_record records slot new other ≡ records other) ⊎ ((other ≡ slot) × (with_record records slot new other ≡ new))
+with_cases records slot new other true same = inr (slots_same other slot same, ap (λ (test : Bool). if test then new else records other) same)
+with_cases records slot new other false same = inl (ap (λ (test : Bool). if test then new else records other) same)
+
+pub record_cases : (records : Records) (act : Act) (slot : Slot) → (records_by records act slot ≡ records slot) ⊎ IsNew records act slot (records_by records act slot)
+record_cases records (Promises slot ballot sent) other = with_cases records slot (after_promise (records slot) ballot) other (same_slot other slot) refl
+record_cases records (Votes slot vote sent) other = with_cases records slot (after_vote vote) other (same_slot other slot) refl
+record_cases records (Receives packet) other = inl refl
+record_cases records (Refuses slot ballot) other = inl refl
+record_cases records (Tells id name told) other = inl refl
+record_cases records (Prepares slot ballot) other = inl refl
+record_cases records (Proposes slot vote) other = inl refl
+record_cases records (Begins request) other = inl refl
+record_cases records (Asks id ticket) other = inl refl
+record_cases records (Settles ticket) other = inl refl
+record_cases records (Replies ticket id answer) other = inl refl
+record_cases records (Reports id chain) other = inl refl
+record_cases records (Grants slot) other = inl refl
+record_cases records (Answers slot outcome) other = inl refl
+record_cases records (Abandons slot) other = inl refl
+record_cases records (Ticks moment) other = inl refl
+record_cases records Stops other = inl refl
+record_cases records (Restarts serial) other = inl refl
+
+-- what a node has after an act of some node: the same, or it is that node and has what is new
+pub changed_cases : {A : Type 0} (things : ℕ → A) (node : ℕ) (new : A) (other : ℕ) → ((other ≡ node) × (changed things node new other ≡ new)) ⊎ (changed things node new other ≡ things other)
+changed_cases things node new other = by_test (other == node) refl
+    where
+      by_test : (test : Bool) → (other == node) ≡ test → ((other ≡ node) × (changed things node new other ≡ new)) ⊎ (changed things node new other ≡ things other)
+      by_test true same = inl (same_number other node same, ap (λ (test : Bool). if test then new else things other) same)
+      by_test false same = inr (ap (λ (test : Bool). if test then new else things other) same)
+
+pub record NewRecord (w : World) (node : ℕ) (act : Act) (other : ℕ) (slot : Slot) : Type 0 where
+  pub node_is : other ≡ node
+  pub is_new : IsNew (w.records node) act slot ((after w node act).records other slot)
+
+pub records_after : (w : World) (node : ℕ) (act : Act) (other : ℕ) (slot : Slot) → ((after w node act).records other slot ≡ w.records other slot) ⊎ NewRecord w node act other slot
+records_after w node act other slot =
+    elim (changed_cases w.records node (records_by (w.records node) act) other) [
+      inl here ↦ elim (record_cases (w.records node) act slot) [
+        inl same ↦ inl (ap (λ (r : Records). r slot) here.1 ∙ same ∙ ap (λ (n : ℕ). w.records n slot) (sym here.0))
+        | inr new ↦ inr (record { node_is = here.0; is_new = subst (λ (r : Records). IsNew (w.records node) act slot (r slot)) (sym here.1) new })
+      ]
+      | inr elsewhere ↦ inl (ap (λ (r : Records). r slot) elsewhere)
+    ]
+
+-- ---- what only grows
+
+pub record Grows (w v : World) : Type 0 where
+  pub nodes : v.nodes ≡ w.nodes
+  pub packets : (packet : Packet) → In packet w.packets → In packet v.packets
+  pub votes : (c : Cast) → In c w.votes → In c v.votes
+  -- a new vote is at a ballot that is not below what its acceptor has promised
+  pub late : (c : Cast) → In c v.votes → In c w.votes ⊎ ((w.records c.acceptor c.slot).promised ≤ c.vote.ballot)
+  pub promised : (node : ℕ) (slot : Slot) → (w.records node slot).promised ≤ (v.records node slot).promised
+  pub incarnations : (node : ℕ) → (w.actors node).incarnation ≤ (v.actors node).incarnation
+  pub past : (deed : Deed) → In deed w.past → In deed v.past
+
+new_promised : (w : World) (node : ℕ) (act : Act) → May w node act → (slot : Slot) (new : Record) → IsNew (w.records node) act slot new → (w.records node slot).promised ≤ new.promised
+new_promised w node (Promises slot ballot sent) may other new is =
+    let below : (w.records node slot).promised < ballot = may.needs in
+    subst (λ (s : Slot). (w.records node s).promised ≤ new.promised) (sym is.0) (subst (λ (r : Record). (w.records node slot).promised ≤ r.promised) (sym is.1) (omega (arith, below)))
+new_promised w node (Votes slot vote sent) may other new is =
+    let below : (w.records node slot).promised ≤ vote.ballot = may.needs.may in
+    subst (λ (s : Slot). (w.records node s).promised ≤ new.promised) (sym is.0) (subst (λ (r : Record). (w.records node slot).promised ≤ r.promised) (sym is.1) below)
+new_promised w node (Receives packet) may other new is = absurd is
+new_promised w node (Refuses slot ballot) may other new is = absurd is
+new_promised w node (Tells id name told) may other new is = absurd is
+new_promised w node (Prepares slot ballot) may other new is = absurd is
+new_promised w node (Proposes slot vote) may other new is = absurd is
+new_promised w node (Begins request) may other new is = absurd is
+new_promised w node (Asks id ticket) may other new is = absurd is
+new_promised w node (Settles ticket) may other new is = absurd is
+new_promised w node (Replies ticket id answer) may other new is = absurd is
+new_promised w node (Reports id chain) may other new is = absurd is
+new_promised w node (Grants slot) may other new is = absurd is
+new_promised w node (Answers slot outcome) may other new is = absurd is
+new_promised w node (Abandons slot) may other new is = absurd is
+new_promised w node (Ticks moment) may other new is = absurd is
+new_promised w node Stops may other new is = absurd is
+new_promised w node (Restarts serial) may other new is = absurd is
+
+promised_after : (w : World) (node : ℕ) (act : Act) → May w node act → (other : ℕ) (slot : Slot) → (w.records other slot).promised ≤ ((after w node act).records other slot).promised
+promised_after w node act may other slot =
+    elim (records_after w node act other slot) [
+      inl same ↦ subst (λ (r : Record). (w.records other slot).promised ≤ r.promised) (sym same) (omega arith)
+      | inr new ↦ subst (λ (n : ℕ). (w.records n slot).promised ≤ ((after w node act).records other slot).promised) (sym new.node_is) (new_promised w node act may slot ((after w node act).records other slot) new.is_new)
+    ]
+
+pub later : (node : ℕ) (a : Actor) (act : Act) → a.incarnation ≤ (actor_by node a act).incarnation
+later node a (Restarts serial) = omega arith
+later node a (Receives packet) = omega arith
+later node a (Promises slot ballot sent) = omega arith
+later node a (Votes slot vote sent) = omega arith
+later node a (Refuses slot ballot) = omega arith
+later node a (Tells id name told) = omega arith
+later node a (Prepares slot ballot) = omega arith
+later node a (Proposes slot vote) = omega arith
+later node a (Begins request) = omega arith
+later node a (Asks id ticket) = omega arith
+later node a (Settles ticket) = omega arith
+later node a (Replies ticket id answer) = omega arith
+later node a (Reports id chain) = omega arith
+later node a (Grants slot) = omega arith
+later node a (Answers slot outcome) = omega arith
+later node a (Abandons slot) = omega arith
+later node a (Ticks moment) = omega arith
+later node a Stops = omega arith
+
+later_after : (w : World) (node : ℕ) (act : Act) (other : ℕ) → (w.actors other).incarnation ≤ ((after w node act).actors other).incarnation
+later_after w node act other =
+    elim (changed_cases w.actors node (actor_by node (w.actors node) act) other) [
+      inl here ↦ subst (λ (a : Actor). (w.actors other).incarnation ≤ a.incarnation) (sym here.1) (subst (λ (n : ℕ). (w.actors n).incarnation ≤ (actor_by node (w.actors node) act).incarnation) (sym here.0) (later node (w.actors node) act))
+      | inr elsewhere ↦ subst (λ (a : Actor). (w.actors other).incarnation ≤ a.incarnation) (sym elsewhere) (omega arith)
+    ]
+
+late_by : (w : World) (node : ℕ) (act : Act) → May w node act → (c : Cast) → In c (votes_by node act) → (w.records c.acceptor c.slot).promised ≤ c.vote.ballot
+late_by w node (Votes slot vote sent) may c is_in =
+    of_only (λ (x : Cast). (w.records x.acceptor x.slot).promised ≤ x.vote.ballot) (cast node slot vote) c may.needs.may is_in
+late_by w node (Receives packet) may c is_in = absurd is_in
+late_by w node (Promises slot ballot sent) may c is_in = absurd is_in
+late_by w node (Refuses slot ballot) may c is_in = absurd is_in
+late_by w node (Tells id name told) may c is_in = absurd is_in
+late_by w node (Prepares slot ballot) may c is_in = absurd is_in
+late_by w node (Proposes slot vote) may c is_in = absurd is_in
+late_by w node (Begins request) may c is_in = absurd is_in
+late_by w node (Asks id ticket) may c is_in = absurd is_in
+late_by w node (Settles ticket) may c is_in = absurd is_in
+late_by w node (Replies ticket id answer) may c is_in = absurd is_in
+late_by w node (Reports id chain) may c is_in = absurd is_in
+late_by w node (Grants slot) may c is_in = absurd is_in
+late_by w node (Answers slot outcome) may c is_in = absurd is_in
+late_by w node (Abandons slot) may c is_in = absurd is_in
+late_by w node (Ticks moment) may c is_in = absurd is_in
+late_by w node Stops may c is_in = absurd is_in
+late_by w node (Restarts serial) may c is_in = absurd is_in
+
+pub grows : (w : World) (node : ℕ) (act : Act) → May w node act → Grows w (after w node act)
+grows w node act may = record {
+  nodes = refl;
+  packets = λ packet. in_right packet (sent_by w node act) w.packets;
+  votes = λ c. in_right c (votes_by node act) w.votes;
+  late = λ c is_in. elim (in_either c (votes_by node act) w.votes is_in) [ inl new ↦ inr (late_by w node act may c new) | inr old ↦ inl old ];
+  promised = promised_after w node act may;
+  incarnations = later_after w node act;
+  past = λ deed is_in. inr is_in;
+}
