@@ -1,10 +1,11 @@
 -- What every act leaves as it was, or lets grow.
 use Rattle.std.proofs.Common.{◌≡◌, ◌⊎◌, ℕ, suc, ◌<◌, ◌≤◌, Bool, true, false, List, [], ◌∷◌, ◌++◌, Option, Some, None, refl, sym, ◌∙◌, ap, subst, inl, inr, arith}
 use Rattle.std.specs.Prelude.{◌==◌, if◌then◌else◌}
+use Rattle.std.proofs.lemmas.Bool.{eq-eqb}
 use Rattle.mc_model.specs.OneSlot.{Vote, In}
 use Rattle.mc_model.specs.Packet.{Slot, same_slot, Packet}
 use Rattle.mc_model.specs.Acceptor.{Record, Records, with_record, after_promise, after_vote}
-use Rattle.mc_model.specs.Actor.{Actor}
+use Rattle.mc_model.specs.Actor.{Actor, Outcome}
 use Rattle.mc_model.specs.World.{World, Act, Receives, Promises, Votes, Refuses, Tells, Prepares, Proposes, Begins, Asks, Settles, Replies, Reports, Grants, Answers, Abandons, Ticks, Stops, Restarts, Deed, Cast, cast, May, after, changed, records_by, actor_by, votes_by, sent_by}
 use Rattle.mc_laws.proofs.Membership.{in_right, in_either, of_only, same_number, slots_same, either}
 
@@ -28,7 +29,7 @@ record_cases records (Refuses slot ballot) other = inl refl
 record_cases records (Tells id name told) other = inl refl
 record_cases records (Prepares slot ballot) other = inl refl
 record_cases records (Proposes slot vote) other = inl refl
-record_cases records (Begins request) other = inl refl
+record_cases records (Begins ticket request) other = inl refl
 record_cases records (Asks id ticket) other = inl refl
 record_cases records (Settles ticket) other = inl refl
 record_cases records (Replies ticket id answer) other = inl refl
@@ -43,10 +44,10 @@ record_cases records (Restarts serial) other = inl refl
 -- what a node has after an act of some node: the same, or it is that node and has what is new
 pub changed_cases : {A : Type 0} (things : ℕ → A) (node : ℕ) (new : A) (other : ℕ) → ((other ≡ node) × (changed things node new other ≡ new)) ⊎ (changed things node new other ≡ things other)
 changed_cases things node new other = by_test (other == node) refl
-    where
-      by_test : (test : Bool) → (other == node) ≡ test → ((other ≡ node) × (changed things node new other ≡ new)) ⊎ (changed things node new other ≡ things other)
-      by_test true same = inl (same_number other node same, ap (λ (test : Bool). if test then new else things other) same)
-      by_test false same = inr (ap (λ (test : Bool). if test then new else things other) same)
+  where
+    by_test : (test : Bool) → (other == node) ≡ test → ((other ≡ node) × (changed things node new other ≡ new)) ⊎ (changed things node new other ≡ things other)
+    by_test true same = inl (same_number other node same, ap (λ (test : Bool). if test then new else things other) same)
+    by_test false same = inr (ap (λ (test : Bool). if test then new else things other) same)
 
 pub record NewRecord (w : World) (node : ℕ) (act : Act) (other : ℕ) (slot : Slot) : Type 0 where
   pub node_is : other ≡ node
@@ -55,8 +56,8 @@ pub record NewRecord (w : World) (node : ℕ) (act : Act) (other : ℕ) (slot : 
 pub records_after : (w : World) (node : ℕ) (act : Act) (other : ℕ) (slot : Slot) → ((after w node act).records other slot ≡ w.records other slot) ⊎ NewRecord w node act other slot
 records_after w node act other slot =
     elim (changed_cases w.records node (records_by (w.records node) act) other) [
-      inl here ↦ elim (record_cases (w.records node) act slot) [
-        inl same ↦ inl (ap (λ (r : Records). r slot) here.1 ∙ same ∙ ap (λ (n : ℕ). w.records n slot) (sym here.0))
+      | inl here ↦ elim (record_cases (w.records node) act slot) [
+        | inl same ↦ inl (ap (λ (r : Records). r slot) here.1 ∙ same ∙ ap (λ (n : ℕ). w.records n slot) (sym here.0))
         | inr new ↦ inr (record { node_is = here.0; is_new = subst (λ (r : Records). IsNew (w.records node) act slot (r slot)) (sym here.1) new })
       ]
       | inr elsewhere ↦ inl (ap (λ (r : Records). r slot) elsewhere)
@@ -86,7 +87,7 @@ new_promised w node (Refuses slot ballot) may other new is = absurd is
 new_promised w node (Tells id name told) may other new is = absurd is
 new_promised w node (Prepares slot ballot) may other new is = absurd is
 new_promised w node (Proposes slot vote) may other new is = absurd is
-new_promised w node (Begins request) may other new is = absurd is
+new_promised w node (Begins ticket request) may other new is = absurd is
 new_promised w node (Asks id ticket) may other new is = absurd is
 new_promised w node (Settles ticket) may other new is = absurd is
 new_promised w node (Replies ticket id answer) may other new is = absurd is
@@ -101,34 +102,89 @@ new_promised w node (Restarts serial) may other new is = absurd is
 promised_after : (w : World) (node : ℕ) (act : Act) → May w node act → (other : ℕ) (slot : Slot) → (w.records other slot).promised ≤ ((after w node act).records other slot).promised
 promised_after w node act may other slot =
     elim (records_after w node act other slot) [
-      inl same ↦ subst (λ (r : Record). (w.records other slot).promised ≤ r.promised) (sym same) (omega arith)
+      | inl same ↦ subst (λ (r : Record). (w.records other slot).promised ≤ r.promised) (sym same) (omega arith)
       | inr new ↦ subst (λ (n : ℕ). (w.records n slot).promised ≤ ((after w node act).records other slot).promised) (sym new.node_is) (new_promised w node act may slot ((after w node act).records other slot) new.is_new)
     ]
 
+-- the actor of the node that did the act
+pub record NewActor (w : World) (node : ℕ) (act : Act) (other : ℕ) : Type 0 where
+  pub node_is : other ≡ node
+  pub actor_is : (after w node act).actors other ≡ actor_by node (w.actors node) act
+
+pub actors_after : (w : World) (node : ℕ) (act : Act) (other : ℕ) → NewActor w node act other ⊎ ((after w node act).actors other ≡ w.actors other)
+actors_after w node act other = elim (changed_cases w.actors node (actor_by node (w.actors node) act) other) [
+  inl here ↦ inl (record { node_is = here.0; actor_is = here.1 })
+  | inr elsewhere ↦ inr elsewhere
+]
+
+pub changed_here : {A : Type 0} (things : ℕ → A) (node : ℕ) (new : A) → changed things node new node ≡ new
+changed_here things node new = ap (λ (test : Bool). if test then new else things node) (eq-eqb node node refl)
+
+pub actor_here : (w : World) (node : ℕ) (act : Act) → (after w node act).actors node ≡ actor_by node (w.actors node) act
+actor_here w node act = changed_here w.actors node (actor_by node (w.actors node) act)
+
+pub actor_apart : (w : World) (node : ℕ) (act : Act) (other : ℕ) → (other ≡ node → ⊥) → (after w node act).actors other ≡ w.actors other
+actor_apart w node act other apart = elim (actors_after w node act other) [ inl here ↦ absurd (apart here.node_is) | inr elsewhere ↦ elsewhere ]
+
+-- what an actor goes on to hold, unless it starts anew
+pub record Remembers (a b : Actor) : Type 0 where
+  pub incarnation : b.incarnation ≡ a.incarnation
+  pub ticket : a.ticket ≤ b.ticket
+  pub received : (packet : Packet) → In packet a.received → In packet b.received
+  pub sent : (packet : Packet) → In packet a.sent → In packet b.sent
+  pub granted : (slot : Slot) → In slot a.granted → In slot b.granted
+  pub closed : (attempt : Slot × Outcome) → In attempt a.closed → In attempt b.closed
+
+remembers_all : (a b : Actor) → b.incarnation ≡ a.incarnation → b.ticket ≡ a.ticket → b.received ≡ a.received → b.sent ≡ a.sent → b.granted ≡ a.granted → b.closed ≡ a.closed → Remembers a b
+remembers_all a b incarnation ticket received sent granted closed = record {
+  incarnation = incarnation;
+  ticket = omega (arith, ticket);
+  received = λ packet is_in. subst (λ (xs : List Packet). In packet xs) (sym received) is_in;
+  sent = λ packet is_in. subst (λ (xs : List Packet). In packet xs) (sym sent) is_in;
+  granted = λ slot is_in. subst (λ (xs : List Slot). In slot xs) (sym granted) is_in;
+  closed = λ attempt is_in. subst (λ (xs : List (Slot × Outcome)). In attempt xs) (sym closed) is_in;
+}
+
+abbrev pub StartsAnew : Act → Type 0
+StartsAnew act = (serial : ℕ) × (act ≡ Restarts serial)
+
+pub remembers : (node : ℕ) (a : Actor) (act : Act) → StartsAnew act ⊎ Remembers a (actor_by node a act)
+remembers node a (Restarts serial) = inl (serial, refl)
+remembers node a (Receives packet) = inr (record { incarnation = refl; ticket = omega arith; received = λ other is_in. inr is_in; sent = λ other is_in. is_in; granted = λ slot is_in. is_in; closed = λ attempt is_in. is_in })
+remembers node a (Promises slot ballot sent) = inr (remembers_all a (actor_by node a (Promises slot ballot sent)) refl refl refl refl refl refl)
+remembers node a (Votes slot vote sent) = inr (remembers_all a (actor_by node a (Votes slot vote sent)) refl refl refl refl refl refl)
+remembers node a (Refuses slot ballot) = inr (remembers_all a (actor_by node a (Refuses slot ballot)) refl refl refl refl refl refl)
+remembers node a (Tells id name told) = inr (remembers_all a (actor_by node a (Tells id name told)) refl refl refl refl refl refl)
+remembers node a (Prepares slot ballot) = inr (record { incarnation = refl; ticket = omega arith; received = λ packet is_in. is_in; sent = λ packet is_in. inr is_in; granted = λ other is_in. is_in; closed = λ attempt is_in. is_in })
+remembers node a (Proposes slot vote) = inr (record { incarnation = refl; ticket = omega arith; received = λ packet is_in. is_in; sent = λ packet is_in. inr is_in; granted = λ other is_in. is_in; closed = λ attempt is_in. is_in })
+remembers node a (Begins ticket request) = inr (record { incarnation = refl; ticket = omega arith; received = λ packet is_in. is_in; sent = λ packet is_in. is_in; granted = λ slot is_in. is_in; closed = λ attempt is_in. is_in })
+remembers node a (Asks id ticket) = inr (remembers_all a (actor_by node a (Asks id ticket)) refl refl refl refl refl refl)
+remembers node a (Settles ticket) = inr (remembers_all a (actor_by node a (Settles ticket)) refl refl refl refl refl refl)
+remembers node a (Replies ticket id answer) = inr (remembers_all a (actor_by node a (Replies ticket id answer)) refl refl refl refl refl refl)
+remembers node a (Reports id chain) = inr (remembers_all a (actor_by node a (Reports id chain)) refl refl refl refl refl refl)
+remembers node a (Grants slot) = inr (record { incarnation = refl; ticket = omega arith; received = λ packet is_in. is_in; sent = λ packet is_in. is_in; granted = λ other is_in. inr is_in; closed = λ attempt is_in. is_in })
+remembers node a (Answers slot outcome) = inr (record { incarnation = refl; ticket = omega arith; received = λ packet is_in. is_in; sent = λ packet is_in. is_in; granted = λ other is_in. is_in; closed = λ attempt is_in. inr is_in })
+remembers node a (Abandons slot) = inr (record { incarnation = refl; ticket = omega arith; received = λ packet is_in. is_in; sent = λ packet is_in. is_in; granted = λ other is_in. is_in; closed = λ attempt is_in. inr is_in })
+remembers node a (Ticks moment) = inr (remembers_all a (actor_by node a (Ticks moment)) refl refl refl refl refl refl)
+remembers node a Stops = inr (remembers_all a (actor_by node a Stops) refl refl refl refl refl refl)
+
 pub later : (node : ℕ) (a : Actor) (act : Act) → a.incarnation ≤ (actor_by node a act).incarnation
-later node a (Restarts serial) = omega arith
-later node a (Receives packet) = omega arith
-later node a (Promises slot ballot sent) = omega arith
-later node a (Votes slot vote sent) = omega arith
-later node a (Refuses slot ballot) = omega arith
-later node a (Tells id name told) = omega arith
-later node a (Prepares slot ballot) = omega arith
-later node a (Proposes slot vote) = omega arith
-later node a (Begins request) = omega arith
-later node a (Asks id ticket) = omega arith
-later node a (Settles ticket) = omega arith
-later node a (Replies ticket id answer) = omega arith
-later node a (Reports id chain) = omega arith
-later node a (Grants slot) = omega arith
-later node a (Answers slot outcome) = omega arith
-later node a (Abandons slot) = omega arith
-later node a (Ticks moment) = omega arith
-later node a Stops = omega arith
+later node a act = elim (remembers node a act) [
+  inl anew ↦ subst (λ (x : Act). a.incarnation ≤ (actor_by node a x).incarnation) (sym anew.1) (omega arith)
+  | inr r ↦ let same = r.incarnation in omega (arith, same)
+]
+
+-- an actor that is in the same incarnation remembers
+pub same_life : (node : ℕ) (a : Actor) (act : Act) → (actor_by node a act).incarnation ≡ a.incarnation → Remembers a (actor_by node a act)
+same_life node a act same = elim (remembers node a act) [
+  inl anew ↦ absurd (let next : (actor_by node a act).incarnation ≡ suc a.incarnation = ap (λ (x : Act). (actor_by node a x).incarnation) anew.1 in omega (arith, same, next))
+  | inr r ↦ r
+]
 
 later_after : (w : World) (node : ℕ) (act : Act) (other : ℕ) → (w.actors other).incarnation ≤ ((after w node act).actors other).incarnation
 later_after w node act other =
     elim (changed_cases w.actors node (actor_by node (w.actors node) act) other) [
-      inl here ↦ subst (λ (a : Actor). (w.actors other).incarnation ≤ a.incarnation) (sym here.1) (subst (λ (n : ℕ). (w.actors n).incarnation ≤ (actor_by node (w.actors node) act).incarnation) (sym here.0) (later node (w.actors node) act))
+      | inl here ↦ subst (λ (a : Actor). (w.actors other).incarnation ≤ a.incarnation) (sym here.1) (subst (λ (n : ℕ). (w.actors n).incarnation ≤ (actor_by node (w.actors node) act).incarnation) (sym here.0) (later node (w.actors node) act))
       | inr elsewhere ↦ subst (λ (a : Actor). (w.actors other).incarnation ≤ a.incarnation) (sym elsewhere) (omega arith)
     ]
 
@@ -141,7 +197,7 @@ late_by w node (Refuses slot ballot) may c is_in = absurd is_in
 late_by w node (Tells id name told) may c is_in = absurd is_in
 late_by w node (Prepares slot ballot) may c is_in = absurd is_in
 late_by w node (Proposes slot vote) may c is_in = absurd is_in
-late_by w node (Begins request) may c is_in = absurd is_in
+late_by w node (Begins ticket request) may c is_in = absurd is_in
 late_by w node (Asks id ticket) may c is_in = absurd is_in
 late_by w node (Settles ticket) may c is_in = absurd is_in
 late_by w node (Replies ticket id answer) may c is_in = absurd is_in

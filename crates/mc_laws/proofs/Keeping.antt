@@ -11,7 +11,7 @@ use Rattle.mc_model.specs.Acceptor.{Record, Records, blank, with_record, after_p
 use Rattle.mc_model.specs.Actor.{Actor, opened}
 use Rattle.mc_model.specs.World.{World, Act, Receives, Promises, Votes, Refuses, Tells, Prepares, Proposes, Begins, Asks, Settles, Replies, Reports, Grants, Answers, Abandons, Ticks, Stops, Restarts, Deed, Cast, cast, May, after, changed, records_by, actor_by, votes_by, sent_by, if_sent, start}
 use Rattle.mc_laws.proofs.Membership.{in_right, in_either, of_only, same_number, slots_same, either}
-use Rattle.mc_laws.proofs.Growth.{Grows, grows, IsNew, NewRecord, records_after, changed_cases, later}
+use Rattle.mc_laws.proofs.Growth.{Grows, grows, IsNew, NewRecord, records_after, changed_cases, later, same_life, changed_here}
 
 -- ---- what holds of each packet
 
@@ -73,17 +73,17 @@ justified_more nodes P Q chain more j = record {
   };
   carried = carried_more j.highest j.carried;
 }
-    where
-      carried_more : (highest : Option Vote) → IsOfHighest P chain highest → IsOfHighest Q chain highest
-      carried_more None of = of
-      carried_more (Some top) of = (of.0, (of.1.0, more of.1.0 (Some top) of.1.1))
+  where
+    carried_more : (highest : Option Vote) → IsOfHighest P chain highest → IsOfHighest Q chain highest
+    carried_more None of = of
+    carried_more (Some top) of = (of.0, (of.1.0, more of.1.0 (Some top) of.1.1))
 
 fits_still : (w v : World) → Grows w v → (packet : Packet) → Fits w packet → Fits v packet
 fits_still w v grown (Prepare sender slot ballot) fits = tt
 fits_still w v grown (Promise sender slot ballot report) fits = record {
   bound = let more = grown.promised sender slot in let bound : ballot ≤ (w.records sender slot).promised = fits.bound in omega (arith, more, bound);
   kept = λ vote is_in below. elim (grown.late (cast sender slot vote) is_in) [
-    inl old ↦ fits.kept vote old below
+    | inl old ↦ fits.kept vote old below
     | inr above ↦ absurd (omega (arith, above, below, fits.bound))
   ];
   honest = λ vote is. let h = fits.honest vote is in (grown.votes (cast sender slot vote) h.0, h.1);
@@ -99,9 +99,6 @@ fits_still w v grown (Ask sender id name) fits = tt
 fits_still w v grown (Tell sender name told) fits = tt
 
 -- ---- the record that a node has after its own act
-
-changed_here : {A : Type 0} (things : ℕ → A) (node : ℕ) (new : A) → changed things node new node ≡ new
-changed_here things node new = ap (λ (test : Bool). if test then new else things node) (eq-eqb node node refl)
 
 with_here : (records : Records) (slot : Slot) (new : Record) → with_record records slot new slot ≡ new
 with_here records slot new =
@@ -140,7 +137,7 @@ sent_is w node (Prepares slot ballot) packet is_in = only packet _ is_in
 sent_is w node (Proposes slot vote) packet is_in = only packet _ is_in
 sent_is w node (Asks id ticket) packet is_in = only packet _ is_in
 sent_is w node (Receives other) packet is_in = absurd is_in
-sent_is w node (Begins request) packet is_in = absurd is_in
+sent_is w node (Begins ticket request) packet is_in = absurd is_in
 sent_is w node (Settles ticket) packet is_in = absurd is_in
 sent_is w node (Replies ticket id answer) packet is_in = absurd is_in
 sent_is w node (Reports id chain) packet is_in = absurd is_in
@@ -183,7 +180,7 @@ fits_new w keeps node (Tells id name told) may packet is = subst (λ (p : Packet
 fits_new w keeps node (Prepares slot ballot) may packet is = subst (λ (p : Packet). Fits (after w node (Prepares slot ballot)) p) (sym is) tt
 fits_new w keeps node (Asks id ticket) may packet is = subst (λ (p : Packet). Fits (after w node (Asks id ticket)) p) (sym is) tt
 fits_new w keeps node (Receives other) may packet is = absurd is
-fits_new w keeps node (Begins request) may packet is = absurd is
+fits_new w keeps node (Begins ticket request) may packet is = absurd is
 fits_new w keeps node (Settles ticket) may packet is = absurd is
 fits_new w keeps node (Replies ticket id answer) may packet is = absurd is
 fits_new w keeps node (Reports id chain) may packet is = absurd is
@@ -196,7 +193,7 @@ fits_new w keeps node (Restarts serial) may packet is = absurd is
 
 fits_after : (w : World) → Keeps w → (node : ℕ) (act : Act) → May w node act → (packet : Packet) → In packet (after w node act).packets → Fits (after w node act) packet
 fits_after w keeps node act may packet is_in = elim (in_either packet (sent_by w node act) w.packets is_in) [
-  inl new ↦ fits_new w keeps node act may packet (sent_is w node act packet new)
+  | inl new ↦ fits_new w keeps node act may packet (sent_is w node act packet new)
   | inr old ↦ fits_still w (after w node act) (grows w node act may) packet (keeps.fits packet old)
 ]
 
@@ -218,7 +215,7 @@ keeps_new w keeps node (Refuses slot ballot) may other new is vote is_in = absur
 keeps_new w keeps node (Tells id name told) may other new is vote is_in = absurd is
 keeps_new w keeps node (Prepares slot ballot) may other new is vote is_in = absurd is
 keeps_new w keeps node (Proposes slot voted) may other new is vote is_in = absurd is
-keeps_new w keeps node (Begins request) may other new is vote is_in = absurd is
+keeps_new w keeps node (Begins ticket request) may other new is vote is_in = absurd is
 keeps_new w keeps node (Asks id ticket) may other new is vote is_in = absurd is
 keeps_new w keeps node (Settles ticket) may other new is vote is_in = absurd is
 keeps_new w keeps node (Replies ticket id answer) may other new is vote is_in = absurd is
@@ -235,7 +232,7 @@ same_record r s vote same k = record { held = k.held; holds = ap (λ (x : Record
 
 old_kept : (w : World) → Keeps w → (node : ℕ) (act : Act) → May w node act → (c : Cast) → In c w.votes → KeepsVote ((after w node act).records c.acceptor c.slot) c.vote
 old_kept w keeps node act may c is_in = elim (records_after w node act c.acceptor c.slot) [
-  inl same ↦ same_record (w.records c.acceptor c.slot) _ c.vote same (keeps.records c is_in)
+  | inl same ↦ same_record (w.records c.acceptor c.slot) _ c.vote same (keeps.records c is_in)
   | inr new ↦ keeps_new w keeps node act may c.slot _ new.is_new c.vote (subst (λ (n : ℕ). In (cast n c.slot c.vote) w.votes) new.node_is is_in)
 ]
 
@@ -256,7 +253,7 @@ cast_is node (Refuses slot ballot) c is_in = absurd is_in
 cast_is node (Tells id name told) c is_in = absurd is_in
 cast_is node (Prepares slot ballot) c is_in = absurd is_in
 cast_is node (Proposes slot vote) c is_in = absurd is_in
-cast_is node (Begins request) c is_in = absurd is_in
+cast_is node (Begins ticket request) c is_in = absurd is_in
 cast_is node (Asks id ticket) c is_in = absurd is_in
 cast_is node (Settles ticket) c is_in = absurd is_in
 cast_is node (Replies ticket id answer) c is_in = absurd is_in
@@ -277,7 +274,7 @@ new_cast w node (Refuses slot ballot) P each c is = absurd is
 new_cast w node (Tells id name told) P each c is = absurd is
 new_cast w node (Prepares slot ballot) P each c is = absurd is
 new_cast w node (Proposes slot vote) P each c is = absurd is
-new_cast w node (Begins request) P each c is = absurd is
+new_cast w node (Begins ticket request) P each c is = absurd is
 new_cast w node (Asks id ticket) P each c is = absurd is
 new_cast w node (Settles ticket) P each c is = absurd is
 new_cast w node (Replies ticket id answer) P each c is = absurd is
@@ -291,7 +288,7 @@ new_cast w node (Restarts serial) P each c is = absurd is
 
 records_kept : (w : World) → Keeps w → (node : ℕ) (act : Act) → May w node act → (c : Cast) → In c (after w node act).votes → KeepsVote ((after w node act).records c.acceptor c.slot) c.vote
 records_kept w keeps node act may c is_in = elim (in_either c (votes_by node act) w.votes is_in) [
-  inl new ↦ new_cast w node act (λ (x : Cast). KeepsVote ((after w node act).records x.acceptor x.slot) x.vote) (λ slot vote sent is. subst (λ (a : Act). KeepsVote ((after w node a).records node slot) vote) (sym is) (same_record (after_vote vote) _ vote (vote_here w node slot vote sent) (record { held = vote; holds = refl; above = omega arith }))) c (cast_is node act c new)
+  | inl new ↦ new_cast w node act (λ (x : Cast). KeepsVote ((after w node act).records x.acceptor x.slot) x.vote) (λ slot vote sent is. subst (λ (a : Act). KeepsVote ((after w node a).records node slot) vote) (sym is) (same_record (after_vote vote) _ vote (vote_here w node slot vote sent) (record { held = vote; holds = refl; above = omega arith }))) c (cast_is node act c new)
   | inr old ↦ old_kept w keeps node act may c old
 ]
 
@@ -314,7 +311,7 @@ held_new w keeps node (Refuses slot ballot) may other new is vote holds = absurd
 held_new w keeps node (Tells id name told) may other new is vote holds = absurd is
 held_new w keeps node (Prepares slot ballot) may other new is vote holds = absurd is
 held_new w keeps node (Proposes slot voted) may other new is vote holds = absurd is
-held_new w keeps node (Begins request) may other new is vote holds = absurd is
+held_new w keeps node (Begins ticket request) may other new is vote holds = absurd is
 held_new w keeps node (Asks id ticket) may other new is vote holds = absurd is
 held_new w keeps node (Settles ticket) may other new is vote holds = absurd is
 held_new w keeps node (Replies ticket id answer) may other new is vote holds = absurd is
@@ -330,11 +327,11 @@ held_after : (w : World) → Keeps w → (node : ℕ) (act : Act) → May w node
 held_after w keeps node act may other slot vote holds =
     let grown = grows w node act may in
     elim (records_after w node act other slot) [
-      inl same ↦ 
+      | inl same ↦
           let h = keeps.held other slot vote (sym (ap (λ (r : Record). r.vote) same) ∙ holds) in
           let more = grown.promised other slot in
           record { voted = grown.votes (cast other slot vote) h.voted; within = omega (arith, h.within, more) }
-      | inr new ↦ 
+      | inr new ↦
           let h = held_new w keeps node act may slot _ new.is_new vote holds in
           record { voted = subst (λ (n : ℕ). In (cast n slot vote) (after w node act).votes) (sym new.node_is) h.0; within = h.1 }
     ]
@@ -343,9 +340,9 @@ proposed_after : (w : World) → Keeps w → (node : ℕ) (act : Act) → May w 
 proposed_after w keeps node act may c is_in =
     let grown = grows w node act may in
     elim (in_either c (votes_by node act) w.votes is_in) [
-      inl new ↦ new_cast w node act (λ (x : Cast). WasProposed (after w node act) x.slot x.vote) (λ slot vote sent is.
-              let m : May w node (Votes slot vote sent) = subst (May w node) is may in
-              record { sender = m.needs.sender; sent = grown.packets _ (keeps.received node _ m.needs.proposed) }) c (cast_is node act c new)
+      | inl new ↦ new_cast w node act (λ (x : Cast). WasProposed (after w node act) x.slot x.vote) (λ slot vote sent is.
+          let m : May w node (Votes slot vote sent) = subst (May w node) is may in
+          record { sender = m.needs.sender; sent = grown.packets _ (keeps.received node _ m.needs.proposed) }) c (cast_is node act c new)
       | inr old ↦ let p = keeps.proposed c old in record { sender = p.sender; sent = grown.packets _ p.sent }
     ]
 
@@ -365,7 +362,7 @@ proposing w node (Tells id name told) sender slot vote is = cc
 proposing w node (Prepares other ballot) sender slot vote is = cc
 proposing w node (Asks id ticket) sender slot vote is = cc
 proposing w node (Receives packet) sender slot vote is = absurd is
-proposing w node (Begins request) sender slot vote is = absurd is
+proposing w node (Begins ticket request) sender slot vote is = absurd is
 proposing w node (Settles ticket) sender slot vote is = absurd is
 proposing w node (Replies ticket id answer) sender slot vote is = absurd is
 proposing w node (Reports id chain) sender slot vote is = absurd is
@@ -378,33 +375,9 @@ proposing w node (Restarts serial) sender slot vote is = absurd is
 
 pub proposal_cases : (w : World) (node : ℕ) (act : Act) (sender : ℕ) (slot : Slot) (vote : Vote) → In (Propose sender slot vote) (after w node act).packets → Proposing node act sender slot vote ⊎ In (Propose sender slot vote) w.packets
 proposal_cases w node act sender slot vote is_in = elim (in_either (Propose sender slot vote) (sent_by w node act) w.packets is_in) [
-  inl new ↦ inl (proposing w node act sender slot vote (sent_is w node act _ new))
+  | inl new ↦ inl (proposing w node act sender slot vote (sent_is w node act _ new))
   | inr old ↦ inr old
 ]
-
--- what an actor sent it has sent, in the same incarnation
-abbrev KeepsSent : ℕ → Actor → Act → Packet → Type 0
-KeepsSent node a act packet = In packet a.sent → (a.incarnation ≡ (actor_by node a act).incarnation) → In packet (actor_by node a act).sent
-
-keeps_sent : (node : ℕ) (a : Actor) (act : Act) (packet : Packet) → KeepsSent node a act packet
-keeps_sent node a (Prepares slot ballot) packet is_in same = inr is_in
-keeps_sent node a (Proposes slot vote) packet is_in same = inr is_in
-keeps_sent node a (Restarts serial) packet is_in same = absurd (omega (arith, same))
-keeps_sent node a (Receives other) packet is_in same = is_in
-keeps_sent node a (Promises slot ballot sent) packet is_in same = is_in
-keeps_sent node a (Votes slot vote sent) packet is_in same = is_in
-keeps_sent node a (Refuses slot ballot) packet is_in same = is_in
-keeps_sent node a (Tells id name told) packet is_in same = is_in
-keeps_sent node a (Begins request) packet is_in same = is_in
-keeps_sent node a (Asks id ticket) packet is_in same = is_in
-keeps_sent node a (Settles ticket) packet is_in same = is_in
-keeps_sent node a (Replies ticket id answer) packet is_in same = is_in
-keeps_sent node a (Reports id chain) packet is_in same = is_in
-keeps_sent node a (Grants slot) packet is_in same = is_in
-keeps_sent node a (Answers slot outcome) packet is_in same = is_in
-keeps_sent node a (Abandons slot) packet is_in same = is_in
-keeps_sent node a (Ticks moment) packet is_in same = is_in
-keeps_sent node a Stops packet is_in same = is_in
 
 -- an older incarnation sent it, or this one and the actor has it
 sent_here : (w : World) → Keeps w → (node : ℕ) (act : Act) (slot : Slot) (vote : Vote) → In (Propose node slot vote) w.packets → incarnation_in vote.ballot ≡ (actor_by node (w.actors node) act).incarnation → In (Propose node slot vote) (actor_by node (w.actors node) act).sent
@@ -412,7 +385,7 @@ sent_here w keeps node act slot vote is_in same =
     let fits : ProposeFits w node slot vote = keeps.fits (Propose node slot vote) is_in in
     let more = later node (w.actors node) act in
     let now : incarnation_in vote.ballot ≡ (w.actors node).incarnation = omega (arith, fits.lived, same, more) in
-    keeps_sent node (w.actors node) act (Propose node slot vote) (keeps.sent node slot vote is_in now) (sym now ∙ same)
+    (same_life node (w.actors node) act (sym same ∙ now)).sent (Propose node slot vote) (keeps.sent node slot vote is_in now)
 
 sent_proposed : (w : World) (node : ℕ) (act : Act) (slot : Slot) (vote : Vote) → act ≡ Proposes slot vote → In (Propose node slot vote) (actor_by node (w.actors node) act).sent
 sent_proposed w node act slot vote is = subst (λ (a : Act). In (Propose node slot vote) (actor_by node (w.actors node) a).sent) (sym is) (inl refl)
@@ -420,25 +393,25 @@ sent_proposed w node act slot vote is = subst (λ (a : Act). In (Propose node sl
 -- at the node that did the act
 sent_by_node : (w : World) → Keeps w → (node : ℕ) (act : Act) (slot : Slot) (vote : Vote) → In (Propose node slot vote) (after w node act).packets → incarnation_in vote.ballot ≡ (actor_by node (w.actors node) act).incarnation → In (Propose node slot vote) (actor_by node (w.actors node) act).sent
 sent_by_node w keeps node act slot vote is_in same = elim (proposal_cases w node act node slot vote is_in) [
-  inl new ↦ sent_proposed w node act slot vote new.by
+  | inl new ↦ sent_proposed w node act slot vote new.by
   | inr old ↦ sent_here w keeps node act slot vote old same
 ]
 
 sent_after : (w : World) → Keeps w → (node : ℕ) (act : Act) (other : ℕ) (slot : Slot) (vote : Vote) → In (Propose other slot vote) (after w node act).packets → incarnation_in vote.ballot ≡ ((after w node act).actors other).incarnation → In (Propose other slot vote) ((after w node act).actors other).sent
 sent_after w keeps node act other slot vote is_in same = elim (changed_cases w.actors node (actor_by node (w.actors node) act) other) [
-  inl here ↦
+  | inl here ↦
       let mine : In (Propose node slot vote) (after w node act).packets = subst (λ (n : ℕ). In (Propose n slot vote) (after w node act).packets) here.0 is_in in
       let life : incarnation_in vote.ballot ≡ (actor_by node (w.actors node) act).incarnation = same ∙ ap (λ (a : Actor). a.incarnation) here.1 in
       subst (λ (a : Actor). In (Propose other slot vote) a.sent) (sym here.1) (subst (λ (n : ℕ). In (Propose n slot vote) (actor_by node (w.actors node) act).sent) (sym here.0) (sent_by_node w keeps node act slot vote mine life))
   | inr elsewhere ↦
       subst (λ (a : Actor). In (Propose other slot vote) a.sent) (sym elsewhere) (elim (proposal_cases w node act other slot vote is_in) [
-        inl new ↦ subst (λ (a : Actor). In (Propose other slot vote) a.sent) elsewhere (subst (λ (a : Actor). In (Propose other slot vote) a.sent) (sym (at_node w node act other new.sender_is)) (subst (λ (n : ℕ). In (Propose n slot vote) (actor_by node (w.actors node) act).sent) (sym new.sender_is) (sent_proposed w node act slot vote new.by)))
+        | inl new ↦ subst (λ (a : Actor). In (Propose other slot vote) a.sent) elsewhere (subst (λ (a : Actor). In (Propose other slot vote) a.sent) (sym (at_node w node act other new.sender_is)) (subst (λ (n : ℕ). In (Propose n slot vote) (actor_by node (w.actors node) act).sent) (sym new.sender_is) (sent_proposed w node act slot vote new.by)))
         | inr old ↦ keeps.sent other slot vote old (same ∙ ap (λ (a : Actor). a.incarnation) elsewhere)
       ])
 ]
-    where
-      at_node : (w : World) (node : ℕ) (act : Act) (other : ℕ) → other ≡ node → (after w node act).actors other ≡ actor_by node (w.actors node) act
-      at_node w node act other is = ap (after w node act).actors is ∙ changed_here w.actors node (actor_by node (w.actors node) act)
+  where
+    at_node : (w : World) (node : ℕ) (act : Act) (other : ℕ) → other ≡ node → (after w node act).actors other ≡ actor_by node (w.actors node) act
+    at_node w node act other is = ap (after w node act).actors is ∙ changed_here w.actors node (actor_by node (w.actors node) act)
 
 -- a new proposal and an old one at one ballot are of one actor, which proposes once at a ballot
 single_new : (w : World) → Keeps w → (node : ℕ) (act : Act) → May w node act → (slot : Slot) (n : ℕ) (one other : Vote) → act ≡ Proposes slot one → In (Propose n slot other) w.packets → one.ballot ≡ other.ballot → one.chain ≡ other.chain
@@ -458,12 +431,12 @@ same_act one other slot same = let votes : one ≡ other = cc in ap (λ (v : Vot
 single_after : (w : World) → Keeps w → (node : ℕ) (act : Act) → May w node act → (slot : Slot) (m n : ℕ) (one other : Vote) → In (Propose m slot one) (after w node act).packets → In (Propose n slot other) (after w node act).packets → one.ballot ≡ other.ballot → one.chain ≡ other.chain
 single_after w keeps node act may slot m n one other in_one in_other same =
     elim (proposal_cases w node act m slot one in_one) [
-      inl new ↦ elim (proposal_cases w node act n slot other in_other) [
-        inl again ↦ same_act one other slot (sym new.by ∙ again.by)
+      | inl new ↦ elim (proposal_cases w node act n slot other in_other) [
+        | inl again ↦ same_act one other slot (sym new.by ∙ again.by)
         | inr old ↦ single_new w keeps node act may slot n one other new.by old same
       ]
       | inr old ↦ elim (proposal_cases w node act n slot other in_other) [
-        inl new ↦ sym (single_new w keeps node act may slot m other one new.by old (sym same))
+        | inl new ↦ sym (single_new w keeps node act may slot m other one new.by old (sym same))
         | inr both ↦ keeps.single slot m n one other old both same
       ]
     ]
@@ -480,7 +453,7 @@ heard w keeps node (Refuses slot ballot) may packet is_in = keeps.received node 
 heard w keeps node (Tells id name told) may packet is_in = keeps.received node packet is_in
 heard w keeps node (Prepares slot ballot) may packet is_in = keeps.received node packet is_in
 heard w keeps node (Proposes slot vote) may packet is_in = keeps.received node packet is_in
-heard w keeps node (Begins request) may packet is_in = keeps.received node packet is_in
+heard w keeps node (Begins ticket request) may packet is_in = keeps.received node packet is_in
 heard w keeps node (Asks id ticket) may packet is_in = keeps.received node packet is_in
 heard w keeps node (Settles ticket) may packet is_in = keeps.received node packet is_in
 heard w keeps node (Replies ticket id answer) may packet is_in = keeps.received node packet is_in
@@ -494,7 +467,7 @@ heard w keeps node Stops may packet is_in = keeps.received node packet is_in
 received_after : (w : World) → Keeps w → (node : ℕ) (act : Act) → May w node act → (other : ℕ) (packet : Packet) → In packet ((after w node act).actors other).received → In packet (after w node act).packets
 received_after w keeps node act may other packet is_in =
     (grows w node act may).packets packet (elim (changed_cases w.actors node (actor_by node (w.actors node) act) other) [
-      inl here ↦ heard w keeps node act may packet (subst (λ (a : Actor). In packet a.received) here.1 is_in)
+      | inl here ↦ heard w keeps node act may packet (subst (λ (a : Actor). In packet a.received) here.1 is_in)
       | inr elsewhere ↦ keeps.received other packet (subst (λ (a : Actor). In packet a.received) elsewhere is_in)
     ])
 

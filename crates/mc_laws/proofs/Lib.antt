@@ -5,3 +5,4 @@ pub mod Lengths
 pub mod Membership
 pub mod Growth
 pub mod Keeping
+pub mod Links

@@ -1,6 +1,6 @@
 -- Members of lists, and slots that are the same.
-use Rattle.std.proofs.Common.{◌≡◌, ◌⊎◌, ℕ, Bool, true, false, List, [], ◌∷◌, ◌++◌, refl, sym, ap, subst, inl, inr}
-use Rattle.std.specs.Prelude.{◌==◌, ◌&&◌, if◌then◌else◌}
+use Rattle.std.proofs.Common.{◌≡◌, ◌⊎◌, ℕ, Bool, true, false, List, [], ◌∷◌, ◌++◌, map, filter, refl, sym, ap, subst, inl, inr}
+use Rattle.std.specs.Prelude.{◌==◌, ◌&&◌, cond}
 use Rattle.std.proofs.lemmas.Bool.{and_parts, eqb-true}
 use Rattle.mc_model.specs.OneSlot.{In}
 use Rattle.mc_model.specs.Packet.{Slot, same_slot}
@@ -33,3 +33,23 @@ slots_same a b same =
 pub either : (test : Bool) → (test ≡ true) ⊎ (test ≡ false)
 either true = inl refl
 either false = inr refl
+
+-- a member of a mapped list, and the one that it was made of
+pub record MadeOf {A : Type 0} (f : A → A) (xs : List A) (y : A) : Type 0 where
+  pub from : A
+  pub member : In from xs
+  pub made : y ≡ f from
+
+pub in_map : {A : Type 0} (f : A → A) (xs : List A) (y : A) → In y (map f xs) → MadeOf f xs y
+in_map f [] y is_in = absurd is_in
+in_map f (x ∷ xs) y (inl same) = record { from = x; member = inl refl; made = same }
+in_map f (x ∷ xs) y (inr later) = let m = in_map f xs y later in record { from = m.from; member = inr m.member; made = m.made }
+
+filtered : {A : Type 0} (b : Bool) (x y : A) (rest xs : List A) → (In y rest → In y xs) → In y (cond b (x ∷ rest) rest) → In y (x ∷ xs)
+filtered true x y rest xs kept (inl same) = inl same
+filtered true x y rest xs kept (inr later) = inr (kept later)
+filtered false x y rest xs kept later = inr (kept later)
+
+pub in_filter : {A : Type 0} (test : A → Bool) (xs : List A) (y : A) → In y (filter test xs) → In y xs
+in_filter test [] y is_in = is_in
+in_filter test (x ∷ xs) y is_in = filtered (test x) x y (filter test xs) xs (in_filter test xs y) is_in

@@ -11,3 +11,4 @@ pub mod Knowledge
 pub mod Proposal
 pub mod Replies
 pub mod World
+pub mod Fate

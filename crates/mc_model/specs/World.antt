@@ -26,8 +26,8 @@ pub data Act : Type 0 where
   -- the proposer asks for promises and for votes
   Prepares : Slot → ℕ → Act
   Proposes : Slot → Vote → Act
-  -- a request comes and waits, its questions are asked, it is settled, and it is answered
-  Begins : Request → Act
+  -- a request comes and waits under a ticket, its questions are asked, it is settled, and it is answered
+  Begins : ℕ → Request → Act
   Asks : ℕ → ℕ → Act
   Settles : ℕ → Act
   Replies : ℕ → ℕ → Answer → Act
@@ -104,11 +104,11 @@ pub record MayGrant (w : World) (node : ℕ) (slot : Slot) : Type 0 where
   pub unused : IsNotClosed (w.actors node) slot
 
 -- a submit_sm gets the next id, and its message may be taken
-abbrev pub MayBegin : ℕ → Actor → Request → Type 0
-MayBegin node a (Submit id message) =
+abbrev pub MayWait : ℕ → Actor → Request → Type 0
+MayWait node a (Submit id message) =
     (a.serial ≤ 99999) × (id ≡ id_of node a.incarnation a.serial) × IsTaken id (record { node = node; incarnation = a.incarnation }) a.clock message
-MayBegin node a (Query id account source) = Unit {0}
-MayBegin node a (Cancel id account source destination) = Unit {0}
+MayWait node a (Query id account source) = Unit {0}
+MayWait node a (Cancel id account source destination) = Unit {0}
 
 -- a request waits under a ticket
 pub record IsWaiting (a : Actor) (ticket : ℕ) : Type 0 where
@@ -168,7 +168,7 @@ Needs w node (Tells id name told) = MayTell w node id name told
 Needs w node (Prepares slot ballot) = OwnBallot w node ballot
 Needs w node (Proposes slot vote) =
     MayPropose w.nodes (λ packet. In packet w.packets) (StandsIn w) (IsChosenIn w) node (w.actors node) slot vote
-Needs w node (Begins request) = MayBegin node (w.actors node) request
+Needs w node (Begins ticket request) = (ticket ≡ (w.actors node).ticket) × MayWait node (w.actors node) request
 Needs w node (Asks id ticket) = MayAsk (w.actors node) id ticket
 Needs w node (Settles ticket) = MaySettle w node ticket
 Needs w node (Replies ticket id answer) = MayReply w node ticket id answer
@@ -227,7 +227,7 @@ abbrev pub actor_by : ℕ → Actor → Act → Actor
 actor_by node a (Receives packet) = record a { received = packet ∷ a.received }
 actor_by node a (Prepares slot ballot) = record a { sent = Prepare node slot ballot ∷ a.sent }
 actor_by node a (Proposes slot vote) = record a { sent = Propose node slot vote ∷ a.sent }
-actor_by node a (Begins request) = record a {
+actor_by node a (Begins ticket request) = record a {
   serial = next_serial request a.serial;
   ticket = suc a.ticket;
   waiting = a.waiting ++ record { ticket = a.ticket; since = a.clock; request = request; settled = false } ∷ [];
@@ -267,7 +267,11 @@ start nodes serials = record {
   past = [];
 }
 
--- from a world, the acts of nodes, the oldest first, lead to another
-abbrev pub Runs : World → List (ℕ × Act) → World → Type 0
-Runs w [] v = v ≡ w
-Runs w (first ∷ others) v = May w first.0 first.1 × Runs (after w first.0 first.1) others v
+-- the world that acts of nodes lead to, and that each of them may be done where it is; the newest act first
+abbrev pub reached : World → List (ℕ × Act) → World
+reached first [] = first
+reached first (newest ∷ older) = after (reached first older) newest.0 newest.1
+
+abbrev pub IsRun : World → List (ℕ × Act) → Type 0
+IsRun first [] = Unit {0}
+IsRun first (newest ∷ older) = May (reached first older) newest.0 newest.1 × IsRun first older
