@@ -6,3 +6,6 @@ pub mod Membership
 pub mod Growth
 pub mod Keeping
 pub mod Links
+pub mod Agreement
+pub mod Fated
+pub mod Reached

@@ -1,0 +1,84 @@
+-- Of two chosen chains of a message one begins with the other.
+use Rattle.std.proofs.Common.{◌≡◌, ◌⊎◌, ℕ, suc, pred, ◌+◌, ◌<◌, ◌≤◌, List, [], ◌∷◌, ◌++◌, length, Option, Some, None, refl, sym, ◌∙◌, ap, subst, inl, inr, arith}
+use Rattle.std.proofs.lemmas.Bool.{cases_lt}
+use Rattle.mc_model.specs.Chain.{Decree, IsPermitted}
+use Rattle.mc_model.specs.Majority.{Majority}
+use Rattle.mc_model.specs.OneSlot.{Vote, vote_at, In}
+use Rattle.mc_model.specs.Packet.{Slot, slot_of, Packet, Voted}
+use Rattle.mc_model.specs.Knowledge.{Knows}
+use Rattle.mc_model.specs.World.{World, Cast, cast, IsChosenIn}
+use Rattle.mc_laws.proofs.Majorities.{both}
+use Rattle.mc_laws.proofs.Stable.{stable}
+use Rattle.mc_laws.proofs.Keeping.{Keeps, WasProposed, sound}
+use Rattle.mc_laws.proofs.Links.{Links, Standing, ChainFits, chosen_standing}
+
+-- what is chosen at some ballot
+pub record Chosen (w : World) (id : ℕ) (chain : List Decree) : Type 0 where
+  pub ballot : ℕ
+  pub chosen : IsChosenIn w (slot_of id chain) (vote_at ballot chain)
+
+pub standing : (w : World) → Keeps w → Links w → (id : ℕ) (chain : List Decree) → Chosen w id chain → Standing w (slot_of id chain) chain
+standing w keeps links id chain c = chosen_standing w keeps links (slot_of id chain) (vote_at c.ballot chain) c.chosen
+
+-- what a node knows is chosen
+pub known_chosen : (w : World) → Keeps w → (node id : ℕ) (chain : List Decree) → Knows w.nodes (w.actors node).received id chain → Chosen w id chain
+known_chosen w keeps node id chain known = record {
+  ballot = known.ballot;
+  chosen = record {
+    test = known.learned.test;
+    most = known.learned.most;
+    each = λ acceptor least most passes. keeps.fits (Voted acceptor (slot_of id chain) (vote_at known.ballot chain)) (keeps.received node _ (known.learned.each acceptor least most passes));
+  };
+}
+
+proposed : (w : World) → Keeps w → (slot : Slot) (vote : Vote) → IsChosenIn w slot vote → WasProposed w slot vote
+proposed w keeps slot vote chosen = let voter = both w.nodes _ _ chosen chosen in keeps.proposed (cast voter.node slot vote) voter.one
+
+-- two chains that are chosen in one slot are the same
+pub chosen_same : (w : World) → Keeps w → (slot : Slot) (one other : Vote) → IsChosenIn w slot one → IsChosenIn w slot other → one.chain ≡ other.chain
+chosen_same w keeps slot one other is_one is_other = elim (cases_lt one.ballot other.ballot) [
+  inl below ↦ sym (stable w.nodes _ _ _ (sound w keeps slot) one is_one other (proposed w keeps slot other is_other) (omega (arith, below)))
+  | inr above ↦ stable w.nodes _ _ _ (sound w keeps slot) other is_other one (proposed w keeps slot one is_one) above
+]
+
+-- and so are chains of one length
+same_length : (w : World) → Keeps w → (id : ℕ) (one other : List Decree) → Chosen w id one → Chosen w id other → length one ≡ length other → other ≡ one
+same_length w keeps id one other is_one is_other same =
+    let slots : slot_of id one ≡ slot_of id other = ap (λ (n : ℕ). record { id = id; place = pred n }) same in
+    chosen_same w keeps (slot_of id other) (vote_at is_other.ballot other) (vote_at is_one.ballot one) is_other.chosen (subst (λ (s : Slot). IsChosenIn w s (vote_at is_one.ballot one)) slots is_one.chosen)
+
+-- a chain begins with another
+pub record Begins (chain first : List Decree) : Type 0 where
+  pub more : List Decree
+  pub chain_is : chain ≡ more ++ first
+
+-- a chosen chain is behind what is chosen one place before
+pub behind : (w : World) → Keeps w → Links w → (id : ℕ) (next newest : Decree) (older : List Decree) → Chosen w id (next ∷ newest ∷ older) → Chosen w id (newest ∷ older)
+behind w keeps links id next newest older chosen =
+    let s = standing w keeps links id (next ∷ newest ∷ older) chosen in
+    record { ballot = s.fits.ballot; chosen = s.fits.chosen }
+
+not_empty : (w : World) → Keeps w → Links w → (id : ℕ) (chain : List Decree) → Chosen w id chain → 1 ≤ length chain
+not_empty w keeps links id [] chosen = absurd (standing w keeps links id [] chosen).permitted
+not_empty w keeps links id (newest ∷ older) chosen = omega arith
+
+pub begins : (w : World) → Keeps w → Links w → (id : ℕ) (first chain : List Decree) → Chosen w id first → Chosen w id chain → length first ≤ length chain → Begins chain first
+begins w keeps links id first [] is_first is_chain long = absurd (let some = not_empty w keeps links id [] is_chain in omega (arith, some))
+begins w keeps links id first (next ∷ []) is_first is_chain long =
+    let some = not_empty w keeps links id first is_first in
+    record { more = []; chain_is = same_length w keeps id first (next ∷ []) is_first is_chain (omega (arith, some, long)) }
+begins w keeps links id first (next ∷ newest ∷ older) is_first is_chain long = elim (cases_lt (length first) (length (next ∷ newest ∷ older))) [
+  inl shorter ↦ 
+      let b = begins w keeps links id first (newest ∷ older) is_first (behind w keeps links id next newest older is_chain) (omega (arith, shorter)) in
+      record { more = next ∷ b.more; chain_is = ap (λ (c : List Decree). next ∷ c) b.chain_is }
+  | inr same ↦ record { more = []; chain_is = same_length w keeps id first (next ∷ newest ∷ older) is_first is_chain (omega (arith, same, long)) }
+]
+
+-- the chain that has one decree more, of a longer one that is chosen
+pub record Extended (w : World) (id : ℕ) (chain : List Decree) : Type 0 where
+  pub next : Decree
+  pub chosen : Chosen w id (next ∷ chain)
+
+pub extended : (w : World) → Keeps w → Links w → (id : ℕ) (last : Decree) (more chain : List Decree) → Chosen w id (last ∷ (more ++ chain)) → Extended w id chain
+extended w keeps links id last [] chain chosen = record { next = last; chosen = chosen }
+extended w keeps links id last (next ∷ more) chain chosen = extended w keeps links id next more chain (behind w keeps links id last next (more ++ chain) chosen)

@@ -1,0 +1,84 @@
+-- What holds of every world that acts lead to.
+use Rattle.std.proofs.Common.{◌≡◌, ◌⊎◌, ℕ, ◌+◌, ◌<◌, ◌≤◌, List, [], ◌∷◌, ◌++◌, length, Option, Some, None, refl, sym, ◌∙◌, ap, subst, inl, inr, arith}
+use Rattle.std.proofs.lemmas.Bool.{cases_lt}
+use Rattle.mc_model.specs.Chain.{Author, Decree, Kind, Attempt, Final, Delivered, IsPermitted, final_in}
+use Rattle.mc_model.specs.OneSlot.{Vote, vote_at, In}
+use Rattle.mc_model.specs.Packet.{Slot, slot_of}
+use Rattle.mc_model.specs.World.{World, Act, Grants, Deed, May, IsChosenIn, after, start, reached, IsRun}
+use Rattle.mc_model.specs.Fate.{States, IsGrant, IsDelivery}
+use Rattle.mc_laws.proofs.Fates.{fate_is_last}
+use Rattle.mc_laws.proofs.Membership.{in_right}
+use Rattle.mc_laws.proofs.Keeping.{Keeps, keeps_start, keeps_after}
+use Rattle.mc_laws.proofs.Links.{Links, links_start, links_after}
+use Rattle.mc_laws.proofs.Agreement.{Chosen, standing, Begins, begins}
+use Rattle.mc_laws.proofs.Fated.{Timely, AllTimely, Told, told_start, told_after}
+
+pub record Holds (w : World) : Type 0 where
+  pub keeps : Keeps w
+  pub links : Links w
+  pub told : Told w
+
+pub holds_after : (w : World) → Holds w → (node : ℕ) (act : Act) → May w node act → Holds (after w node act)
+holds_after w h node act may = record {
+  keeps = keeps_after w h.keeps node act may;
+  links = links_after w h.keeps h.links node act may;
+  told = told_after w h.keeps h.links h.told node act may;
+}
+
+pub holds : (nodes : ℕ) (serials : ℕ → ℕ) (acts : List (ℕ × Act)) → IsRun (start nodes serials) acts → Holds (reached (start nodes serials) acts)
+holds nodes serials [] run = record { keeps = keeps_start nodes serials; links = links_start nodes serials; told = told_start nodes serials }
+holds nodes serials (newest ∷ older) run = holds_after (reached (start nodes serials) older) (holds nodes serials older run.1) newest.0 newest.1 run.0
+
+-- ---- one fate
+
+-- two chosen chains that have fates, of which the first is not longer
+fates_same : (w : World) → Holds w → (id : ℕ) (one other : List Decree) (first second : Final) → Chosen w id one → Chosen w id other → final_in one ≡ Some first → final_in other ≡ Some second → length one ≤ length other → first ≡ second
+fates_same w h id one other first second is_one is_other ends_one ends_other long =
+    let b = begins w h.keeps h.links id one other is_one is_other long in
+    let s = standing w h.keeps h.links id other is_other in
+    let last = fate_is_last id one b.more first (subst (IsPermitted id) b.chain_is s.permitted) ends_one in
+    let same : other ≡ one = b.chain_is ∙ ap (λ (m : List Decree). m ++ one) last in
+    let both : Some first ≡ Some second = sym ends_one ∙ ap final_in (sym same) ∙ ends_other in
+    cc
+
+pub one_fate : (w : World) → Holds w → (one other : Deed) (id : ℕ) (first second : Final) → In one w.past → In other w.past → States one id first → States other id second → first ≡ second
+one_fate w h one other id first second in_one in_other s t =
+    let is_one = h.told.chosen one id s.chain in_one s.tells in
+    let is_other = h.told.chosen other id t.chain in_other t.tells in
+    elim (cases_lt (length s.chain) (length t.chain)) [
+      inl shorter ↦ fates_same w h id s.chain t.chain first second is_one is_other s.state t.state (omega (arith, shorter))
+      | inr longer ↦ sym (fates_same w h id t.chain s.chain second first is_other is_one t.state s.state longer)
+    ]
+
+-- ---- deeds in their order
+
+-- the deed that stands before these older ones was timely
+timely_at : (past newer : List Deed) (deed : Deed) (older : List Deed) → AllTimely past → past ≡ newer ++ deed ∷ older → Timely deed older
+timely_at [] [] deed older timely is = cc
+timely_at [] (x ∷ newer) deed older timely is = cc
+timely_at (first ∷ past) [] deed older timely is =
+    let heads : first ≡ deed = cc in
+    let tails : past ≡ older = cc in
+    subst (λ (ds : List Deed). Timely deed ds) tails (subst (λ (d : Deed). Timely d past) heads timely.0)
+timely_at (first ∷ past) (x ∷ newer) deed older timely is =
+    let tails : past ≡ newer ++ deed ∷ older = cc in
+    timely_at past newer deed older timely.1 tails
+
+-- what came after one deed has it among what came before
+no_grant : (past newer : List Deed) (stating granting : Deed) (older : List Deed) (id : ℕ) (final : Final) → AllTimely past → past ≡ newer ++ stating ∷ older → In granting newer → States stating id final → IsGrant granting id → ⊥
+no_grant past [] stating granting older id final timely is later states grant = later
+no_grant [] (x ∷ newer) stating granting older id final timely is later states grant = cc
+no_grant (first ∷ past) (x ∷ newer) stating granting older id final timely is (inl here) states grant =
+    let heads : first ≡ x = cc in
+    let tails : past ≡ newer ++ stating ∷ older = cc in
+    timely.0.grants grant.slot stating final (ap (λ (d : Deed). d.act) (heads ∙ sym here) ∙ grant.grants) (subst (λ (ds : List Deed). In stating ds) (sym tails) (in_right stating newer (stating ∷ older) (inl refl))) (subst (λ (i : ℕ). States stating i final) (sym grant.about) states)
+no_grant (first ∷ past) (x ∷ newer) stating granting older id final timely is (inr later) states grant =
+    let tails : past ≡ newer ++ stating ∷ older = cc in
+    no_grant past newer stating granting older id final timely.1 tails later states grant
+
+pub no_grant_after : (w : World) → Holds w → (newer : List Deed) (stating granting : Deed) (older : List Deed) (id : ℕ) (final : Final) → w.past ≡ newer ++ stating ∷ older → In granting newer → States stating id final → IsGrant granting id → ⊥
+no_grant_after w h newer stating granting older id final = no_grant w.past newer stating granting older id final h.told.timely
+
+pub stands_on_delivery : (w : World) → Holds w → (newer : List Deed) (stating : Deed) (older : List Deed) (id : ℕ) → w.past ≡ newer ++ stating ∷ older → (states : States stating id Delivered) → IsDelivery id states.chain older
+stands_on_delivery w h newer stating older id is states =
+    (timely_at w.past newer stating older h.told.timely is).delivers id states.chain states.tells states.state
