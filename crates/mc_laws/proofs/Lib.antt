@@ -9,3 +9,4 @@ pub mod Links
 pub mod Agreement
 pub mod Fated
 pub mod Reached
+pub mod Freshness
