@@ -58,7 +58,7 @@ behind w keeps links id next newest older chosen =
     let s = standing w keeps links id (next ∷ newest ∷ older) chosen in
     record { ballot = s.fits.ballot; chosen = s.fits.chosen }
 
-not_empty : (w : World) → Keeps w → Links w → (id : ℕ) (chain : List Decree) → Chosen w id chain → 1 ≤ length chain
+pub not_empty : (w : World) → Keeps w → Links w → (id : ℕ) (chain : List Decree) → Chosen w id chain → 1 ≤ length chain
 not_empty w keeps links id [] chosen = absurd (standing w keeps links id [] chosen).permitted
 not_empty w keeps links id (newest ∷ older) chosen = omega arith
 

@@ -6,7 +6,7 @@ use Rattle.mc_model.specs.OneSlot.{Vote, vote_at, In}
 use Rattle.mc_model.specs.Packet.{Slot, slot_of}
 use Rattle.mc_model.specs.Actor.{Actor, Request, Submit, Query, Cancel, Waiting, Outcome, Concluded, Unanswered, decree_of}
 use Rattle.mc_model.specs.Knowledge.{Knows}
-use Rattle.mc_model.specs.Replies.{Answer, Accepted, Shown, Removed, Kept, NotOwner, NotMatched, Unknown, TooLate, FitsRequest, IsAnswer, id_in}
+use Rattle.mc_model.specs.Replies.{Answer, Accepted, Shown, Removed, Kept, NotOwner, NotMatched, Unknown, TooLate, IsAccepted, FitsRequest, IsAnswer, id_in}
 use Rattle.mc_model.specs.World.{World, Act, Receives, Promises, Votes, Refuses, Tells, Prepares, Proposes, Begins, Asks, Settles, Replies, Reports, Grants, Answers, Abandons, Ticks, Stops, Restarts, Deed, May, MayReply, MayGrant, after, actor_by, start}
 use Rattle.mc_model.specs.Fate.{shown_by, TellsOf, States, CameBefore, deed_by, IsDelivery}
 use Rattle.mc_laws.proofs.Fates.{fate_is_last}
@@ -77,7 +77,13 @@ abbrev pub AllTimely : List Deed → Type 0
 AllTimely [] = Unit {0}
 AllTimely (deed ∷ older) = Timely deed older × AllTimely older
 
+-- a message of which a submit_sm was accepted has a chosen chain
+pub record HasChain (w : World) (id : ℕ) : Type 0 where
+  pub chain : List Decree
+  pub chosen : Chosen w id chain
+
 pub record Told (w : World) : Type 0 where
+  pub accepted : (deed : Deed) (ticket id : ℕ) → In deed w.past → deed.act ≡ Replies ticket id Accepted → HasChain w id
   pub chosen : (deed : Deed) (id : ℕ) (chain : List Decree) → In deed w.past → TellsOf deed.act id chain → Chosen w id chain
   pub granted : (node : ℕ) (slot : Slot) → In slot (w.actors node).granted → In (deed_by (record { node = node; incarnation = (w.actors node).incarnation }) (Grants slot)) w.past
   pub timely : AllTimely w.past
@@ -89,6 +95,24 @@ chosen_after w keeps told node act may deed id chain is_in tells =
       | inr old ↦ told.chosen deed id chain old tells
     ] in
     record { ballot = c.ballot; chosen = chosen_still w (after w node act) (grows w node act may) (slot_of id chain) (vote_at c.ballot chain) c.chosen }
+
+accepted_known : (nodes node : ℕ) (a : Actor) (w : Waiting) (request : Request) → FitsRequest nodes node a w request Accepted → IsAccepted nodes a (id_in request)
+accepted_known nodes node a w (Submit id message) fits = fits
+accepted_known nodes node a w (Query id account source) fits = absurd fits
+accepted_known nodes node a w (Cancel id account source destination) fits = absurd fits
+
+accepted_new : (w : World) → Keeps w → (node ticket id : ℕ) → MayReply w node ticket id Accepted → HasChain w id
+accepted_new w keeps node ticket id may =
+    let a = accepted_known w.nodes node (w.actors node) may.waiting may.waiting.request may.fits in
+    subst (HasChain w) may.about (record { chain = a.chain; chosen = known_chosen w keeps node (id_in may.waiting.request) a.chain a.known })
+
+accepted_after : (w : World) → Keeps w → Told w → (node : ℕ) (act : Act) → May w node act → (deed : Deed) (ticket id : ℕ) → In deed (after w node act).past → deed.act ≡ Replies ticket id Accepted → HasChain (after w node act) id
+accepted_after w keeps told node act may deed ticket id is_in is =
+    let c : HasChain w id = elim is_in [
+      inl new ↦ accepted_new w keeps node ticket id (subst (May w node) (ap (λ (d : Deed). d.act) (sym new) ∙ is) may).needs
+      | inr old ↦ told.accepted deed ticket id old is
+    ] in
+    record { chain = c.chain; chosen = record { ballot = c.chosen.ballot; chosen = chosen_still w (after w node act) (grows w node act may) (slot_of id c.chain) (vote_at c.chosen.ballot c.chain) c.chosen.chosen } }
 
 -- ---- an attempt that may be granted is of no message that has a fate
 
@@ -259,6 +283,7 @@ timely_new w keeps links told node act may = record {
 
 pub told_after : (w : World) → Keeps w → Links w → Told w → (node : ℕ) (act : Act) → May w node act → Told (after w node act)
 told_after w keeps links told node act may = record {
+  accepted = accepted_after w keeps told node act may;
   chosen = chosen_after w keeps told node act may;
   granted = granted_after w told node act;
   timely = (timely_new w keeps links told node act may, told.timely);
@@ -266,6 +291,7 @@ told_after w keeps links told node act may = record {
 
 pub told_start : (nodes : ℕ) (serials : ℕ → ℕ) → Told (start nodes serials)
 told_start nodes serials = record {
+  accepted = λ deed ticket id is_in is. absurd is_in;
   chosen = λ deed id chain is_in tells. absurd is_in;
   granted = λ node slot is_in. absurd is_in;
   timely = tt;

@@ -276,3 +276,24 @@ fresh_after before w keeps name id fresh node act may = record {
   about = about_after before w name id fresh node act;
   named = named_after w node act name fresh.named;
 }
+
+-- the step in which it comes
+pub fresh_begun : (w : World) → Names w → (node ticket : ℕ) (request : Request) → May w node (Begins ticket request) → Fresh w (record { node = node; incarnation = (w.actors node).incarnation; ticket = ticket }) (id_in request) (after w node (Begins ticket request))
+fresh_begun w names node ticket request may =
+    let name : Name = record { node = node; incarnation = (w.actors node).incarnation; ticket = ticket } in
+    let here = actor_here w node (Begins ticket request) in
+    let is_next : ticket ≡ (w.actors node).ticket = may.needs.0 in
+    record {
+      votes = λ c is_in. is_in;
+      asks = λ sender other is_in. absurd (not_given (w.actors node) ticket (names.asked sender other name is_in) is_next);
+      tells = λ teller told is_in place vote voted. let a = names.told teller name told is_in in absurd (not_given (w.actors node) ticket (names.asked a.sender a.id name a.sent) is_next);
+      about = subst (IsAbout name (id_in request)) (sym here) (λ same waiting is_in is. elim (in_either waiting (w.actors node).waiting _ is_in) [
+        inl old ↦ absurd (let below = names.tickets node waiting old in omega (arith, below, is, is_next))
+        | inr new ↦ of_only (λ (x : Waiting). id_in x.request ≡ id_in request) _ waiting refl new
+      ]);
+      named = subst (λ (a : Actor). WasNamed a name) (sym here) (inr (refl, omega (arith, is_next)));
+    }
+    where
+      not_given : (a : Actor) (ticket : ℕ) → WasNamed a (record { node = node; incarnation = a.incarnation; ticket = ticket }) → ticket ≡ a.ticket → ⊥
+      not_given a ticket (inl before) is = omega (arith, before)
+      not_given a ticket (inr now) is = let below = now.1 in omega (arith, below, is)

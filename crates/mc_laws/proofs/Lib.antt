@@ -8,5 +8,6 @@ pub mod Keeping
 pub mod Links
 pub mod Agreement
 pub mod Fated
-pub mod Reached
 pub mod Freshness
+pub mod Reached
+pub mod Answers

@@ -11,33 +11,40 @@ use Rattle.mc_laws.proofs.Membership.{in_right}
 use Rattle.mc_laws.proofs.Keeping.{Keeps, keeps_start, keeps_after}
 use Rattle.mc_laws.proofs.Links.{Links, links_start, links_after}
 use Rattle.mc_laws.proofs.Agreement.{Chosen, standing, Begins, begins}
+use Rattle.mc_laws.proofs.Freshness.{Names, names_start, names_after}
 use Rattle.mc_laws.proofs.Fated.{Timely, AllTimely, Told, told_start, told_after}
 
 pub record Holds (w : World) : Type 0 where
   pub keeps : Keeps w
   pub links : Links w
   pub told : Told w
+  pub names : Names w
 
 pub holds_after : (w : World) → Holds w → (node : ℕ) (act : Act) → May w node act → Holds (after w node act)
 holds_after w h node act may = record {
   keeps = keeps_after w h.keeps node act may;
   links = links_after w h.keeps h.links node act may;
   told = told_after w h.keeps h.links h.told node act may;
+  names = names_after w h.keeps h.names node act may;
 }
 
 pub holds : (nodes : ℕ) (serials : ℕ → ℕ) (acts : List (ℕ × Act)) → IsRun (start nodes serials) acts → Holds (reached (start nodes serials) acts)
-holds nodes serials [] run = record { keeps = keeps_start nodes serials; links = links_start nodes serials; told = told_start nodes serials }
+holds nodes serials [] run = record { keeps = keeps_start nodes serials; links = links_start nodes serials; told = told_start nodes serials; names = names_start nodes serials }
 holds nodes serials (newest ∷ older) run = holds_after (reached (start nodes serials) older) (holds nodes serials older run.1) newest.0 newest.1 run.0
 
 -- ---- one fate
 
--- two chosen chains that have fates, of which the first is not longer
-fates_same : (w : World) → Holds w → (id : ℕ) (one other : List Decree) (first second : Final) → Chosen w id one → Chosen w id other → final_in one ≡ Some first → final_in other ≡ Some second → length one ≤ length other → first ≡ second
-fates_same w h id one other first second is_one is_other ends_one ends_other long =
+-- a chosen chain with a fate is as long as any
+pub fate_longest : (w : World) → Holds w → (id : ℕ) (one other : List Decree) (final : Final) → Chosen w id one → Chosen w id other → final_in one ≡ Some final → length one ≤ length other → other ≡ one
+fate_longest w h id one other final is_one is_other ends long =
     let b = begins w h.keeps h.links id one other is_one is_other long in
     let s = standing w h.keeps h.links id other is_other in
-    let last = fate_is_last id one b.more first (subst (IsPermitted id) b.chain_is s.permitted) ends_one in
-    let same : other ≡ one = b.chain_is ∙ ap (λ (m : List Decree). m ++ one) last in
+    let last = fate_is_last id one b.more final (subst (IsPermitted id) b.chain_is s.permitted) ends in
+    b.chain_is ∙ ap (λ (m : List Decree). m ++ one) last
+
+fates_same : (w : World) → Holds w → (id : ℕ) (one other : List Decree) (first second : Final) → Chosen w id one → Chosen w id other → final_in one ≡ Some first → final_in other ≡ Some second → length one ≤ length other → first ≡ second
+fates_same w h id one other first second is_one is_other ends_one ends_other long =
+    let same = fate_longest w h id one other first is_one is_other ends_one long in
     let both : Some first ≡ Some second = sym ends_one ∙ ap final_in (sym same) ∙ ends_other in
     cc
 

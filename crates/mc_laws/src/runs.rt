@@ -1,10 +1,12 @@
 //! Whole runs: whatever packets are delivered, lost, repeated or reordered, and whatever nodes stop and start anew.
 
-ghost use Rattle.std.specs.Prelude.{◌≡◌, ◌⊎◌, ◌∷◌, ◌++◌, ◌≤◌, ℕ, List};
-ghost use Rattle.mc_model.specs.Chain.{Decree, Final, Delivered};
+ghost use Rattle.std.specs.Prelude.{◌≡◌, ◌⊎◌, ◌∷◌, ◌++◌, ◌≤◌, ℕ, List, Some};
+ghost use Rattle.mc_model.specs.Chain.{Decree, Final, Delivered, final_in};
 ghost use Rattle.mc_model.specs.OneSlot.{Vote, vote_at, In};
 ghost use Rattle.mc_model.specs.Packet.{Slot, Propose, slot_of};
-ghost use Rattle.mc_model.specs.World.{Act, Deed, Cast, cast, IsChosenIn, IsRun, reached, start};
+ghost use Rattle.mc_model.specs.Actor.{Request};
+ghost use Rattle.mc_model.specs.Replies.{Accepted, Shown, Unknown, id_in};
+ghost use Rattle.mc_model.specs.World.{Act, Begins, Replies, Deed, Cast, cast, IsChosenIn, IsRun, reached, start};
 ghost use Rattle.mc_model.specs.Fate.{States, IsGrant, IsDelivery};
 
 /// No two statements of a final state of one message differ, of whatever nodes, in whatever incarnations, and at whatever
@@ -31,4 +33,25 @@ pub fn delivered_stands_on_a_delivery()
         IsRun (start nodes serials) acts →
         (reached (start nodes serials) acts).past ≡ newer ++ stating ∷ older →
         (states : States stating id Delivered) → IsDelivery id states.chain older }
+{}
+
+/// A query_sm that comes after a statement of a final state of its message, and is answered ESME_ROK, is told that state. The
+/// deeds stand with the newest first: the reply, some others, the request with its ticket, and what was before it.
+pub fn a_query_is_fresh()
+    ensures { (nodes : ℕ) (serials : ℕ → ℕ) (acts : List (ℕ × Act)) (newer : List Deed) (replying : Deed) (middle : List Deed) (beginning : Deed) (older : List Deed) (ticket : ℕ) (request : Request) (id : ℕ) (chain : List Decree) (stating : Deed) (final : Final) →
+        IsRun (start nodes serials) acts →
+        (reached (start nodes serials) acts).past ≡ newer ++ replying ∷ (middle ++ beginning ∷ older) →
+        beginning.act ≡ Begins ticket request →
+        replying ≡ record beginning { act = Replies ticket id (Shown chain) } →
+        In stating older → States stating (id_in request) final → final_in chain ≡ Some final }
+{}
+
+/// A request that comes after ESME_ROK to the submit_sm of its message is never answered that there is no such message.
+pub fn an_accepted_message_is_known()
+    ensures { (nodes : ℕ) (serials : ℕ → ℕ) (acts : List (ℕ × Act)) (newer : List Deed) (replying : Deed) (middle : List Deed) (beginning : Deed) (older : List Deed) (ticket : ℕ) (request : Request) (id : ℕ) (accepting : Deed) (taken : ℕ) →
+        IsRun (start nodes serials) acts →
+        (reached (start nodes serials) acts).past ≡ newer ++ replying ∷ (middle ++ beginning ∷ older) →
+        beginning.act ≡ Begins ticket request →
+        replying ≡ record beginning { act = Replies ticket id Unknown } →
+        In accepting older → accepting.act ≡ Replies taken (id_in request) Accepted → ⊥ }
 {}
