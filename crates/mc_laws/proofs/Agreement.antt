@@ -1,7 +1,7 @@
 -- Of two chosen chains of a message one begins with the other.
 use Rattle.std.proofs.Common.{◌≡◌, ◌⊎◌, ℕ, suc, pred, ◌+◌, ◌<◌, ◌≤◌, List, [], ◌∷◌, ◌++◌, length, Option, Some, None, refl, sym, ◌∙◌, ap, subst, inl, inr, arith}
 use Rattle.std.proofs.lemmas.Bool.{cases_lt}
-use Rattle.mc_model.specs.Chain.{Decree, IsPermitted}
+use Rattle.mc_model.specs.Chain.{Decree, IsPermitted, GoesOn}
 use Rattle.mc_model.specs.Majority.{Majority}
 use Rattle.mc_model.specs.OneSlot.{Vote, vote_at, In}
 use Rattle.mc_model.specs.Packet.{Slot, slot_of, Packet, Voted}
@@ -47,11 +47,6 @@ same_length w keeps id one other is_one is_other same =
     let slots : slot_of id one ≡ slot_of id other = ap (λ (n : ℕ). record { id = id; place = pred n }) same in
     chosen_same w keeps (slot_of id other) (vote_at is_other.ballot other) (vote_at is_one.ballot one) is_other.chosen (subst (λ (s : Slot). IsChosenIn w s (vote_at is_one.ballot one)) slots is_one.chosen)
 
--- a chain begins with another
-pub record Begins (chain first : List Decree) : Type 0 where
-  pub more : List Decree
-  pub chain_is : chain ≡ more ++ first
-
 -- a chosen chain is behind what is chosen one place before
 pub behind : (w : World) → Keeps w → Links w → (id : ℕ) (next newest : Decree) (older : List Decree) → Chosen w id (next ∷ newest ∷ older) → Chosen w id (newest ∷ older)
 behind w keeps links id next newest older chosen =
@@ -62,7 +57,7 @@ pub not_empty : (w : World) → Keeps w → Links w → (id : ℕ) (chain : List
 not_empty w keeps links id [] chosen = absurd (standing w keeps links id [] chosen).permitted
 not_empty w keeps links id (newest ∷ older) chosen = omega arith
 
-pub begins : (w : World) → Keeps w → Links w → (id : ℕ) (first chain : List Decree) → Chosen w id first → Chosen w id chain → length first ≤ length chain → Begins chain first
+pub begins : (w : World) → Keeps w → Links w → (id : ℕ) (first chain : List Decree) → Chosen w id first → Chosen w id chain → length first ≤ length chain → GoesOn chain first
 begins w keeps links id first [] is_first is_chain long = absurd (let some = not_empty w keeps links id [] is_chain in omega (arith, some))
 begins w keeps links id first (next ∷ []) is_first is_chain long =
     let some = not_empty w keeps links id first is_first in
@@ -82,3 +77,15 @@ pub record Extended (w : World) (id : ℕ) (chain : List Decree) : Type 0 where
 pub extended : (w : World) → Keeps w → Links w → (id : ℕ) (last : Decree) (more chain : List Decree) → Chosen w id (last ∷ (more ++ chain)) → Extended w id chain
 extended w keeps links id last [] chain chosen = record { next = last; chosen = chosen }
 extended w keeps links id last (next ∷ more) chain chosen = extended w keeps links id next more chain (behind w keeps links id last next (more ++ chain) chosen)
+
+-- whatever the ballots, and whatever the places
+pub agree : (w : World) → Keeps w → Links w → (one other : Slot) (first second : Vote) → one.id ≡ other.id → IsChosenIn w one first → IsChosenIn w other second → GoesOn first.chain second.chain ⊎ GoesOn second.chain first.chain
+agree w keeps links one other first second same is_one is_other =
+    let s = chosen_standing w keeps links one first is_one in
+    let t = chosen_standing w keeps links other second is_other in
+    let a : Chosen w one.id first.chain = record { ballot = first.ballot; chosen = subst (λ (x : Slot). IsChosenIn w x first) s.place is_one } in
+    let b : Chosen w one.id second.chain = record { ballot = second.ballot; chosen = subst (λ (i : ℕ). IsChosenIn w (slot_of i second.chain) second) (sym same) (subst (λ (x : Slot). IsChosenIn w x second) t.place is_other) } in
+    elim (cases_lt (length first.chain) (length second.chain)) [
+      inl shorter ↦ inr (begins w keeps links one.id first.chain second.chain a b (omega (arith, shorter)))
+      | inr longer ↦ inl (begins w keeps links one.id second.chain first.chain b a longer)
+    ]

@@ -5,13 +5,13 @@ use Rattle.mc_model.specs.Majority.{Majority}
 use Rattle.mc_model.specs.OneSlot.{Vote, vote_at, In}
 use Rattle.mc_model.specs.Packet.{Slot, slot_at, slot_of, Packet, Name, Told, Tell}
 use Rattle.mc_model.specs.Actor.{Actor, Request, Submit, Query, Cancel, Waiting}
-use Rattle.mc_model.specs.Knowledge.{Knows, KnowsNothing, HasTold, IsReached, IsSettled}
+use Rattle.mc_model.specs.Knowledge.{Knows, KnowsNothing, HasTold, IsReached, IsSettled, Covers}
 use Rattle.mc_model.specs.Replies.{Answer, Accepted, Shown, Unknown, IsShown, IsUnknown, FitsRequest, IsAnswer, id_in, name_of}
 use Rattle.mc_model.specs.World.{World, Act, Begins, Replies, Deed, Cast, cast, May, MayReply, IsChosenIn, after, start, reached, IsRun}
 use Rattle.mc_model.specs.Fate.{States}
 use Rattle.mc_laws.proofs.Majorities.{Both, both}
 use Rattle.mc_laws.proofs.Growth.{Grows, grows}
-use Rattle.mc_laws.proofs.Links.{chosen_still}
+use Rattle.mc_laws.proofs.Links.{chosen_still, chosen_standing}
 use Rattle.mc_laws.proofs.Agreement.{Chosen, known_chosen, not_empty}
 use Rattle.mc_laws.proofs.Fated.{HasChain}
 use Rattle.mc_laws.proofs.Freshness.{HasReached, Fresh, fresh_begun, fresh_after}
@@ -63,17 +63,13 @@ grows_since first (act ∷ later) earlier run slot vote chosen =
 
 -- ---- what a majority has told covers what was chosen before
 
-abbrev IsCovered : Option (List Decree) → ℕ → Type 0
-IsCovered None place = ⊥
-IsCovered (Some chain) place = place ≤ pred (length chain)
-
-is_covered : (known : Option (List Decree)) (told : Option Told) (place : ℕ) → IsReached known told → HasReached told place → IsCovered known place
+is_covered : (known : Option (List Decree)) (told : Option Told) (place : ℕ) → IsReached known told → HasReached told place → Covers known place
 is_covered known None place reached has = absurd has
 is_covered None (Some told) place reached has = absurd reached
 is_covered (Some chain) (Some told) place reached has = omega (arith, reached, has)
 
 -- what the node knows is not shorter than what was chosen before the request came
-covered : (before w : World) → (name : Name) (id : ℕ) → Fresh before name id w → w.nodes ≡ before.nodes → Holds w → (node : ℕ) (chain : List Decree) → Chosen before id chain → (known : Option (List Decree)) → IsSettled w.nodes (w.actors node).received name known → IsCovered known (pred (length chain))
+covered : (before w : World) → (name : Name) (id : ℕ) → Fresh before name id w → w.nodes ≡ before.nodes → Holds w → (node : ℕ) (chain : List Decree) → Chosen before id chain → (known : Option (List Decree)) → IsSettled w.nodes (w.actors node).received name known → Covers known (pred (length chain))
 covered before w name id fresh same h node chain chosen known settled =
     let b = both w.nodes (λ acceptor. In (cast acceptor (slot_of id chain) (vote_at chosen.ballot chain)) before.votes) (HasTold (w.actors node).received name) (subst (λ (n : ℕ). Majority n (λ acceptor. In (cast acceptor (slot_of id chain) (vote_at chosen.ballot chain)) before.votes)) (sym same) chosen.chosen) settled.majority in
     is_covered known b.other.told (pred (length chain)) (settled.reached b.node b.other.told b.other.heard) (fresh.tells b.node b.other.told (h.keeps.received node _ b.other.heard) (pred (length chain)) (vote_at chosen.ballot chain) b.one)
@@ -195,3 +191,15 @@ pub never_unknown : (nodes : ℕ) (serials : ℕ → ℕ) (beginning : Deed) (ti
 never_unknown nodes serials beginning ticket request other older a accepting taken is_in is =
     let c = a.holds.told.accepted accepting taken (id_in request) (subst (λ (ds : List Deed). In accepting ds) (sym a.past) is_in) is in
     unknown_fresh a.before a.w a.name (id_in request) a.asked other c.chain c.chosen a.replies
+
+-- what a majority tells of a request covers what was chosen before it came
+pub settled_covers : (nodes : ℕ) (serials : ℕ → ℕ) (later : List (ℕ × Act)) (node ticket : ℕ) (request : Request) (earlier : List (ℕ × Act)) (slot : Slot) (vote : Vote) (known : Option (List Decree)) → IsRun (start nodes serials) (later ++ (node, Begins ticket request) ∷ earlier) → ((reached (start nodes serials) (later ++ (node, Begins ticket request) ∷ earlier)).actors node).incarnation ≡ ((reached (start nodes serials) earlier).actors node).incarnation → IsChosenIn (reached (start nodes serials) earlier) slot vote → slot.id ≡ id_in request → IsSettled nodes ((reached (start nodes serials) (later ++ (node, Begins ticket request) ∷ earlier)).actors node).received (record { node = node; incarnation = ((reached (start nodes serials) earlier).actors node).incarnation; ticket = ticket }) known → Covers known slot.place
+settled_covers nodes serials later node ticket request earlier slot vote known run same chosen about settled =
+    let first = start nodes serials in
+    let now = reached first (later ++ (node, Begins ticket request) ∷ earlier) in
+    let asked = asked_since nodes serials later node ticket request earlier run same in
+    let before = (holds nodes serials earlier (runs_to first later ((node, Begins ticket request) ∷ earlier) run).1) in
+    let s = chosen_standing (reached first earlier) before.keeps before.links slot vote chosen in
+    let place : slot.place ≡ pred (length vote.chain) = ap (λ (x : Slot). x.place) s.place in
+    let is : Chosen (reached first earlier) (id_in request) vote.chain = record { ballot = vote.ballot; chosen = subst (λ (i : ℕ). IsChosenIn (reached first earlier) (slot_of i vote.chain) vote) about (subst (λ (x : Slot). IsChosenIn (reached first earlier) x vote) s.place chosen) } in
+    subst (Covers known) (sym place) (covered (reached first earlier) now (record { node = node; incarnation = ((reached first earlier).actors node).incarnation; ticket = ticket }) (id_in request) asked.fresh asked.nodes asked.holds node vote.chain is known (subst (λ (n : ℕ). IsSettled n (now.actors node).received (record { node = node; incarnation = ((reached first earlier).actors node).incarnation; ticket = ticket }) known) (sym (nodes_same first (later ++ (node, Begins ticket request) ∷ earlier))) settled))

@@ -143,13 +143,13 @@ beyond_attempt w keeps links id newest older chain number final attempt is_attem
 ]
 
 -- what goes on from an attempt has it closed, or its author started anew
-open_passed : (w : World) → Links w → (node : ℕ) (slot : Slot) (attempted : Author) (next : Kind) → attempted ≡ record { node = node; incarnation = (w.actors node).incarnation } → ((outcome : Outcome) → In (slot, outcome) (w.actors node).closed → ⊥) → PassedClosed w attempted slot next ⊎ PassedLost w attempted next → ⊥
+pub open_passed : (w : World) → Links w → (node : ℕ) (slot : Slot) (attempted : Author) (next : Kind) → attempted ≡ record { node = node; incarnation = (w.actors node).incarnation } → ((outcome : Outcome) → In (slot, outcome) (w.actors node).closed → ⊥) → PassedClosed w attempted slot next ⊎ PassedLost w attempted next → ⊥
 open_passed w links node slot attempted next is unclosed (inl closed) =
     unclosed closed.outcome (links.recalls node slot closed.outcome (subst (λ (a : Author). ClosedIn w.past a slot closed.outcome) is closed.closed))
 open_passed w links node slot attempted next is unclosed (inr lost) =
     let later = subst (λ (a : Author). a.incarnation < (w.actors a.node).incarnation) is lost.later in omega (arith, later)
 
-passed_at : (w : World) (attempted : Author) (slot : Slot) (kind next : Kind) (number : ℕ) → kind ≡ Attempt number → Passed w attempted slot kind next → PassedClosed w attempted slot next ⊎ PassedLost w attempted next
+pub passed_at : (w : World) (attempted : Author) (slot : Slot) (kind next : Kind) (number : ℕ) → kind ≡ Attempt number → Passed w attempted slot kind next → PassedClosed w attempted slot next ⊎ PassedLost w attempted next
 passed_at w attempted slot kind next number is passed = subst (λ (k : Kind). Passed w attempted slot k next) is passed
 
 no_fate_at_grant : (w : World) → Keeps w → Links w → Told w → (node : ℕ) (slot : Slot) → MayGrant w node slot → (earlier : Deed) (final : Final) → In earlier w.past → States earlier slot.id final → ⊥

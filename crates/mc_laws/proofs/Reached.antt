@@ -1,18 +1,20 @@
 -- What holds of every world that acts lead to.
 use Rattle.std.proofs.Common.{◌≡◌, ◌⊎◌, ℕ, ◌+◌, ◌<◌, ◌≤◌, List, [], ◌∷◌, ◌++◌, length, Option, Some, None, refl, sym, ◌∙◌, ap, subst, inl, inr, arith}
 use Rattle.std.proofs.lemmas.Bool.{cases_lt}
-use Rattle.mc_model.specs.Chain.{Author, Decree, Kind, Attempt, Final, Delivered, IsPermitted, final_in}
+use Rattle.mc_model.specs.Chain.{Author, Decree, Kind, Attempt, Final, Delivered, IsPermitted, GoesOn, final_in}
 use Rattle.mc_model.specs.OneSlot.{Vote, vote_at, In}
-use Rattle.mc_model.specs.Packet.{Slot, slot_of}
-use Rattle.mc_model.specs.World.{World, Act, Grants, Deed, May, IsChosenIn, after, start, reached, IsRun}
+use Rattle.mc_model.specs.Packet.{Slot, Propose, slot_of}
+use Rattle.mc_model.specs.World.{World, Act, Grants, Deed, Cast, cast, May, IsChosenIn, after, start, reached, IsRun}
+use Rattle.mc_model.specs.Actor.{Outcome}
 use Rattle.mc_model.specs.Fate.{States, IsGrant, IsDelivery}
 use Rattle.mc_laws.proofs.Fates.{fate_is_last}
 use Rattle.mc_laws.proofs.Membership.{in_right}
-use Rattle.mc_laws.proofs.Keeping.{Keeps, keeps_start, keeps_after}
-use Rattle.mc_laws.proofs.Links.{Links, links_start, links_after}
-use Rattle.mc_laws.proofs.Agreement.{Chosen, standing, Begins, begins}
+use Rattle.mc_laws.proofs.Keeping.{Keeps, WasProposed, sound, keeps_start, keeps_after}
+use Rattle.mc_laws.proofs.Links.{Links, ChainFits, Standing, links_start, links_after}
+use Rattle.mc_laws.proofs.Agreement.{Chosen, standing, begins, extended, agree}
 use Rattle.mc_laws.proofs.Freshness.{Names, names_start, names_after}
-use Rattle.mc_laws.proofs.Fated.{Timely, AllTimely, Told, told_start, told_after}
+use Rattle.mc_laws.proofs.Stable.{stable}
+use Rattle.mc_laws.proofs.Fated.{open_passed, passed_at, Timely, AllTimely, Told, told_start, told_after}
 
 pub record Holds (w : World) : Type 0 where
   pub keeps : Keeps w
@@ -89,3 +91,27 @@ no_grant_after w h newer stating granting older id final = no_grant w.past newer
 pub stands_on_delivery : (w : World) → Holds w → (newer : List Deed) (stating : Deed) (older : List Deed) (id : ℕ) → w.past ≡ newer ++ stating ∷ older → (states : States stating id Delivered) → IsDelivery id states.chain older
 stands_on_delivery w h newer stating older id is states =
     (timely_at w.past newer stating older h.told.timely is).delivers id states.chain states.tells states.state
+
+-- ---- what stands behind it
+
+pub choice_stays : (w : World) → Holds w → (slot : Slot) (chosen : Vote) (acceptor : ℕ) (vote : Vote) → IsChosenIn w slot chosen → In (cast acceptor slot vote) w.votes → chosen.ballot ≤ vote.ballot → vote.chain ≡ chosen.chain
+choice_stays w h slot chosen acceptor vote is_chosen is_in =
+    stable w.nodes _ _ _ (sound w h.keeps slot) chosen is_chosen vote (h.keeps.proposed (cast acceptor slot vote) is_in)
+
+pub chains_agree : (w : World) → Holds w → (one other : Slot) (first second : Vote) → one.id ≡ other.id → IsChosenIn w one first → IsChosenIn w other second → GoesOn first.chain second.chain ⊎ GoesOn second.chain first.chain
+chains_agree w h = agree w h.keeps h.links
+
+-- a decree behind an attempt, of a chain that stands
+open_attempt : (w : World) → Holds w → (id node : ℕ) (next newest : Decree) (older : List Decree) (number : ℕ) → newest.kind ≡ Attempt number → newest.author ≡ record { node = node; incarnation = (w.actors node).incarnation } → ((outcome : Outcome) → In (slot_of id (newest ∷ older), outcome) (w.actors node).closed → ⊥) → ChainFits w id (next ∷ newest ∷ older) → ⊥
+open_attempt w h id node next newest older number attempt author unclosed fits =
+    open_passed w h.links node (slot_of id (newest ∷ older)) newest.author next.kind author unclosed (passed_at w newest.author (slot_of id (newest ∷ older)) newest.kind next.kind number attempt fits.passed)
+
+-- a chain that stands goes on from an attempt at once, or its own beginning does, which is chosen
+passes : (w : World) → Holds w → (id node : ℕ) (last : Decree) (more : List Decree) (newest : Decree) (older : List Decree) (number : ℕ) → newest.kind ≡ Attempt number → newest.author ≡ record { node = node; incarnation = (w.actors node).incarnation } → ((outcome : Outcome) → In (slot_of id (newest ∷ older), outcome) (w.actors node).closed → ⊥) → ChainFits w id (last ∷ (more ++ newest ∷ older)) → ⊥
+passes w h id node last [] newest older number attempt author unclosed fits = open_attempt w h id node last newest older number attempt author unclosed fits
+passes w h id node last (next ∷ more) newest older number attempt author unclosed fits =
+    passes w h id node next more newest older number attempt author unclosed (standing w h.keeps h.links id (next ∷ (more ++ newest ∷ older)) (record { ballot = fits.ballot; chosen = fits.chosen })).fits
+
+pub attempt_not_passed : (w : World) → Holds w → (sender : ℕ) (slot : Slot) (vote : Vote) (node : ℕ) (last : Decree) (more : List Decree) (newest : Decree) (older : List Decree) (number : ℕ) → In (Propose sender slot vote) w.packets → vote.chain ≡ last ∷ (more ++ newest ∷ older) → newest.kind ≡ Attempt number → newest.author ≡ record { node = node; incarnation = (w.actors node).incarnation } → ((outcome : Outcome) → In (slot_of slot.id (newest ∷ older), outcome) (w.actors node).closed → ⊥) → ⊥
+attempt_not_passed w h sender slot vote node last more newest older number sent is attempt author unclosed =
+    passes w h slot.id node last more newest older number attempt author unclosed (subst (ChainFits w slot.id) is (h.links.standing slot vote (record { sender = sender; sent = sent })).fits)

@@ -1,13 +1,55 @@
 //! Whole runs: whatever packets are delivered, lost, repeated or reordered, and whatever nodes stop and start anew.
 
-ghost use Rattle.std.specs.Prelude.{◌≡◌, ◌⊎◌, ◌∷◌, ◌++◌, ◌≤◌, ℕ, List, Some};
-ghost use Rattle.mc_model.specs.Chain.{Decree, Final, Delivered, final_in};
-ghost use Rattle.mc_model.specs.OneSlot.{Vote, vote_at, In};
+ghost use Rattle.std.specs.Prelude.{◌≡◌, ◌⊎◌, ◌∷◌, ◌++◌, ◌≤◌, ℕ, List, Option, Some};
+ghost use Rattle.mc_model.specs.Chain.{Decree, Attempt, Final, Delivered, GoesOn, final_in};
+ghost use Rattle.mc_model.specs.OneSlot.{Vote, In};
 ghost use Rattle.mc_model.specs.Packet.{Slot, Propose, slot_of};
-ghost use Rattle.mc_model.specs.Actor.{Request};
+ghost use Rattle.mc_model.specs.Actor.{Request, Outcome};
+ghost use Rattle.mc_model.specs.Knowledge.{IsSettled, Covers};
 ghost use Rattle.mc_model.specs.Replies.{Accepted, Shown, Unknown, id_in};
-ghost use Rattle.mc_model.specs.World.{Act, Begins, Replies, Deed, Cast, cast, IsChosenIn, IsRun, reached, start};
+ghost use Rattle.mc_model.specs.World.{Act, Begins, Replies, Deed, cast, IsChosenIn, IsRun, reached, start};
 ghost use Rattle.mc_model.specs.Fate.{States, IsGrant, IsDelivery};
+
+/// Once a chain is chosen at a ballot, every vote of its slot at that ballot or above carries it, across all starts anew and
+/// votes of which no packet told.
+pub fn what_is_chosen_stays()
+    ensures { (nodes : ℕ) (serials : ℕ → ℕ) (acts : List (ℕ × Act)) (slot : Slot) (chosen : Vote) (acceptor : ℕ) (vote : Vote) →
+        IsRun (start nodes serials) acts →
+        IsChosenIn (reached (start nodes serials) acts) slot chosen →
+        In (cast acceptor slot vote) (reached (start nodes serials) acts).votes →
+        chosen.ballot ≤ vote.ballot → vote.chain ≡ chosen.chain }
+{}
+
+/// Of two chosen chains of one message one goes on from the other.
+pub fn chosen_chains_agree()
+    ensures { (nodes : ℕ) (serials : ℕ → ℕ) (acts : List (ℕ × Act)) (one other : Slot) (first second : Vote) →
+        IsRun (start nodes serials) acts → one.id ≡ other.id →
+        IsChosenIn (reached (start nodes serials) acts) one first →
+        IsChosenIn (reached (start nodes serials) acts) other second →
+        GoesOn first.chain second.chain ⊎ GoesOn second.chain first.chain }
+{}
+
+/// While an attempt of a node in its incarnation is not closed there, no proposal goes on from it: neither a cancel nor the
+/// expiry passes it.
+pub fn an_open_attempt_is_not_passed()
+    ensures { (nodes : ℕ) (serials : ℕ → ℕ) (acts : List (ℕ × Act)) (sender : ℕ) (slot : Slot) (vote : Vote) (node : ℕ) (last : Decree) (more : List Decree) (newest : Decree) (older : List Decree) (number : ℕ) →
+        IsRun (start nodes serials) acts →
+        In (Propose sender slot vote) (reached (start nodes serials) acts).packets →
+        vote.chain ≡ last ∷ (more ++ newest ∷ older) →
+        newest.kind ≡ Attempt number →
+        newest.author ≡ record { node = node; incarnation = ((reached (start nodes serials) acts).actors node).incarnation } →
+        ((outcome : Outcome) → In (slot_of slot.id (newest ∷ older), outcome) ((reached (start nodes serials) acts).actors node).closed → ⊥) → ⊥ }
+{}
+
+/// Once a majority has told what it has, a request covers every choice that was made before it came.
+pub fn a_settling_majority_has_seen_every_choice()
+    ensures { (nodes : ℕ) (serials : ℕ → ℕ) (later : List (ℕ × Act)) (node ticket : ℕ) (request : Request) (earlier : List (ℕ × Act)) (slot : Slot) (vote : Vote) (known : Option (List Decree)) →
+        IsRun (start nodes serials) (later ++ (node, Begins ticket request) ∷ earlier) →
+        ((reached (start nodes serials) (later ++ (node, Begins ticket request) ∷ earlier)).actors node).incarnation ≡ ((reached (start nodes serials) earlier).actors node).incarnation →
+        IsChosenIn (reached (start nodes serials) earlier) slot vote → slot.id ≡ id_in request →
+        IsSettled nodes ((reached (start nodes serials) (later ++ (node, Begins ticket request) ∷ earlier)).actors node).received (record { node = node; incarnation = ((reached (start nodes serials) earlier).actors node).incarnation; ticket = ticket }) known →
+        Covers known slot.place }
+{}
 
 /// No two statements of a final state of one message differ, of whatever nodes, in whatever incarnations, and at whatever
 /// two points of a run.

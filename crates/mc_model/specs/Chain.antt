@@ -1,5 +1,5 @@
 -- The chain of a message: the decrees on it, of which each may follow the one before.
-use Rattle.std.specs.Prelude.{◌≡◌, ℕ, ◌+◌, ◌*◌, ◌<◌, ◌≤◌, List, [], ◌∷◌, Option, Some, None}
+use Rattle.std.specs.Prelude.{◌≡◌, ℕ, ◌+◌, ◌*◌, ◌<◌, ◌≤◌, List, [], ◌∷◌, ◌++◌, Option, Some, None}
 use Rattle.mc_model.specs.Ids.{node_of, incarnation_of}
 
 -- the node that made a decree, and its incarnation then
@@ -170,3 +170,10 @@ error_by (Fate final error) older = error
 abbrev pub error_in : List Decree → ℕ
 error_in [] = 0
 error_in (newest ∷ older) = error_by newest.kind (error_in older)
+
+-- ---- chains of one message
+
+-- a chain goes on from another, which may be itself
+pub record GoesOn (chain first : List Decree) : Type 0 where
+  pub more : List Decree
+  pub chain_is : chain ≡ more ++ first

@@ -40,3 +40,8 @@ pub record HasTold (received : List Packet) (name : Name) (node : ℕ) : Type 0 
 pub record IsSettled (nodes : ℕ) (received : List Packet) (name : Name) (known : Option (List Decree)) : Type 0 where
   pub majority : Majority nodes (HasTold received name)
   pub reached : (node : ℕ) (told : Option Told) → In (Tell node name told) received → IsReached known told
+
+-- what is known goes as far as a place
+abbrev pub Covers : Option (List Decree) → ℕ → Type 0
+Covers None place = ⊥
+Covers (Some chain) place = place ≤ pred (length chain)
