@@ -110,12 +110,12 @@ pub record Asked (before w : World) (name : Name) (id : ℕ) : Type 0 where
 named_so : (before w : World) (name : Name) (id : ℕ) → Asked before w name id → (waiting : Waiting) → waiting.ticket ≡ name.ticket → name_of name.node (w.actors name.node) waiting ≡ name
 named_so before w name id asked waiting is = λ i. record { node = name.node; incarnation = asked.incarnation i; ticket = is i }
 
-shown_fresh : (before w : World) (name : Name) (id : ℕ) → Asked before w name id → (other : ℕ) (chain fated : List Decree) (final : Final) → Chosen before id fated → final_in fated ≡ Some final → MayReply w name.node name.ticket other (Shown chain) → final_in chain ≡ Some final
+shown_fresh : (before w : World) (name : Name) (id : ℕ) → Asked before w name id → (other : ℕ) (chain fated : List Decree) (final : Final) → Chosen before id fated → final_in fated ≡ Some final → MayReply w.nodes name.node (w.actors name.node) name.ticket other (Shown chain) → final_in chain ≡ Some final
 shown_fresh before w name id asked other chain fated final chosen ends may =
-    let seen = shown_settled w.nodes name.node (w.actors name.node) may.waiting may.waiting.request chain may.fits in
-    let about = about_it before w name id asked.fresh may.waiting asked.incarnation may.waits may.ticket_is in
-    let known : Chosen w id chain = subst (λ (i : ℕ). Chosen w i chain) about (known_chosen w asked.holds.keeps name.node (id_in may.waiting.request) chain seen.known) in
-    let settled : IsSettled w.nodes (w.actors name.node).received name (Some chain) = subst (λ (n : Name). IsSettled w.nodes (w.actors name.node).received n (Some chain)) (named_so before w name id asked may.waiting may.ticket_is) seen.settled in
+    let seen = shown_settled w.nodes name.node (w.actors name.node) may.asked.waiting may.asked.waiting.request chain may.fits in
+    let about = about_it before w name id asked.fresh may.asked.waiting asked.incarnation may.asked.waits may.asked.ticket_is in
+    let known : Chosen w id chain = subst (λ (i : ℕ). Chosen w i chain) about (known_chosen w asked.holds.keeps name.node (id_in may.asked.waiting.request) chain seen.known) in
+    let settled : IsSettled w.nodes (w.actors name.node).received name (Some chain) = subst (λ (n : Name). IsSettled w.nodes (w.actors name.node).received n (Some chain)) (named_so before w name id asked may.asked.waiting may.asked.ticket_is) seen.settled in
     let long = covered before w name id asked.fresh asked.nodes asked.holds name.node fated chosen (Some chain) settled in
     let still : Chosen w id fated = record { ballot = chosen.ballot; chosen = asked.chosen _ _ chosen.chosen } in
     let some = not_empty w asked.holds.keeps asked.holds.links id chain known in
@@ -125,10 +125,10 @@ shown_fresh before w name id asked other chain fated final chosen ends may =
       longer : (a b : ℕ) → 1 ≤ b → pred a ≤ pred b → a ≤ b
       longer a b some long = omega (arith, some, long)
 
-unknown_fresh : (before w : World) (name : Name) (id : ℕ) → Asked before w name id → (other : ℕ) (chain : List Decree) → Chosen before id chain → MayReply w name.node name.ticket other Unknown → ⊥
+unknown_fresh : (before w : World) (name : Name) (id : ℕ) → Asked before w name id → (other : ℕ) (chain : List Decree) → Chosen before id chain → MayReply w.nodes name.node (w.actors name.node) name.ticket other Unknown → ⊥
 unknown_fresh before w name id asked other chain chosen may =
-    let unknown = unknown_settled w.nodes name.node (w.actors name.node) may.waiting may.waiting.request may.fits in
-    covered before w name id asked.fresh asked.nodes asked.holds name.node chain chosen None (subst (λ (n : Name). IsSettled w.nodes (w.actors name.node).received n None) (named_so before w name id asked may.waiting may.ticket_is) unknown.settled)
+    let unknown = unknown_settled w.nodes name.node (w.actors name.node) may.asked.waiting may.asked.waiting.request may.fits in
+    covered before w name id asked.fresh asked.nodes asked.holds name.node chain chosen None (subst (λ (n : Name). IsSettled w.nodes (w.actors name.node).received n None) (named_so before w name id asked may.asked.waiting may.asked.ticket_is) unknown.settled)
 
 -- ---- in a run
 
@@ -154,7 +154,7 @@ pub record Answered (nodes : ℕ) (serials : ℕ → ℕ) (beginning : Deed) (ti
   pub asked : Asked before w name (id_in request)
   pub past : before.past ≡ older
   pub holds : Holds before
-  pub replies : MayReply w name.node name.ticket other answer
+  pub replies : MayReply w.nodes name.node (w.actors name.node) name.ticket other answer
 
 answered_at : (nodes : ℕ) (serials : ℕ → ℕ) (later : List (ℕ × Act)) (beginning : Deed) (ticket : ℕ) (request : Request) (earlier now : List (ℕ × Act)) (other : ℕ) (answer : Answer) (older : List Deed) → now ≡ later ++ (beginning.node, Begins ticket request) ∷ earlier → IsRun (start nodes serials) now → (reached (start nodes serials) earlier).past ≡ older → ((reached (start nodes serials) now).actors beginning.node).incarnation ≡ ((reached (start nodes serials) earlier).actors beginning.node).incarnation → May (reached (start nodes serials) now) beginning.node (Replies ticket other answer) → Answered nodes serials beginning ticket request other answer older
 answered_at nodes serials later beginning ticket request earlier now other answer older is run past same may =

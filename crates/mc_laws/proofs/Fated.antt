@@ -43,8 +43,8 @@ answer_known nodes node a w Unknown chain fits is = cc
 
 pub tells_known : (w : World) (node : ℕ) (act : Act) → May w node act → (id : ℕ) (chain : List Decree) → TellsOf act id chain → Knows w.nodes (w.actors node).received id chain
 tells_known w node (Replies ticket other answer) may id chain tells =
-    let m : MayReply w node ticket other answer = may.needs in
-    subst (λ (i : ℕ). Knows w.nodes (w.actors node).received i chain) (m.about ∙ tells.0) (answer_known w.nodes node (w.actors node) m.waiting answer chain m.fits tells.1)
+    let m : MayReply w.nodes node (w.actors node) ticket other answer = may.needs in
+    subst (λ (i : ℕ). Knows w.nodes (w.actors node).received i chain) (m.asked.about ∙ tells.0) (answer_known w.nodes node (w.actors node) m.asked.waiting answer chain m.fits tells.1)
 tells_known w node (Reports other shown) may id chain tells =
     subst (λ (i : ℕ). Knows w.nodes (w.actors node).received i chain) tells.0 (subst (Knows w.nodes (w.actors node).received other) tells.1 may.needs.known)
 tells_known w node (Receives packet) may id chain tells = absurd tells
@@ -101,10 +101,10 @@ accepted_known nodes node a w (Submit id message) fits = fits
 accepted_known nodes node a w (Query id account source) fits = absurd fits
 accepted_known nodes node a w (Cancel id account source destination) fits = absurd fits
 
-accepted_new : (w : World) → Keeps w → (node ticket id : ℕ) → MayReply w node ticket id Accepted → HasChain w id
+accepted_new : (w : World) → Keeps w → (node ticket id : ℕ) → MayReply w.nodes node (w.actors node) ticket id Accepted → HasChain w id
 accepted_new w keeps node ticket id may =
-    let a = accepted_known w.nodes node (w.actors node) may.waiting may.waiting.request may.fits in
-    subst (HasChain w) may.about (record { chain = a.chain; chosen = known_chosen w keeps node (id_in may.waiting.request) a.chain a.known })
+    let a = accepted_known w.nodes node (w.actors node) may.asked.waiting may.asked.waiting.request may.fits in
+    subst (HasChain w) may.asked.about (record { chain = a.chain; chosen = known_chosen w keeps node (id_in may.asked.waiting.request) a.chain a.known })
 
 accepted_after : (w : World) → Keeps w → Told w → (node : ℕ) (act : Act) → May w node act → (deed : Deed) (ticket id : ℕ) → In deed (after w node act).past → deed.act ≡ Replies ticket id Accepted → HasChain (after w node act) id
 accepted_after w keeps told node act may deed ticket id is_in is =
@@ -152,14 +152,14 @@ open_passed w links node slot attempted next is unclosed (inr lost) =
 pub passed_at : (w : World) (attempted : Author) (slot : Slot) (kind next : Kind) (number : ℕ) → kind ≡ Attempt number → Passed w attempted slot kind next → PassedClosed w attempted slot next ⊎ PassedLost w attempted next
 passed_at w attempted slot kind next number is passed = subst (λ (k : Kind). Passed w attempted slot k next) is passed
 
-no_fate_at_grant : (w : World) → Keeps w → Links w → Told w → (node : ℕ) (slot : Slot) → MayGrant w node slot → (earlier : Deed) (final : Final) → In earlier w.past → States earlier slot.id final → ⊥
+no_fate_at_grant : (w : World) → Keeps w → Links w → Told w → (node : ℕ) (slot : Slot) → MayGrant w.nodes node (w.actors node) slot → (earlier : Deed) (final : Final) → In earlier w.past → States earlier slot.id final → ⊥
 no_fate_at_grant w keeps links told node slot may earlier final is_in states =
     let a = may.attempting in
     let attempt = known_chosen w keeps node slot.id (a.newest ∷ a.older) a.known in
     let fated = told.chosen earlier slot.id states.chain is_in states.tells in
     let e = beyond_attempt w keeps links slot.id a.newest a.older states.chain a.number final a.attempt attempt fated states.state in
     let s = standing w keeps links slot.id (e.next ∷ a.newest ∷ a.older) e.chosen in
-    open_passed w links node (slot_of slot.id (a.newest ∷ a.older)) a.newest.author e.next.kind a.author (λ outcome is_closed. may.unused.closed outcome (subst (λ (s : Slot). In (s, outcome) (w.actors node).closed) (sym a.place) is_closed)) (passed_at w a.newest.author (slot_of slot.id (a.newest ∷ a.older)) a.newest.kind e.next.kind a.number a.attempt s.fits.passed)
+    open_passed w links node (slot_of slot.id (a.newest ∷ a.older)) a.newest.author e.next.kind a.author (λ outcome is_closed. may.closed outcome (subst (λ (s : Slot). In (s, outcome) (w.actors node).closed) (sym a.place) is_closed)) (passed_at w a.newest.author (slot_of slot.id (a.newest ∷ a.older)) a.newest.kind e.next.kind a.number a.attempt s.fits.passed)
 
 -- ---- what the fate DELIVERED stands on
 

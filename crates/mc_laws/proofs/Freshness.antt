@@ -7,7 +7,7 @@ use Rattle.mc_model.specs.Packet.{Slot, slot_at, slot_of, Packet, Prepare, Promi
 use Rattle.mc_model.specs.Acceptor.{Records, IsTold}
 use Rattle.mc_model.specs.Actor.{Actor, Request, Submit, Query, Cancel, Waiting}
 use Rattle.mc_model.specs.Replies.{id_in}
-use Rattle.mc_model.specs.World.{World, Act, Receives, Promises, Votes, Refuses, Tells, Prepares, Proposes, Begins, Asks, Settles, Replies, Reports, Grants, Answers, Abandons, Ticks, Stops, Restarts, Cast, cast, May, MayAsk, MayTell, after, actor_by, settle, sent_by, start}
+use Rattle.mc_model.specs.World.{World, Act, Receives, Promises, Votes, Refuses, Tells, Prepares, Proposes, Begins, Asks, Settles, Replies, Reports, Grants, Answers, Abandons, Ticks, Stops, Restarts, Cast, cast, May, IsWaiting, MayTell, after, actor_by, settle, sent_by, start}
 use Rattle.mc_laws.proofs.Membership.{in_either, of_only, in_map, in_filter}
 use Rattle.mc_laws.proofs.Growth.{Grows, grows, Remembers, remembers, actors_after, actor_here, actor_apart}
 use Rattle.mc_laws.proofs.Keeping.{Keeps, IsSent, sent_is}
@@ -119,7 +119,7 @@ tell_cases w node act teller name told is_in = elim (in_either (Tell teller name
 asked_after : (w : World) → Names w → (node : ℕ) (act : Act) → May w node act → (sender id : ℕ) (name : Name) → In (Ask sender id name) (after w node act).packets → WasNamed ((after w node act).actors name.node) name
 asked_after w names node act may sender id name is_in = named_after w node act name (elim (ask_cases w node act sender id name is_in) [
   inl new ↦
-      let m : MayAsk (w.actors node) id name.ticket = (subst (May w node) new.by may).needs in
+      let m : IsWaiting (w.actors node) id name.ticket = (subst (May w node) new.by may).needs in
       let below = names.tickets node m.waiting m.waits in
       let nodes : name.node ≡ node = ap (λ (n : Name). n.node) new.name_is in
       let incarnations : name.incarnation ≡ (w.actors node).incarnation = ap (λ (n : Name). n.incarnation) new.name_is in
@@ -132,7 +132,7 @@ told_after w keeps names node act may teller name told is_in =
     let grown = grows w node act may in
     elim (tell_cases w node act teller name told is_in) [
       inl new ↦
-          let m : MayTell w node new.id name told = (subst (May w node) new.by may).needs in
+          let m : MayTell (w.actors node) (w.records node) new.id name told = (subst (May w node) new.by may).needs in
           record { sender = m.asker; id = new.id; sent = grown.packets _ (keeps.received node _ m.asked) }
       | inr old ↦ let a = names.told teller name told old in record { sender = a.sender; id = a.id; sent = grown.packets _ a.sent }
     ]
@@ -244,7 +244,7 @@ about_after before w name id fresh node act = elim (actors_after w node act name
 asks_after : (before w : World) (name : Name) (id : ℕ) → Fresh before name id w → (node : ℕ) (act : Act) → May w node act → (sender other : ℕ) → In (Ask sender other name) (after w node act).packets → other ≡ id
 asks_after before w name id fresh node act may sender other is_in = elim (ask_cases w node act sender other name is_in) [
   inl new ↦
-      let m : MayAsk (w.actors node) other name.ticket = (subst (May w node) new.by may).needs in
+      let m : IsWaiting (w.actors node) other name.ticket = (subst (May w node) new.by may).needs in
       let nodes : name.node ≡ node = ap (λ (n : Name). n.node) new.name_is in
       let incarnations : (w.actors node).incarnation ≡ name.incarnation = ap (λ (n : Name). n.incarnation) (sym new.name_is) in
       let about : IsAbout name id (w.actors node) = subst (λ (n : ℕ). IsAbout name id (w.actors n)) nodes fresh.about in
@@ -260,7 +260,7 @@ reaches_vote records id place vote held (Some told) holds is = is.highest place 
 tells_after : (before w : World) → Keeps w → (name : Name) (id : ℕ) → Fresh before name id w → (node : ℕ) (act : Act) → May w node act → (teller : ℕ) (told : Option Told) → In (Tell teller name told) (after w node act).packets → (place : ℕ) (vote : Vote) → In (cast teller (slot_at id place) vote) before.votes → HasReached told place
 tells_after before w keeps name id fresh node act may teller told is_in place vote voted = elim (tell_cases w node act teller name told is_in) [
   inl new ↦
-      let m : MayTell w node new.id name told = (subst (May w node) new.by may).needs in
+      let m : MayTell (w.actors node) (w.records node) new.id name told = (subst (May w node) new.by may).needs in
       let ids : new.id ≡ id = fresh.asks m.asker new.id (keeps.received node _ m.asked) in
       let kept = keeps.records (cast teller (slot_at id place) vote) (fresh.votes _ voted) in
       let holds = subst (λ (n : ℕ). (w.records n (slot_at id place)).vote ≡ Some kept.held) new.teller_is kept.holds in

@@ -79,29 +79,28 @@ StandsIn w slot chain =
     ((sender : ℕ) × (ballot : ℕ) × In (Propose sender slot (record { ballot = ballot; chain = chain })) w.packets)
     ⊎ ((acceptor : ℕ) × (ballot : ℕ) × In (cast acceptor slot (record { ballot = ballot; chain = chain })) w.votes)
 
--- ---- which acts may be done
+-- ---- which acts a node may do
 
 -- the newest decree of what the node knows is an attempt of its own in this incarnation
-pub record IsAttempting (w : World) (node : ℕ) (slot : Slot) : Type 0 where
+pub record IsAttempting (nodes node : ℕ) (a : Actor) (slot : Slot) : Type 0 where
   pub newest : Decree
   pub older : List Decree
   pub number : ℕ
-  pub known : Knows w.nodes (w.actors node).received slot.id (newest ∷ older)
+  pub known : Knows nodes a.received slot.id (newest ∷ older)
   pub place : slot ≡ slot_of slot.id (newest ∷ older)
   pub attempt : newest.kind ≡ Attempt number
-  pub author : newest.author ≡ record { node = node; incarnation = (w.actors node).incarnation }
+  pub author : newest.author ≡ record { node = node; incarnation = a.incarnation }
 
-pub record IsNotClosed (a : Actor) (slot : Slot) : Type 0 where
+-- it is granted once, and not when it is closed
+pub record MayGrant (nodes node : ℕ) (a : Actor) (slot : Slot) : Type 0 where
+  pub attempting : IsAttempting nodes node a slot
   pub granted : In slot a.granted → ⊥
   pub closed : (outcome : Outcome) → In (slot, outcome) a.closed → ⊥
 
+-- the outcome of a granted attempt comes once
 pub record MayAnswer (a : Actor) (slot : Slot) : Type 0 where
   pub granted : In slot a.granted
   pub closed : (outcome : Outcome) → In (slot, outcome) a.closed → ⊥
-
-pub record MayGrant (w : World) (node : ℕ) (slot : Slot) : Type 0 where
-  pub attempting : IsAttempting w node slot
-  pub unused : IsNotClosed (w.actors node) slot
 
 -- a submit_sm gets the next id, and its message may be taken
 abbrev pub MayWait : ℕ → Actor → Request → Type 0
@@ -110,86 +109,79 @@ MayWait node a (Submit id message) =
 MayWait node a (Query id account source) = Unit {0}
 MayWait node a (Cancel id account source destination) = Unit {0}
 
--- a request waits under a ticket
-pub record IsWaiting (a : Actor) (ticket : ℕ) : Type 0 where
-  pub waiting : Waiting
-  pub waits : In waiting a.waiting
-  pub ticket_is : waiting.ticket ≡ ticket
-
-pub record MayAsk (a : Actor) (id ticket : ℕ) : Type 0 where
+-- a request for a message waits under a ticket
+pub record IsWaiting (a : Actor) (id ticket : ℕ) : Type 0 where
   pub waiting : Waiting
   pub waits : In waiting a.waiting
   pub ticket_is : waiting.ticket ≡ ticket
   pub about : id_in waiting.request ≡ id
 
-pub record MaySettle (w : World) (node ticket : ℕ) : Type 0 where
-  pub waiting : Waiting
+pub record MaySettle (nodes node : ℕ) (a : Actor) (ticket : ℕ) : Type 0 where
+  pub id : ℕ
   pub known : Option (List Decree)
-  pub waits : In waiting (w.actors node).waiting
-  pub ticket_is : waiting.ticket ≡ ticket
-  pub knows : IsKnown w.nodes (w.actors node).received (id_in waiting.request) known
-  pub settled : IsSettled w.nodes (w.actors node).received (name_of node (w.actors node) waiting) known
+  pub asked : IsWaiting a id ticket
+  pub knows : IsKnown nodes a.received id known
+  pub settled : IsSettled nodes a.received (name_of node a asked.waiting) known
 
-pub record MayReply (w : World) (node ticket id : ℕ) (answer : Answer) : Type 0 where
-  pub waiting : Waiting
-  pub waits : In waiting (w.actors node).waiting
-  pub ticket_is : waiting.ticket ≡ ticket
-  pub about : id_in waiting.request ≡ id
-  pub fits : IsAnswer w.nodes node (w.actors node) waiting answer
+pub record MayReply (nodes node : ℕ) (a : Actor) (ticket id : ℕ) (answer : Answer) : Type 0 where
+  pub asked : IsWaiting a id ticket
+  pub fits : IsAnswer nodes node a asked.waiting answer
 
 -- a receipt is written by the node that the id names
-pub record MayReport (w : World) (node id : ℕ) (chain : List Decree) : Type 0 where
+pub record MayReport (nodes node : ℕ) (a : Actor) (id : ℕ) (chain : List Decree) : Type 0 where
   pub final : Final
   pub named : node_of id ≡ node
-  pub known : Knows w.nodes (w.actors node).received id chain
+  pub known : Knows nodes a.received id chain
   pub ends : final_in chain ≡ Some final
 
--- the node promised in answer to a question of that name
-pub record MayTell (w : World) (node id : ℕ) (name : Name) (told : Option Told) : Type 0 where
+-- a question of that name came, for that message
+pub record MayTell (a : Actor) (records : Records) (id : ℕ) (name : Name) (told : Option Told) : Type 0 where
   pub asker : ℕ
-  pub asked : In (Ask asker id name) (w.actors node).received
-  pub told_is : IsTold (w.records node) id told
+  pub asked : In (Ask asker id name) a.received
+  pub told_is : IsTold records id told
 
-pub record MayVoteFor (w : World) (node : ℕ) (slot : Slot) (vote : Vote) : Type 0 where
+pub record MayVoteFor (a : Actor) (records : Records) (slot : Slot) (vote : Vote) : Type 0 where
   pub sender : ℕ
-  pub proposed : In (Propose sender slot vote) (w.actors node).received
-  pub may : MayVote (w.records node slot) vote.ballot
+  pub proposed : In (Propose sender slot vote) a.received
+  pub may : MayVote (records slot) vote.ballot
 
-abbrev pub OwnBallot : World → ℕ → ℕ → Type 0
-OwnBallot w node ballot = (proposer_of ballot ≡ node) × (incarnation_in ballot ≡ (w.actors node).incarnation)
+abbrev pub OwnBallot : ℕ → Actor → ℕ → Type 0
+OwnBallot node a ballot = (proposer_of ballot ≡ node) × (incarnation_in ballot ≡ a.incarnation)
 
--- what an act needs besides that the node is up
-abbrev pub Needs : World → ℕ → Act → Type 0
-Needs w node (Receives packet) = In packet w.packets
-Needs w node (Promises slot ballot sent) = MayPromise (w.records node slot) ballot
-Needs w node (Votes slot vote sent) = MayVoteFor w node slot vote
-Needs w node (Refuses slot ballot) = Unit {0}
-Needs w node (Tells id name told) = MayTell w node id name told
-Needs w node (Prepares slot ballot) = OwnBallot w node ballot
-Needs w node (Proposes slot vote) =
-    MayPropose w.nodes (λ packet. In packet w.packets) (StandsIn w) (IsChosenIn w) node (w.actors node) slot vote
-Needs w node (Begins ticket request) = (ticket ≡ (w.actors node).ticket) × MayWait node (w.actors node) request
-Needs w node (Asks id ticket) = MayAsk (w.actors node) id ticket
-Needs w node (Settles ticket) = MaySettle w node ticket
-Needs w node (Replies ticket id answer) = MayReply w node ticket id answer
-Needs w node (Reports id chain) = MayReport w node id chain
-Needs w node (Grants slot) = MayGrant w node slot
-Needs w node (Answers slot outcome) = MayAnswer (w.actors node) slot
-Needs w node (Abandons slot) = MayGrant w node slot
-Needs w node (Ticks moment) = Unit {0}
-Needs w node Stops = Unit {0}
-Needs w node (Restarts serial) = (w.actors node).incarnation < 9999
+-- What an act needs besides that the node is up: by which packets may come, which are seen, which chains stand, and which
+-- are chosen.
+abbrev pub Needs : ℕ → (Packet → Type 0) → (Packet → Type 0) → (Slot → List Decree → Type 0) → (Slot → Vote → Type 0) → ℕ → Actor → Records → Act → Type 0
+Needs nodes Comes Seen Stands Chosen node a records (Receives packet) = Comes packet
+Needs nodes Comes Seen Stands Chosen node a records (Promises slot ballot sent) = MayPromise (records slot) ballot
+Needs nodes Comes Seen Stands Chosen node a records (Votes slot vote sent) = MayVoteFor a records slot vote
+Needs nodes Comes Seen Stands Chosen node a records (Refuses slot ballot) = Unit {0}
+Needs nodes Comes Seen Stands Chosen node a records (Tells id name told) = MayTell a records id name told
+Needs nodes Comes Seen Stands Chosen node a records (Prepares slot ballot) = OwnBallot node a ballot
+Needs nodes Comes Seen Stands Chosen node a records (Proposes slot vote) = MayPropose nodes Seen Stands Chosen node a slot vote
+Needs nodes Comes Seen Stands Chosen node a records (Begins ticket request) = (ticket ≡ a.ticket) × MayWait node a request
+Needs nodes Comes Seen Stands Chosen node a records (Asks id ticket) = IsWaiting a id ticket
+Needs nodes Comes Seen Stands Chosen node a records (Settles ticket) = MaySettle nodes node a ticket
+Needs nodes Comes Seen Stands Chosen node a records (Replies ticket id answer) = MayReply nodes node a ticket id answer
+Needs nodes Comes Seen Stands Chosen node a records (Reports id chain) = MayReport nodes node a id chain
+Needs nodes Comes Seen Stands Chosen node a records (Grants slot) = MayGrant nodes node a slot
+Needs nodes Comes Seen Stands Chosen node a records (Answers slot outcome) = MayAnswer a slot
+Needs nodes Comes Seen Stands Chosen node a records (Abandons slot) = MayGrant nodes node a slot
+Needs nodes Comes Seen Stands Chosen node a records (Ticks moment) = Unit {0}
+Needs nodes Comes Seen Stands Chosen node a records Stops = Unit {0}
+Needs nodes Comes Seen Stands Chosen node a records (Restarts serial) = a.incarnation < 9999
 
 -- a node that is down may only start anew
 abbrev pub IsUpFor : Actor → Act → Type 0
 IsUpFor a (Restarts serial) = Unit {0}
 IsUpFor a act = a.up ≡ true
 
+-- In a cluster any packet that was sent may come, and what a node proposes is judged by all that was sent, voted and chosen
+-- anywhere.
 pub record May (w : World) (node : ℕ) (act : Act) : Type 0 where
   pub least : 1 ≤ node
   pub most : node ≤ w.nodes
   pub up : IsUpFor (w.actors node) act
-  pub needs : Needs w node act
+  pub needs : Needs w.nodes (λ packet. In packet w.packets) (λ packet. In packet w.packets) (StandsIn w) (IsChosenIn w) node (w.actors node) (w.records node) act
 
 -- ---- what they leave
 
