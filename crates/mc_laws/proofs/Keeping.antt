@@ -61,7 +61,11 @@ pub record Keeps (w : World) : Type 0 where
 
 -- ---- old packets still fit
 
-justified_more : (nodes : ℕ) (P Q : ℕ → Option Vote → Type 0) (chain : List Decree) → ((acceptor : ℕ) (report : Option Vote) → P acceptor report → Q acceptor report) → IsJustified nodes P chain → IsJustified nodes Q chain
+pub carried_more : (P Q : ℕ → Option Vote → Type 0) (chain : List Decree) → ((acceptor : ℕ) (report : Option Vote) → P acceptor report → Q acceptor report) → (highest : Option Vote) → IsOfHighest P chain highest → IsOfHighest Q chain highest
+carried_more P Q chain more None carried = carried
+carried_more P Q chain more (Some top) carried = (carried.0, (carried.1.0, more carried.1.0 (Some top) carried.1.1))
+
+abbrev pub justified_more : (nodes : ℕ) (P Q : ℕ → Option Vote → Type 0) (chain : List Decree) → ((acceptor : ℕ) (report : Option Vote) → P acceptor report → Q acceptor report) → IsJustified nodes P chain → IsJustified nodes Q chain
 justified_more nodes P Q chain more j = record {
   highest = j.highest;
   majority = record {
@@ -71,12 +75,8 @@ justified_more nodes P Q chain more j = record {
         let r = j.majority.each node least most passes in
         record { report = r.report; made = more node r.report r.made; within = r.within };
   };
-  carried = carried_more j.highest j.carried;
+  carried = carried_more P Q chain more j.highest j.carried;
 }
-  where
-    carried_more : (highest : Option Vote) → IsOfHighest P chain highest → IsOfHighest Q chain highest
-    carried_more None of = of
-    carried_more (Some top) of = (of.0, (of.1.0, more of.1.0 (Some top) of.1.1))
 
 fits_still : (w v : World) → Grows w v → (packet : Packet) → Fits w packet → Fits v packet
 fits_still w v grown (Prepare sender slot ballot) fits = tt

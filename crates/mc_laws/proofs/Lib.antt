@@ -11,3 +11,4 @@ pub mod Fated
 pub mod Freshness
 pub mod Reached
 pub mod Answers
+pub mod Together

@@ -1,10 +1,12 @@
 //! The laws over ballots, majorities, chains and whole runs. The functions do nothing: their contracts are the laws.
 #![tactic(auto)]
 
+mod assembly;
 mod chains;
 mod runs;
 mod synod;
 
+pub use assembly::nodes_make_a_run;
 pub use chains::{a_fate_is_the_end, chains_are_short, newest_decree_says_the_state};
 pub use runs::{
     a_query_is_fresh, a_settling_majority_has_seen_every_choice, an_accepted_message_is_known,

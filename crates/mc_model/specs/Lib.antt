@@ -12,3 +12,4 @@ pub mod Proposal
 pub mod Replies
 pub mod World
 pub mod Fate
+pub mod Alone
