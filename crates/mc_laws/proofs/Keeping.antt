@@ -100,7 +100,7 @@ fits_still w v grown (Tell sender name told) fits = tt
 
 -- ---- the record that a node has after its own act
 
-with_here : (records : Records) (slot : Slot) (new : Record) → with_record records slot new slot ≡ new
+pub with_here : (records : Records) (slot : Slot) (new : Record) → with_record records slot new slot ≡ new
 with_here records slot new =
     ap (λ (test : Bool). if test then new else records slot) (and_from (slot.id == slot.id) (slot.place == slot.place) (eq-eqb slot.id slot.id refl) (eq-eqb slot.place slot.place refl))
 

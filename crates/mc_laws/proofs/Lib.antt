@@ -12,3 +12,5 @@ pub mod Freshness
 pub mod Reached
 pub mod Answers
 pub mod Together
+pub mod Rounds
+pub mod Delivery

@@ -4,6 +4,7 @@
 mod assembly;
 mod chains;
 mod runs;
+mod stories;
 mod synod;
 
 pub use assembly::nodes_make_a_run;
@@ -13,4 +14,5 @@ pub use runs::{
     an_open_attempt_is_not_passed, chosen_chains_agree, delivered_stands_on_a_delivery,
     no_grant_after_a_fate, one_fate, what_is_chosen_stays,
 };
+pub use stories::a_message_is_delivered;
 pub use synod::{ballots_have_their_parts, choice_is_stable, majorities_meet};

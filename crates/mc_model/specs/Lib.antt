@@ -13,3 +13,4 @@ pub mod Replies
 pub mod World
 pub mod Fate
 pub mod Alone
+pub mod Stories

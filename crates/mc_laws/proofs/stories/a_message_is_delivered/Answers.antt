@@ -1,0 +1,13 @@
+use Rattle.std.proofs.Common.{refl, inl}
+use Rattle.mc_model.specs.Stories.{delivered_chain}
+use Rattle.mc_laws.proofs.Delivery.{delivery_run}
+use Rattle.mc_laws.proofs.stories.a_message_is_delivered.Goals as goal
+
+pub returns-clause-run : goal.returns-clause-run
+returns-clause-run c = delivery_run
+
+pub returns-clause-told : goal.returns-clause-told
+returns-clause-told c = λ message. inl refl
+
+pub returns-clause-stated : goal.returns-clause-stated
+returns-clause-stated c = λ message. record { chain = delivered_chain message; tells = (refl, refl); state = refl }

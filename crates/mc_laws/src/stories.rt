@@ -1,0 +1,14 @@
+//! What may happen, so that the laws over runs are not about nothing.
+
+ghost use Rattle.mc_model.specs.Chain.{Submission, Delivered};
+ghost use Rattle.mc_model.specs.OneSlot.{In};
+ghost use Rattle.mc_model.specs.World.{IsRun, reached};
+ghost use Rattle.mc_model.specs.Fate.{States};
+ghost use Rattle.mc_model.specs.Stories.{MayBeTried, delivery_story, first_id, last_deed, one_node};
+
+/// A cluster of one node takes a message, attempts it, is answered, and states that it is DELIVERED.
+pub fn a_message_is_delivered()
+    ensures run { (message : Submission) → MayBeTried message → IsRun one_node (delivery_story message) }
+    ensures told { (message : Submission) → In (last_deed message) (reached one_node (delivery_story message)).past }
+    ensures stated { (message : Submission) → States (last_deed message) first_id Delivered }
+{}

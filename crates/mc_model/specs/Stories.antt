@@ -1,0 +1,78 @@
+-- What may happen: a cluster of one node takes a message, delivers it and says so.
+use Rattle.std.specs.Prelude.{ℕ, ◌<◌, ◌≤◌, List, [], ◌∷◌, ◌++◌, map, None, true}
+use Rattle.mc_model.specs.Chain.{Submission, Decree, Kind, Taken, Attempt, Fate, Delivered}
+use Rattle.mc_model.specs.OneSlot.{Vote, vote_at}
+use Rattle.mc_model.specs.Packet.{Slot, slot_of, Prepare, Promise, Propose, Voted}
+use Rattle.mc_model.specs.Actor.{Submit, Concluded, opening_clock}
+use Rattle.mc_model.specs.Replies.{Accepted}
+use Rattle.mc_model.specs.World.{World, Deed, start, Act, Receives, Promises, Votes, Prepares, Proposes, Begins, Replies, Reports, Grants, Answers}
+
+-- the first message of node 1 in its first incarnation
+abbrev pub first_id : ℕ
+first_id = 1000100001
+
+-- its first ballot
+abbrev pub first_ballot : ℕ
+first_ballot = 262161
+
+-- a decree of the node at its opening clock
+abbrev pub decreed : Kind → Decree
+decreed kind = record { author = record { node = 1; incarnation = 1 }; moment = opening_clock; kind = kind }
+
+abbrev pub taken_chain : Submission → List Decree
+taken_chain message = decreed (Taken message) ∷ []
+
+abbrev pub attempted_chain : Submission → List Decree
+attempted_chain message = decreed (Attempt 1) ∷ taken_chain message
+
+abbrev pub delivered_chain : Submission → List Decree
+delivered_chain message = decreed (Fate Delivered 0) ∷ attempted_chain message
+
+-- The node alone settles a slot: it asks itself for a promise and for a vote, and hears of both. The newest act stands first.
+abbrev pub round : Slot → Vote → List Act
+round slot vote =
+    Receives (Voted 1 slot vote)
+    ∷ Votes slot vote true
+    ∷ Receives (Propose 1 slot vote)
+    ∷ Proposes slot vote
+    ∷ Receives (Promise 1 slot vote.ballot None)
+    ∷ Promises slot vote.ballot true
+    ∷ Receives (Prepare 1 slot vote.ballot)
+    ∷ Prepares slot vote.ballot
+    ∷ []
+
+abbrev pub round_for : List Decree → List Act
+round_for chain = round (slot_of first_id chain) (vote_at first_ballot chain)
+
+-- The submit_sm comes, the message is taken, the submit_sm is answered; an attempt is begun, granted and answered ESME_ROK; the
+-- message is delivered, and the receipt goes out.
+abbrev pub delivery_acts : Submission → List Act
+delivery_acts message =
+    Reports first_id (delivered_chain message)
+    ∷ round_for (delivered_chain message)
+    ++ Answers (slot_of first_id (attempted_chain message)) (Concluded Delivered 0)
+    ∷ Grants (slot_of first_id (attempted_chain message))
+    ∷ round_for (attempted_chain message)
+    ++ Replies 1 first_id Accepted
+    ∷ round_for (taken_chain message)
+    ++ Begins 1 (Submit first_id message)
+    ∷ []
+
+abbrev pub by_node_1 : Act → ℕ × Act
+by_node_1 act = (1, act)
+
+abbrev pub delivery_story : Submission → List (ℕ × Act)
+delivery_story message = map by_node_1 (delivery_acts message)
+
+-- the deed with which it ends
+abbrev pub last_deed : Submission → Deed
+last_deed message = record { node = 1; incarnation = 1; act = Reports first_id (delivered_chain message) }
+
+-- a cluster of one node, whose messages are counted from 1
+abbrev pub one_node : World
+one_node = start 1 (λ node. 1)
+
+-- the message may be taken and tried at once
+pub record MayBeTried (message : Submission) : Type 0 where
+  pub scheduled : message.schedule ≤ opening_clock
+  pub valid : opening_clock < message.expiry
