@@ -1,7 +1,8 @@
 //! Decrees.
 
-ghost use Rattle.std.specs.Prelude.{◌≡◌, ◌≤◌, ◌↔◌, Some, IfSome, IfOk, IsSome};
+ghost use Rattle.std.specs.Prelude.{◌≡◌, ◌≤◌, ◌↔◌, Some, IfSome, IfOk, IsSome, option_map};
 ghost use Rattle.mc_model.specs.Chain.{attempts_of, error_by};
+ghost use Rattle.fate_chain.specs.Fields.{final_in};
 ghost use Rattle.fate_chain.specs.Kinds.{final_of, kind_of};
 ghost use Rattle.fate_chain.specs.Marks.{bare, bare_kind, IsMarkOf};
 ghost use Rattle.fate_chain.specs.States.{state_of};
@@ -78,6 +79,21 @@ pub enum Final {
 }
 
 impl Final {
+    /// The one whose message_state has this code; none where there is none.
+    #[tactic(auto, unfolding(crate::specs::Fields::final_in))]
+    pub(crate) fn of_code(code: u8) -> Option<Final>
+        ensures { option_map final_of result ≡ final_in code }
+    {
+        match code {
+            2 => Some(Final::Delivered),
+            3 => Some(Final::Expired),
+            4 => Some(Final::Deleted),
+            5 => Some(Final::Undeliverable),
+            8 => Some(Final::Rejected),
+            _ => None,
+        }
+    }
+
     /// The message_state of a message that has it.
     pub fn state(self) -> State
         ensures { result ≡ state_of (Some (final_of self)) }

@@ -3,8 +3,10 @@
 
 mod decree;
 mod fault;
+mod fields;
 mod list;
 mod marks;
+mod octets;
 mod submission;
 #[cfg(test)]
 mod tests;

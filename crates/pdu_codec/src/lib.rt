@@ -14,6 +14,7 @@ mod tlv;
 mod writing;
 
 pub use fault::{Field, PduFault};
+pub use fields::check_optional;
 pub use header::{Header, read_header};
 pub use laws::{read_is_written, written_is_read};
 pub use pdu::{Address, Bind, BindAnswer, Body, Message, Pdu, Query, QueryAnswer};
