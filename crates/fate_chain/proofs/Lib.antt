@@ -1,2 +1,4 @@
 pub mod Permitted
 pub mod Following
+pub mod FieldReading
+pub mod ChainReading

@@ -155,12 +155,12 @@ unfoldable pub decrees_at : ℕ → List Decree → List ℕ → Option (List De
 decrees_at zero older octets = Some (older, octets)
 decrees_at (suc count) older octets = decree_at octets >>= λ x. decrees_at count (x.0 ∷ older) x.1
 
--- the decrees, where no octet is left
-abbrev pub all_of : List Decree × List ℕ → Option (List Decree)
-all_of (decrees, []) = Some decrees
-all_of (decrees, more) = None
+-- the chain, where no octet is left
+abbrev pub chain_from : ℕ → List Decree × List ℕ → Option Chain
+chain_from id (decrees, []) = Some (record { id = id; decrees = decrees })
+chain_from id (decrees, more) = None
 
--- the chain that the octets are the text of
+-- the chain of which the octets are the text
 unfoldable pub read_chain : List ℕ → Option Chain
 read_chain octets =
-    front_at chain_fields octets >>= λ h. decrees_at h.0.1.1.0 [] h.1 >>= all_of >>= λ decrees. Some (record { id = h.0.1.0; decrees = decrees })
+    front_at chain_fields octets >>= λ h. decrees_at h.0.1.1.0 [] h.1 >>= λ d. chain_from h.0.1.0 d
