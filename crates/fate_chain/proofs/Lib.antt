@@ -2,3 +2,4 @@ pub mod Permitted
 pub mod Following
 pub mod FieldReading
 pub mod ChainReading
+pub mod Written

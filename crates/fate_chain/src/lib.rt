@@ -8,6 +8,7 @@ mod list;
 mod marks;
 mod octets;
 mod submission;
+mod writing;
 #[cfg(test)]
 mod tests;
 

@@ -21,7 +21,7 @@ pub use pdu::{Address, Bind, BindAnswer, Body, Message, Pdu, Query, QueryAnswer}
 pub use reading::decode;
 pub use text::{ShortMessage, Text};
 pub use tlv::{Tlv, Tlvs};
-pub use writing::encode;
+pub use writing::{encode, put_tlvs};
 
 #[cfg(test)]
 mod tests;
