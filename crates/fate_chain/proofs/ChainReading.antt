@@ -5,7 +5,7 @@ use Rattle.std.proofs.lemmas.List.{append-nil}
 use Rattle.mc_model.specs.Chain.{Submission, Kind, Taken, Attempt, Failed, Fate, Decree, Chain}
 use Rattle.pdu_codec.specs.Text.{IsOctets, AreOptional, optional_octets}
 use Rattle.fate_chain.specs.Fields.{Number, One, Two, State, IsBetween, IsOptional, Contents, spellings, AreWithin, ◌>>=◌, front_at}
-use Rattle.fate_chain.specs.Bytes.{octet, error, party_fields, parties_in, handling_fields, handling_in, text_fields, texts_in, kind_code, head_fields, head_in, submission_octets, kind_octets, decree_octets, decrees_octets, chain_fields, chain_octets, MessageFits, KindFits, DecreeFits, DecreesFit, Fits, first_of, tlvs_in, message_of, message_at, kind_at, decree_of, decree_at, decrees_at, chain_from, read_chain}
+use Rattle.fate_chain.specs.Bytes.{octet, error, party_fields, parties_in, handling_fields, handling_in, text_fields, texts_in, kind_code, head_fields, head_in, submission_octets, kind_octets, decree_octets, decrees_octets, chain_fields, chain_octets, MessageFits, KindFits, DecreeFits, DecreesFit, Fits, first_of, tlvs_in, message_of, message_at, kind_at, decree_of, decree_at, decrees_at, chain_from, chain_at, read_chain}
 use Rattle.fate_chain.proofs.FieldReading.{bind_some, some_is, optional_again, front_takes, front_again}
 
 abbrev one : {A : Type 0} → A → Option A
@@ -197,10 +197,10 @@ whole_is id (decrees, o ∷ octets) c e = absurd cc
 pub chain_takes : (octets : List ℕ) (c : Chain) → IsOctets octets → read_chain octets ≡ Some c → TakesChain octets c
 unfolding read_chain
 chain_takes octets c are e =
-    let a = bind_some (front_at chain_fields octets) (λ h. decrees_at h.0.1.1.0 [] h.1 >>= λ d. chain_from h.0.1.0 d) c e in
+    let a = bind_some (front_at chain_fields octets) (λ h. chain_at h.0.1.0 h.0.1.1.0 h.1) c e in
     let id : ℕ = a.0.0.1.0 in
     let count : ℕ = a.0.0.1.1.0 in
-    let b = bind_some (decrees_at count [] a.0.1) (chain_from id) c a.2 in
+    let b = bind_some (decrees_at count [] a.0.1) (λ d. chain_from id d) c a.2 in
     let head = front_takes chain_fields octets a.0 are a.1 in
     let decrees = decrees_take count [] a.0.1 b.0 head.rest tt b.1 in
     let whole = whole_is id b.0 c b.2 in
@@ -228,5 +228,5 @@ chain_again c fits =
     let head : Contents chain_fields = (1, (c.id, (length c.decrees, tt))) in
     let one_is : IsBetween 1 1 1 = record { low = omega arith; high = omega arith } in
     let count_is : IsBetween 0 65535 (length c.decrees) = record { low = omega arith; high = fits.count } in
-    ap (λ (o : Option (Contents chain_fields × List ℕ)). o >>= λ h. decrees_at h.0.1.1.0 [] h.1 >>= λ d. chain_from h.0.1.0 d) (front_again chain_fields head (decrees_octets c.decrees) (omega arith, (tt, (omega arith, tt))) (one_is, (fits.id, (count_is, tt))))
+    ap (λ (o : Option (Contents chain_fields × List ℕ)). o >>= λ h. chain_at h.0.1.0 h.0.1.1.0 h.1) (front_again chain_fields head (decrees_octets c.decrees) (omega arith, (tt, (omega arith, tt))) (one_is, (fits.id, (count_is, tt))))
     ∙ ap (λ (o : Option (List Decree × List ℕ)). o >>= λ d. chain_from c.id d) (all_again c.decrees fits.decrees)

@@ -3,3 +3,4 @@ pub mod Following
 pub mod FieldReading
 pub mod ChainReading
 pub mod Written
+pub mod Standings

@@ -2,9 +2,11 @@
 -- decrees there are; each decree, the oldest first.
 use Rattle.std.specs.Prelude.{ℕ, zero, suc, ◌≡◌, ◌≤◌, ◌==◌, List, [], ◌∷◌, ◌++◌, length, Option, Some, None, Result, Ok, Err, if◌then◌else◌}
 use Rattle.mc_model.specs.Ids.{IsId}
-use Rattle.mc_model.specs.Chain.{Author, Submission, Final, Kind, Taken, Attempt, Failed, Fate, Decree, Chain}
+use Rattle.mc_model.specs.Chain.{Author, Submission, Final, Kind, Taken, Attempt, Failed, Fate, Decree, Chain, IsPermitted}
 use Rattle.pdu_codec.specs.Text.{AreOptional, optional_octets}
 use Rattle.pdu_codec.specs.Grammar.{optional_at}
+use Rattle.fate_chain.specs.declared.fault.ChainFault.{ChainFault}
+use Rattle.fate_chain.specs.declared.fault.ChainFault.TheVariants.{NotPermitted, NotBytes, Memory}
 use Rattle.fate_chain.specs.Fields.{Field, Number, One, Two, Four, Id, State, TextBelow, Short, Optional, Contents, spellings, AreWithin, ◌>>=◌, front_at}
 
 -- ---- the fields of a message that was taken, in order
@@ -160,7 +162,19 @@ abbrev pub chain_from : ℕ → List Decree × List ℕ → Option Chain
 chain_from id (decrees, []) = Some (record { id = id; decrees = decrees })
 chain_from id (decrees, more) = None
 
+-- the chain that so many decrees make, where no octet is left
+abbrev pub chain_at : ℕ → ℕ → List ℕ → Option Chain
+chain_at id count octets = decrees_at count [] octets >>= λ d. chain_from id d
+
 -- the chain of which the octets are the text
 unfoldable pub read_chain : List ℕ → Option Chain
 read_chain octets =
-    front_at chain_fields octets >>= λ h. decrees_at h.0.1.1.0 [] h.1 >>= λ d. chain_from h.0.1.0 d
+    front_at chain_fields octets >>= λ h. chain_at h.0.1.0 h.0.1.1.0 h.1
+
+-- What is found in octets that are read so: a permitted chain, which there may be no memory for, another list of
+-- decrees, or no text at all.
+abbrev pub Judges : {A : Type 0} → (A → Chain → Type 0) → Result A ChainFault → Option Chain → Type 0
+Judges same (Ok x) read = (c : Chain) × (read ≡ Some c) × IsPermitted c.id c.decrees × same x c
+Judges same (Err NotPermitted) read = (c : Chain) × (read ≡ Some c) × (IsPermitted c.id c.decrees → ⊥)
+Judges same (Err NotBytes) read = read ≡ None
+Judges same (Err Memory) read = (c : Chain) × (read ≡ Some c) × IsPermitted c.id c.decrees

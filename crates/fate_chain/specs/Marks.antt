@@ -1,11 +1,13 @@
 -- What of a decree decides which may follow: who made it and when, and its kind without texts and errors.
-use Rattle.std.specs.Prelude.{◌≡◌, ℕ, [], List, slice_get, Some}
-use Rattle.mc_model.specs.Chain.{Submission, Kind, Taken, Attempt, Failed, Fate, Decree, taken_in, attempts_in}
+use Rattle.std.specs.Prelude.{◌≡◌, ◌<◌, ℕ, [], List, length, slice_get, Some}
+use Rattle.mc_model.specs.Chain.{Submission, Kind, Taken, Attempt, Failed, Fate, Decree, IsPermitted, taken_in, attempts_in}
 use Rattle.fate_chain.specs.Kinds.{author_of, final_of}
 use Rattle.fate_chain.specs.declared.marks.Act.{Act}
 use Rattle.fate_chain.specs.declared.marks.Act.TheVariants as acts
 use Rattle.fate_chain.specs.declared.marks.Mark.{Mark}
 use Rattle.fate_chain.specs.declared.marks.Standing.{Standing}
+use Rattle.fate_chain.specs.declared.progress.Progress.{Progress}
+use Rattle.fate_chain.specs.declared.progress.Progress.TheVariants as progresses
 
 -- a message of which only its schedule and its expiry are told
 abbrev pub bare_message : ℕ → ℕ → Submission
@@ -56,3 +58,10 @@ pub record IsStandingOf (decrees : List Decree) (standing : Standing) : Type 0 w
   pub newest : Decree
   pub first : slice_get decrees 0 ≡ Some newest
   pub mark : IsMarkOf newest standing.newest
+
+-- How far decrees, the newest first, have come towards a permitted chain of the id: there is none yet, they are one,
+-- or they are none.
+abbrev pub IsProgressOf : ℕ → List Decree → Progress → Type 0
+IsProgressOf id decrees progresses.Begins = decrees ≡ []
+IsProgressOf id decrees (progresses.Stands standing) = IsPermitted id decrees × IsStandingOf decrees standing
+IsProgressOf id decrees progresses.Fails = (0 < length decrees) × (IsPermitted id decrees → ⊥)

@@ -7,6 +7,7 @@ mod fields;
 mod list;
 mod marks;
 mod octets;
+mod progress;
 mod submission;
 mod writing;
 #[cfg(test)]

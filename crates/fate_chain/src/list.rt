@@ -142,7 +142,7 @@ impl Chain {
     pub fn permits(&self, decree: &Decree) -> bool
         ensures { IsTrue result ↔ MayExtend (taken_in self.now.decrees) self.now.decrees decree.now }
     {
-        self.standing().permits(decree.mark())
+        self.standing().permits(&decree.mark())
     }
 
     /// The chain with one more decree at its end. NotPermitted where the decree may not come next.

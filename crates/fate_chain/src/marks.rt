@@ -1,7 +1,7 @@
 //! Which decree may follow which.
 
-ghost use Rattle.std.specs.Prelude.{◌≡◌, ◌≤◌, ◌<◌, ◌↔◌, List, IsTrue};
-ghost use Rattle.mc_model.specs.Chain.{Decree, IsFailureOf, IsFirstAttempt, IsNextAttempt, MayExtend, MayFollow, taken_in};
+ghost use Rattle.std.specs.Prelude.{◌≡◌, ◌≤◌, ◌↔◌, ◌∷◌, List, length, IsTrue};
+ghost use Rattle.mc_model.specs.Chain.{Decree, IsFailureOf, IsFirstAttempt, IsNextAttempt, MayExtend, MayFollow, attempts_of, taken_in};
 ghost use Rattle.fate_chain.specs.Kinds.{author_of};
 ghost use Rattle.fate_chain.specs.Marks.{bare_kind, bare_message, IsMarkOf, IsStandingOf};
 
@@ -34,6 +34,19 @@ pub struct Mark {
     pub act: Act,
 }
 
+impl Act {
+    /// One where it begins an attempt, else none.
+    fn attempts(self) -> usize
+        ensures attempts { result ≡ attempts_of (bare_kind self) }
+        ensures range { result ≤ 1 }
+    {
+        match self {
+            Act::Attempt(_) => 1,
+            _ => 0,
+        }
+    }
+}
+
 /// The cases of two neighbours, the older first, each with what it asks for. In no other case may they stand so.
 macro_rules! on_case {
     ($neighbours:expr; $($older:pat, $newer:pat => $condition:expr;)*) => {
@@ -55,29 +68,42 @@ pub struct Standing {
 
 impl Standing {
     /// Whether a decree of this mark may come next.
-    pub fn permits(self, next: Mark) -> bool
+    pub fn permits(&self, next: &Mark) -> bool
         ensures { (decrees : List Decree) (decree : Decree) →
-            IsStandingOf decrees self → IsMarkOf decree next →
+            IsStandingOf decrees self.now → IsMarkOf decree next.now →
             IsTrue result ↔ MayExtend (taken_in decrees) decrees decree }
     {
         self.is_followed_by(next)
     }
 
+    /// After one more decree, of this mark, that may come next.
+    pub fn after(self, next: Mark) -> Standing
+        ensures { (decrees : List Decree) (decree : Decree) →
+            length decrees ≤ 65535 → IsStandingOf decrees self → IsMarkOf decree next →
+            MayExtend (taken_in decrees) decrees decree → IsStandingOf (decree ∷ decrees) result }
+    {
+        Standing {
+            term: self.term,
+            attempts: self.attempts.saturating_add(next.act.attempts()),
+            newest: next,
+        }
+    }
+
     /// Whether moment, author and kind may follow those of the newest decree.
-    fn is_followed_by(self, next: Mark) -> bool
-        ensures { IsTrue result ↔ (self.newest.moment ≤ next.moment)
-            × MayFollow (bare_message self.term.schedule self.term.expiry) self.attempts
-            (author_of self.newest.author) self.newest.moment (bare_kind self.newest.act)
-            (author_of next.author) next.moment (bare_kind next.act) }
+    fn is_followed_by(&self, next: &Mark) -> bool
+        ensures { IsTrue result ↔ (self.now.newest.moment ≤ next.now.moment)
+            × MayFollow (bare_message self.now.term.schedule self.now.term.expiry) self.now.attempts
+            (author_of self.now.newest.author) self.now.newest.moment (bare_kind self.now.newest.act)
+            (author_of next.now.author) next.now.moment (bare_kind next.now.act) }
     {
         self.newest.moment <= next.moment && self.may_follow(next)
     }
 
     /// Whether author and kind may follow those of the newest decree.
-    fn may_follow(self, next: Mark) -> bool
-        ensures { IsTrue result ↔ MayFollow (bare_message self.term.schedule self.term.expiry) self.attempts
-            (author_of self.newest.author) self.newest.moment (bare_kind self.newest.act)
-            (author_of next.author) next.moment (bare_kind next.act) }
+    fn may_follow(&self, next: &Mark) -> bool
+        ensures { IsTrue result ↔ MayFollow (bare_message self.now.term.schedule self.now.term.expiry) self.now.attempts
+            (author_of self.now.newest.author) self.now.newest.moment (bare_kind self.now.newest.act)
+            (author_of next.now.author) next.now.moment (bare_kind next.now.act) }
     {
         let has_expired = self.term.expiry <= next.moment;
         let same_author = next.author == self.newest.author;
@@ -97,16 +123,16 @@ impl Standing {
     }
 
     /// Whether the first attempt may be begun then, under this number.
-    fn is_first(self, moment: Moment, number: u8) -> bool
-        ensures { IsTrue result ↔ IsFirstAttempt (bare_message self.term.schedule self.term.expiry) moment number }
+    fn is_first(&self, moment: Moment, number: u8) -> bool
+        ensures { IsTrue result ↔ IsFirstAttempt (bare_message self.now.term.schedule self.now.term.expiry) moment number }
     {
         number == 1 && self.term.schedule <= moment && moment < self.term.expiry
     }
 
     /// Whether another attempt may be begun then, under this number: one of eight, and a minute later for each
     /// attempt so far.
-    fn is_next(self, moment: Moment, number: u8) -> bool
-        ensures { IsTrue result ↔ IsNextAttempt (bare_message self.term.schedule self.term.expiry) self.attempts self.newest.moment moment number }
+    fn is_next(&self, moment: Moment, number: u8) -> bool
+        ensures { IsTrue result ↔ IsNextAttempt (bare_message self.now.term.schedule self.now.term.expiry) self.now.attempts self.now.newest.moment moment number }
     {
         if self.attempts >= 8 || number as usize != self.attempts + 1 {
             return false;
@@ -116,8 +142,8 @@ impl Standing {
     }
 
     /// Whether this author may declare the newest attempt failed.
-    fn is_failure(self, author: Author) -> bool
-        ensures { IsTrue result ↔ IsFailureOf (author_of self.newest.author) (author_of author) }
+    fn is_failure(&self, author: Author) -> bool
+        ensures { IsTrue result ↔ IsFailureOf (author_of self.now.newest.author) (author_of author) }
     {
         author.node == self.newest.author.node
             && author.incarnation >= self.newest.author.incarnation
