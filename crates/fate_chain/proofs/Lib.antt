@@ -4,3 +4,5 @@ pub mod FieldReading
 pub mod ChainReading
 pub mod Written
 pub mod Standings
+pub mod Steps
+pub mod Outcomes

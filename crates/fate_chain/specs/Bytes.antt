@@ -106,6 +106,11 @@ pub record Fits (c : Chain) : Type 0 where
   pub count : length c.decrees ≤ 65535
   pub decrees : DecreesFit c.decrees
 
+-- the octets are those of the chain, which is within its limits
+pub record IsSpelled (octets : List ℕ) (c : Chain) : Type 0 where
+  pub fits : Fits c
+  pub spelled : octets ≡ chain_octets c
+
 -- ---- reading
 
 -- the optional parameters that octets are

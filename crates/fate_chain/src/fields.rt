@@ -62,7 +62,8 @@ pub fn octet_at(octets: &[u8]) -> Option<(u8, &[u8])>
 /// The number of the format, 1.
 #[tactic(auto, unfolding(crate::specs::Fields::between_at))]
 pub fn format_at(octets: &[u8]) -> Option<(u8, &[u8])>
-    ensures { Finds (λ x. (x.0, x.1.now)) result (content_at (Number One 1 1) octets.now) }
+    ensures read { Finds (λ x. (x.0, x.1.now)) result (content_at (Number One 1 1) octets.now) }
+    ensures one { IfSome result (λ x. x.0 ≡ 1) }
 {
     let (format, rest) = one_at(octets)?;
     if format != 1 {

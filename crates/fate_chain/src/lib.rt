@@ -8,6 +8,7 @@ mod list;
 mod marks;
 mod octets;
 mod progress;
+mod reading;
 mod submission;
 mod writing;
 #[cfg(test)]
