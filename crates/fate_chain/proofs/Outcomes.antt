@@ -5,7 +5,7 @@ use Rattle.pdu_codec.specs.Text.{IsOctets}
 use Rattle.fate_chain.specs.declared.fault.ChainFault.{ChainFault}
 use Rattle.fate_chain.specs.declared.fault.ChainFault.TheVariants.{NotPermitted, NotBytes, Memory}
 use Rattle.fate_chain.specs.Fields.{◌>>=◌}
-use Rattle.fate_chain.specs.Bytes.{chain_octets, decrees_at, chain_from, chain_at, read_chain, Fits, IsSpelled, Judges}
+use Rattle.fate_chain.specs.Bytes.{decrees_at, chain_from, chain_at, read_chain, IsSpelled, Judges}
 use Rattle.fate_chain.proofs.FieldReading.{some_is}
 use Rattle.fate_chain.proofs.ChainReading.{chain_takes, chain_again}
 

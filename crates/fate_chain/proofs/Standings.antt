@@ -2,7 +2,7 @@
 use Rattle.std.proofs.Common.{◌≡◌, ◌↔◌, ℕ, ◌+◌, ◌*◌, ◌<◌, ◌≤◌, List, [], ◌∷◌, length, Option, None, Some, refl, sym, ap, subst, ◌∙◌, arith}
 use Rattle.mc_model.specs.Chain.{Submission, Kind, Taken, Attempt, Failed, Fate, Delivered, Expired, Deleted, Undeliverable, Rejected, Author, Decree, MayBegin, MayFollow, MayExtend, IsPermitted, taken_by, taken_in, attempts_of, attempts_in}
 use Rattle.fate_chain.specs.Kinds.{author_of}
-use Rattle.fate_chain.specs.Marks.{bare_message, bare, bare_kind, IsMarkOf, IsStandingOf, IsProgressOf}
+use Rattle.fate_chain.specs.Marks.{bare_message, bare, bare_kind, IsMarkOf, IsStandingOf}
 use Rattle.fate_chain.specs.declared.marks.Term.{Term}
 use Rattle.fate_chain.specs.declared.marks.Act.TheVariants as acts
 use Rattle.fate_chain.specs.declared.marks.Mark.{Mark}

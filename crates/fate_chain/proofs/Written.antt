@@ -1,5 +1,5 @@
 -- What is written is within its limits.
-use Rattle.std.proofs.Common.{ℕ, ◌<◌, ◌≤◌, arith}
+use Rattle.std.proofs.Common.{ℕ, ◌<◌, arith}
 use Rattle.mc_model.specs.Ids.{IsMoment}
 use Rattle.fate_chain.specs.Fields.{IsBetween}
 

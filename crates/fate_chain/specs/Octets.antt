@@ -1,5 +1,5 @@
 -- What is seen in a decree as it stands in octets, and that its texts are some.
-use Rattle.std.specs.Prelude.{ℕ, List, IsTrue}
+use Rattle.std.specs.Prelude.{IsTrue}
 use Rattle.mc_model.specs.Chain.{Submission, Kind, Taken, Attempt, Failed, Fate, Decree}
 use Rattle.pdu_codec.specs.Text.{IsText, IsShortMessage}
 use Rattle.fate_chain.specs.Fields.{Contents, is_optional}

@@ -10,9 +10,9 @@ mod octets;
 mod progress;
 mod reading;
 mod submission;
-mod writing;
 #[cfg(test)]
 mod tests;
+mod writing;
 
 pub use decree::{Author, Decree, ErrorCode, Final, Kind};
 pub use fault::ChainFault;

@@ -188,8 +188,8 @@ fn decided_at(kind: u8, octets: &[u8]) -> Option<(KindOctets<'_>, &[u8])>
     match kind {
         1 => {
             let Some((message, rest)) = message_at(octets) else {
-        return None;
-    };
+                return None;
+            };
             Some((KindOctets::Taken(message), rest))
         }
         2 => {
@@ -198,17 +198,17 @@ fn decided_at(kind: u8, octets: &[u8]) -> Option<(KindOctets<'_>, &[u8])>
         }
         3 => {
             let Some((error, rest)) = error_at(octets) else {
-        return None;
-    };
+                return None;
+            };
             Some((KindOctets::Failed(error), rest))
         }
         _ => {
             let Some((last, rest)) = final_at(octets) else {
-        return None;
-    };
+                return None;
+            };
             let Some((error, rest)) = error_at(rest) else {
-        return None;
-    };
+                return None;
+            };
             Some((KindOctets::Fate(last, error), rest))
         }
     }

@@ -54,7 +54,7 @@ fn first_term(id: MsgId, first: &Mark) -> Option<Term>
     ensures { MatchOption result
         (MayBegin id (author_of first.now.author) first.now.moment (bare_kind first.now.act) → ⊥)
         (λ term. MayBegin id (author_of first.now.author) first.now.moment (bare_kind first.now.act)
-            × (first.now.act ≡ acts.Taken term)) }
+        × (first.now.act ≡ acts.Taken term)) }
 {
     let Act::Taken(term) = &first.act else {
         return None;
