@@ -236,7 +236,7 @@ fn octets_that_are_no_text_are_refused(rt: HostRuntime) -> Result<(), Fail> {
 
 #[test]
 fn what_is_read_is_written(rt: HostRuntime) -> Result<(), Fail> {
-    let mut read = 0;
+    let mut is_any_read = false;
     for place in 0..TAKEN_CHAIN.len() {
         for octet in [0x00, 0x7f, 0x80, 0xff] {
             let mut octets = TAKEN_CHAIN;
@@ -244,12 +244,12 @@ fn what_is_read_is_written(rt: HostRuntime) -> Result<(), Fail> {
             match Chain::read(rt.alloc(), &octets) {
                 Ok(chain) => {
                     assert_eq!(rt; chain.bytes()?.as_slice(), octets.as_slice());
-                    read += 1;
+                    is_any_read = true;
                 }
                 Err(fault) => assert!(rt; fault != ChainFault::Memory),
             }
         }
     }
-    assert!(rt; read > 0);
+    assert!(rt; is_any_read);
     Ok(())
 }
