@@ -6,10 +6,7 @@ use Rattle.mc_model.specs.Chain.{Submission, Kind, Taken, Attempt, Failed, Fate,
 use Rattle.pdu_codec.specs.Text.{IsOctets, AreOptional, optional_octets}
 use Rattle.fate_chain.specs.Fields.{State, IsBetween, IsOptional, Contents, spellings, AreWithin, ◌>>=◌, front_at}
 use Rattle.fate_chain.specs.Bytes.{octet, error, party_fields, parties_in, handling_fields, handling_in, text_fields, texts_in, kind_code, head_fields, head_in, submission_octets, kind_octets, decree_octets, decrees_octets, chain_fields, chain_octets, MessageFits, KindFits, DecreeFits, DecreesFit, Fits, first_of, tlvs_in, message_of, message_at, kind_at, decree_of, decree_at, decrees_at, chain_from, chain_at, read_chain}
-use Rattle.fate_chain.proofs.FieldReading.{bind_some, some_is, optional_again, front_takes, front_again}
-
-abbrev one : {A : Type 0} → A → Option A
-one x = Some x
+use Rattle.fate_chain.proofs.FieldReading.{one, bind_some, some_is, optional_again, front_takes, front_again}
 
 -- ---- messages
 

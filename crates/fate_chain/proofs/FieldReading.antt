@@ -18,20 +18,17 @@ use Rattle.pdu_codec.proofs.TlvLaws.{IsOptional-from_ok, optional-whole}
 use Rattle.pdu_codec.proofs.PduSpelling.{find-passes}
 use Rattle.fate_chain.specs.Fields.{Size, One, Two, Four, Eight, Field, Number, Id, State, TextBelow, Short, Optional, Content, Contents, number_octets, final_code, spelling, spellings, IsBetween, IsOptional, IsWithin, AreWithin, ◌>>=◌, number_at, taken_at, counted_at, passing, is_between, is_text, is_short, is_optional, finals, final_in, between_at, id_at, final_at, text_at, short_at, tlvs_at, content_at, front_at}
 
-IsOctets-rest : (octet : ℕ) (octets : List ℕ) → IsOctets (octet ∷ octets) → IsOctets octets
-IsOctets-rest octet octets are i = are (suc i)
-
 IsOctets-take : (n : ℕ) (octets : List ℕ) → IsOctets octets → IsOctets (take n octets)
 IsOctets-take zero octets are i = omega arith
 IsOctets-take (suc n) [] are i = omega arith
 IsOctets-take (suc n) (a ∷ octets) are zero = are 0
-IsOctets-take (suc n) (a ∷ octets) are (suc i) = IsOctets-take n octets (IsOctets-rest a octets are) i
+IsOctets-take (suc n) (a ∷ octets) are (suc i) = IsOctets-take n octets (IsOctets-drop 1 (a ∷ octets) are) i
 
 pub bind_some : {A B : Type 0} (o : Option A) (f : A → Option B) (y : B) → (o >>= f) ≡ Some y → (x : A) × (o ≡ Some x) × (f x ≡ Some y)
 bind_some (Some x) f y e = (x, refl, e)
 bind_some None f y e = absurd cc
 
-abbrev one : {A : Type 0} → A → Option A
+abbrev pub one : {A : Type 0} → A → Option A
 one x = Some x
 
 pub some_is : {A : Type 0} (x y : A) → one x ≡ one y → x ≡ y
