@@ -1,1 +1,8 @@
 pub mod Permitted
+pub mod Following
+pub mod FieldReading
+pub mod ChainReading
+pub mod Written
+pub mod Standings
+pub mod Steps
+pub mod Outcomes

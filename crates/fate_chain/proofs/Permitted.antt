@@ -16,7 +16,7 @@ taken-followed message attempt old before kind author moment (Attempt number) ma
 taken-followed message attempt old before kind author moment (Failed error) may taken = refl
 taken-followed message attempt old before kind author moment (Fate final error) may taken = refl
 
-taken-extended : (message : Option Submission) (older : Decree) (oldest : List Decree) (newest : Decree) → MayExtend message (older ∷ oldest) newest → (taken : Option Submission) → taken_by newest.kind taken ≡ taken
+pub taken-extended : (message : Option Submission) (older : Decree) (oldest : List Decree) (newest : Decree) → MayExtend message (older ∷ oldest) newest → (taken : Option Submission) → taken_by newest.kind taken ≡ taken
 taken-extended None older oldest newest may taken = absurd may
 taken-extended (Some message) older oldest newest may taken = taken-followed message _ _ _ _ _ _ newest.kind may.1 taken
 

@@ -1,3 +1,7 @@
 pub mod Kinds
+pub mod Marks
 pub mod States
 pub mod Submissions
+pub mod Bytes
+pub mod Fields
+pub mod Octets

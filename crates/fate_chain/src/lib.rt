@@ -3,10 +3,16 @@
 
 mod decree;
 mod fault;
+mod fields;
 mod list;
+mod marks;
+mod octets;
+mod progress;
+mod reading;
 mod submission;
 #[cfg(test)]
 mod tests;
+mod writing;
 
 pub use decree::{Author, Decree, ErrorCode, Final, Kind};
 pub use fault::ChainFault;

@@ -1,14 +1,19 @@
 //! Chains.
 
-ghost use Rattle.std.specs.Prelude.{◌≡◌, ◌<◌, ◌≤◌, ◌↔◌, ◌∷◌, [], Some, reverse, slice_get, IfOk, IsErrOf};
+ghost use Rattle.std.specs.Prelude.{◌≡◌, ◌<◌, ◌≤◌, ◌↔◌, ◌∷◌, [], Some, reverse, slice_get, IfOk, IsErrOf, IsTrue};
 ghost use Rattle.mc_model.specs.Ids.{node_of, incarnation_of};
-ghost use Rattle.mc_model.specs.Chain.{Taken, IsPermitted, taken_in, final_in, error_in};
+ghost use Rattle.mc_model.specs.Chain.{Chain as ChainValue, Taken, IsPermitted, MayExtend, taken_in, attempts_in, final_in, error_in};
+ghost use Rattle.fate_chain.specs.Bytes.{chain_octets, read_chain, Fits, IsSpelled, Judges};
+ghost use Rattle.fate_chain.specs.Marks.{IsStandingOf};
 ghost use Rattle.fate_chain.specs.States.{state_of};
-ghost use Rattle.fate_chain.specs.declared.fault.ChainFault.TheVariants.{NotPermitted};
+ghost use Rattle.fate_chain.specs.declared.fault.ChainFault.TheVariants.{NotPermitted, NotBytes, Memory};
 
 use crate::decree::{Author, Decree, Kind};
 use crate::fault::ChainFault;
+use crate::marks::Standing;
+use crate::reading::{check, decrees_of, head_at};
 use crate::submission::Submission;
+use crate::writing::{put_chain_head, put_decrees};
 use mc_types::{Moment, MsgId};
 use pdu_tables::State;
 use std::alloc::{AllocError, Global};
@@ -49,6 +54,7 @@ impl Chain {
           kind = Taken message;
         } ∷ []) }
         ensures refused { IsErrOf result NotPermitted ↔ ((moment < message.expiry) × (message.schedule < message.expiry) → ⊥) }
+        ensures no_other { IsErrOf result NotBytes → ⊥ }
     {
         if message.expiry <= moment || message.schedule >= message.expiry {
             return Err(ChainFault::NotPermitted);
@@ -113,16 +119,117 @@ impl Chain {
         error
     }
 
+    /// How many attempts were begun.
+    fn attempts(&self) -> usize
+        ensures { result ≡ attempts_in self.now.decrees }
+    {
+        let mut attempts = 0;
+        for decree in &self.decrees {
+            attempts += decree.attempts();
+        }
+        attempts
+    }
+
+    /// What decides which decree may come next.
+    fn standing(&self) -> Standing
+        ensures { IsStandingOf self.now.decrees result }
+    {
+        Standing {
+            term: self.submission().term(),
+            attempts: self.attempts(),
+            newest: self.newest().mark(),
+        }
+    }
+
+    /// Whether the decree may come next.
+    pub fn permits(&self, decree: &Decree) -> bool
+        ensures { IsTrue result ↔ MayExtend (taken_in self.now.decrees) self.now.decrees decree.now }
+    {
+        self.standing().permits(&decree.mark())
+    }
+
+    /// The chain with one more decree at its end. NotPermitted where the decree may not come next.
+    pub fn extended(&self, decree: Decree) -> Result<Chain, ChainFault>
+        ensures id { IfOk result (λ chain. chain.id ≡ self.now.id) }
+        ensures decrees { IfOk result (λ chain. chain.decrees ≡ decree ∷ self.now.decrees) }
+        ensures refused { IsErrOf result NotPermitted ↔ (MayExtend (taken_in self.now.decrees) self.now.decrees decree → ⊥) }
+        ensures no_other { IsErrOf result NotBytes → ⊥ }
+    {
+        if !self.permits(&decree) {
+            return Err(ChainFault::NotPermitted);
+        }
+        let mut decrees = self.copies(self.decrees.len() + 1)?;
+        decrees.push(decree)?;
+        Ok(Chain {
+            id: self.id,
+            decrees,
+        })
+    }
+
+    /// The same decrees once more, the oldest first, in a vector with room for so many.
+    fn copies(&self, room: usize) -> Result<Vec<Decree>, AllocError>
+        ensures { IfOk result (λ decrees. reverse decrees.items ≡ self.now.decrees) }
+    {
+        let mut decrees = Vec::with_capacity(*self.decrees.allocator(), room)?;
+        for decree in &self.decrees {
+            decrees.push(decree.copy()?)?;
+        }
+        Ok(decrees)
+    }
+
     /// The same chain once more.
     pub fn copy(&self) -> Result<Chain, AllocError>
         ensures { IfOk result (λ chain. chain ≡ self.now) }
     {
-        let mut decrees = Vec::with_capacity(*self.decrees.allocator(), self.decrees.len())?;
-        for decree in &self.decrees {
-            decrees.push(decree.copy()?)?;
-        }
         Ok(Chain {
             id: self.id,
+            decrees: self.copies(self.decrees.len())?,
+        })
+    }
+
+    /// Its octets, format 1. Each number has its highest octet first.
+    pub fn bytes(&self) -> Result<Vec<u8>, AllocError>
+        ensures octets { IfOk result (λ octets. octets.items ≡ chain_octets self.now) }
+        ensures fits { IfOk result (λ _. Fits self.now) }
+    {
+        let mut octets = Vec::new(*self.decrees.allocator());
+        put_chain_head(&mut octets, self.id, self.decrees.len() as u16)?;
+        put_decrees(&mut octets, &self.decrees)?;
+        Ok(octets)
+    }
+
+    /// The chain whose octets these are. NotBytes where they are not the octets of an id and of decrees, from the
+    /// first octet to the last; NotPermitted where they are, and the decrees are no permitted chain. Memory is taken
+    /// once they are found to be a chain's.
+    pub fn read(alloc: Global, octets: &[u8]) -> Result<Chain, ChainFault>
+        // What is read is spelled so.
+        ensures read { IfOk result (IsSpelled octets.now) }
+        // Where a chain is spelled so, no other is read.
+        ensures only { (chain : ChainValue) → IsSpelled octets.now chain →
+            IfOk result (λ found. found ≡ chain) }
+        ensures not_bytes { IsErrOf result NotBytes ↔ ((chain : ChainValue) →
+            IsSpelled octets.now chain → ⊥) }
+        ensures not_permitted { IsErrOf result NotPermitted ↔ ((chain : ChainValue) ×
+            IsSpelled octets.now chain × (IsPermitted chain.id chain.decrees → ⊥)) }
+        // Memory runs out only for what is a chain's octets.
+        ensures memory { IsErrOf result Memory → (chain : ChainValue) ×
+            IsSpelled octets.now chain × IsPermitted chain.id chain.decrees }
+    {
+        Chain::judged(alloc, octets)
+    }
+
+    /// The chain that the octets are read to.
+    #[tactic(auto, unfolding(crate::specs::Bytes::read_chain))]
+    fn judged(alloc: Global, octets: &[u8]) -> Result<Chain, ChainFault>
+        ensures { Judges (λ chain read. read ≡ chain) result (read_chain octets.now) }
+    {
+        let Some(head) = head_at(octets) else {
+            return Err(ChainFault::NotBytes);
+        };
+        check(head.id, head.count, head.decrees)?;
+        let decrees = decrees_of(alloc, head.count, head.decrees)?;
+        Ok(Chain {
+            id: head.id,
             decrees,
         })
     }

@@ -83,3 +83,173 @@ fn a_fate_has_its_error(rt: HostRuntime) -> Result<(), Fail> {
     assert_eq!(rt; Final::Undeliverable.state(), State::Undeliverable);
     Ok(())
 }
+
+// A decree of node 1.
+fn decree(incarnation: u16, seconds: u32, kind: Kind) -> Result<Decree, Fail> {
+    Ok(Decree {
+        author: Author {
+            node: NodeNo::of(1),
+            incarnation: Incarnation::make(incarnation)?,
+        },
+        moment: Moment::make(seconds)?,
+        kind,
+    })
+}
+
+const TAKEN: u32 = 946684800;
+
+const FAILED: u32 = TAKEN + 7;
+
+const EXPIRY: u32 = 946944000;
+
+fn fate(last: Final) -> Kind {
+    Kind::Fate(last, ErrorCode::of(0))
+}
+
+fn taken(rt: &HostRuntime) -> Result<Chain, Fail> {
+    let id = MsgId::read(b"1000100001")?;
+    let moment = Moment::make(TAKEN)?;
+    Ok(Chain::begin(rt.alloc(), id, moment, message(rt)?)?)
+}
+
+// Attempted by the first incarnation of node 1, and failed by the second.
+fn failed_once(rt: &HostRuntime) -> Result<Chain, Fail> {
+    let chain = taken(rt)?.extended(decree(1, TAKEN, Kind::Attempt(1))?)?;
+    let failure = decree(2, FAILED, Kind::Failed(ErrorCode::of(999)))?;
+    Ok(chain.extended(failure)?)
+}
+
+// Whether a decree that may not follow is refused, asked or given.
+fn is_refused(chain: &Chain, decree: Decree) -> bool {
+    !chain.permits(&decree) && matches!(chain.extended(decree), Err(ChainFault::NotPermitted))
+}
+
+#[test]
+fn an_attempt_ends_by_its_author(rt: HostRuntime) -> Result<(), Fail> {
+    let chain = taken(&rt)?.extended(decree(1, TAKEN, Kind::Attempt(1))?)?;
+    assert!(rt; is_refused(&chain, decree(2, TAKEN, fate(Final::Delivered))?));
+    for incarnation in 1..3 {
+        assert!(rt; is_refused(&chain, decree(incarnation, TAKEN, fate(Final::Deleted))?));
+        assert!(rt; is_refused(&chain, decree(incarnation, EXPIRY, fate(Final::Expired))?));
+    }
+    let failure = decree(2, FAILED, Kind::Failed(ErrorCode::of(999)))?;
+    assert!(rt; chain.permits(&failure));
+    let failed = chain.extended(failure)?;
+    assert_eq!(rt; failed.error(), 999);
+    assert_eq!(rt; failed.decrees().len(), 3);
+    assert_eq!(rt; chain.decrees().len(), 2);
+    Ok(())
+}
+
+#[test]
+fn the_second_attempt_waits_a_minute(rt: HostRuntime) -> Result<(), Fail> {
+    let chain = failed_once(&rt)?;
+    assert!(rt; is_refused(&chain, decree(2, FAILED + 59, Kind::Attempt(2))?));
+    assert!(rt; is_refused(&chain, decree(2, FAILED + 60, Kind::Attempt(3))?));
+    let second = chain.extended(decree(2, FAILED + 60, Kind::Attempt(2))?)?;
+    let done = second.extended(decree(2, FAILED + 60, fate(Final::Delivered))?)?;
+    assert_eq!(rt; done.state(), State::Delivered);
+    assert!(rt; is_refused(&done, decree(2, FAILED + 60, fate(Final::Delivered))?));
+    assert!(rt;
+        is_refused(
+            &done,
+            decree(2, FAILED + 60, Kind::Failed(ErrorCode::of(1)))?
+        )
+    );
+    assert!(rt; is_refused(&done, decree(2, FAILED + 600, Kind::Attempt(3))?));
+    assert!(rt; is_refused(&done, decree(2, EXPIRY, fate(Final::Expired))?));
+    assert!(rt; is_refused(&done, decree(2, FAILED + 60, Kind::Taken(message(&rt)?))?));
+    Ok(())
+}
+
+#[test]
+fn a_message_expires_at_its_expiry(rt: HostRuntime) -> Result<(), Fail> {
+    let chain = failed_once(&rt)?;
+    assert!(rt; is_refused(&chain, decree(2, EXPIRY - 1, fate(Final::Expired))?));
+    let expired = chain.extended(decree(2, EXPIRY, fate(Final::Expired))?)?;
+    assert_eq!(rt; expired.state(), State::Expired);
+    assert_eq!(rt; expired.error(), 0);
+    Ok(())
+}
+
+// The chain of a message that was taken at the least moment.
+const TAKEN_CHAIN: [u8; 60] = [
+    0x01, // format
+    0x00, 0x00, 0x00, 0x00, 0x3b, 0x9c, 0x50, 0xa1, // id
+    0x00, 0x01, // decrees
+    0x01, // taken
+    0x01, 0x00, 0x01, // node and incarnation
+    0x38, 0x6d, 0x43, 0x80, // moment
+    0x04, 0x73, 0x6d, 0x65, 0x31, // submitter
+    0x04, 0x73, 0x6d, 0x65, 0x31, // target
+    0x00, // service_type
+    0x01, 0x01, 0x03, 0x31, 0x34, 0x34, // source
+    0x01, 0x01, 0x03, 0x31, 0x35, 0x35, // destination
+    0x00, 0x00, 0x00, 0x01, 0x00, // esm_class to data_coding
+    0x38, 0x6d, 0x43, 0x80, // schedule
+    0x38, 0x71, 0x38, 0x00, // expiry
+    0x02, 0x48, 0x69, // text
+    0x00, 0x00, // optional parameters
+];
+
+#[test]
+fn a_chain_is_its_octets(rt: HostRuntime) -> Result<(), Fail> {
+    assert_eq!(rt; taken(&rt)?.bytes()?.as_slice(), TAKEN_CHAIN.as_slice());
+    let read = Chain::read(rt.alloc(), &TAKEN_CHAIN)?;
+    assert_eq!(rt; read.id().number(), 1000100001);
+    assert_eq!(rt; read.submission().text.octets(), b"Hi".as_slice());
+    assert_eq!(rt; read.bytes()?.as_slice(), TAKEN_CHAIN.as_slice());
+    let second = failed_once(&rt)?.extended(decree(2, FAILED + 60, Kind::Attempt(2))?)?;
+    let done = second.extended(decree(2, FAILED + 60, fate(Final::Delivered))?)?;
+    let octets = done.bytes()?;
+    let again = Chain::read(rt.alloc(), &octets)?;
+    assert_eq!(rt; again.decrees().len(), 5);
+    assert_eq!(rt; again.state(), State::Delivered);
+    assert_eq!(rt; again.error(), 0);
+    assert_eq!(rt; again.bytes()?.as_slice(), octets.as_slice());
+    Ok(())
+}
+
+fn is_no_text(rt: &HostRuntime, octets: &[u8]) -> bool {
+    matches!(Chain::read(rt.alloc(), octets), Err(ChainFault::NotBytes))
+}
+
+#[test]
+fn octets_that_are_no_text_are_refused(rt: HostRuntime) -> Result<(), Fail> {
+    for length in 0..TAKEN_CHAIN.len() {
+        assert!(rt; is_no_text(&rt, &TAKEN_CHAIN[..length]));
+    }
+    let mut longer = Vec::from_slice(rt.alloc(), &TAKEN_CHAIN)?;
+    longer.push(0)?;
+    assert!(rt; is_no_text(&rt, &longer));
+    // The text of no decree is one, but of no permitted chain.
+    let mut none = Vec::from_slice(rt.alloc(), &TAKEN_CHAIN[..9])?;
+    none.extend_from_slice(&[0, 0])?;
+    assert!(rt;
+        matches!(
+            Chain::read(rt.alloc(), &none),
+            Err(ChainFault::NotPermitted)
+        )
+    );
+    Ok(())
+}
+
+#[test]
+fn what_is_read_is_written(rt: HostRuntime) -> Result<(), Fail> {
+    let mut is_any_read = false;
+    for place in 0..TAKEN_CHAIN.len() {
+        for octet in [0x00, 0x7f, 0x80, 0xff] {
+            let mut octets = TAKEN_CHAIN;
+            octets[place] = octet;
+            match Chain::read(rt.alloc(), &octets) {
+                Ok(chain) => {
+                    assert_eq!(rt; chain.bytes()?.as_slice(), octets.as_slice());
+                    is_any_read = true;
+                }
+                Err(fault) => assert!(rt; fault != ChainFault::Memory),
+            }
+        }
+    }
+    assert!(rt; is_any_read);
+    Ok(())
+}

@@ -9,7 +9,7 @@ use Rattle.mc_types.specs.Texts.{is_ten_digits, is_id, id_in}
 use Rattle.mc_types.proofs.Digits.{numerals, spelled, ten_digits-decimal}
 
 -- the test for an id tells
-is_id-tells : (number : ℕ) → is_id number ≡ true → IsId number
+pub is_id-tells : (number : ℕ) → is_id number ≡ true → IsId number
 is_id-tells number is =
     let serial = and_parts _ _ is in
     let incarnation = and_parts _ _ serial.0 in
@@ -20,7 +20,7 @@ is_id-tells number is =
       serial = record { least = leb-true 1 _ serial.1; most = omega arith };
     }
 
-is_id-told : (number : ℕ) → IsId number → is_id number ≡ true
+pub is_id-told : (number : ℕ) → IsId number → is_id number ≡ true
 is_id-told number is =
     let node = and_from _ _ (le-leb 1 _ is.node.least) (le-leb _ 9 is.node.most) in
     and_from _ _ (and_from _ _ node (le-leb 1 _ is.incarnation.least)) (le-leb 1 _ is.serial.least)

@@ -117,7 +117,7 @@ body-short bodies.GenericNack fits = omega arith
 
 -- ---- the header
 
-find-passes : {A : Type 0} (test : A → Bool) (xs : List A) (x : A) → find test xs ≡ Some x → test x ≡ true
+pub find-passes : {A : Type 0} (test : A → Bool) (xs : List A) (x : A) → find test xs ≡ Some x → test x ≡ true
 find-passes test [] x e = absurd cc
 find-passes test (y ∷ ys) x e = at_test (find-passes test ys x) (test y) refl e
   where

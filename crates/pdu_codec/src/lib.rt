@@ -14,13 +14,14 @@ mod tlv;
 mod writing;
 
 pub use fault::{Field, PduFault};
+pub use fields::check_optional;
 pub use header::{Header, read_header};
 pub use laws::{read_is_written, written_is_read};
 pub use pdu::{Address, Bind, BindAnswer, Body, Message, Pdu, Query, QueryAnswer};
 pub use reading::decode;
 pub use text::{ShortMessage, Text};
 pub use tlv::{Tlv, Tlvs};
-pub use writing::encode;
+pub use writing::{encode, put_tlvs};
 
 #[cfg(test)]
 mod tests;

@@ -35,7 +35,7 @@ impl<const LIMIT: usize> Text<LIMIT> {
     }
 
     /// The text of octets that are one.
-    pub(crate) fn of(alloc: Global, octets: &[u8]) -> Result<Self, AllocError>
+    pub fn of(alloc: Global, octets: &[u8]) -> Result<Self, AllocError>
         requires { IsText LIMIT octets.now }
         ensures { IfOk result (λ text. text ≡ octets.now) }
     {
@@ -95,7 +95,7 @@ impl ShortMessage {
     }
 
     /// The short message of octets that are few enough.
-    pub(crate) fn of(alloc: Global, octets: &[u8]) -> Result<Self, AllocError>
+    pub fn of(alloc: Global, octets: &[u8]) -> Result<Self, AllocError>
         requires { IsShortMessage octets.now }
         ensures { IfOk result (λ message. message ≡ octets.now) }
     {

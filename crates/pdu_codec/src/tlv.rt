@@ -58,7 +58,7 @@ impl Tlvs {
     }
 
     /// The optional parameters that the octets are.
-    pub(crate) fn of(alloc: Global, octets: &[u8]) -> Result<Self, AllocError>
+    pub fn of(alloc: Global, octets: &[u8]) -> Result<Self, AllocError>
         requires { IsOk (optional_at octets.now) }
         ensures { IfOk result (λ tlvs. optional_at octets.now ≡ Ok (tlvs, [])) }
     {

@@ -42,7 +42,7 @@ fn put_short_message(out: &mut Vec<u8>, message: &ShortMessage) -> Result<(), Al
 }
 
 /// Each optional parameter: its tag, its length and its value.
-fn put_tlvs(out: &mut Vec<u8>, tlvs: &Tlvs) -> Result<(), AllocError>
+pub fn put_tlvs(out: &mut Vec<u8>, tlvs: &Tlvs) -> Result<(), AllocError>
     ensures ok { OnOk result (out.new.items ≡ out.old.items ++ optional_octets tlvs.now) }
     ensures limits { AreOptional tlvs.now }
 {

@@ -1,0 +1,323 @@
+//! Decrees as they stand in octets. Only what makes a decree of one takes memory.
+
+ghost use Rattle.std.specs.Prelude.{◌≡◌, IfOk, IfSome};
+ghost use Rattle.pdu_codec.specs.Text.{IsText};
+ghost use Rattle.fate_chain.specs.Bytes.{party_fields, handling_fields, text_fields, message_at, kind_at, decree_at};
+ghost use Rattle.fate_chain.specs.Fields.{Finds, front_at};
+ghost use Rattle.fate_chain.specs.Kinds.{kind_of};
+ghost use Rattle.fate_chain.specs.Marks.{bare, bare_kind, IsMarkOf};
+ghost use Rattle.fate_chain.specs.Octets.{parties_seen, handling_seen, texts_seen, message_seen, kind_seen, decree_seen, PartiesAreTexts, AreTexts, MessageHasTexts, HasTexts};
+
+use crate::decree::{Author, Decree, ErrorCode, Final, Kind};
+use crate::fields::{
+    error_at, final_at, incarnation_at, kind_at, moment_at, node_at, octet_at, optional_at,
+    short_at, text_at,
+};
+use crate::marks::{Act, Mark, Term};
+use crate::submission::Submission;
+use mc_types::Moment;
+use pdu_codec::{Address, ShortMessage, Text, Tlvs};
+use std::alloc::{AllocError, Global};
+
+/// An address.
+#[derive(Clone, Copy)]
+pub struct AddressOctets<'a> {
+    ton: u8,
+    npi: u8,
+    digits: &'a [u8],
+}
+
+impl AddressOctets<'_> {
+    fn address(&self, alloc: Global) -> Result<Address, AllocError>
+        requires { IsText 21 self.now.digits.now }
+        ensures { IfOk result (λ address.
+            address ≡ record { ton = self.now.ton; npi = self.now.npi; digits = self.now.digits.now }) }
+    {
+        Ok(Address {
+            ton: self.ton,
+            npi: self.npi,
+            digits: Text::of(alloc, self.digits)?,
+        })
+    }
+}
+
+/// Between whom a message goes.
+#[derive(Clone, Copy)]
+pub struct Parties<'a> {
+    submitter: &'a [u8],
+    target: &'a [u8],
+    service_type: &'a [u8],
+    source: AddressOctets<'a>,
+    destination: AddressOctets<'a>,
+}
+
+/// How a message is handled.
+#[derive(Clone, Copy)]
+pub struct Handling {
+    esm_class: u8,
+    protocol_id: u8,
+    priority_flag: u8,
+    registered_delivery: u8,
+    data_coding: u8,
+    schedule: Moment,
+    expiry: Moment,
+}
+
+/// The text of a message, and the optional parameters that are passed on.
+#[derive(Clone, Copy)]
+pub struct Texts<'a> {
+    text: &'a [u8],
+    passed: &'a [u8],
+}
+
+/// A message that was taken.
+#[derive(Clone, Copy)]
+pub struct MessageOctets<'a> {
+    parties: Parties<'a>,
+    handling: Handling,
+    texts: Texts<'a>,
+}
+
+/// What a decree decides.
+#[derive(Clone, Copy)]
+pub enum KindOctets<'a> {
+    Taken(MessageOctets<'a>),
+    Attempt(u8),
+    Failed(ErrorCode),
+    Fate(Final, ErrorCode),
+}
+
+/// A decree.
+#[derive(Clone, Copy)]
+pub struct DecreeOctets<'a> {
+    author: Author,
+    moment: Moment,
+    kind: KindOctets<'a>,
+}
+
+fn parties_at(octets: &[u8]) -> Option<(Parties<'_>, &[u8])>
+    ensures read { Finds (λ x. (parties_seen x.0, x.1.now)) result (front_at party_fields octets.now) }
+    ensures texts { IfSome result (λ x. PartiesAreTexts x.0) }
+{
+    let (submitter, rest) = text_at(16, octets)?;
+    let (target, rest) = text_at(16, rest)?;
+    let (service_type, rest) = text_at(6, rest)?;
+    let (source_ton, rest) = octet_at(rest)?;
+    let (source_npi, rest) = octet_at(rest)?;
+    let (source_digits, rest) = text_at(21, rest)?;
+    let (destination_ton, rest) = octet_at(rest)?;
+    let (destination_npi, rest) = octet_at(rest)?;
+    let (destination_digits, rest) = text_at(21, rest)?;
+    let parties = Parties {
+        submitter,
+        target,
+        service_type,
+        source: AddressOctets {
+            ton: source_ton,
+            npi: source_npi,
+            digits: source_digits,
+        },
+        destination: AddressOctets {
+            ton: destination_ton,
+            npi: destination_npi,
+            digits: destination_digits,
+        },
+    };
+    Some((parties, rest))
+}
+
+fn handling_at(octets: &[u8]) -> Option<(Handling, &[u8])>
+    ensures { Finds (λ x. (handling_seen x.0, x.1.now)) result (front_at handling_fields octets.now) }
+{
+    let (esm_class, rest) = octet_at(octets)?;
+    let (protocol_id, rest) = octet_at(rest)?;
+    let (priority_flag, rest) = octet_at(rest)?;
+    let (registered_delivery, rest) = octet_at(rest)?;
+    let (data_coding, rest) = octet_at(rest)?;
+    let Some((schedule, rest)) = moment_at(rest) else {
+        return None;
+    };
+    let Some((expiry, rest)) = moment_at(rest) else {
+        return None;
+    };
+    let handling = Handling {
+        esm_class,
+        protocol_id,
+        priority_flag,
+        registered_delivery,
+        data_coding,
+        schedule,
+        expiry,
+    };
+    Some((handling, rest))
+}
+
+fn texts_at(octets: &[u8]) -> Option<(Texts<'_>, &[u8])>
+    ensures read { Finds (λ x. (texts_seen x.0, x.1.now)) result (front_at text_fields octets.now) }
+    ensures texts { IfSome result (λ x. AreTexts x.0) }
+{
+    let (text, rest) = short_at(octets)?;
+    let (passed, rest) = optional_at(rest)?;
+    Some((Texts { text, passed }, rest))
+}
+
+#[tactic(auto, unfolding(crate::specs::Bytes::message_at))]
+fn message_at(octets: &[u8]) -> Option<(MessageOctets<'_>, &[u8])>
+    ensures read { Finds (λ x. (message_seen x.0, x.1.now)) result (message_at octets.now) }
+    ensures texts { IfSome result (λ x. MessageHasTexts x.0) }
+{
+    let (parties, rest) = parties_at(octets)?;
+    let Some((handling, rest)) = handling_at(rest) else {
+        return None;
+    };
+    let (texts, rest) = texts_at(rest)?;
+    let message = MessageOctets {
+        parties,
+        handling,
+        texts,
+    };
+    Some((message, rest))
+}
+
+/// What a decree of a kind of this number decides.
+#[tactic(auto, unfolding(crate::specs::Bytes::kind_at))]
+fn decided_at(kind: u8, octets: &[u8]) -> Option<(KindOctets<'_>, &[u8])>
+    ensures read { Finds (λ x. (kind_seen x.0, x.1.now)) result (kind_at kind octets.now) }
+    ensures texts { IfSome result (λ x. HasTexts x.0) }
+{
+    match kind {
+        1 => {
+            let Some((message, rest)) = message_at(octets) else {
+                return None;
+            };
+            Some((KindOctets::Taken(message), rest))
+        }
+        2 => {
+            let (number, rest) = octet_at(octets)?;
+            Some((KindOctets::Attempt(number), rest))
+        }
+        3 => {
+            let Some((error, rest)) = error_at(octets) else {
+                return None;
+            };
+            Some((KindOctets::Failed(error), rest))
+        }
+        _ => {
+            let Some((last, rest)) = final_at(octets) else {
+                return None;
+            };
+            let Some((error, rest)) = error_at(rest) else {
+                return None;
+            };
+            Some((KindOctets::Fate(last, error), rest))
+        }
+    }
+}
+
+/// A decree at the front of octets, and the octets behind it; none where there is none.
+#[tactic(auto, unfolding(crate::specs::Bytes::decree_at))]
+pub fn decree_at(octets: &[u8]) -> Option<(DecreeOctets<'_>, &[u8])>
+    ensures read { Finds (λ x. (decree_seen x.0, x.1.now)) result (decree_at octets.now) }
+    ensures texts { IfSome result (λ x. HasTexts x.0.kind) }
+{
+    let (kind, rest) = kind_at(octets)?;
+    let Some((node, rest)) = node_at(rest) else {
+        return None;
+    };
+    let Some((incarnation, rest)) = incarnation_at(rest) else {
+        return None;
+    };
+    let Some((moment, rest)) = moment_at(rest) else {
+        return None;
+    };
+    let Some((kind, rest)) = decided_at(kind, rest) else {
+        return None;
+    };
+    let decree = DecreeOctets {
+        author: Author { node, incarnation },
+        moment,
+        kind,
+    };
+    Some((decree, rest))
+}
+
+impl MessageOctets<'_> {
+    /// The message.
+    #[tactic(auto, unfolding(crate::specs::Bytes::tlvs_in))]
+    fn message(&self, alloc: Global) -> Result<Submission, AllocError>
+        requires { MessageHasTexts self.now }
+        ensures { IfOk result (λ message. message ≡ message_seen self.now) }
+    {
+        let parties = &self.parties;
+        let handling = &self.handling;
+        Ok(Submission {
+            submitter: Text::of(alloc, parties.submitter)?,
+            target: Text::of(alloc, parties.target)?,
+            service_type: Text::of(alloc, parties.service_type)?,
+            source: parties.source.address(alloc)?,
+            destination: parties.destination.address(alloc)?,
+            esm_class: handling.esm_class,
+            protocol_id: handling.protocol_id,
+            priority_flag: handling.priority_flag,
+            registered_delivery: handling.registered_delivery,
+            data_coding: handling.data_coding,
+            schedule: handling.schedule,
+            expiry: handling.expiry,
+            text: ShortMessage::of(alloc, self.texts.text)?,
+            passed: Tlvs::of(alloc, self.texts.passed)?,
+        })
+    }
+}
+
+impl KindOctets<'_> {
+    fn act(&self) -> Act
+        ensures { bare_kind result ≡ bare (kind_seen self.now) }
+    {
+        match self {
+            KindOctets::Taken(message) => Act::Taken(Term {
+                schedule: message.handling.schedule,
+                expiry: message.handling.expiry,
+            }),
+            KindOctets::Attempt(number) => Act::Attempt(*number),
+            KindOctets::Failed(_) => Act::Failed,
+            KindOctets::Fate(last, _) => Act::Fate(*last),
+        }
+    }
+
+    fn kind(&self, alloc: Global) -> Result<Kind, AllocError>
+        requires { HasTexts self.now }
+        ensures { IfOk result (λ kind. kind_of kind ≡ kind_seen self.now) }
+    {
+        match self {
+            KindOctets::Taken(message) => Ok(Kind::Taken(message.message(alloc)?)),
+            KindOctets::Attempt(number) => Ok(Kind::Attempt(*number)),
+            KindOctets::Failed(error) => Ok(Kind::Failed(*error)),
+            KindOctets::Fate(last, error) => Ok(Kind::Fate(*last, *error)),
+        }
+    }
+}
+
+impl DecreeOctets<'_> {
+    /// What of it decides which decree may follow.
+    pub fn mark(&self) -> Mark
+        ensures { IsMarkOf (decree_seen self.now) result }
+    {
+        Mark {
+            author: self.author,
+            moment: self.moment,
+            act: self.kind.act(),
+        }
+    }
+
+    /// The decree.
+    pub fn decree(&self, alloc: Global) -> Result<Decree, AllocError>
+        requires { HasTexts self.now.kind }
+        ensures { IfOk result (λ decree. decree ≡ decree_seen self.now) }
+    {
+        Ok(Decree {
+            author: self.author,
+            moment: self.moment,
+            kind: self.kind.kind(alloc)?,
+        })
+    }
+}

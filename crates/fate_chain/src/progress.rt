@@ -1,0 +1,82 @@
+//! Whether decrees that are read one after another are a permitted chain.
+
+ghost use Rattle.std.specs.Prelude.{◌≡◌, ◌≤◌, ◌∷◌, [], ℕ, List, length, MatchOption};
+ghost use Rattle.mc_model.specs.Chain.{Decree, IsPermitted, MayBegin};
+ghost use Rattle.fate_chain.specs.Kinds.{author_of};
+ghost use Rattle.fate_chain.specs.Marks.{bare_kind, IsMarkOf, IsProgressOf, IsStandingOf};
+ghost use Rattle.fate_chain.specs.declared.marks.Act.TheVariants as acts;
+
+use crate::marks::{Act, Mark, Standing, Term};
+use mc_types::MsgId;
+
+/// How far decrees have come towards a permitted chain.
+#[derive(Clone, Copy)]
+pub enum Progress {
+    /// There is none yet.
+    Begins,
+    /// They are a permitted chain.
+    Stands(Standing),
+    /// They are none, and no further decree makes them one.
+    Fails,
+}
+
+impl Progress {
+    /// With one more decree, of this mark, on the message of this id.
+    pub fn after(self, id: MsgId, next: Mark) -> Progress
+        ensures { (decrees : List Decree) (decree : Decree) →
+            length decrees ≤ 65535 → IsProgressOf id decrees self → IsMarkOf decree next →
+            IsProgressOf id (decree ∷ decrees) result }
+    {
+        match self {
+            Progress::Begins => begun(id, next),
+            Progress::Stands(standing) => extended(standing, next),
+            Progress::Fails => Progress::Fails,
+        }
+    }
+}
+
+/// With the first decree.
+fn begun(id: MsgId, first: Mark) -> Progress
+    ensures { (decree : Decree) → IsMarkOf decree first → IsProgressOf id (decree ∷ []) result }
+{
+    match first_term(id, &first) {
+        Some(term) => Progress::Stands(Standing {
+            term,
+            attempts: 0,
+            newest: first,
+        }),
+        None => Progress::Fails,
+    }
+}
+
+/// The term of what is taken by a decree of this mark; none where it may not begin the chain of the id.
+fn first_term(id: MsgId, first: &Mark) -> Option<Term>
+    ensures { MatchOption result
+        (MayBegin id (author_of first.now.author) first.now.moment (bare_kind first.now.act) → ⊥)
+        (λ term. MayBegin id (author_of first.now.author) first.now.moment (bare_kind first.now.act)
+        × (first.now.act ≡ acts.Taken term)) }
+{
+    let Act::Taken(term) = &first.act else {
+        return None;
+    };
+    if first.author.node != id.node() || first.author.incarnation != id.incarnation() {
+        return None;
+    }
+    if term.expiry <= first.moment || term.schedule >= term.expiry {
+        return None;
+    }
+    Some(*term)
+}
+
+/// With one more decree behind a permitted chain.
+fn extended(standing: Standing, next: Mark) -> Progress
+    ensures { (id : ℕ) (decrees : List Decree) (decree : Decree) →
+        length decrees ≤ 65535 → IsPermitted id decrees → IsStandingOf decrees standing →
+        IsMarkOf decree next → IsProgressOf id (decree ∷ decrees) result }
+{
+    if standing.permits(&next) {
+        Progress::Stands(standing.after(next))
+    } else {
+        Progress::Fails
+    }
+}

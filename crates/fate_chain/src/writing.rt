@@ -1,0 +1,215 @@
+//! From a chain to octets.
+
+ghost use Rattle.std.specs.Prelude.{◌≡◌, ◌<◌, ◌≤◌, ◌++◌, ◌∷◌, [], length, reverse, IfOk, OnOk};
+ghost use Rattle.std.specs.Int.{w16, w32, w64, to_be_bytes};
+ghost use Rattle.pdu_codec.specs.Text.{IsOctets, IsText, IsShortMessage, AreOptional, optional_octets};
+ghost use Rattle.fate_chain.specs.Bytes.{party_fields, parties_in, handling_fields, handling_in, text_fields, texts_in, head_fields, chain_fields, kind_code, kind_octets, submission_octets, decree_octets, decrees_octets, DecreeFits, DecreesFit, KindFits, MessageFits};
+ghost use Rattle.fate_chain.specs.Fields.{spellings, AreWithin};
+ghost use Rattle.fate_chain.specs.Kinds.{author_of, kind_of};
+ghost use Rattle.mc_model.specs.Ids.{IsId, IsIncarnation, IsMoment, IsNode};
+
+use crate::decree::{Author, Decree, Kind};
+use crate::submission::Submission;
+use mc_types::{Moment, MsgId};
+use pdu_codec::{Address, ShortMessage, Text, Tlvs, put_tlvs};
+use std::alloc::AllocError;
+
+/// Octets, as they are.
+fn put_octets(out: &mut Vec<u8>, octets: &[u8]) -> Result<(), AllocError>
+    ensures ok { OnOk result (out.new.items ≡ out.old.items ++ octets.now) }
+    ensures octets { IsOctets octets.now }
+{
+    out.extend_from_slice(octets)
+}
+
+/// A text behind the number of its octets.
+fn put_text<const LIMIT: usize>(out: &mut Vec<u8>, text: &Text<LIMIT>) -> Result<(), AllocError>
+    requires { LIMIT ≤ 256 }
+    ensures ok { OnOk result (out.new.items ≡ out.old.items ++ (length text.now ∷ text.now)) }
+    ensures text { IsText LIMIT text.now }
+{
+    let octets = text.octets();
+    out.push(octets.len() as u8)?;
+    out.extend_from_slice(octets)?;
+    Ok(())
+}
+
+/// A short_message behind the number of its octets.
+fn put_short_message(out: &mut Vec<u8>, message: &ShortMessage) -> Result<(), AllocError>
+    ensures ok { OnOk result (out.new.items ≡ out.old.items ++ (length message.now ∷ message.now)) }
+    ensures short { IsShortMessage message.now }
+{
+    let octets = message.octets();
+    out.push(octets.len() as u8)?;
+    out.extend_from_slice(octets)?;
+    Ok(())
+}
+
+/// Optional parameters behind the number of their octets.
+fn put_optional(out: &mut Vec<u8>, tlvs: &Tlvs) -> Result<(), AllocError>
+    ensures ok { OnOk result (out.new.items
+        ≡ out.old.items ++ (to_be_bytes w16 (length (optional_octets tlvs.now)) ++ optional_octets tlvs.now)) }
+    ensures limits { OnOk result (AreOptional tlvs.now) }
+{
+    let mut octets = Vec::new(*out.allocator());
+    put_tlvs(&mut octets, tlvs)?;
+    put_octets(out, &(octets.len() as u16).to_be_bytes())?;
+    put_octets(out, &octets)?;
+    Ok(())
+}
+
+/// TON, NPI and digits.
+fn put_address(out: &mut Vec<u8>, address: &Address) -> Result<(), AllocError>
+    ensures ok { OnOk result (out.new.items
+        ≡ out.old.items ++ (address.now.ton ∷ address.now.npi ∷ length address.now.digits ∷ address.now.digits)) }
+    ensures ton { OnOk result (address.now.ton < 256) }
+    ensures npi { OnOk result (address.now.npi < 256) }
+    ensures digits { OnOk result (IsText 21 address.now.digits) }
+{
+    put_octets(out, &[address.ton, address.npi])?;
+    put_text(out, &address.digits)?;
+    Ok(())
+}
+
+fn put_parties(out: &mut Vec<u8>, message: &Submission) -> Result<(), AllocError>
+    ensures ok { OnOk result (out.new.items
+        ≡ out.old.items ++ spellings party_fields (parties_in message.now)) }
+    ensures limits { OnOk result (AreWithin party_fields (parties_in message.now)) }
+{
+    put_text(out, &message.submitter)?;
+    put_text(out, &message.target)?;
+    put_text(out, &message.service_type)?;
+    put_address(out, &message.source)?;
+    put_address(out, &message.destination)?;
+    Ok(())
+}
+
+fn put_moment(out: &mut Vec<u8>, moment: Moment) -> Result<(), AllocError>
+    ensures ok { OnOk result (out.new.items ≡ out.old.items ++ to_be_bytes w32 moment) }
+    ensures range { IsMoment moment }
+{
+    put_octets(out, &moment.seconds().to_be_bytes())
+}
+
+fn put_handling(out: &mut Vec<u8>, message: &Submission) -> Result<(), AllocError>
+    ensures ok { OnOk result (out.new.items
+        ≡ out.old.items ++ spellings handling_fields (handling_in message.now)) }
+    ensures limits { OnOk result (AreWithin handling_fields (handling_in message.now)) }
+{
+    put_octets(
+        out,
+        &[
+            message.esm_class,
+            message.protocol_id,
+            message.priority_flag,
+            message.registered_delivery,
+            message.data_coding,
+        ],
+    )?;
+    put_moment(out, message.schedule)?;
+    put_moment(out, message.expiry)?;
+    Ok(())
+}
+
+fn put_texts(out: &mut Vec<u8>, message: &Submission) -> Result<(), AllocError>
+    ensures ok { OnOk result (out.new.items
+        ≡ out.old.items ++ spellings text_fields (texts_in message.now)) }
+    ensures short { OnOk result (IsShortMessage message.now.text) }
+    ensures passed { OnOk result (AreOptional message.now.passed) }
+{
+    put_short_message(out, &message.text)?;
+    put_optional(out, &message.passed)?;
+    Ok(())
+}
+
+fn put_message(out: &mut Vec<u8>, message: &Submission) -> Result<(), AllocError>
+    ensures ok { OnOk result (out.new.items ≡ out.old.items ++ submission_octets message.now) }
+    ensures fits { OnOk result (MessageFits message.now) }
+{
+    put_parties(out, message)?;
+    put_handling(out, message)?;
+    put_texts(out, message)?;
+    Ok(())
+}
+
+/// What a decree decides, without the number of its kind.
+fn put_kind(out: &mut Vec<u8>, kind: &Kind) -> Result<(), AllocError>
+    ensures ok { OnOk result (out.new.items ≡ out.old.items ++ kind_octets (kind_of kind.now)) }
+    ensures fits { OnOk result (KindFits (kind_of kind.now)) }
+{
+    match kind {
+        Kind::Taken(message) => put_message(out, message),
+        Kind::Attempt(number) => put_octets(out, &[*number]),
+        Kind::Failed(error) => put_octets(out, &error.number().to_be_bytes()),
+        Kind::Fate(last, error) => {
+            out.push(last.state().code())?;
+            put_octets(out, &error.number().to_be_bytes())
+        }
+    }
+}
+
+/// The number of a kind.
+fn code_of(kind: &Kind) -> u8
+    ensures { result ≡ kind_code (kind_of kind.now) }
+{
+    match kind {
+        Kind::Taken(_) => 1,
+        Kind::Attempt(_) => 2,
+        Kind::Failed(_) => 3,
+        Kind::Fate(_, _) => 4,
+    }
+}
+
+/// The number of a kind, an author and a moment.
+fn put_head(out: &mut Vec<u8>, kind: u8, author: Author, moment: Moment) -> Result<(), AllocError>
+    ensures ok { OnOk result (out.new.items ≡ out.old.items
+        ++ spellings head_fields (kind, (author.node, (author.incarnation, (moment, tt))))) }
+    ensures node { OnOk result (IsNode author.node) }
+    ensures incarnation { OnOk result (IsIncarnation author.incarnation) }
+    ensures moment { OnOk result (IsMoment moment) }
+{
+    put_octets(out, &[kind, author.node.number()])?;
+    put_octets(out, &author.incarnation.number().to_be_bytes())?;
+    put_moment(out, moment)?;
+    Ok(())
+}
+
+#[tactic(auto, unfolding(crate::specs::Bytes::decree_octets))]
+fn put_decree(out: &mut Vec<u8>, decree: &Decree) -> Result<(), AllocError>
+    ensures ok { OnOk result (out.new.items ≡ out.old.items ++ decree_octets decree.now) }
+    ensures fits { OnOk result (DecreeFits decree.now) }
+{
+    put_head(out, code_of(&decree.kind), decree.author, decree.moment)?;
+    put_kind(out, &decree.kind)?;
+    Ok(())
+}
+
+/// Decrees, the oldest first.
+pub fn put_decrees(out: &mut Vec<u8>, decrees: &[Decree]) -> Result<(), AllocError>
+    ensures ok { OnOk result (out.new.items ≡ out.old.items ++ decrees_octets (reverse decrees.now)) }
+    ensures fit { OnOk result (DecreesFit (reverse decrees.now)) }
+{
+    for decree in decrees {
+        put_decree(out, decree)?;
+    }
+    Ok(())
+}
+
+/// The number of the format, and an id.
+fn put_id(out: &mut Vec<u8>, id: MsgId) -> Result<(), AllocError>
+    ensures ok { OnOk result (out.new.items ≡ out.old.items ++ (1 ∷ to_be_bytes w64 id)) }
+    ensures id { IsId id }
+{
+    put_octets(out, &[1])?;
+    put_octets(out, &id.number().to_be_bytes())
+}
+
+/// The number of the format, an id, and how many decrees there are.
+pub fn put_chain_head(out: &mut Vec<u8>, id: MsgId, count: u16) -> Result<(), AllocError>
+    ensures ok { OnOk result (out.new.items ≡ out.old.items ++ spellings chain_fields (1, (id, (count, tt)))) }
+    ensures id { OnOk result (IsId id) }
+{
+    put_id(out, id)?;
+    put_octets(out, &count.to_be_bytes())?;
+    Ok(())
+}
