@@ -235,7 +235,7 @@ fn begun(alloc: Global, id: MsgId, now: Moment, message: Submission) -> Result<C
 {
     match Chain::begin(alloc, id, now, message) {
         Ok(chain) => Ok(chain),
-        Err(ChainFault::NotPermitted) => unreachable!(),
+        Err(ChainFault::NotPermitted | ChainFault::NotBytes) => unreachable!(),
         Err(ChainFault::Memory) => Err(AllocError),
     }
 }

@@ -1,10 +1,12 @@
 //! Decrees.
 
 ghost use Rattle.std.specs.Prelude.{◌≡◌, ◌≤◌, ◌↔◌, Some, IfSome, IfOk, IsSome};
-ghost use Rattle.mc_model.specs.Chain.{error_by};
-ghost use Rattle.fate_chain.specs.Kinds.{final_of};
+ghost use Rattle.mc_model.specs.Chain.{attempts_of, error_by};
+ghost use Rattle.fate_chain.specs.Kinds.{final_of, kind_of};
+ghost use Rattle.fate_chain.specs.Marks.{bare, bare_kind, IsMarkOf};
 ghost use Rattle.fate_chain.specs.States.{state_of};
 
+use crate::marks::{Act, Mark};
 use crate::submission::Submission;
 use mc_types::{Incarnation, Moment, NodeNo};
 use pdu_tables::State;
@@ -115,6 +117,18 @@ impl Kind {
             Kind::Fate(last, error) => Ok(Kind::Fate(*last, *error)),
         }
     }
+
+    /// What of it decides which decree may follow.
+    pub(crate) fn act(&self) -> Act
+        ensures { bare_kind result ≡ bare (kind_of self.now) }
+    {
+        match self {
+            Kind::Taken(message) => Act::Taken(message.term()),
+            Kind::Attempt(number) => Act::Attempt(*number),
+            Kind::Failed(_) => Act::Failed,
+            Kind::Fate(last, _) => Act::Fate(*last),
+        }
+    }
 }
 
 /// A decree on a message.
@@ -144,6 +158,28 @@ impl Decree {
             moment: self.moment,
             kind: self.kind.copy()?,
         })
+    }
+
+    /// What of it decides which decree may follow.
+    pub(crate) fn mark(&self) -> Mark
+        ensures { IsMarkOf self.now result }
+    {
+        Mark {
+            author: self.author,
+            moment: self.moment,
+            act: self.kind.act(),
+        }
+    }
+
+    /// One where it begins an attempt, else none.
+    pub(crate) fn attempts(&self) -> usize
+        ensures attempts { result ≡ attempts_of self.now.kind }
+        ensures range { result ≤ 1 }
+    {
+        match self.kind {
+            Kind::Attempt(_) => 1,
+            _ => 0,
+        }
     }
 
     /// The error of the message after it, 0 to 999, by the error before it.

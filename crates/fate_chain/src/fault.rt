@@ -8,8 +8,10 @@ use std::alloc::{AllocError, AllocFailed};
 /// Why there is no such chain.
 #[derive(Clone, Copy, Debug, PartialEq, Eq)]
 pub enum ChainFault {
-    /// 1: the decree may not stand there.
+    /// 1: a decree may not stand there.
     NotPermitted,
+    /// 2: the octets are no text of an id and decrees.
+    NotBytes,
     /// There was no memory for it.
     Memory,
 }

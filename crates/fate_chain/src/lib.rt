@@ -4,6 +4,7 @@
 mod decree;
 mod fault;
 mod list;
+mod marks;
 mod submission;
 #[cfg(test)]
 mod tests;

@@ -1,13 +1,15 @@
 //! Chains.
 
-ghost use Rattle.std.specs.Prelude.{◌≡◌, ◌<◌, ◌≤◌, ◌↔◌, ◌∷◌, [], Some, reverse, slice_get, IfOk, IsErrOf};
+ghost use Rattle.std.specs.Prelude.{◌≡◌, ◌<◌, ◌≤◌, ◌↔◌, ◌∷◌, [], Some, reverse, slice_get, IfOk, IsErrOf, IsTrue};
 ghost use Rattle.mc_model.specs.Ids.{node_of, incarnation_of};
-ghost use Rattle.mc_model.specs.Chain.{Taken, IsPermitted, taken_in, final_in, error_in};
+ghost use Rattle.mc_model.specs.Chain.{Taken, IsPermitted, MayExtend, taken_in, attempts_in, final_in, error_in};
+ghost use Rattle.fate_chain.specs.Marks.{IsStandingOf};
 ghost use Rattle.fate_chain.specs.States.{state_of};
-ghost use Rattle.fate_chain.specs.declared.fault.ChainFault.TheVariants.{NotPermitted};
+ghost use Rattle.fate_chain.specs.declared.fault.ChainFault.TheVariants.{NotPermitted, NotBytes};
 
 use crate::decree::{Author, Decree, Kind};
 use crate::fault::ChainFault;
+use crate::marks::Standing;
 use crate::submission::Submission;
 use mc_types::{Moment, MsgId};
 use pdu_tables::State;
@@ -49,6 +51,7 @@ impl Chain {
           kind = Taken message;
         } ∷ []) }
         ensures refused { IsErrOf result NotPermitted ↔ ((moment < message.expiry) × (message.schedule < message.expiry) → ⊥) }
+        ensures no_other { IsErrOf result NotBytes → ⊥ }
     {
         if message.expiry <= moment || message.schedule >= message.expiry {
             return Err(ChainFault::NotPermitted);
@@ -113,17 +116,71 @@ impl Chain {
         error
     }
 
+    /// How many attempts were begun.
+    fn attempts(&self) -> usize
+        ensures { result ≡ attempts_in self.now.decrees }
+    {
+        let mut attempts = 0;
+        for decree in &self.decrees {
+            attempts += decree.attempts();
+        }
+        attempts
+    }
+
+    /// What decides which decree may come next.
+    fn standing(&self) -> Standing
+        ensures { IsStandingOf self.now.decrees result }
+    {
+        Standing {
+            term: self.submission().term(),
+            attempts: self.attempts(),
+            newest: self.newest().mark(),
+        }
+    }
+
+    /// Whether the decree may come next.
+    pub fn permits(&self, decree: &Decree) -> bool
+        ensures { IsTrue result ↔ MayExtend (taken_in self.now.decrees) self.now.decrees decree.now }
+    {
+        self.standing().permits(decree.mark())
+    }
+
+    /// The chain with one more decree at its end. NotPermitted where the decree may not come next.
+    pub fn extended(&self, decree: Decree) -> Result<Chain, ChainFault>
+        ensures id { IfOk result (λ chain. chain.id ≡ self.now.id) }
+        ensures decrees { IfOk result (λ chain. chain.decrees ≡ decree ∷ self.now.decrees) }
+        ensures refused { IsErrOf result NotPermitted ↔ (MayExtend (taken_in self.now.decrees) self.now.decrees decree → ⊥) }
+        ensures no_other { IsErrOf result NotBytes → ⊥ }
+    {
+        if !self.permits(&decree) {
+            return Err(ChainFault::NotPermitted);
+        }
+        let mut decrees = self.copies(self.decrees.len() + 1)?;
+        decrees.push(decree)?;
+        Ok(Chain {
+            id: self.id,
+            decrees,
+        })
+    }
+
+    /// The same decrees once more, the oldest first, in a vector with room for so many.
+    fn copies(&self, room: usize) -> Result<Vec<Decree>, AllocError>
+        ensures { IfOk result (λ decrees. reverse decrees.items ≡ self.now.decrees) }
+    {
+        let mut decrees = Vec::with_capacity(*self.decrees.allocator(), room)?;
+        for decree in &self.decrees {
+            decrees.push(decree.copy()?)?;
+        }
+        Ok(decrees)
+    }
+
     /// The same chain once more.
     pub fn copy(&self) -> Result<Chain, AllocError>
         ensures { IfOk result (λ chain. chain ≡ self.now) }
     {
-        let mut decrees = Vec::with_capacity(*self.decrees.allocator(), self.decrees.len())?;
-        for decree in &self.decrees {
-            decrees.push(decree.copy()?)?;
-        }
         Ok(Chain {
             id: self.id,
-            decrees,
+            decrees: self.copies(self.decrees.len())?,
         })
     }
 

@@ -2,6 +2,7 @@
 
 ghost use Rattle.std.specs.Prelude.{◌≡◌, IfOk};
 
+use crate::marks::Term;
 use mc_types::Moment;
 use pdu_codec::{Address, ShortMessage, Text, Tlvs};
 use std::alloc::AllocError;
@@ -56,6 +57,17 @@ impl Model for Submission {
 }
 
 impl Submission {
+    /// The moments between which it is tried.
+    pub(crate) fn term(&self) -> Term
+        ensures schedule { result.schedule ≡ self.now.schedule }
+        ensures expiry { result.expiry ≡ self.now.expiry }
+    {
+        Term {
+            schedule: self.schedule,
+            expiry: self.expiry,
+        }
+    }
+
     /// The same once more.
     pub fn copy(&self) -> Result<Submission, AllocError>
         ensures { IfOk result (λ message. message ≡ self.now) }

@@ -1,0 +1,58 @@
+-- What of a decree decides which may follow: who made it and when, and its kind without texts and errors.
+use Rattle.std.specs.Prelude.{◌≡◌, ℕ, [], List, slice_get, Some}
+use Rattle.mc_model.specs.Chain.{Submission, Kind, Taken, Attempt, Failed, Fate, Decree, taken_in, attempts_in}
+use Rattle.fate_chain.specs.Kinds.{author_of, final_of}
+use Rattle.fate_chain.specs.declared.marks.Act.{Act}
+use Rattle.fate_chain.specs.declared.marks.Act.TheVariants as acts
+use Rattle.fate_chain.specs.declared.marks.Mark.{Mark}
+use Rattle.fate_chain.specs.declared.marks.Standing.{Standing}
+
+-- a message of which only its schedule and its expiry are told
+abbrev pub bare_message : ℕ → ℕ → Submission
+bare_message schedule expiry = record {
+  submitter = [];
+  target = [];
+  service_type = [];
+  source = record { ton = 0; npi = 0; digits = [] };
+  destination = record { ton = 0; npi = 0; digits = [] };
+  esm_class = 0;
+  protocol_id = 0;
+  priority_flag = 0;
+  registered_delivery = 0;
+  data_coding = 0;
+  schedule = schedule;
+  expiry = expiry;
+  text = [];
+  passed = [];
+}
+
+-- a kind without texts and errors
+abbrev pub bare : Kind → Kind
+bare (Taken message) = Taken (bare_message message.schedule message.expiry)
+bare (Attempt number) = Attempt number
+bare (Failed error) = Failed 0
+bare (Fate final error) = Fate final 0
+
+abbrev pub bare_kind : Act → Kind
+bare_kind (acts.Taken term) = Taken (bare_message term.schedule term.expiry)
+bare_kind (acts.Attempt number) = Attempt number
+bare_kind acts.Failed = Failed 0
+bare_kind (acts.Fate final) = Fate (final_of final) 0
+
+-- the mark is that of the decree
+pub record IsMarkOf (decree : Decree) (mark : Mark) : Type 0 where
+  pub author : author_of mark.author ≡ decree.author
+  pub moment : mark.moment ≡ decree.moment
+  pub kind : bare_kind mark.act ≡ bare decree.kind
+
+-- The standing is that of a chain with these decrees, the newest first: the term of what was taken, how often it was
+-- attempted, and the newest decree's mark.
+pub record IsStandingOf (decrees : List Decree) (standing : Standing) : Type 0 where
+  pub message : Submission
+  pub taken : taken_in decrees ≡ Some message
+  pub schedule : standing.term.schedule ≡ message.schedule
+  pub expiry : standing.term.expiry ≡ message.expiry
+  pub attempts : standing.attempts ≡ attempts_in decrees
+  pub newest : Decree
+  pub first : slice_get decrees 0 ≡ Some newest
+  pub mark : IsMarkOf newest standing.newest
