@@ -2,23 +2,25 @@
 use Rattle.std.specs.Prelude.{ℕ, Bool, ◌+◌, ◌-◌, ◌%◌, ◌^◌, ◌≤◌, min, nat_le, nat_lt, ◌==◌, ◌&&◌, ◌||◌, not, is_some, List, [], ◌∷◌, ◌++◌, length, filter, Option, Some, None, if◌then◌else◌}
 use Rattle.std.specs.Str.{bytes_eq}
 use Rattle.mc_model.specs.Ids.{IsNode, IsIncarnation, id_of}
-use Rattle.mc_model.specs.Chain.{Submission, Taken, Chain, taken_in, final_in, error_in}
+use Rattle.mc_model.specs.Chain.{Author, Submission, Final, Delivered, Expired, Deleted, Undeliverable, Rejected, Taken, Chain, taken_in, final_in, error_in}
 use Rattle.mc_types.specs.Texts.{id_in}
 use Rattle.pdu_tables.specs.declared.status.Status.{Status}
 use Rattle.pdu_tables.specs.declared.status.Status.TheVariants as statuses
 use Rattle.pdu_codec.specs.Text.{has_tag_among}
 use Rattle.pdu_codec.specs.declared.pdu.Message.{Message}
 use Rattle.pdu_codec.specs.declared.pdu.Query.{Query}
+use Rattle.pdu_codec.specs.declared.pdu.Cancel.{Cancel as Cancellation}
 use Rattle.fate_chain.specs.States.{state_of}
 use Rattle.fate_chain.specs.Submissions.{address_of}
 use Rattle.desk.specs.declared.request.Request.{Request}
-use Rattle.desk.specs.declared.request.Request.TheVariants.{Submit, Ask}
+use Rattle.desk.specs.declared.request.Request.TheVariants.{Submit, Ask, Cancel}
 use Rattle.desk.specs.declared.request.Begun.{Begun}
 use Rattle.desk.specs.declared.request.Begun.TheVariants.{Refused, Waits}
 use Rattle.desk.specs.declared.request.Answer.{Answer}
-use Rattle.desk.specs.declared.request.Answer.TheVariants.{Submitted, Found, NotFound}
+use Rattle.desk.specs.declared.request.Answer.TheVariants.{Submitted, Found, NotFound, Cancelled, NotCancelled}
 use Rattle.desk.specs.declared.request.Waiting.{Waiting}
 use Rattle.desk.specs.Table.{Table, chain_at, with_chain}
+use Rattle.desk.specs.Fates.{is_idle, ended}
 
 -- Whose requests these are, the serial of the next message, the tickets given so far, and the requests that wait,
 -- each with its answer, the oldest first.
@@ -35,6 +37,10 @@ pub record IsDesk (desk : Desk) : Type 0 where
   pub incarnation : IsIncarnation desk.incarnation
   pub serial_least : 1 ≤ desk.serial
   pub serial_most : desk.serial ≤ 100000
+
+-- who decides at the desk
+abbrev pub author_at : Desk → Author
+author_at desk = record { node = desk.node; incarnation = desk.incarnation }
 
 -- ---- a submit_sm
 
@@ -103,7 +109,7 @@ abbrev pub chain_begun : Desk → ℕ → Submission → Chain
 chain_begun desk now message = record {
   id = next_id desk;
   decrees = record {
-    author = record { node = desk.node; incarnation = desk.incarnation };
+    author = author_at desk;
     moment = now;
     kind = Taken message;
   } ∷ [];
@@ -131,6 +137,39 @@ found_in account source chain (Some message) =
 abbrev pub answer_from : List ℕ → List ℕ → Option Chain → Answer
 answer_from account source None = NotFound statuses.InvalidMessageId
 answer_from account source (Some chain) = found_in account source chain (taken_in chain.decrees)
+
+-- ---- a cancel_sm
+
+-- The message is the account's, from this source address, and goes to this destination address, if one is named.
+abbrev pub is_meant : List ℕ → Cancellation → Submission → Bool
+is_meant account cancel message =
+    is_sent_by account cancel.source.digits message
+    && (bytes_eq cancel.destination.digits [] || bytes_eq message.destination.digits cancel.destination.digits)
+
+-- the answer for a message that is not idle: it was deleted before, or can't be
+abbrev pub late_answer : Option Final → Answer
+late_answer None = NotCancelled statuses.CancelFailed
+late_answer (Some Delivered) = NotCancelled statuses.CancelFailed
+late_answer (Some Expired) = NotCancelled statuses.CancelFailed
+late_answer (Some Deleted) = Cancelled
+late_answer (Some Undeliverable) = NotCancelled statuses.CancelFailed
+late_answer (Some Rejected) = NotCancelled statuses.CancelFailed
+
+-- what a cancel is answered that means the message of this chain, and the table then
+abbrev pub deleted : Author → ℕ → Table → Chain → Answer × Table
+deleted author now table chain =
+    if is_idle chain.decrees then (Cancelled, with_chain table (ended author now Deleted chain))
+    else (late_answer (final_in chain.decrees), table)
+
+abbrev pub cancelled_in : List ℕ → Author → ℕ → Cancellation → Table → Chain → Option Submission → Answer × Table
+cancelled_in account author now cancel table chain None = (NotCancelled statuses.InvalidMessageId, table)
+cancelled_in account author now cancel table chain (Some message) =
+    if is_meant account cancel message then deleted author now table chain
+    else (NotCancelled statuses.CancelFailed, table)
+
+abbrev pub cancelled_by : List ℕ → Author → ℕ → Cancellation → Table → Option Chain → Answer × Table
+cancelled_by account author now cancel table None = (NotCancelled statuses.InvalidMessageId, table)
+cancelled_by account author now cancel table (Some chain) = cancelled_in account author now cancel table chain (taken_in chain.decrees)
 
 -- ---- a request
 
@@ -161,9 +200,21 @@ asked account query desk table (Some id) =
     if is_busy desk then refused desk table statuses.Throttled
     else waits desk table (answer_from account query.source.digits (chain_at table id))
 
+abbrev pub waits_with : Desk → Answer × Table → Begins
+waits_with desk answered = waits desk answered.1 answered.0
+
+abbrev pub cancelled : List ℕ → ℕ → Cancellation → Desk → Table → Option ℕ → Begins
+cancelled account now cancel desk table None = refused desk table statuses.InvalidMessageId
+cancelled account now cancel desk table (Some id) =
+    if is_busy desk then refused desk table statuses.Throttled
+    else waits_with desk (cancelled_by account (author_at desk) now cancel table (chain_at table id))
+
 -- What a request of an account is answered at once, or its ticket: a submit_sm with the account that it goes to, if a
--- route leads to one, or a query_sm, whose text may name no id.
+-- route leads to one, or a query_sm or a cancel_sm, whose text may name no id.
 abbrev pub begins : List ℕ → ℕ → Request → Desk → Table → Begins
 begins account now (Submit message target) desk table =
     submitted account now message target desk table (submit_refusal (is_some target) now message desk)
 begins account now (Ask query) desk table = asked account query desk table (id_in query.message_id)
+begins account now (Cancel cancel) desk table =
+    if bytes_eq cancel.message_id [] then refused desk table statuses.CancelFailed
+    else cancelled account now cancel desk table (id_in cancel.message_id)

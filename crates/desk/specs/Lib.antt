@@ -1,2 +1,4 @@
 pub mod Table
+pub mod Fates
+pub mod Due
 pub mod Desk

@@ -1,7 +1,7 @@
 //! Requests and what they are answered.
 
 use mc_types::MsgId;
-use pdu_codec::{Message, Query, Text};
+use pdu_codec::{Cancel, Message, Query, Text};
 use pdu_tables::{State, Status};
 
 /// A request of an account.
@@ -11,6 +11,8 @@ pub enum Request {
     Submit(Message, Option<Text<16>>),
     /// A query_sm.
     Ask(Query),
+    /// A cancel_sm.
+    Cancel(Cancel),
 }
 
 /// What becomes of a request in the step in which it comes.
@@ -31,6 +33,11 @@ pub enum Answer {
     Found(MsgId, State, u8),
     /// The query_sm is refused with this status: no such message is known, or it is not the account's.
     NotFound(Status),
+    /// The message of the cancel_sm is deleted, or was before.
+    Cancelled,
+    /// The cancel_sm is refused with this status: no such message is known, it is not the one that is meant, or it
+    /// can't be deleted.
+    NotCancelled(Status),
 }
 
 /// A request that waits for the next settle: its ticket and its answer.

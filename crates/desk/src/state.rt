@@ -1,19 +1,22 @@
 //! The desk.
 
-ghost use Rattle.std.specs.Prelude.{◌≡◌, ◌<◌, ◌≤◌, ◌+◌, [], ◌∷◌, false, IfOk, OnErr, MatchOption};
+ghost use Rattle.std.specs.Prelude.{◌≡◌, ◌<◌, ◌≤◌, ◌+◌, [], ◌∷◌, false, IfOk, OnOk, OnErr, MatchOption};
 ghost use Rattle.std.specs.Option.{option_copied};
 ghost use Rattle.mc_model.specs.Ids.{node_of, incarnation_of};
-ghost use Rattle.mc_model.specs.Chain.{Taken};
+ghost use Rattle.mc_model.specs.Chain.{Taken, final_in};
 ghost use Rattle.mc_types.specs.Texts.{id_in};
-ghost use Rattle.desk.specs.Table.{with_chain};
-ghost use Rattle.desk.specs.Desk.{begins, submit_refusal, submission_of, answer_from, waits, asked, is_busy, chain_begun, next_id};
+ghost use Rattle.fate_chain.specs.Kinds.{author_of};
+ghost use Rattle.desk.specs.Table.{chain_at, with_chain};
+ghost use Rattle.desk.specs.Fates.{with_expired};
+ghost use Rattle.desk.specs.Desk.{author_at, begins, submit_refusal, submission_of, answer_from, waits, asked, cancelled_by, late_answer, is_sent_by, is_meant, is_busy, chain_begun, next_id};
 
+use crate::fates::{ended, is_idle};
 use crate::request::{Answer, Begun, Request, Waiting};
 use crate::table::Chains;
-use fate_chain::{Chain, ChainFault, Submission};
+use fate_chain::{Author, Chain, ChainFault, Final, Submission};
 use mc_types::{Incarnation, Moment, MsgId, NodeNo};
-use pdu_codec::{Message, Query, Text};
-use pdu_tables::Status;
+use pdu_codec::{Cancel, Message, Query, Text};
+use pdu_tables::{State, Status};
 use std::alloc::{AllocError, Global};
 use std::collections::VecDeque;
 use std::marker::Model;
@@ -102,7 +105,18 @@ impl Desk {
                 self.submit(alloc, chains, account, now, message, target)
             }
             Request::Ask(query) => self.ask(chains, account, &query),
+            Request::Cancel(cancel) => self.cancel(chains, account, now, &cancel),
         }
+    }
+
+    /// Lets each message expire whose time has come: it was taken or its last attempt failed, and its expiry is not
+    /// later than now, or than its newest decree where that is later than now. An `Err` is want of memory, and changes
+    /// nothing. It costs a look at each chain, and for each that expires a copy of it and a search for its place.
+    pub fn expire(&self, alloc: Global, chains: &mut Chains, now: Moment) -> Result<(), AllocError>
+        ensures ok { OnOk result (chains.new ≡ with_expired (author_at self.now) now chains.old) }
+        ensures err { OnErr result (chains.new ≡ chains.old) }
+    {
+        chains.expire(alloc, self.author(), now)
     }
 
     /// Takes off the request that waits longest.
@@ -111,6 +125,16 @@ impl Desk {
         ensures rest { self.new ≡ record self.old { waiting = self.new.waiting } }
     {
         self.waiting.pop_front()
+    }
+
+    /// Who decides at this desk.
+    fn author(&self) -> Author
+        ensures { author_of result ≡ author_at self.now }
+    {
+        Author {
+            node: self.node,
+            incarnation: self.incarnation,
+        }
     }
 
     /// Whether another request may not wait: 1,000 wait, or no ticket is left.
@@ -220,6 +244,59 @@ impl Desk {
         self.given = ticket;
         Ok(Begun::Waits(ticket))
     }
+
+    fn cancel(
+        &mut self,
+        chains: &mut Chains,
+        account: &Text<16>,
+        now: Moment,
+        cancel: &Cancel,
+    ) -> Result<Begun, AllocError>
+        ensures ok { IfOk result (λ begun. begins account.now now (Request.Cancel cancel.now) self.old chains.old ≡ record { begun = begun; desk = self.new; table = chains.new }) }
+        ensures err { OnErr result ((self.new ≡ self.old) × (chains.new ≡ chains.old)) }
+    {
+        if cancel.message_id.is_empty() {
+            return Ok(Begun::Refused(Status::CancelFailed));
+        }
+        let Ok(id) = MsgId::read(cancel.message_id.octets()) else {
+            return Ok(Begun::Refused(Status::InvalidMessageId));
+        };
+        if self.is_busy() {
+            return Ok(Begun::Refused(Status::Throttled));
+        }
+        self.waiting.reserve(1)?;
+        let answer = self.cancelled(chains, account, now, cancel, id)?;
+        let ticket = self.given + 1;
+        self.waiting.push_back_reserved(Waiting { ticket, answer });
+        self.given = ticket;
+        Ok(Begun::Waits(ticket))
+    }
+
+    /// What a cancel_sm of this id is answered, once its message is deleted where it may be.
+    fn cancelled(
+        &self,
+        chains: &mut Chains,
+        account: &Text<16>,
+        now: Moment,
+        cancel: &Cancel,
+        id: MsgId,
+    ) -> Result<Answer, AllocError>
+        ensures ok { IfOk result (λ answer. cancelled_by account.now (author_at self.now) now cancel.now chains.old (chain_at chains.old id) ≡ (answer, chains.new)) }
+        ensures err { OnErr result (chains.new ≡ chains.old) }
+    {
+        let Some(chain) = chains.get(id) else {
+            return Ok(Answer::NotCancelled(Status::InvalidMessageId));
+        };
+        if !is_meant(account, cancel, chain.submission()) {
+            return Ok(Answer::NotCancelled(Status::CancelFailed));
+        }
+        if !is_idle(chain) {
+            return Ok(late_answer(chain));
+        }
+        let chain = ended(self.author(), now, Final::Deleted, chain)?;
+        chains.insert(chain)?;
+        Ok(Answer::Cancelled)
+    }
 }
 
 /// The chain of a message that is taken.
@@ -277,10 +354,36 @@ fn answer(chain: Option<&Chain>, account: &Text<16>, source: &Text<21>) -> Answe
         return Answer::NotFound(Status::InvalidMessageId);
     };
     let message = chain.submission();
-    if message.submitter.octets() != account.octets()
-        || message.source.digits.octets() != source.octets()
-    {
+    if !is_sent_by(message, account, source) {
         return Answer::NotFound(Status::QueryFailed);
     }
     Answer::Found(chain.id(), chain.state(), chain.error().min(255) as u8)
+}
+
+/// Whether the message is the account's, from this source address.
+fn is_sent_by(message: &Submission, account: &Text<16>, source: &Text<21>) -> bool
+    ensures { result ≡ is_sent_by account.now source.now message.now }
+{
+    message.submitter.octets() == account.octets()
+        && message.source.digits.octets() == source.octets()
+}
+
+/// Whether the message is the one that a cancel_sm of an account means.
+fn is_meant(account: &Text<16>, cancel: &Cancel, message: &Submission) -> bool
+    ensures { result ≡ is_meant account.now cancel.now message.now }
+{
+    is_sent_by(message, account, &cancel.source.digits)
+        && (cancel.destination.digits.is_empty()
+            || message.destination.digits.octets() == cancel.destination.digits.octets())
+}
+
+/// What a cancel_sm is answered that means the message of this chain, which is not idle.
+fn late_answer(chain: &Chain) -> Answer
+    ensures { result ≡ late_answer (final_in chain.now.decrees) }
+{
+    if chain.state() == State::Deleted {
+        Answer::Cancelled
+    } else {
+        Answer::NotCancelled(Status::CancelFailed)
+    }
 }

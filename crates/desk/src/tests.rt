@@ -4,7 +4,7 @@ ghost use Rattle.std.specs.Prelude.{◌≤◌};
 
 use crate::{Answer, Begun, Chains, Desk, Request, Waiting};
 use mc_types::{Incarnation, Moment, MsgId, NodeNo};
-use pdu_codec::{Address, Body, Query, Text, decode};
+use pdu_codec::{Address, Body, Cancel, Query, Text, decode};
 use pdu_tables::{State, Status};
 use std::test::Fail;
 
@@ -25,14 +25,32 @@ fn submit(rt: &HostRuntime, registered_delivery: u8) -> Result<Request, Fail> {
     Ok(Request::Submit(message, Some(text(rt, b"sme1")?)))
 }
 
+fn address(rt: &HostRuntime, digits: &[u8]) -> Result<Address, Fail> {
+    Ok(Address {
+        ton: 1,
+        npi: 1,
+        digits: text(rt, digits)?,
+    })
+}
+
 fn query(rt: &HostRuntime, message_id: &[u8], source: &[u8]) -> Result<Request, Fail> {
     Ok(Request::Ask(Query {
         message_id: text(rt, message_id)?,
-        source: Address {
-            ton: 1,
-            npi: 1,
-            digits: text(rt, source)?,
-        },
+        source: address(rt, source)?,
+    }))
+}
+
+fn cancel(
+    rt: &HostRuntime,
+    message_id: &[u8],
+    source: &[u8],
+    destination: &[u8],
+) -> Result<Request, Fail> {
+    Ok(Request::Cancel(Cancel {
+        service_type: text(rt, b"")?,
+        message_id: text(rt, message_id)?,
+        source: address(rt, source)?,
+        destination: address(rt, destination)?,
     }))
 }
 
@@ -131,5 +149,114 @@ fn a_thousand_requests_wait(rt: HostRuntime) -> Result<(), Fail> {
     let request = query(&rt, b"1000100001", b"144")?;
     let begun = begin(&rt, &mut desk, &mut chains, request)?;
     assert_eq!(rt; begun, Begun::Refused(Status::Throttled));
+    Ok(())
+}
+
+// What a request of sme1 is answered that waits.
+fn answer(
+    rt: &HostRuntime,
+    desk: &mut Desk,
+    chains: &mut Chains,
+    request: Request,
+) -> Result<Answer, Fail> {
+    let begun = begin(rt, desk, chains, request)?;
+    let waiting = desk.settle().ok_or("a request that waits")?;
+    if begun != Begun::Waits(waiting.ticket) {
+        return Err("another ticket")?;
+    }
+    Ok(waiting.answer)
+}
+
+#[test]
+fn a_message_is_cancelled_twice(rt: HostRuntime) -> Result<(), Fail> {
+    let id = MsgId::read(b"1000100001")?;
+    let mut chains = Chains::empty(rt.alloc());
+    let mut desk = desk(&rt, 1);
+    let taken = answer(&rt, &mut desk, &mut chains, submit(&rt, 0)?)?;
+    assert_eq!(rt; taken, Answer::Submitted(id));
+    for (message_id, source, destination, expected) in [
+        (
+            b"1000100009",
+            b"144",
+            b"155",
+            Answer::NotCancelled(Status::InvalidMessageId),
+        ),
+        (
+            b"1000100001",
+            b"145",
+            b"155",
+            Answer::NotCancelled(Status::CancelFailed),
+        ),
+        (
+            b"1000100001",
+            b"144",
+            b"156",
+            Answer::NotCancelled(Status::CancelFailed),
+        ),
+        (b"1000100001", b"144", b"155", Answer::Cancelled),
+        (b"1000100001", b"144", b"155", Answer::Cancelled),
+        (
+            b"1000100001",
+            b"145",
+            b"155",
+            Answer::NotCancelled(Status::CancelFailed),
+        ),
+    ] {
+        let request = cancel(&rt, message_id, source, destination)?;
+        assert_eq!(rt; answer(&rt, &mut desk, &mut chains, request)?, expected);
+    }
+    let request = cancel(&rt, b"1000100001", b"144", b"")?;
+    assert_eq!(rt;
+        answer(&rt, &mut desk, &mut chains, request)?,
+        Answer::Cancelled
+    );
+    let request = query(&rt, b"1000100001", b"144")?;
+    let deleted = Answer::Found(id, State::Deleted, 0);
+    assert_eq!(rt; answer(&rt, &mut desk, &mut chains, request)?, deleted);
+    Ok(())
+}
+
+#[test]
+fn cancels_are_refused_at_once(rt: HostRuntime) -> Result<(), Fail> {
+    let mut chains = Chains::empty(rt.alloc());
+    let mut desk = desk(&rt, 1);
+    let empty = cancel(&rt, b"", b"144", b"")?;
+    let begun = begin(&rt, &mut desk, &mut chains, empty)?;
+    assert_eq!(rt; begun, Begun::Refused(Status::CancelFailed));
+    let short = cancel(&rt, b"100010000", b"144", b"")?;
+    let begun = begin(&rt, &mut desk, &mut chains, short)?;
+    assert_eq!(rt; begun, Begun::Refused(Status::InvalidMessageId));
+    assert!(rt; desk.settle().is_none());
+    Ok(())
+}
+
+#[test]
+fn messages_expire_at_their_expiry(rt: HostRuntime) -> Result<(), Fail> {
+    let first = MsgId::read(b"1000100001")?;
+    let second = MsgId::read(b"1000100002")?;
+    let mut chains = Chains::empty(rt.alloc());
+    let mut desk = desk(&rt, 1);
+    for id in [first, second] {
+        let taken = answer(&rt, &mut desk, &mut chains, submit(&rt, 0)?)?;
+        assert_eq!(rt; taken, Answer::Submitted(id));
+    }
+    let request = cancel(&rt, b"1000100002", b"144", b"")?;
+    assert_eq!(rt;
+        answer(&rt, &mut desk, &mut chains, request)?,
+        Answer::Cancelled
+    );
+    // Three days after it was taken.
+    for (now, state) in [(946943999, State::Enroute), (946944000, State::Expired)] {
+        desk.expire(rt.alloc(), &mut chains, Moment::make(now)?)?;
+        let request = query(&rt, b"1000100001", b"144")?;
+        let found = Answer::Found(first, state, 0);
+        assert_eq!(rt; answer(&rt, &mut desk, &mut chains, request)?, found);
+        let request = query(&rt, b"1000100002", b"144")?;
+        let found = Answer::Found(second, State::Deleted, 0);
+        assert_eq!(rt; answer(&rt, &mut desk, &mut chains, request)?, found);
+    }
+    let request = cancel(&rt, b"1000100001", b"144", b"")?;
+    let late = Answer::NotCancelled(Status::CancelFailed);
+    assert_eq!(rt; answer(&rt, &mut desk, &mut chains, request)?, late);
     Ok(())
 }

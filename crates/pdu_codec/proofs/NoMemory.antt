@@ -9,10 +9,10 @@ use Rattle.pdu_codec.specs.declared.fault.PduFault.{PduFault}
 use Rattle.pdu_codec.specs.declared.fault.PduFault.TheVariants as faults
 use Rattle.pdu_codec.specs.declared.pdu.Pdu.{Pdu}
 use Rattle.pdu_codec.specs.declared.pdu.Body.{Body}
-use Rattle.pdu_codec.specs.Grammar.{Kind, TextBelow, Octet, Counted, Optional, Part, Content, Contents, ◌>>=◌, text_at, text_until, octet_at, counted_at, optional_at, tlvs_from, tlvs_or_fault, content_at, contents_at, word_at, bind_parts, bind_answer_parts, message_parts, message_id_parts, query_parts, query_answer_parts}
+use Rattle.pdu_codec.specs.Grammar.{Kind, TextBelow, Octet, Counted, Optional, Part, Content, Contents, ◌>>=◌, text_at, text_until, octet_at, counted_at, optional_at, tlvs_from, tlvs_or_fault, content_at, contents_at, word_at, bind_parts, bind_answer_parts, message_parts, message_id_parts, query_parts, query_answer_parts, cancel_parts}
 use Rattle.pdu_codec.specs.declared.pdu.Body.TheVariants as bodies
 use Rattle.pdu_codec.proofs.PduLaws.{with_body}
-use Rattle.pdu_codec.specs.Pdu.{answer_at, nothing_at, bind_at, bind_answer_at, message_at, message_id_at, query_at, query_answer_at, body_at, has_wrong_length, read_pdu, bind_from, bind_answer_from, message_from, query_from, query_answer_from}
+use Rattle.pdu_codec.specs.Pdu.{answer_at, nothing_at, bind_at, bind_answer_at, message_at, message_id_at, query_at, query_answer_at, cancel_at, body_at, has_wrong_length, read_pdu, bind_from, bind_answer_from, message_from, query_from, query_answer_from, cancel_from}
 
 abbrev pub IsNoMemory : {A : Type 0} → Result A PduFault → Type 0
 IsNoMemory {A} r = ◌≡◌ {A = Result A PduFault} r (Err faults.Memory) → ⊥
@@ -72,6 +72,8 @@ body (Some commands.SubmitSm) octets = bind (message_at octets) (λ m. Ok (bodie
 body (Some commands.SubmitSmResp) octets = bind (answer_at message_id_at octets) (λ a. Ok (bodies.SubmitSmResp a)) (answers message_id_at octets (made message_id_parts (λ c. c.0))) (λ a. ok (bodies.SubmitSmResp a))
 body (Some commands.QuerySm) octets = bind (query_at octets) (λ q. Ok (bodies.QuerySm q)) (made query_parts query_from octets) (λ q. ok (bodies.QuerySm q))
 body (Some commands.QuerySmResp) octets = bind (answer_at query_answer_at octets) (λ a. Ok (bodies.QuerySmResp a)) (answers query_answer_at octets (made query_answer_parts query_answer_from)) (λ a. ok (bodies.QuerySmResp a))
+body (Some commands.CancelSm) octets = bind (cancel_at octets) (λ x. Ok (bodies.CancelSm x)) (made cancel_parts cancel_from octets) (λ x. ok (bodies.CancelSm x))
+body (Some commands.CancelSmResp) octets = nothing bodies.CancelSmResp octets
 body (Some commands.EnquireLink) octets = nothing bodies.EnquireLink octets
 body (Some commands.EnquireLinkResp) octets = nothing bodies.EnquireLinkResp octets
 body (Some commands.GenericNack) octets = nothing bodies.GenericNack octets

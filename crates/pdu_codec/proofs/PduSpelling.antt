@@ -14,8 +14,8 @@ use Rattle.pdu_codec.specs.declared.pdu.Pdu.{Pdu}
 use Rattle.pdu_codec.specs.declared.pdu.Body.{Body}
 use Rattle.pdu_codec.specs.declared.pdu.Body.TheVariants as bodies
 use Rattle.pdu_codec.specs.Text.{IsOctets}
-use Rattle.pdu_codec.specs.Grammar.{Kind, TextBelow, Octet, Counted, Optional, Part, Content, Contents, spelling, spellings, IsWithin, AreWithin, ◌>>=◌, word_at, bind_parts, bind_answer_parts, message_parts, message_id_parts, query_parts, query_answer_parts}
-use Rattle.pdu_codec.specs.Pdu.{answer_at, nothing_at, bind_at, bind_answer_at, message_at, message_id_at, query_at, query_answer_at, bind_from, bind_contents, bind_answer_from, bind_answer_contents, message_from, message_contents, query_from, query_contents, query_answer_from, query_answer_contents, command_in, body_octets, octets_of, BodyFits, Fits, body_at, has_wrong_length, read_pdu, Gives}
+use Rattle.pdu_codec.specs.Grammar.{Kind, TextBelow, Octet, Counted, Optional, Part, Content, Contents, spelling, spellings, IsWithin, AreWithin, ◌>>=◌, word_at, bind_parts, bind_answer_parts, message_parts, message_id_parts, query_parts, query_answer_parts, cancel_parts}
+use Rattle.pdu_codec.specs.Pdu.{answer_at, nothing_at, bind_at, bind_answer_at, message_at, message_id_at, query_at, query_answer_at, cancel_at, bind_from, bind_contents, bind_answer_from, bind_answer_contents, message_from, message_contents, query_from, query_contents, query_answer_from, query_answer_contents, cancel_from, cancel_contents, command_in, body_octets, octets_of, BodyFits, Fits, body_at, has_wrong_length, read_pdu, Gives}
 use Rattle.pdu_codec.proofs.FieldLaws.{IsOctets-drop, guard_ok, ok_is}
 use Rattle.pdu_codec.proofs.BodyLaws.{bind_ok, made_takes, made_again, answer_takes, answer_again, begins}
 use Rattle.pdu_codec.proofs.PduLaws.{with_body, read_pdu-whole}
@@ -46,6 +46,10 @@ body_takes (Some commands.QuerySm) octets b are e =
     let a = bind_ok (query_at octets) (λ x. Ok (bodies.QuerySm x)) b e in
     let taken = made_takes query_parts query_from query_contents (λ c. refl) octets a.0 are a.1 in
     subst (λ (c : Body). TakesBody (Some commands.QuerySm) octets c) (ok_is (bodies.QuerySm a.0) b a.2) (record { command_is = refl; spelled = taken.spelled; fits = taken.within })
+body_takes (Some commands.CancelSm) octets b are e =
+    let a = bind_ok (cancel_at octets) (λ x. Ok (bodies.CancelSm x)) b e in
+    let taken = made_takes cancel_parts cancel_from cancel_contents (λ c. refl) octets a.0 are a.1 in
+    subst (λ (c : Body). TakesBody (Some commands.CancelSm) octets c) (ok_is (bodies.CancelSm a.0) b a.2) (record { command_is = refl; spelled = taken.spelled; fits = taken.within })
 body_takes (Some commands.BindTransceiverResp) octets b are e =
     let a = bind_ok (answer_at bind_answer_at octets) (λ x. Ok (bodies.BindTransceiverResp x)) b e in
     let taken = answer_takes bind_answer_at bind_answer_parts bind_answer_contents (λ rest x. made_takes bind_answer_parts bind_answer_from bind_answer_contents (λ c. refl) rest x) octets a.0 are a.1 in
@@ -58,6 +62,7 @@ body_takes (Some commands.QuerySmResp) octets b are e =
     let a = bind_ok (answer_at query_answer_at octets) (λ x. Ok (bodies.QuerySmResp x)) b e in
     let taken = answer_takes query_answer_at query_answer_parts query_answer_contents (λ rest x. made_takes query_answer_parts query_answer_from query_answer_contents (λ c. refl) rest x) octets a.0 are a.1 in
     subst (λ (c : Body). TakesBody (Some commands.QuerySmResp) octets c) (ok_is (bodies.QuerySmResp a.0) b a.2) (record { command_is = refl; spelled = taken.spelled; fits = taken.within })
+body_takes (Some commands.CancelSmResp) octets b are e = nothing_takes bodies.CancelSmResp octets b refl tt e
 body_takes (Some commands.EnquireLink) octets b are e = nothing_takes bodies.EnquireLink octets b refl tt e
 body_takes (Some commands.EnquireLinkResp) octets b are e = nothing_takes bodies.EnquireLinkResp octets b refl tt e
 body_takes (Some commands.GenericNack) octets b are e = nothing_takes bodies.GenericNack octets b refl tt e
@@ -68,12 +73,14 @@ unfolding body_at
 body_again (bodies.BindTransceiver bind) fits = ap (λ (r : Result _ PduFault). r >>= λ x. Ok (bodies.BindTransceiver x)) (made_again bind_parts bind_from bind_contents (λ a. refl) (tt, (tt, (tt, (tt, (tt, (tt, tt)))))) bind fits)
 body_again (bodies.SubmitSm message) fits = ap (λ (r : Result _ PduFault). r >>= λ x. Ok (bodies.SubmitSm x)) (made_again message_parts message_from message_contents (λ a. refl) (tt, (tt, (tt, (tt, (tt, (tt, (tt, (tt, (tt, (tt, (tt, (tt, (tt, (tt, (tt, (tt, (tt, tt))))))))))))))))) message fits)
 body_again (bodies.QuerySm query) fits = ap (λ (r : Result _ PduFault). r >>= λ x. Ok (bodies.QuerySm x)) (made_again query_parts query_from query_contents (λ a. refl) (tt, (tt, (tt, tt))) query fits)
+body_again (bodies.CancelSm cancel) fits = ap (λ (r : Result _ PduFault). r >>= λ x. Ok (bodies.CancelSm x)) (made_again cancel_parts cancel_from cancel_contents (λ a. refl) (tt, (tt, (tt, (tt, (tt, (tt, (tt, tt))))))) cancel fits)
 body_again (bodies.BindTransceiverResp None) fits = refl
 body_again (bodies.BindTransceiverResp (Some a)) fits = ap (λ (r : Result (Option _) PduFault). r >>= λ x. Ok (bodies.BindTransceiverResp x)) (answer_again bind_answer_at (spellings bind_answer_parts (bind_answer_contents a)) a (begins a.system_id _) (made_again bind_answer_parts bind_answer_from bind_answer_contents (λ x. refl) (tt, tt) a fits))
 body_again (bodies.SubmitSmResp None) fits = refl
 body_again (bodies.SubmitSmResp (Some id)) fits = ap (λ (r : Result (Option _) PduFault). r >>= λ x. Ok (bodies.SubmitSmResp x)) (answer_again message_id_at (spellings message_id_parts (id, tt)) id (begins id []) (made_again message_id_parts (λ c. c.0) (λ x. (x, tt)) (λ x. refl) tt id fits))
 body_again (bodies.QuerySmResp None) fits = refl
 body_again (bodies.QuerySmResp (Some a)) fits = ap (λ (r : Result (Option _) PduFault). r >>= λ x. Ok (bodies.QuerySmResp x)) (answer_again query_answer_at (spellings query_answer_parts (query_answer_contents a)) a (begins a.message_id _) (made_again query_answer_parts query_answer_from query_answer_contents (λ x. refl) (tt, (tt, (tt, tt))) a fits))
+body_again bodies.CancelSmResp fits = refl
 body_again bodies.EnquireLink fits = refl
 body_again bodies.EnquireLinkResp fits = refl
 body_again bodies.GenericNack fits = refl
@@ -105,12 +112,14 @@ body-short : (b : Body) → BodyFits b → length (body_octets b) ≤ 7400
 body-short (bodies.BindTransceiver bind) fits = omega (arith, spellings-short bind_parts (bind_contents bind) fits)
 body-short (bodies.SubmitSm message) fits = omega (arith, spellings-short message_parts (message_contents message) fits)
 body-short (bodies.QuerySm query) fits = omega (arith, spellings-short query_parts (query_contents query) fits)
+body-short (bodies.CancelSm cancel) fits = omega (arith, spellings-short cancel_parts (cancel_contents cancel) fits)
 body-short (bodies.BindTransceiverResp None) fits = omega arith
 body-short (bodies.BindTransceiverResp (Some a)) fits = omega (arith, spellings-short bind_answer_parts (bind_answer_contents a) fits)
 body-short (bodies.SubmitSmResp None) fits = omega arith
 body-short (bodies.SubmitSmResp (Some id)) fits = omega (arith, spellings-short message_id_parts (id, tt) fits)
 body-short (bodies.QuerySmResp None) fits = omega arith
 body-short (bodies.QuerySmResp (Some a)) fits = omega (arith, spellings-short query_answer_parts (query_answer_contents a) fits)
+body-short bodies.CancelSmResp fits = omega arith
 body-short bodies.EnquireLink fits = omega arith
 body-short bodies.EnquireLinkResp fits = omega arith
 body-short bodies.GenericNack fits = omega arith
@@ -134,9 +143,11 @@ command-of_code : (b : Body) → command_of (command_code (command_in b)) ≡ So
 command-of_code (bodies.BindTransceiver bind) = refl
 command-of_code (bodies.SubmitSm message) = refl
 command-of_code (bodies.QuerySm query) = refl
+command-of_code (bodies.CancelSm cancel) = refl
 command-of_code (bodies.BindTransceiverResp a) = refl
 command-of_code (bodies.SubmitSmResp a) = refl
 command-of_code (bodies.QuerySmResp a) = refl
+command-of_code bodies.CancelSmResp = refl
 command-of_code bodies.EnquireLink = refl
 command-of_code bodies.EnquireLinkResp = refl
 command-of_code bodies.GenericNack = refl
@@ -145,9 +156,11 @@ code-short : (b : Body) → command_code (command_in b) < 2 ^ 32
 code-short (bodies.BindTransceiver bind) = omega arith
 code-short (bodies.SubmitSm message) = omega arith
 code-short (bodies.QuerySm query) = omega arith
+code-short (bodies.CancelSm cancel) = omega arith
 code-short (bodies.BindTransceiverResp a) = omega arith
 code-short (bodies.SubmitSmResp a) = omega arith
 code-short (bodies.QuerySmResp a) = omega arith
+code-short bodies.CancelSmResp = omega arith
 code-short bodies.EnquireLink = omega arith
 code-short bodies.EnquireLinkResp = omega arith
 code-short bodies.GenericNack = omega arith

@@ -84,6 +84,18 @@ query_answer_parts =
     ∷ part ErrorCode Octet
     ∷ []
 
+abbrev pub cancel_parts : List Part
+cancel_parts =
+    part ServiceType (TextBelow 6)
+    ∷ part MessageId (TextBelow 65)
+    ∷ part SourceAddrTon Octet
+    ∷ part SourceAddrNpi Octet
+    ∷ part SourceAddr (TextBelow 21)
+    ∷ part DestAddrTon Octet
+    ∷ part DestAddrNpi Octet
+    ∷ part DestinationAddr (TextBelow 21)
+    ∷ []
+
 -- ---- what stands in a field, and its octets
 
 -- a text without its zero octet, a number, a short_message, or optional parameters, each as tag and value

@@ -8,13 +8,14 @@ use Rattle.pdu_codec.specs.declared.fault.PduFault.{PduFault}
 use Rattle.pdu_codec.specs.declared.fault.PduFault.TheVariants as faults
 use Rattle.pdu_codec.specs.declared.pdu.Pdu.{Pdu}
 use Rattle.pdu_codec.specs.declared.pdu.Body.{Body}
-use Rattle.pdu_codec.specs.declared.pdu.Body.TheVariants.{BindTransceiver, BindTransceiverResp, SubmitSm, SubmitSmResp, QuerySm, QuerySmResp, EnquireLink, EnquireLinkResp, GenericNack}
+use Rattle.pdu_codec.specs.declared.pdu.Body.TheVariants.{BindTransceiver, BindTransceiverResp, SubmitSm, SubmitSmResp, QuerySm, QuerySmResp, CancelSm, CancelSmResp, EnquireLink, EnquireLinkResp, GenericNack}
 use Rattle.pdu_codec.specs.declared.pdu.Bind.{Bind}
 use Rattle.pdu_codec.specs.declared.pdu.BindAnswer.{BindAnswer}
 use Rattle.pdu_codec.specs.declared.pdu.Message.{Message}
 use Rattle.pdu_codec.specs.declared.pdu.Query.{Query}
 use Rattle.pdu_codec.specs.declared.pdu.QueryAnswer.{QueryAnswer}
-use Rattle.pdu_codec.specs.Grammar.{word_at, Contents, spellings, AreWithin, contents_at, ◌>>=◌, bind_parts, bind_answer_parts, message_parts, message_id_parts, query_parts, query_answer_parts}
+use Rattle.pdu_codec.specs.declared.pdu.Cancel.{Cancel}
+use Rattle.pdu_codec.specs.Grammar.{word_at, Contents, spellings, AreWithin, contents_at, ◌>>=◌, bind_parts, bind_answer_parts, message_parts, message_id_parts, query_parts, query_answer_parts, cancel_parts}
 
 -- ---- what stands in the fields of each body, in their order
 
@@ -72,6 +73,18 @@ query_answer_contents q = (q.message_id, (q.final_date, (q.message_state, (q.err
 abbrev pub query_answer_from : Contents query_answer_parts → QueryAnswer
 query_answer_from c = record { message_id = c.0; final_date = c.1.0; message_state = c.1.1.0; error_code = c.1.1.1.0 }
 
+abbrev pub cancel_contents : Cancel → Contents cancel_parts
+cancel_contents x =
+    (x.service_type, (x.message_id, (x.source.ton, (x.source.npi, (x.source.digits, (x.destination.ton, (x.destination.npi, (x.destination.digits, tt))))))))
+
+abbrev pub cancel_from : Contents cancel_parts → Cancel
+cancel_from c = record {
+  service_type = c.0;
+  message_id = c.1.0;
+  source = record { ton = c.1.1.0; npi = c.1.1.1.0; digits = c.1.1.1.1.0 };
+  destination = record { ton = c.1.1.1.1.1.0; npi = c.1.1.1.1.1.1.0; digits = c.1.1.1.1.1.1.1.0 };
+}
+
 -- ---- bodies
 
 abbrev pub command_in : Body → Command
@@ -81,6 +94,8 @@ command_in (SubmitSm message) = commands.SubmitSm
 command_in (SubmitSmResp answer) = commands.SubmitSmResp
 command_in (QuerySm query) = commands.QuerySm
 command_in (QuerySmResp answer) = commands.QuerySmResp
+command_in (CancelSm cancel) = commands.CancelSm
+command_in CancelSmResp = commands.CancelSmResp
 command_in EnquireLink = commands.EnquireLink
 command_in EnquireLinkResp = commands.EnquireLinkResp
 command_in GenericNack = commands.GenericNack
@@ -97,6 +112,8 @@ body_octets (SubmitSm message) = spellings message_parts (message_contents messa
 body_octets (SubmitSmResp answer) = octets_unless_none (λ id. spellings message_id_parts (id, tt)) answer
 body_octets (QuerySm query) = spellings query_parts (query_contents query)
 body_octets (QuerySmResp answer) = octets_unless_none (λ a. spellings query_answer_parts (query_answer_contents a)) answer
+body_octets (CancelSm cancel) = spellings cancel_parts (cancel_contents cancel)
+body_octets CancelSmResp = []
 body_octets EnquireLink = []
 body_octets EnquireLinkResp = []
 body_octets GenericNack = []
@@ -117,6 +134,8 @@ BodyFits (SubmitSm message) = AreWithin message_parts (message_contents message)
 BodyFits (SubmitSmResp answer) = IfSome answer (λ id. AreWithin message_id_parts (id, tt))
 BodyFits (QuerySm query) = AreWithin query_parts (query_contents query)
 BodyFits (QuerySmResp answer) = IfSome answer (λ a. AreWithin query_answer_parts (query_answer_contents a))
+BodyFits (CancelSm cancel) = AreWithin cancel_parts (cancel_contents cancel)
+BodyFits CancelSmResp = Unit {0}
 BodyFits EnquireLink = Unit {0}
 BodyFits EnquireLinkResp = Unit {0}
 BodyFits GenericNack = Unit {0}
@@ -156,6 +175,9 @@ query_at octets = contents_at query_parts octets >>= λ c. Ok (query_from c)
 abbrev pub query_answer_at : List ℕ → Result QueryAnswer PduFault
 query_answer_at octets = contents_at query_answer_parts octets >>= λ c. Ok (query_answer_from c)
 
+abbrev pub cancel_at : List ℕ → Result Cancel PduFault
+cancel_at octets = contents_at cancel_parts octets >>= λ c. Ok (cancel_from c)
+
 -- the body of a command; the commands that aren't served yet are the fault Command
 unfoldable pub body_at : Option Command → List ℕ → Result Body PduFault
 body_at (Some commands.BindTransceiver) octets = bind_at octets >>= λ b. Ok (BindTransceiver b)
@@ -164,6 +186,8 @@ body_at (Some commands.SubmitSm) octets = message_at octets >>= λ m. Ok (Submit
 body_at (Some commands.SubmitSmResp) octets = answer_at message_id_at octets >>= λ a. Ok (SubmitSmResp a)
 body_at (Some commands.QuerySm) octets = query_at octets >>= λ q. Ok (QuerySm q)
 body_at (Some commands.QuerySmResp) octets = answer_at query_answer_at octets >>= λ a. Ok (QuerySmResp a)
+body_at (Some commands.CancelSm) octets = cancel_at octets >>= λ x. Ok (CancelSm x)
+body_at (Some commands.CancelSmResp) octets = nothing_at CancelSmResp octets
 body_at (Some commands.EnquireLink) octets = nothing_at EnquireLink octets
 body_at (Some commands.EnquireLinkResp) octets = nothing_at EnquireLinkResp octets
 body_at (Some commands.GenericNack) octets = nothing_at GenericNack octets

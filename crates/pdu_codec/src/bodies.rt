@@ -1,11 +1,11 @@
 //! Bodies of PDUs, read to their last octet. Memory is taken once the whole body is found to be one.
 
 ghost use Rattle.std.specs.Prelude.{◌≡◌};
-ghost use Rattle.pdu_codec.specs.Pdu.{IsMade, bind_at, bind_answer_at, query_at, query_answer_at, message_id_at};
+ghost use Rattle.pdu_codec.specs.Pdu.{IsMade, bind_at, bind_answer_at, query_at, query_answer_at, message_id_at, cancel_at};
 
 use crate::fault::{Field, PduFault};
 use crate::fields::{check_optional, nothing_at, octet_at, text_at};
-use crate::pdu::{Address, Bind, BindAnswer, Query, QueryAnswer};
+use crate::pdu::{Address, Bind, BindAnswer, Cancel, Query, QueryAnswer};
 use crate::text::Text;
 use crate::tlv::Tlvs;
 use pdu_tables::limits;
@@ -88,5 +88,34 @@ pub fn query_answer_of(alloc: Global, octets: &[u8]) -> Result<QueryAnswer, PduF
         final_date: Text::of(alloc, final_date)?,
         message_state,
         error_code,
+    })
+}
+
+/// What a cancel_sm has (section 4.9.1).
+pub fn cancel_of(alloc: Global, octets: &[u8]) -> Result<Cancel, PduFault>
+    ensures { IsMade result (cancel_at octets.now) }
+{
+    let (service_type, rest) = text_at(Field::ServiceType, limits::SERVICE_TYPE, octets)?;
+    let (message_id, rest) = text_at(Field::MessageId, limits::MESSAGE_ID, rest)?;
+    let (source_ton, rest) = octet_at(Field::SourceAddrTon, rest)?;
+    let (source_npi, rest) = octet_at(Field::SourceAddrNpi, rest)?;
+    let (source, rest) = text_at(Field::SourceAddr, limits::ADDRESS, rest)?;
+    let (destination_ton, rest) = octet_at(Field::DestAddrTon, rest)?;
+    let (destination_npi, rest) = octet_at(Field::DestAddrNpi, rest)?;
+    let (destination, rest) = text_at(Field::DestinationAddr, limits::ADDRESS, rest)?;
+    nothing_at(rest)?;
+    Ok(Cancel {
+        service_type: Text::of(alloc, service_type)?,
+        message_id: Text::of(alloc, message_id)?,
+        source: Address {
+            ton: source_ton,
+            npi: source_npi,
+            digits: Text::of(alloc, source)?,
+        },
+        destination: Address {
+            ton: destination_ton,
+            npi: destination_npi,
+            digits: Text::of(alloc, destination)?,
+        },
     })
 }

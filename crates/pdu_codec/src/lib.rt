@@ -17,7 +17,7 @@ pub use fault::{Field, PduFault};
 pub use fields::check_optional;
 pub use header::{Header, read_header};
 pub use laws::{read_is_written, written_is_read};
-pub use pdu::{Address, Bind, BindAnswer, Body, Message, Pdu, Query, QueryAnswer};
+pub use pdu::{Address, Bind, BindAnswer, Body, Cancel, Message, Pdu, Query, QueryAnswer};
 pub use reading::decode;
 pub use text::{ShortMessage, Text};
 pub use tlv::{Tlv, Tlvs};

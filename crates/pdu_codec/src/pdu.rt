@@ -26,6 +26,8 @@ pub enum Body {
     SubmitSmResp(Option<Text<65>>),
     QuerySm(Query),
     QuerySmResp(Option<QueryAnswer>),
+    CancelSm(Cancel),
+    CancelSmResp,
     EnquireLink,
     EnquireLinkResp,
     GenericNack,
@@ -46,6 +48,8 @@ impl Body {
             Body::SubmitSmResp(_) => Command::SubmitSmResp,
             Body::QuerySm(_) => Command::QuerySm,
             Body::QuerySmResp(_) => Command::QuerySmResp,
+            Body::CancelSm(_) => Command::CancelSm,
+            Body::CancelSmResp => Command::CancelSmResp,
             Body::EnquireLink => Command::EnquireLink,
             Body::EnquireLinkResp => Command::EnquireLinkResp,
             Body::GenericNack => Command::GenericNack,
@@ -113,4 +117,13 @@ pub struct QueryAnswer {
     pub final_date: Text<17>,
     pub message_state: u8,
     pub error_code: u8,
+}
+
+/// What a cancel_sm has (section 4.9.1).
+#[derive(Debug, Drop)]
+pub struct Cancel {
+    pub service_type: Text<6>,
+    pub message_id: Text<65>,
+    pub source: Address,
+    pub destination: Address,
 }

@@ -4,7 +4,7 @@ ghost use Rattle.std.specs.Prelude.{◌≡◌, Ok, IfOk, IsOk};
 ghost use Rattle.pdu_codec.specs.declared.pdu.Pdu.{Pdu};
 ghost use Rattle.pdu_codec.specs.Pdu.{Fits, Gives, IsMade, body_at, octets_of, read_pdu};
 
-use crate::bodies::{bind_answer_of, bind_of, message_id_of, query_answer_of, query_of};
+use crate::bodies::{bind_answer_of, bind_of, cancel_of, message_id_of, query_answer_of, query_of};
 use crate::fault::PduFault;
 use crate::header::read_header;
 use crate::pdu::{Body, Pdu};
@@ -39,12 +39,18 @@ fn body_of(alloc: Global, command: Option<Command>, octets: &[u8]) -> Result<Bod
             let answer = query_answer_of(alloc, octets)?;
             Ok(Body::QuerySmResp(Some(answer)))
         }
+        (Command::CancelSm, _) => Ok(Body::CancelSm(cancel_of(alloc, octets)?)),
+        (Command::CancelSmResp, []) => Ok(Body::CancelSmResp),
         (Command::EnquireLink, []) => Ok(Body::EnquireLink),
         (Command::EnquireLinkResp, []) => Ok(Body::EnquireLinkResp),
         (Command::GenericNack, []) => Ok(Body::GenericNack),
-        (Command::EnquireLink | Command::EnquireLinkResp | Command::GenericNack, _) => {
-            Err(PduFault::Extra)
-        }
+        (
+            Command::CancelSmResp
+            | Command::EnquireLink
+            | Command::EnquireLinkResp
+            | Command::GenericNack,
+            _,
+        ) => Err(PduFault::Extra),
         _ => Err(PduFault::Command),
     }
 }

@@ -56,6 +56,18 @@ const QUERY_DELIVERED: [u8; 46] = [
     0x31, 0x30, 0x30, 0x30, 0x30, 0x30, 0x30, 0x30, 0x30, 0x30, 0x2b, 0x00, 0x02, 0x00,
 ];
 
+/// A cancel_sm of the message 1000100001 from 144, which names no destination.
+const CANCEL: [u8; 37] = [
+    0x00, 0x00, 0x00, 0x25, 0x00, 0x00, 0x00, 0x08, 0x00, 0x00, 0x00, 0x00, 0x00, 0x00, 0x00, 0x04,
+    0x00, 0x31, 0x30, 0x30, 0x30, 0x31, 0x30, 0x30, 0x30, 0x30, 0x31, 0x00, 0x01, 0x01, 0x31, 0x34,
+    0x34, 0x00, 0x00, 0x00, 0x00,
+];
+
+/// Its answer.
+const CANCEL_ANSWER: [u8; 16] = [
+    0x00, 0x00, 0x00, 0x10, 0x80, 0x00, 0x00, 0x08, 0x00, 0x00, 0x00, 0x00, 0x00, 0x00, 0x00, 0x04,
+];
+
 /// Whether the octets are read and written again as they are.
 fn goes_round(alloc: Global, octets: &[u8]) -> Result<bool, Fail> {
     let pdu = decode(alloc, octets)?;
@@ -74,6 +86,8 @@ fn vectors(rt: HostRuntime) -> Result<(), Fail> {
     assert!(rt; goes_round(rt.alloc(), &QUERY)?);
     assert!(rt; goes_round(rt.alloc(), &QUERY_ENROUTE)?);
     assert!(rt; goes_round(rt.alloc(), &QUERY_DELIVERED)?);
+    assert!(rt; goes_round(rt.alloc(), &CANCEL)?);
+    assert!(rt; goes_round(rt.alloc(), &CANCEL_ANSWER)?);
     Ok(())
 }
 
@@ -102,6 +116,23 @@ fn faults(rt: HostRuntime) -> Result<(), Fail> {
     assert_eq!(rt; tlvs, Some(PduFault::Tlvs));
     let extra = fault_of(rt.alloc(), &SUBMIT_ANSWER, &[0])?;
     assert_eq!(rt; extra, Some(PduFault::Extra));
+    Ok(())
+}
+
+#[test]
+fn cancels(rt: HostRuntime) -> Result<(), Fail> {
+    let Body::CancelSm(cancel) = decode(rt.alloc(), &CANCEL)?.body else {
+        return Err("a cancel_sm")?;
+    };
+    assert_eq!(rt; cancel.message_id.octets(), b"1000100001".as_slice());
+    assert_eq!(rt; cancel.source.digits.octets(), b"144".as_slice());
+    assert!(rt; cancel.destination.digits.is_empty());
+    let extra = fault_of(rt.alloc(), &CANCEL, &[0])?;
+    assert_eq!(rt; extra, Some(PduFault::Extra));
+    let long = fault_of(rt.alloc(), &CANCEL[..36], b"twenty-one characters\0")?;
+    assert_eq!(rt; long, Some(PduFault::LongText(Field::DestinationAddr)));
+    let answer = fault_of(rt.alloc(), &CANCEL_ANSWER, &[0])?;
+    assert_eq!(rt; answer, Some(PduFault::Extra));
     Ok(())
 }
 

@@ -3,10 +3,10 @@
 ghost use Rattle.std.specs.Prelude.{◌≡◌, ◌<◌, ◌++◌, ◌∷◌, [], length, OnOk, OnErr, IfOk};
 ghost use Rattle.std.specs.Int.{w32, to_be_bytes};
 ghost use Rattle.pdu_codec.specs.Text.{IsOctets, IsText, IsShortMessage, AreOptional, optional_octets};
-ghost use Rattle.pdu_codec.specs.Grammar.{spellings, AreWithin, bind_parts, bind_answer_parts, message_parts, message_id_parts, query_parts, query_answer_parts};
-ghost use Rattle.pdu_codec.specs.Pdu.{body_octets, octets_of, Fits, BodyFits, bind_contents, bind_answer_contents, message_contents, query_contents, query_answer_contents};
+ghost use Rattle.pdu_codec.specs.Grammar.{spellings, AreWithin, bind_parts, bind_answer_parts, message_parts, message_id_parts, query_parts, query_answer_parts, cancel_parts};
+ghost use Rattle.pdu_codec.specs.Pdu.{body_octets, octets_of, Fits, BodyFits, bind_contents, bind_answer_contents, message_contents, query_contents, query_answer_contents, cancel_contents};
 
-use crate::pdu::{Address, Bind, BindAnswer, Body, Message, Pdu, Query, QueryAnswer};
+use crate::pdu::{Address, Bind, BindAnswer, Body, Cancel, Message, Pdu, Query, QueryAnswer};
 use crate::text::{ShortMessage, Text};
 use crate::tlv::Tlvs;
 use pdu_tables::limits;
@@ -144,6 +144,18 @@ fn put_query_answer(out: &mut Vec<u8>, answer: &QueryAnswer) -> Result<(), Alloc
     Ok(())
 }
 
+fn put_cancel(out: &mut Vec<u8>, cancel: &Cancel) -> Result<(), AllocError>
+    ensures ok { OnOk result (out.new.items
+        ≡ out.old.items ++ spellings cancel_parts (cancel_contents cancel.now)) }
+    ensures limits { OnOk result (AreWithin cancel_parts (cancel_contents cancel.now)) }
+{
+    put_text(out, &cancel.service_type)?;
+    put_text(out, &cancel.message_id)?;
+    put_address(out, &cancel.source)?;
+    put_address(out, &cancel.destination)?;
+    Ok(())
+}
+
 /// The octets of a body; none of a response that has none.
 fn body_octets(alloc: Global, body: &Body) -> Result<Vec<u8>, AllocError>
     ensures octets { IfOk result (λ octets. octets.items ≡ body_octets body.now) }
@@ -157,9 +169,11 @@ fn body_octets(alloc: Global, body: &Body) -> Result<Vec<u8>, AllocError>
         Body::SubmitSmResp(Some(message_id)) => put_text(&mut octets, message_id)?,
         Body::QuerySm(query) => put_query(&mut octets, query)?,
         Body::QuerySmResp(Some(answer)) => put_query_answer(&mut octets, answer)?,
+        Body::CancelSm(cancel) => put_cancel(&mut octets, cancel)?,
         Body::BindTransceiverResp(None)
         | Body::SubmitSmResp(None)
         | Body::QuerySmResp(None)
+        | Body::CancelSmResp
         | Body::EnquireLink
         | Body::EnquireLinkResp
         | Body::GenericNack => {}
