@@ -1,59 +1,10 @@
 -- The standing of a chain, decree after decree.
-use Rattle.std.proofs.Common.{◌≡◌, ◌↔◌, ℕ, ◌+◌, ◌*◌, ◌<◌, ◌≤◌, List, [], ◌∷◌, length, Option, None, Some, refl, sym, ap, subst, ◌∙◌, arith}
-use Rattle.mc_model.specs.Chain.{Submission, Kind, Taken, Attempt, Failed, Fate, Delivered, Expired, Deleted, Undeliverable, Rejected, Author, Decree, MayBegin, MayFollow, MayExtend, IsPermitted, taken_by, taken_in, attempts_of, attempts_in}
-use Rattle.fate_chain.specs.Kinds.{author_of}
-use Rattle.fate_chain.specs.Marks.{bare_message, bare, bare_kind, IsMarkOf, IsStandingOf}
-use Rattle.fate_chain.specs.declared.marks.Term.{Term}
-use Rattle.fate_chain.specs.declared.marks.Act.TheVariants as acts
+use Rattle.std.proofs.Common.{◌≡◌, ℕ, ◌+◌, ◌*◌, ◌≤◌, List, [], ◌∷◌, length, Option, None, Some, refl, ap, subst, ◌∙◌, arith}
+use Rattle.mc_model.specs.Chain.{Submission, Kind, Taken, Attempt, Failed, Fate, Delivered, Expired, Deleted, Undeliverable, Rejected, Author, Decree, MayBegin, MayFollow, MayExtend, IsPermitted, taken_in, attempts_of, attempts_in}
+use Rattle.fate_chain.specs.Marks.{bare, bare_kind, IsMarkOf, IsStandingOf}
 use Rattle.fate_chain.specs.declared.marks.Mark.{Mark}
 use Rattle.fate_chain.specs.declared.marks.Standing.{Standing}
 use Rattle.fate_chain.proofs.Permitted.{taken-extended}
-
-begin-bare : (id : ℕ) (author : Author) (moment : ℕ) (kind : Kind) → MayBegin id author moment (bare kind) ↔ MayBegin id author moment kind
-begin-bare id author moment (Taken m) =
-    (λ is. record { node = is.node; incarnation = is.incarnation; expiry = is.expiry; schedule = is.schedule }, λ is. record { node = is.node; incarnation = is.incarnation; expiry = is.expiry; schedule = is.schedule })
-begin-bare id author moment (Attempt number) = (λ x. x, λ x. x)
-begin-bare id author moment (Failed error) = (λ x. x, λ x. x)
-begin-bare id author moment (Fate final error) = (λ x. x, λ x. x)
-
--- a decree may begin a chain where its mark may
-pub begin-mark : (id : ℕ) (decree : Decree) (mark : Mark) → IsMarkOf decree mark → MayBegin id (author_of mark.author) mark.moment (bare_kind mark.act) ↔ IsPermitted id (decree ∷ [])
-begin-mark id decree mark is = rw (is.author, is.moment, is.kind) (begin-bare id decree.author decree.moment decree.kind)
-
-schedule_of : Kind → ℕ
-schedule_of (Taken m) = m.schedule
-schedule_of kind = 0
-
-expiry_of : Kind → ℕ
-expiry_of (Taken m) = m.expiry
-expiry_of kind = 0
-
-record IsTakenKind (kind : Kind) (schedule expiry : ℕ) : Type 0 where
-  message : Submission
-  kind_is : kind ≡ Taken message
-  schedule_is : schedule ≡ message.schedule
-  expiry_is : expiry ≡ message.expiry
-
-taken_kind : (kind : Kind) (schedule expiry : ℕ) → Taken (bare_message schedule expiry) ≡ bare kind → IsTakenKind kind schedule expiry
-unfolding schedule_of expiry_of
-taken_kind (Taken m) schedule expiry e = record { message = m; kind_is = refl; schedule_is = ap schedule_of e; expiry_is = ap expiry_of e }
-taken_kind (Attempt number) schedule expiry e = absurd cc
-taken_kind (Failed error) schedule expiry e = absurd cc
-taken_kind (Fate final error) schedule expiry e = absurd cc
-
-pub standing-first : (decree : Decree) (mark : Mark) (term : Term) → IsMarkOf decree mark → mark.act ≡ acts.Taken term → IsStandingOf (decree ∷ []) (record { term = term; attempts = 0; newest = mark })
-standing-first decree mark term is act =
-    let taken = taken_kind decree.kind term.schedule term.expiry (sym (ap bare_kind act) ∙ is.kind) in
-    record {
-      message = taken.message;
-      taken = ap (λ (kind : Kind). taken_by kind None) taken.kind_is;
-      schedule = taken.schedule_is;
-      expiry = taken.expiry_is;
-      attempts = omega (arith, ap attempts_of taken.kind_is);
-      newest = decree;
-      first = refl;
-      mark = is;
-    }
 
 attempts-bare : (kind : Kind) → attempts_of (bare kind) ≡ attempts_of kind
 attempts-bare (Taken m) = refl
@@ -89,20 +40,6 @@ standing-after standing mark decrees decree attempts stands is may more =
       first = refl;
       mark = is;
     }
-
--- ---- permitted chains, one decree longer
-
-pub permitted-more : (id : ℕ) (decrees : List Decree) (decree : Decree) → IsPermitted id decrees → MayExtend (taken_in decrees) decrees decree → IsPermitted id (decree ∷ decrees)
-permitted-more id [] decree permitted may = absurd permitted
-permitted-more id (older ∷ oldest) decree permitted may = (permitted, may)
-
-pub permitted-last : (id : ℕ) (decrees : List Decree) (decree : Decree) → IsPermitted id decrees → IsPermitted id (decree ∷ decrees) → MayExtend (taken_in decrees) decrees decree
-permitted-last id [] decree permitted more = absurd permitted
-permitted-last id (older ∷ oldest) decree permitted more = more.1
-
-pub permitted-less : (id : ℕ) (decrees : List Decree) (decree : Decree) → 0 < length decrees → IsPermitted id (decree ∷ decrees) → IsPermitted id decrees
-permitted-less id [] decree some permitted = absurd (omega arith)
-permitted-less id (older ∷ oldest) decree some permitted = permitted.0
 
 -- ---- a permitted chain has at most 18 decrees
 
