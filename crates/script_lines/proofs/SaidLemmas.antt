@@ -10,7 +10,8 @@ use Rattle.std.proofs.lemmas.List.Sums.{position_or_len_is}
 use Rattle.std.proofs.lemmas.Option.{cond_some, some_pair_parts}
 use Rattle.std.proofs.lemmas.Str.Parse.{digit_at}
 use Rattle.hex.specs.Hex.{decode_of}
-use Rattle.script_lines.specs.Said.{Said, Skipped, Nodes, Frame, Settle, IsWording, IsSession, Spells, spaced, ◌>>=◌, behind, has_leading_zero, number_of, word_len, number_at, nodes_said, frame_parts, frame_said, are_ones, settle_said, is_skipped, words_said, said_of}
+use Rattle.mc_model.specs.Ids.{IsMoment}
+use Rattle.script_lines.specs.Said.{Said, Skipped, Nodes, Frame, Tick, Settle, IsWording, IsSession, Spells, spaced, ◌>>=◌, behind, has_leading_zero, number_of, word_len, number_at, nodes_said, frame_parts, frame_said, tick_said, are_ones, settle_said, is_skipped, words_said, said_of}
 use Rattle.script_lines.proofs.WordLemmas.{own, Numeral, Numeral-from_test, test-from_Numeral}
 
 -- ---- a step that gave a value
@@ -227,6 +228,24 @@ unfolding frame_said frame_parts behind
 frame_again session digits octets range some read =
     rw (decimal_one, number_at_again 1 99 session (32 ∷ digits ++ []) range.least range.most (omega (arith, range.most)) (λ more. refl), append-nil digits, some_word digits some, read) refl
 
+-- ---- ticks
+
+tick_takes : (text : List ℕ) (said : Said) → tick_said text ≡ Some said → IsWording said (codes "tick" ++ text)
+unfolding tick_said
+tick_takes text said e =
+    let a = bind_some (behind (codes " 1") text) (λ words. number_at 946684800 4102444799 words >>= λ moment. cond (length moment.1 == 0) (Some (Tick moment.0)) None) said e in
+    let b = bind_some (number_at 946684800 4102444799 a.0) (λ moment. cond (length moment.1 == 0) (Some (Tick moment.0)) None) said a.2 in
+    let is = cond_some (length b.0.1 == 0) (Tick b.0.0) said b.2 in
+    let moment = number_at_takes 946684800 4102444799 a.0 b.0.0 b.0.1 b.1 in
+    let is_moment : IsMoment b.0.0 = record { least = moment.low; most = moment.high } in
+    let line = ap (λ xs. codes "tick" ++ xs) (two_words text a.0 b.0.1 b.0.0 [] (behind_takes (codes " 1") text a.0 a.1) moment.parts (empty_if b.0.1 is.0)) in
+    subst (λ s. IsWording s (codes "tick" ++ text)) is.1 (is_moment, line)
+
+tick_again : (moment : ℕ) → IsMoment moment → tick_said (spaced (decimal 1 ∷ decimal moment ∷ [])) ≡ Some (Tick moment)
+unfolding tick_said behind
+tick_again moment range =
+    rw (decimal_one, number_at_again 946684800 4102444799 moment [] range.least range.most (omega (arith, range.most)) (λ some. absurd (omega arith))) refl
+
 -- ---- the end
 
 one_more : (octet digit : ℕ) (text : List ℕ) (nodes : List ℕ) → octet ≡ 32 → digit ≡ 49 → text ≡ spaced (map decimal nodes) → octet ∷ digit ∷ text ≡ spaced (map decimal (1 ∷ nodes))
@@ -254,17 +273,21 @@ words_takes : (line : List ℕ) (said : Said) → words_said line ≡ Some said 
 unfolding words_said settle_said
 words_takes line said e =
     let settle = cond (starts_with nat_eq line (codes "settle")) (settle_said (drop 6 line)) None in
-    let pdu = cond (starts_with nat_eq line (codes "pdu")) (frame_said (drop 3 line)) settle in
+    let tick = cond (starts_with nat_eq line (codes "tick")) (tick_said (drop 4 line)) settle in
+    let pdu = cond (starts_with nat_eq line (codes "pdu")) (frame_said (drop 3 line)) tick in
     elim (chosen (starts_with nat_eq line (codes "nodes")) (nodes_said (drop 5 line)) pdu (Some said) e) [
       | inl nodes ↦ subst (IsWording said) (sym (begins (codes "nodes") line nodes.0)) (nodes_takes (drop 5 line) said nodes.1)
-      | inr others ↦ elim (chosen (starts_with nat_eq line (codes "pdu")) (frame_said (drop 3 line)) settle (Some said) others.1) [
+      | inr others ↦ elim (chosen (starts_with nat_eq line (codes "pdu")) (frame_said (drop 3 line)) tick (Some said) others.1) [
         | inl frame ↦ subst (IsWording said) (sym (begins (codes "pdu") line frame.0)) (frame_takes (drop 3 line) said frame.1)
-        | inr end ↦ elim (chosen (starts_with nat_eq line (codes "settle")) (settle_said (drop 6 line)) None (Some said) end.1) [
-          | inl settles ↦
-              let is = cond_some (are_ones (drop 6 line)) Settle said settles.1 in
-              let nodes = settle_takes (drop 6 line) is.0 in
-              subst (λ s. IsWording s line) is.1 (nodes.0, nodes.1, begins (codes "settle") line settles.0 ∙ ap (λ xs. codes "settle" ++ xs) nodes.2)
-          | inr none ↦ absurd (let clash = none.1 in cc)
+        | inr later ↦ elim (chosen (starts_with nat_eq line (codes "tick")) (tick_said (drop 4 line)) settle (Some said) later.1) [
+          | inl moment ↦ subst (IsWording said) (sym (begins (codes "tick") line moment.0)) (tick_takes (drop 4 line) said moment.1)
+          | inr end ↦ elim (chosen (starts_with nat_eq line (codes "settle")) (settle_said (drop 6 line)) None (Some said) end.1) [
+            | inl settles ↦
+                let is = cond_some (are_ones (drop 6 line)) Settle said settles.1 in
+                let nodes = settle_takes (drop 6 line) is.0 in
+                subst (λ s. IsWording s line) is.1 (nodes.0, nodes.1, begins (codes "settle") line settles.0 ∙ ap (λ xs. codes "settle" ++ xs) nodes.2)
+            | inr none ↦ absurd (let clash = none.1 in cc)
+          ]
         ]
       ]
     ]
@@ -310,6 +333,10 @@ frame_line : (text : List ℕ) → said_short (codes "pdu" ++ text) ≡ frame_sa
 unfolding words_said
 frame_line text = refl
 
+tick_line : (text : List ℕ) → said_short (codes "tick" ++ text) ≡ tick_said text
+unfolding words_said
+tick_line text = refl
+
 settle_line : (text : List ℕ) → are_ones text ≡ true → said_short (codes "settle" ++ text) ≡ Some Settle
 unfolding words_said settle_said
 settle_line text ones = rw ones refl
@@ -323,6 +350,8 @@ wording_again line (Nodes serial) w =
     ]
 wording_again line (Frame session octets) w =
     ap said_short w.1.3 ∙ frame_line (spaced (decimal 1 ∷ decimal session ∷ w.1.0 ∷ [])) ∙ frame_again session w.1.0 octets w.0 w.1.1 w.1.2
+wording_again line (Tick moment) w =
+    ap said_short w.1 ∙ tick_line (spaced (decimal 1 ∷ decimal moment ∷ [])) ∙ tick_again moment w.0
 wording_again line Settle w = ap said_short w.2 ∙ settle_line (spaced (map decimal w.0)) (settle_again w.0 w.1)
 
 pub spelled_so : (line : List ℕ) (said : Said) → (said_of line ≡ Some said) ↔ Spells said line

@@ -6,6 +6,7 @@ use Rattle.std.specs.Str.Parse.{digits_value}
 use Rattle.std.specs.Fmt.{decimal}
 use Rattle.std.specs.Result.{result_ok}
 use Rattle.hex.specs.Hex.{decode_of}
+use Rattle.mc_model.specs.Ids.{IsMoment}
 use Rattle.script_lines.specs.declared.line.Line.{Line}
 use Rattle.script_lines.specs.declared.line.Line.TheVariants as lines
 
@@ -17,6 +18,8 @@ pub data Said : Type 0 where
   Nodes : ℕ → Said
   -- octets that came on a session
   Frame : ℕ → List ℕ → Said
+  -- this moment has come
+  Tick : ℕ → Said
   -- what was asked is answered
   Settle : Said
 
@@ -25,6 +28,7 @@ abbrev pub said_by : Line → Said
 said_by lines.Skipped = Skipped
 said_by (lines.Nodes serial) = Nodes serial
 said_by (lines.Frame session octets) = Frame session octets.items
+said_by (lines.Tick moment) = Tick moment
 said_by lines.Settle = Settle
 
 -- a space before each word
@@ -52,6 +56,7 @@ IsWording (Frame session octets) line =
     IsSession session
     × ((digits : List ℕ) × (digits ≢ []) × (decode_of digits ≡ Ok octets)
     × (line ≡ codes "pdu" ++ spaced (decimal 1 ∷ decimal session ∷ digits ∷ [])))
+IsWording (Tick moment) line = IsMoment moment × (line ≡ codes "tick" ++ spaced (decimal 1 ∷ decimal moment ∷ []))
 IsWording Settle line = (nodes : List ℕ) × All (λ node. node ≡ 1) nodes × (line ≡ codes "settle" ++ spaced (map decimal nodes))
 
 -- a line of at most 20,000 octets says this
@@ -119,6 +124,13 @@ frame_said text = do
   octets ← result_ok (decode_of parts.1)
   Some (Frame parts.0 octets)
 
+-- what is behind `tick`
+unfoldable pub tick_said : List ℕ → Option Said
+tick_said text = do
+  words ← behind (codes " 1") text
+  moment ← number_at 946684800 4102444799 words
+  if length moment.1 == 0 then Some (Tick moment.0) else None
+
 -- each word is `1`
 abbrev pub are_ones : List ℕ → Bool
 are_ones [] = true
@@ -134,6 +146,7 @@ unfoldable pub words_said : List ℕ → Option Said
 words_said line =
     if starts_with nat_eq line (codes "nodes") then nodes_said (drop 5 line)
     else if starts_with nat_eq line (codes "pdu") then frame_said (drop 3 line)
+    else if starts_with nat_eq line (codes "tick") then tick_said (drop 4 line)
     else if starts_with nat_eq line (codes "settle") then settle_said (drop 6 line)
     else None
 
@@ -154,5 +167,6 @@ abbrev pub IsFrame : Option Said → Type 0
 IsFrame (Some (Frame session octets)) = Unit {0}
 IsFrame (Some Skipped) = ⊥
 IsFrame (Some (Nodes serial)) = ⊥
+IsFrame (Some (Tick moment)) = ⊥
 IsFrame (Some Settle) = ⊥
 IsFrame None = ⊥

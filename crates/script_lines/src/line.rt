@@ -5,7 +5,7 @@ ghost use Rattle.std.specs.Option.{option_map, option_copied};
 ghost use Rattle.std.specs.List.{list_all};
 ghost use Rattle.std.specs.Char.{is_ascii_digit, is_ascii_hexdigit};
 ghost use Rattle.hex.specs.Hex.{decode_of};
-ghost use Rattle.script_lines.specs.Said.{Said, Spells, IsFrame, said_by, said_of, nodes_said, frame_said, settle_said};
+ghost use Rattle.script_lines.specs.Said.{Said, Spells, IsFrame, said_by, said_of, words_said, nodes_said, frame_said, tick_said, settle_said};
 ghost use Rattle.script_lines.specs.Said as spec;
 
 use crate::octets::place_of;
@@ -21,6 +21,12 @@ const MOST_SERIAL: u64 = 99_999;
 /// The highest number of a session.
 const MOST_SESSION: u64 = 99;
 
+/// The least moment, the start of 2000, and the greatest, the end of 2099, in whole seconds since
+/// 1970-01-01T00:00:00Z.
+const LEAST_MOMENT: u64 = 946_684_800;
+
+const MOST_MOMENT: u64 = 4_102_444_799;
+
 /// What a line of a script says.
 #[derive(Debug, PartialEq, Eq, Drop)]
 pub enum Line {
@@ -30,12 +36,14 @@ pub enum Line {
     Nodes(u32),
     /// `pdu 1 SESSION HEX`: the octets come on a session, 1 to 99.
     Frame(u8, Vec<u8>),
+    /// `tick 1 MOMENT`: this moment has come, in whole seconds since 1970-01-01T00:00:00Z, 946684800 to 4102444799.
+    Tick(u32),
     /// `settle`, which may name the node 1.
     Settle,
 }
 
 /// What a line says, its line feed taken off; a bad line says nothing. An `Err` is want of memory, which a frame's octets need.
-#[tactic(auto, unfolding(crate::specs::Said::said_of, crate::specs::Said::words_said, crate::specs::Said::behind))]
+#[tactic(auto, unfolding(crate::specs::Said::said_of))]
 pub fn read_line(alloc: Global, line: &[u8]) -> Result<Option<Line>, AllocError>
     ensures said { IfOk result (λ read. option_map said_by read ≡ said_of line.now) }
     ensures memory { OnErr result (IsFrame (said_of line.now)) }
@@ -46,11 +54,23 @@ pub fn read_line(alloc: Global, line: &[u8]) -> Result<Option<Line>, AllocError>
     if matches!(line, [] | [b'#', ..]) {
         return Ok(Some(Line::Skipped));
     }
+    words_of(alloc, line)
+}
+
+/// What a line says by its first word.
+#[tactic(auto, unfolding(crate::specs::Said::words_said, crate::specs::Said::behind))]
+fn words_of(alloc: Global, line: &[u8]) -> Result<Option<Line>, AllocError>
+    ensures said { IfOk result (λ read. option_map said_by read ≡ words_said line.now) }
+    ensures memory { OnErr result (IsFrame (words_said line.now)) }
+{
     if let Some(words) = line.strip_prefix(b"nodes") {
         return Ok(nodes_of(words));
     }
     if let Some(words) = line.strip_prefix(b"pdu") {
         return frame_of(alloc, words);
+    }
+    if let Some(words) = line.strip_prefix(b"tick") {
+        return Ok(tick_of(words));
     }
     if let Some(words) = line.strip_prefix(b"settle") {
         return Ok(settle_of(words));
@@ -109,6 +129,19 @@ fn are_octets(digits: &[u8]) -> bool
     ensures { IsTrue result ↔ IsOk (decode_of digits.now) }
 {
     digits.len() % 2 == 0 && are_hex_digits(digits)
+}
+
+/// What stands behind `tick`: the node, and a moment.
+#[tactic(auto, unfolding(crate::specs::Said::tick_said))]
+fn tick_of(words: &[u8]) -> Option<Line>
+    ensures { option_map said_by result ≡ tick_said words.now }
+{
+    let moment = behind(b" 1", words)?;
+    let (seconds, rest) = number_at(LEAST_MOMENT, MOST_MOMENT, moment)?;
+    if !rest.is_empty() {
+        return None;
+    }
+    Some(Line::Tick(seconds as u32))
 }
 
 /// What stands behind `settle`: the node, as often as it may be.

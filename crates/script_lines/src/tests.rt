@@ -25,6 +25,20 @@ fn good_lines_are_read(rt: HostRuntime) -> Result<(), Fail> {
 }
 
 #[test]
+fn moments_are_read(rt: HostRuntime) -> Result<(), Fail> {
+    let alloc = rt.alloc();
+    assert_eq!(rt;
+        read_line(alloc, b"tick 1 946684800")?,
+        Some(Line::Tick(946_684_800))
+    );
+    assert_eq!(rt;
+        read_line(alloc, b"tick 1 4102444799")?,
+        Some(Line::Tick(4_102_444_799))
+    );
+    Ok(())
+}
+
+#[test]
 fn bad_lines_say_nothing(rt: HostRuntime) -> Result<(), Fail> {
     let lines = [
         " ",
@@ -47,6 +61,18 @@ fn bad_lines_say_nothing(rt: HostRuntime) -> Result<(), Fail> {
         "pdu 1 01 00",
         "pdu 1 1 00 00",
         "pdu 2 1 00",
+        "tick",
+        "tick 1",
+        "tick 1 ",
+        "tick 2 946684800",
+        "tick 0 946684800",
+        "tick 1 946684799",
+        "tick 1 4102444800",
+        "tick 1 0946684800",
+        "tick 1 +946684800",
+        "tick 1 946684800 ",
+        "tick 1 946684800 1",
+        "tick 946684800",
         "settle  1",
         "settle 1 ",
         "settle 2",
