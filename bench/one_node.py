@@ -1,8 +1,10 @@
 #!/usr/bin/env python3
 """Times `centre script` on scripts of 1,000, 10,000 and 100,000 lines, and prints its peak memory.
 
-Half of the lines are submits and half are queries, with a settle every ten lines; after the 10,000 submits that one
-script may have accepted in a calm run, the rest are queries. Give the built program as the argument:
+Of ten lines one is a settle, one a cancel and four are queries; the other four are submits, up to the 10,000 that one
+script may have accepted in a calm run, and queries after that. Each script has ten ticks, evenly apart. A tick is 60,000
+seconds after the one before, so that messages expire, which are valid for 259,200 seconds. Give the built program as the
+argument:
 
     python3 bench/one_node.py crates/centre/out/centre
 """
@@ -14,24 +16,40 @@ import time
 
 BIND = "0000001e000000090000000000000001736d653100707731000034000000"
 SUBMIT = "0000002900000004000000000000000200010131343400010131353500000000000000000000024869"
+TICKS = 10
+START = 946_684_800
+TICK = 60_000
+
+
+def text_of_id(serial):
+    return f"10001{serial:05d}".encode().hex()
 
 
 def query(serial):
-    message_id = f"10001{serial:05d}".encode().hex()
-    return f"00000021000000030000000000000003{message_id}00010131343400"
+    return f"00000021000000030000000000000003{text_of_id(serial)}00010131343400"
+
+
+def cancel(serial):
+    return f"0000002500000008000000000000000400{text_of_id(serial)}00010131343400000000"
 
 
 def script(lines):
     out = ["nodes 1", f"pdu 1 1 {BIND}"]
-    submits = 0
+    submits = ticks = 0
     while len(out) < lines:
-        if len(out) % 10 == 0:
+        serial = len(out) % max(submits, 1) + 1
+        if len(out) >= (ticks + 1) * lines // (TICKS + 1) and ticks < TICKS:
+            ticks += 1
+            out.append(f"tick 1 {START + ticks * TICK}")
+        elif len(out) % 10 == 0:
             out.append("settle")
+        elif len(out) % 10 == 9:
+            out.append(f"pdu 1 1 {cancel(serial)}")
         elif len(out) % 2 == 0 and submits < 10_000:
             submits += 1
             out.append(f"pdu 1 1 {SUBMIT}")
         else:
-            out.append(f"pdu 1 1 {query(len(out) % max(submits, 1) + 1)}")
+            out.append(f"pdu 1 1 {query(serial)}")
     return "\n".join(out) + "\n"
 
 

@@ -1,5 +1,6 @@
 pub mod Frames
 pub mod Ids
+pub mod Requests
 pub mod Retained
 pub mod Running
 pub mod Settling

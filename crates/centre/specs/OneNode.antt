@@ -1,5 +1,5 @@
 -- What one node does with the octets that come, over a table from message id to chain.
-use Rattle.std.specs.Prelude.{ℕ, ◌==◌, List, [], ◌∷◌, ◌++◌, find, Option, Some, None, Result, Ok, Err}
+use Rattle.std.specs.Prelude.{ℕ, max, ◌==◌, List, [], ◌∷◌, ◌++◌, find, Option, Some, None, Result, Ok, Err}
 use Rattle.std.specs.List.{flat_map}
 use Rattle.std.specs.Option.{option_map}
 use Rattle.pdu_tables.specs.CommandCodes.{command_of}
@@ -13,11 +13,12 @@ use Rattle.pdu_codec.specs.declared.pdu.Pdu.{Pdu}
 use Rattle.pdu_codec.specs.declared.pdu.Bind.{Bind}
 use Rattle.pdu_codec.specs.declared.pdu.Body.{Body}
 use Rattle.pdu_codec.specs.declared.pdu.Body.TheVariants as bodies
-use Rattle.desk.specs.Desk.{Begins, begins}
+use Rattle.desk.specs.Desk.{Begins, author_at, begins}
+use Rattle.desk.specs.Fates.{with_expired}
 use Rattle.desk.specs.declared.request.Begun.{Begun}
 use Rattle.desk.specs.declared.request.Begun.TheVariants.{Refused, Waits}
 use Rattle.desk.specs.declared.request.Request.{Request}
-use Rattle.desk.specs.declared.request.Request.TheVariants.{Submit, Ask}
+use Rattle.desk.specs.declared.request.Request.TheVariants.{Submit, Ask, Cancel}
 use Rattle.desk.specs.declared.request.Waiting.{Waiting}
 use Rattle.centre.specs.declared.pending.Pending.{Pending}
 use Rattle.centre.specs.declared.state.Centre.{Centre}
@@ -26,10 +27,6 @@ use Rattle.centre.specs.Judging.{bind_refusal}
 use Rattle.centre.specs.Lines.{pdu_line, gone_line, refusal_line}
 use Rattle.centre.specs.Centre.{Done, account_of, with_bound, without_session}
 use Rattle.centre.specs.Replies.{answer_with, refusal_of, status_of_long, bound_answer, reply}
-
--- the clock of a node from its start on
-abbrev pub opening_clock : ℕ
-opening_clock = 946684800
 
 abbrev pub silent : Centre → Done
 silent centre = record { next = centre; text = [] }
@@ -66,11 +63,11 @@ on_begun centre session sequence refused begins (Waits ticket) =
 abbrev pub begin : Centre → ℕ → ℕ → Body → Begins → Done
 begin centre session sequence refused begins = on_begun centre session sequence refused begins begins.begun
 
--- a request is served on a session that is bound
+-- a request is served on a session that is bound, and judged at the clock
 abbrev pub on_request : Centre → ℕ → ℕ → Body → Request → Option (List ℕ) → Done
 on_request centre session sequence refused request None = sends centre session (answer_with statuses.InvalidBindStatus sequence refused)
 on_request centre session sequence refused request (Some account) =
-    begin centre session sequence refused (begins account opening_clock request centre.desk centre.chains)
+    begin centre session sequence refused (begins account centre.clock request centre.desk centre.chains)
 
 -- responses of the ESME answer nothing yet
 abbrev pub on_body : Centre → ℕ → ℕ → Body → Done
@@ -79,6 +76,8 @@ on_body centre session sequence (bodies.SubmitSm message) =
     on_request centre session sequence (bodies.SubmitSmResp None) (Submit message (Some (route_of message.destination.digits))) (account_of centre session)
 on_body centre session sequence (bodies.QuerySm query) =
     on_request centre session sequence (bodies.QuerySmResp None) (Ask query) (account_of centre session)
+on_body centre session sequence (bodies.CancelSm cancel) =
+    on_request centre session sequence bodies.CancelSmResp (Cancel cancel) (account_of centre session)
 on_body centre session sequence bodies.EnquireLink = sends centre session (answer_with statuses.Ok sequence bodies.EnquireLinkResp)
 on_body centre session sequence other = silent centre
 
@@ -134,6 +133,14 @@ on_read centre session octets (Err fault) = on_fault centre session (word_at 12 
 -- octets come on a session, which are one PDU
 unfoldable pub on_frame : Centre → ℕ → List ℕ → Done
 on_frame centre session octets = on_read centre session octets (read_pdu octets)
+
+-- the clock shows this, and each message that is due then has expired
+abbrev pub with_clock : Centre → ℕ → Centre
+with_clock centre clock = record centre { clock = clock; chains = with_expired (author_at centre.desk) clock centre.chains }
+
+-- a moment has come: the clock never falls
+unfoldable pub on_tick : Centre → ℕ → Centre
+on_tick centre moment = with_clock centre (max centre.clock moment)
 
 -- the answer to a request that waited, unless it is forgotten
 abbrev pub reply_line : Waiting → Option Pending → List ℕ

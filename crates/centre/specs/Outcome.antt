@@ -1,19 +1,21 @@
 -- What came of a script: what was read of it, and what was written.
 use Rattle.std.specs.Prelude.{◌≡◌, ◌⊎◌, ℕ, ◌≤◌, Bool, true, false, List, [], ◌∷◌, ◌++◌, Option, Some, None, Result, Ok, Err}
 use Rattle.std.specs.Io.KnownBytes.{Consumes, Appends, Keeps, IsAtEnd}
-use Rattle.script_lines.specs.Said.{Said, Skipped, Nodes, Frame, Settle}
+use Rattle.mc_model.specs.Ids.{IsMoment}
+use Rattle.script_lines.specs.Said.{Said, Skipped, Nodes, Frame, Tick, Settle}
 use Rattle.centre.specs.Script.{Stage, Stepped, opened, step_of, text_of, bad_line}
 use Rattle.centre.specs.declared.run.ScriptFault.{ScriptFault}
 use Rattle.centre.specs.declared.run.ScriptFault.TheVariants.{BadLine, Read, Write, Memory}
 
 -- ---- one line
 
--- a serial that a line gives is one
-abbrev pub SerialFits : Said → Type 0
-SerialFits Skipped = Unit {0}
-SerialFits (Nodes serial) = (1 ≤ serial) × (serial ≤ 99999)
-SerialFits (Frame session octets) = Unit {0}
-SerialFits Settle = Unit {0}
+-- a serial or moment that a line gives is one
+abbrev pub NumberFits : Said → Type 0
+NumberFits Skipped = Unit {0}
+NumberFits (Nodes serial) = (1 ≤ serial) × (serial ≤ 99999)
+NumberFits (Frame session octets) = Unit {0}
+NumberFits (Tick moment) = IsMoment moment
+NumberFits Settle = Unit {0}
 
 -- the centre is started once
 abbrev pub IsStarted : Stage → Bool → Stage → ℕ → Type 0

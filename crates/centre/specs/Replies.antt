@@ -1,4 +1,4 @@
--- The PDUs that answer (SMPP 3.4, 4.1, 4.3, 4.4, 4.8 and 4.11).
+-- The PDUs that answer (SMPP 3.4, 4.1, 4.3, 4.4, 4.8, 4.9 and 4.11).
 use Rattle.std.specs.Prelude.{ℕ, nat_le, [], ◌∷◌, Option, Some, None, codes, if◌then◌else◌}
 use Rattle.std.specs.Fmt.{decimal}
 use Rattle.pdu_tables.specs.declared.command.Command.{Command}
@@ -11,9 +11,9 @@ use Rattle.pdu_codec.specs.declared.fault.Field.{Field}
 use Rattle.pdu_codec.specs.declared.fault.Field.TheVariants as fields
 use Rattle.pdu_codec.specs.declared.pdu.Pdu.{Pdu}
 use Rattle.pdu_codec.specs.declared.pdu.Body.{Body}
-use Rattle.pdu_codec.specs.declared.pdu.Body.TheVariants.{BindTransceiverResp, SubmitSmResp, QuerySmResp, EnquireLinkResp}
+use Rattle.pdu_codec.specs.declared.pdu.Body.TheVariants.{BindTransceiverResp, SubmitSmResp, QuerySmResp, CancelSmResp, EnquireLinkResp}
 use Rattle.desk.specs.declared.request.Answer.{Answer}
-use Rattle.desk.specs.declared.request.Answer.TheVariants.{Submitted, Found, NotFound}
+use Rattle.desk.specs.declared.request.Answer.TheVariants.{Submitted, Found, NotFound, Cancelled, NotCancelled}
 
 abbrev pub answer_with : Status → ℕ → Body → Pdu
 answer_with status sequence body = record { status = status_code status; sequence = sequence; body = body }
@@ -23,6 +23,7 @@ abbrev pub refusal_of : Option Command → Option Body
 refusal_of (Some commands.BindTransceiver) = Some (BindTransceiverResp None)
 refusal_of (Some commands.SubmitSm) = Some (SubmitSmResp None)
 refusal_of (Some commands.QuerySm) = Some (QuerySmResp None)
+refusal_of (Some commands.CancelSm) = Some CancelSmResp
 refusal_of (Some commands.EnquireLink) = Some EnquireLinkResp
 refusal_of other = None
 
@@ -57,3 +58,5 @@ reply sequence (Found id state error) = answer_with statuses.Ok sequence (QueryS
   error_code = error;
 })))
 reply sequence (NotFound status) = answer_with status sequence (QuerySmResp None)
+reply sequence Cancelled = answer_with statuses.Ok sequence CancelSmResp
+reply sequence (NotCancelled status) = answer_with status sequence CancelSmResp

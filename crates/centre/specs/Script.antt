@@ -1,18 +1,19 @@
 -- The text of a script.
 use Rattle.std.specs.Prelude.{ℕ, suc, List, [], ◌∷◌, ◌++◌, Option, Some, None}
 use Rattle.script_lines.specs.Lines.{lines_of}
-use Rattle.script_lines.specs.Said.{Said, Skipped, Nodes, Frame, Settle, said_of}
+use Rattle.script_lines.specs.Said.{Said, Skipped, Nodes, Frame, Tick, Settle, said_of}
 use Rattle.centre.specs.declared.state.Centre.{Centre}
 use Rattle.centre.specs.Centre.{Done}
-use Rattle.centre.specs.OneNode.{on_frame, on_settle}
+use Rattle.centre.specs.OneNode.{silent, on_frame, on_tick, on_settle}
 
--- node 1 in its first incarnation, at which nothing was asked yet
+-- node 1 in its first incarnation, at which nothing was asked yet; its clock begins at the least moment
 abbrev pub opened : ℕ → Centre
 opened serial = record {
   desk = record { node = 1; incarnation = 1; serial = serial; given = 0; waiting = [] };
   chains = [];
   bound = [];
   pending = [];
+  clock = 946684800;
 }
 
 -- what is there before a line, and after it: no centre yet, or one
@@ -33,9 +34,11 @@ step_by stage None = None
 step_by stage (Some Skipped) = Some (record { stage = stage; text = [] })
 step_by None (Some (Nodes serial)) = Some (record { stage = Some (opened serial); text = [] })
 step_by None (Some (Frame session octets)) = None
+step_by None (Some (Tick moment)) = None
 step_by None (Some Settle) = None
 step_by (Some centre) (Some (Nodes serial)) = None
 step_by (Some centre) (Some (Frame session octets)) = stepped (on_frame centre session octets)
+step_by (Some centre) (Some (Tick moment)) = stepped (silent (on_tick centre moment))
 step_by (Some centre) (Some Settle) = stepped (on_settle centre)
 
 unfoldable pub step_of : Stage → List ℕ → Option Stepped

@@ -39,6 +39,7 @@ pub fn refusal(command: u32) -> Option<Body>
         Some(Command::BindTransceiver) => Some(Body::BindTransceiverResp(None)),
         Some(Command::SubmitSm) => Some(Body::SubmitSmResp(None)),
         Some(Command::QuerySm) => Some(Body::QuerySmResp(None)),
+        Some(Command::CancelSm) => Some(Body::CancelSmResp),
         Some(Command::EnquireLink) => Some(Body::EnquireLinkResp),
         _ => None,
     }
@@ -121,6 +122,8 @@ pub fn reply_to(alloc: Global, sequence: u32, waited: Answer) -> Result<Pdu, All
             Ok(answer(Status::Ok, sequence, Body::QuerySmResp(Some(found))))
         }
         Answer::NotFound(status) => Ok(answer(status, sequence, Body::QuerySmResp(None))),
+        Answer::Cancelled => Ok(answer(Status::Ok, sequence, Body::CancelSmResp)),
+        Answer::NotCancelled(status) => Ok(answer(status, sequence, Body::CancelSmResp)),
     }
 }
 

@@ -3,9 +3,10 @@
 ghost use Rattle.std.specs.Prelude.{◌≡◌, ◌≤◌, IfOk, Some};
 ghost use Rattle.script_lines.specs.Said.{said_by};
 ghost use Rattle.centre.specs.Script.{step_by};
-ghost use Rattle.centre.specs.Outcome.{IsStep, IsStepBy, SerialFits, IsStarted, WritesLine, IsOutcome};
+ghost use Rattle.centre.specs.Outcome.{IsStep, IsStepBy, NumberFits, IsStarted, WritesLine, IsOutcome};
 
 use crate::state::Centre;
+use mc_types::Moment;
 use script_lines::{Found, Line, LineBuffer, lines_are_read, read_line, spelled_so};
 use std::alloc::{AllocError, Global};
 use std::io::{Read, Write};
@@ -113,7 +114,7 @@ fn act(
     said: Line,
     text: &mut Vec<u8>,
 ) -> Result<bool, AllocError>
-    requires { SerialFits (said_by said) }
+    requires { NumberFits (said_by said) }
     ensures { IfOk result (λ good. IsStepBy (step_by stage.old (Some (said_by said))) good stage.new text.old.items text.new.items) }
 {
     match said {
@@ -123,6 +124,13 @@ fn act(
             None => Ok(false),
             Some(centre) => {
                 centre.frame(alloc, session, &octets, text)?;
+                Ok(true)
+            }
+        },
+        Line::Tick(seconds) => match stage {
+            None => Ok(false),
+            Some(centre) => {
+                centre.tick(alloc, Moment::make(seconds).unwrap())?;
                 Ok(true)
             }
         },

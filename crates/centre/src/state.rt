@@ -15,22 +15,24 @@ use pdu_codec::{Bind, Body, Header, Message, PduFault, decode, read_header};
 use pdu_tables::Status;
 use std::alloc::{AllocError, Global};
 
-/// One node: its desk and its chains; the sessions that are bound; the requests that wait.
+/// One node: its desk, its chains and its clock; the sessions that are bound; the requests that wait.
 #[derive(Drop)]
 pub struct Centre {
     desk: Desk,
     chains: Chains,
     bound: Bound,
     pending: PendingRequests,
+    clock: Moment,
 }
 
 impl Centre {
     ghost use Rattle.centre.specs.Centre.{IsDone, account_of};
     ghost use Rattle.centre.specs.Replies.{refusal_of};
-    ghost use Rattle.centre.specs.OneNode.{on_frame, on_settle, on_bind, on_request, on_body, on_fault, on_wrong_length};
+    ghost use Rattle.centre.specs.OneNode.{on_frame, on_tick, on_settle, on_bind, on_request, on_body, on_fault, on_wrong_length};
     ghost use Rattle.centre.specs.Script.{opened};
 
-    /// Node 1 in its first incarnation, at which nothing was asked yet. Its first message has this serial.
+    /// Node 1 in its first incarnation, at which nothing was asked yet. Its first message has this serial, and its
+    /// clock begins at the least moment.
     pub fn start(alloc: Global, serial: u32) -> Centre
         requires least { 1 ≤ serial }
         requires most { serial ≤ 99999 }
@@ -41,6 +43,7 @@ impl Centre {
             chains: Chains::empty(alloc),
             bound: Bound::none(alloc),
             pending: PendingRequests::empty(alloc),
+            clock: Moment::least(),
         }
     }
 
@@ -62,6 +65,16 @@ impl Centre {
             Ok(pdu) => self.pdu(alloc, session, pdu.sequence, pdu.body, text),
             Err(fault) => self.fault(alloc, session, header, fault, text),
         }
+    }
+
+    /// A moment has come: the clock becomes the later of itself and the moment, and each message expires that is due
+    /// then. Nothing goes out. After an `Err`, which is want of memory, nothing is said of the centre.
+    #[tactic(auto, unfolding(crate::specs::OneNode::on_tick))]
+    pub fn tick(&mut self, alloc: Global, moment: Moment) -> Result<(), AllocError>
+        ensures { OnOk result (self.new ≡ on_tick self.old moment) }
+    {
+        self.clock = self.clock.max(moment);
+        self.desk.expire(alloc, &mut self.chains, self.clock)
     }
 
     /// All that was asked is answered, in the order in which it was asked: adds the lines of the answers. After an
@@ -95,6 +108,10 @@ impl Centre {
             Body::QuerySm(query) => {
                 let refused = Body::QuerySmResp(None);
                 self.request(alloc, session, sequence, refused, Request::Ask(query), text)
+            }
+            Body::CancelSm(cancel) => {
+                let request = Request::Cancel(cancel);
+                self.request(alloc, session, sequence, Body::CancelSmResp, request, text)
             }
             Body::EnquireLink => {
                 let pdu = answer(Status::Ok, sequence, Body::EnquireLinkResp);
@@ -163,10 +180,9 @@ impl Centre {
             let pdu = answer(Status::InvalidBindStatus, sequence, refused);
             return write_pdu(alloc, text, session, &pdu);
         };
-        let now = Moment::least();
         match self
             .desk
-            .begin(alloc, &mut self.chains, account, now, request)?
+            .begin(alloc, &mut self.chains, account, self.clock, request)?
         {
             Begun::Refused(status) => {
                 let pdu = answer(status, sequence, refused);
