@@ -3,6 +3,7 @@
 
 mod accounts;
 mod bound;
+mod clock;
 mod output;
 mod pending;
 mod replies;

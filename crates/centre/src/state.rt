@@ -4,6 +4,7 @@ ghost use Rattle.std.specs.Prelude.{◌≡◌, ◌≤◌, IsErr, OnOk};
 ghost use Rattle.pdu_tables.specs.CommandCodes.{command_of};
 
 use crate::bound::Bound;
+use crate::clock::Clock;
 use crate::output::{write_gone, write_pdu, write_refusal};
 use crate::pending::{Pending, PendingRequests};
 use crate::replies::{
@@ -22,7 +23,7 @@ pub struct Centre {
     chains: Chains,
     bound: Bound,
     pending: PendingRequests,
-    clock: Moment,
+    clock: Clock,
 }
 
 impl Centre {
@@ -43,7 +44,7 @@ impl Centre {
             chains: Chains::empty(alloc),
             bound: Bound::none(alloc),
             pending: PendingRequests::empty(alloc),
-            clock: Moment::least(),
+            clock: Clock::start(),
         }
     }
 
@@ -73,8 +74,8 @@ impl Centre {
     pub fn tick(&mut self, alloc: Global, moment: Moment) -> Result<(), AllocError>
         ensures { OnOk result (self.new ≡ on_tick self.old moment) }
     {
-        self.clock = self.clock.max(moment);
-        self.desk.expire(alloc, &mut self.chains, self.clock)
+        self.clock.raise(moment);
+        self.desk.expire(alloc, &mut self.chains, self.clock.now())
     }
 
     /// All that was asked is answered, in the order in which it was asked: adds the lines of the answers. After an
@@ -180,10 +181,7 @@ impl Centre {
             let pdu = answer(Status::InvalidBindStatus, sequence, refused);
             return write_pdu(alloc, text, session, &pdu);
         };
-        match self
-            .desk
-            .begin(alloc, &mut self.chains, account, self.clock, request)?
-        {
+        match self.desk.begin(alloc, &mut self.chains, account, self.clock.now(), request)? {
             Begun::Refused(status) => {
                 let pdu = answer(status, sequence, refused);
                 write_pdu(alloc, text, session, &pdu)
