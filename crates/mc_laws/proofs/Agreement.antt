@@ -1,16 +1,15 @@
 -- Of two chosen chains of a message one begins with the other.
-use Rattle.std.proofs.Common.{◌≡◌, ◌⊎◌, ℕ, suc, pred, ◌+◌, ◌<◌, ◌≤◌, List, [], ◌∷◌, ◌++◌, length, Option, Some, None, refl, sym, ◌∙◌, ap, subst, inl, inr, arith}
+use Rattle.std.proofs.Common.{◌≡◌, ◌⊎◌, ℕ, pred, ◌≤◌, List, [], ◌∷◌, ◌++◌, length, sym, ap, subst, inl, inr, arith}
 use Rattle.std.proofs.lemmas.Bool.{cases_lt}
-use Rattle.mc_model.specs.Chain.{Decree, IsPermitted, GoesOn}
-use Rattle.mc_model.specs.Majority.{Majority}
-use Rattle.mc_model.specs.OneSlot.{Vote, vote_at, In}
-use Rattle.mc_model.specs.Packet.{Slot, slot_of, Packet, Voted}
+use Rattle.mc_model.specs.Chain.{Decree, GoesOn}
+use Rattle.mc_model.specs.OneSlot.{Vote, vote_at}
+use Rattle.mc_model.specs.Packet.{Slot, slot_of, Voted}
 use Rattle.mc_model.specs.Knowledge.{Knows}
-use Rattle.mc_model.specs.World.{World, Cast, cast, IsChosenIn}
+use Rattle.mc_model.specs.World.{World, cast, IsChosenIn}
 use Rattle.mc_laws.proofs.Majorities.{both}
 use Rattle.mc_laws.proofs.Stable.{stable}
 use Rattle.mc_laws.proofs.Keeping.{Keeps, WasProposed, sound}
-use Rattle.mc_laws.proofs.Links.{Links, Standing, ChainFits, chosen_standing}
+use Rattle.mc_laws.proofs.Links.{Links, Standing, chosen_standing}
 
 -- what is chosen at some ballot
 pub record Chosen (w : World) (id : ℕ) (chain : List Decree) : Type 0 where
@@ -37,7 +36,7 @@ proposed w keeps slot vote chosen = let voter = both w.nodes _ _ chosen chosen i
 -- two chains that are chosen in one slot are the same
 pub chosen_same : (w : World) → Keeps w → (slot : Slot) (one other : Vote) → IsChosenIn w slot one → IsChosenIn w slot other → one.chain ≡ other.chain
 chosen_same w keeps slot one other is_one is_other = elim (cases_lt one.ballot other.ballot) [
-  inl below ↦ sym (stable w.nodes _ _ _ (sound w keeps slot) one is_one other (proposed w keeps slot other is_other) (omega (arith, below)))
+  | inl below ↦ sym (stable w.nodes _ _ _ (sound w keeps slot) one is_one other (proposed w keeps slot other is_other) (omega (arith, below)))
   | inr above ↦ stable w.nodes _ _ _ (sound w keeps slot) other is_other one (proposed w keeps slot one is_one) above
 ]
 
@@ -63,7 +62,7 @@ begins w keeps links id first (next ∷ []) is_first is_chain long =
     let some = not_empty w keeps links id first is_first in
     record { more = []; chain_is = same_length w keeps id first (next ∷ []) is_first is_chain (omega (arith, some, long)) }
 begins w keeps links id first (next ∷ newest ∷ older) is_first is_chain long = elim (cases_lt (length first) (length (next ∷ newest ∷ older))) [
-  inl shorter ↦ 
+  | inl shorter ↦
       let b = begins w keeps links id first (newest ∷ older) is_first (behind w keeps links id next newest older is_chain) (omega (arith, shorter)) in
       record { more = next ∷ b.more; chain_is = ap (λ (c : List Decree). next ∷ c) b.chain_is }
   | inr same ↦ record { more = []; chain_is = same_length w keeps id first (next ∷ newest ∷ older) is_first is_chain (omega (arith, same, long)) }
@@ -86,6 +85,6 @@ agree w keeps links one other first second same is_one is_other =
     let a : Chosen w one.id first.chain = record { ballot = first.ballot; chosen = subst (λ (x : Slot). IsChosenIn w x first) s.place is_one } in
     let b : Chosen w one.id second.chain = record { ballot = second.ballot; chosen = subst (λ (i : ℕ). IsChosenIn w (slot_of i second.chain) second) (sym same) (subst (λ (x : Slot). IsChosenIn w x second) t.place is_other) } in
     elim (cases_lt (length first.chain) (length second.chain)) [
-      inl shorter ↦ inr (begins w keeps links one.id first.chain second.chain a b (omega (arith, shorter)))
+      | inl shorter ↦ inr (begins w keeps links one.id first.chain second.chain a b (omega (arith, shorter)))
       | inr longer ↦ inl (begins w keeps links one.id second.chain first.chain b a longer)
     ]

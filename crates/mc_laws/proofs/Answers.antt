@@ -1,19 +1,18 @@
 -- What a request is answered that came after others were answered.
-use Rattle.std.proofs.Common.{◌≡◌, ◌⊎◌, ℕ, suc, pred, ◌+◌, ◌<◌, ◌≤◌, List, [], ◌∷◌, ◌++◌, length, Option, Some, None, refl, sym, ◌∙◌, ap, subst, inl, inr, arith}
+use Rattle.std.proofs.Common.{◌≡◌, ℕ, pred, ◌≤◌, List, [], ◌∷◌, ◌++◌, length, Option, Some, None, refl, sym, ◌∙◌, ap, subst, arith}
 use Rattle.mc_model.specs.Chain.{Decree, Final, final_in}
 use Rattle.mc_model.specs.Majority.{Majority}
 use Rattle.mc_model.specs.OneSlot.{Vote, vote_at, In}
-use Rattle.mc_model.specs.Packet.{Slot, slot_at, slot_of, Packet, Name, Told, Tell}
+use Rattle.mc_model.specs.Packet.{Slot, slot_of, Name, Told}
 use Rattle.mc_model.specs.Actor.{Actor, Request, Submit, Query, Cancel, Waiting}
-use Rattle.mc_model.specs.Knowledge.{Knows, KnowsNothing, HasTold, IsReached, IsSettled, Covers}
-use Rattle.mc_model.specs.Replies.{Answer, Accepted, Shown, Unknown, IsShown, IsUnknown, FitsRequest, IsAnswer, id_in, name_of}
-use Rattle.mc_model.specs.World.{World, Act, Begins, Replies, Deed, Cast, cast, May, MayReply, IsChosenIn, after, start, reached, IsRun}
+use Rattle.mc_model.specs.Knowledge.{Knows, HasTold, IsReached, IsSettled, Covers}
+use Rattle.mc_model.specs.Replies.{Answer, Accepted, Shown, Unknown, IsUnknown, FitsRequest, id_in, name_of}
+use Rattle.mc_model.specs.World.{World, Act, Begins, Replies, Deed, cast, May, MayReply, IsChosenIn, start, reached, IsRun}
 use Rattle.mc_model.specs.Fate.{States}
-use Rattle.mc_laws.proofs.Majorities.{Both, both}
-use Rattle.mc_laws.proofs.Growth.{Grows, grows}
+use Rattle.mc_laws.proofs.Majorities.{both}
+use Rattle.mc_laws.proofs.Growth.{grows}
 use Rattle.mc_laws.proofs.Links.{chosen_still, chosen_standing}
 use Rattle.mc_laws.proofs.Agreement.{Chosen, known_chosen, not_empty}
-use Rattle.mc_laws.proofs.Fated.{HasChain}
 use Rattle.mc_laws.proofs.Freshness.{HasReached, Fresh, fresh_begun, fresh_after}
 use Rattle.mc_laws.proofs.Reached.{Holds, holds, fate_longest}
 
@@ -121,9 +120,9 @@ shown_fresh before w name id asked other chain fated final chosen ends may =
     let some = not_empty w asked.holds.keeps asked.holds.links id chain known in
     let same = fate_longest w asked.holds id fated chain final still known ends (longer (length fated) (length chain) some long) in
     ap final_in same ∙ ends
-    where
-      longer : (a b : ℕ) → 1 ≤ b → pred a ≤ pred b → a ≤ b
-      longer a b some long = omega (arith, some, long)
+  where
+    longer : (a b : ℕ) → 1 ≤ b → pred a ≤ pred b → a ≤ b
+    longer a b some long = omega (arith, some, long)
 
 unknown_fresh : (before w : World) (name : Name) (id : ℕ) → Asked before w name id → (other : ℕ) (chain : List Decree) → Chosen before id chain → MayReply w.nodes name.node (w.actors name.node) name.ticket other Unknown → ⊥
 unknown_fresh before w name id asked other chain chosen may =

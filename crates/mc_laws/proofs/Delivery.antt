@@ -1,13 +1,13 @@
 -- The story of a delivery is a run.
-use Rattle.std.proofs.Common.{◌≡◌, ◌⊎◌, ℕ, zero, suc, pred, ◌+◌, ◌<◌, ◌≤◌, max, Bool, true, false, List, [], ◌∷◌, ◌++◌, length, map, Option, Some, None, refl, sym, ◌∙◌, ap, subst, inl, inr, arith}
+use Rattle.std.proofs.Common.{◌≡◌, ℕ, pred, ◌≤◌, false, List, [], ◌∷◌, ◌++◌, length, map, refl, sym, ap, subst, inl, inr, arith}
 use Rattle.mc_model.specs.Chain.{Submission, Decree, Taken, Attempt, Fate, Delivered}
 use Rattle.mc_model.specs.OneSlot.{Vote, vote_at, In}
-use Rattle.mc_model.specs.Packet.{Slot, slot_at, slot_of, Packet, Prepare, Promise, Propose, Voted, Refused, Name, Told, Ask, Tell}
-use Rattle.mc_model.specs.Actor.{Submit, Concluded, Waiting, opening_clock}
+use Rattle.mc_model.specs.Packet.{Slot, slot_at, slot_of, Packet, Prepare, Promise, Propose, Voted, Refused, Ask, Tell}
+use Rattle.mc_model.specs.Actor.{Submit, Concluded, opening_clock}
 use Rattle.mc_model.specs.Knowledge.{IsLearned, Knows}
 use Rattle.mc_model.specs.Replies.{Accepted}
 use Rattle.mc_model.specs.World.{World, Act, Begins, Replies, Reports, Grants, Answers, May, reached, IsRun, after}
-use Rattle.mc_model.specs.Stories.{first_id, first_ballot, decreed, taken_chain, attempted_chain, delivered_chain, round, round_for, by_node_1, delivery_story, one_node, MayBeTried}
+use Rattle.mc_model.specs.Stories.{first_id, first_ballot, decreed, taken_chain, attempted_chain, delivered_chain, round_for, by_node_1, delivery_story, one_node, MayBeTried}
 use Rattle.mc_laws.proofs.Membership.{in_right}
 use Rattle.mc_laws.proofs.Rounds.{all_of_one, one_of_one, IsReady, round_runs}
 
@@ -16,10 +16,10 @@ use Rattle.mc_laws.proofs.Rounds.{all_of_one, one_of_one, IsReady, round_runs}
 run_on : (w : World) (later earlier : List (ℕ × Act)) → IsRun (reached w earlier) later → IsRun w earlier → IsRun w (later ++ earlier)
 run_on w [] earlier run before = before
 run_on w (act ∷ later) earlier run before = (subst (λ (v : World). May v act.0 act.1) (sym (reached_on w later earlier)) run.0, run_on w later earlier run.1 before)
-    where
-      reached_on : (w : World) (later earlier : List (ℕ × Act)) → reached w (later ++ earlier) ≡ reached (reached w earlier) later
-      reached_on w [] earlier = refl
-      reached_on w (act ∷ later) earlier = ap (λ (v : World). after v act.0 act.1) (reached_on w later earlier)
+  where
+    reached_on : (w : World) (later earlier : List (ℕ × Act)) → reached w (later ++ earlier) ≡ reached (reached w earlier) later
+    reached_on w [] earlier = refl
+    reached_on w (act ∷ later) earlier = ap (λ (v : World). after v act.0 act.1) (reached_on w later earlier)
 
 -- ---- what is known by the votes that were told
 
@@ -180,11 +180,11 @@ ready_to_deliver message = record {
   above = omega arith;
   unused = refl;
   once = λ chain is_in. elim is_in [
-    inl proposed ↦ apart 1 1 _ _ _ _ (λ place. omega (arith, place)) proposed
+    | inl proposed ↦ apart 1 1 _ _ _ _ (λ place. omega (arith, place)) proposed
     | inr older ↦ elim older [
-      inl prepared ↦ cc
+      | inl prepared ↦ cc
       | inr oldest ↦ elim oldest [
-        inl first ↦ apart 1 1 _ _ _ _ (λ place. omega (arith, place)) first
+        | inl first ↦ apart 1 1 _ _ _ _ (λ place. omega (arith, place)) first
         | inr last ↦ elim last [ inl asked ↦ cc | inr none ↦ absurd none ]
       ]
     ]

@@ -1,8 +1,8 @@
 -- What ESMEs are told of a message's fate, and what attempts are granted.
-use Rattle.std.proofs.Common.{◌≡◌, ◌⊎◌, ℕ, suc, pred, ◌+◌, ◌<◌, ◌≤◌, List, [], ◌∷◌, ◌++◌, length, Option, Some, None, refl, sym, ◌∙◌, ap, subst, inl, inr, arith}
+use Rattle.std.proofs.Common.{◌≡◌, ◌⊎◌, ℕ, ◌<◌, List, [], ◌∷◌, ◌++◌, length, Option, Some, None, refl, sym, ◌∙◌, ap, subst, inl, inr, arith}
 use Rattle.std.proofs.lemmas.Bool.{cases_lt}
-use Rattle.mc_model.specs.Chain.{Author, Submission, Decree, Kind, Taken, Attempt, Failed, Fate, Final, Delivered, Expired, Deleted, Undeliverable, Rejected, IsPermitted, MayBegin, MayFollow, MayExtend, taken_in, attempts_in, final_in, final_by}
-use Rattle.mc_model.specs.OneSlot.{Vote, vote_at, In}
+use Rattle.mc_model.specs.Chain.{Author, Submission, Decree, Kind, Taken, Attempt, Failed, Fate, Final, Delivered, Expired, Deleted, Undeliverable, Rejected, IsPermitted, MayBegin, MayFollow, MayExtend, taken_in, final_in, final_by}
+use Rattle.mc_model.specs.OneSlot.{vote_at, In}
 use Rattle.mc_model.specs.Packet.{Slot, slot_of}
 use Rattle.mc_model.specs.Actor.{Actor, Request, Submit, Query, Cancel, Waiting, Outcome, Concluded, Unanswered, decree_of}
 use Rattle.mc_model.specs.Knowledge.{Knows}
@@ -10,9 +10,9 @@ use Rattle.mc_model.specs.Replies.{Answer, Accepted, Shown, Removed, Kept, NotOw
 use Rattle.mc_model.specs.World.{World, Act, Receives, Promises, Votes, Refuses, Tells, Prepares, Proposes, Begins, Asks, Settles, Replies, Reports, Grants, Answers, Abandons, Ticks, Stops, Restarts, Deed, May, MayReply, MayGrant, after, actor_by, start}
 use Rattle.mc_model.specs.Fate.{shown_by, TellsOf, States, CameBefore, deed_by, IsDelivery}
 use Rattle.mc_laws.proofs.Fates.{fate_is_last}
-use Rattle.mc_laws.proofs.Growth.{Grows, grows, same_life, remembers, later, actors_after}
+use Rattle.mc_laws.proofs.Growth.{grows, later, actors_after}
 use Rattle.mc_laws.proofs.Keeping.{Keeps}
-use Rattle.mc_laws.proofs.Links.{Links, ClosedIn, Passed, PassedClosed, PassedLost, Linked, Standing, chosen_still}
+use Rattle.mc_laws.proofs.Links.{Links, ClosedIn, Passed, PassedClosed, PassedLost, chosen_still}
 use Rattle.mc_laws.proofs.Agreement.{Chosen, standing, known_chosen, begins, Extended, extended}
 
 -- ---- the chain of which an ESME is told is known
@@ -91,7 +91,7 @@ pub record Told (w : World) : Type 0 where
 chosen_after : (w : World) → Keeps w → Told w → (node : ℕ) (act : Act) → May w node act → (deed : Deed) (id : ℕ) (chain : List Decree) → In deed (after w node act).past → TellsOf deed.act id chain → Chosen (after w node act) id chain
 chosen_after w keeps told node act may deed id chain is_in tells =
     let c : Chosen w id chain = elim is_in [
-      inl new ↦ known_chosen w keeps node id chain (tells_known w node act may id chain (subst (λ (d : Deed). TellsOf d.act id chain) new tells))
+      | inl new ↦ known_chosen w keeps node id chain (tells_known w node act may id chain (subst (λ (d : Deed). TellsOf d.act id chain) new tells))
       | inr old ↦ told.chosen deed id chain old tells
     ] in
     record { ballot = c.ballot; chosen = chosen_still w (after w node act) (grows w node act may) (slot_of id chain) (vote_at c.ballot chain) c.chosen }
@@ -109,7 +109,7 @@ accepted_new w keeps node ticket id may =
 accepted_after : (w : World) → Keeps w → Told w → (node : ℕ) (act : Act) → May w node act → (deed : Deed) (ticket id : ℕ) → In deed (after w node act).past → deed.act ≡ Replies ticket id Accepted → HasChain (after w node act) id
 accepted_after w keeps told node act may deed ticket id is_in is =
     let c : HasChain w id = elim is_in [
-      inl new ↦ accepted_new w keeps node ticket id (subst (May w node) (ap (λ (d : Deed). d.act) (sym new) ∙ is) may).needs
+      | inl new ↦ accepted_new w keeps node ticket id (subst (May w node) (ap (λ (d : Deed). d.act) (sym new) ∙ is) may).needs
       | inr old ↦ told.accepted deed ticket id old is
     ] in
     record { chain = c.chain; chosen = record { ballot = c.chosen.ballot; chosen = chosen_still w (after w node act) (grows w node act may) (slot_of id c.chain) (vote_at c.chosen.ballot c.chain) c.chosen.chosen } }
@@ -134,7 +134,7 @@ goes_on w keeps links id newest older chain (last ∷ more) number final attempt
 -- a message with a fate whose chosen chain had come to an attempt went on from there
 beyond_attempt : (w : World) → Keeps w → Links w → (id : ℕ) (newest : Decree) (older chain : List Decree) (number : ℕ) (final : Final) → newest.kind ≡ Attempt number → Chosen w id (newest ∷ older) → Chosen w id chain → final_in chain ≡ Some final → Extended w id (newest ∷ older)
 beyond_attempt w keeps links id newest older chain number final attempt is_attempt is_chain ends = elim (cases_lt (length chain) (length (newest ∷ older))) [
-  inl shorter ↦ 
+  | inl shorter ↦
       let b = begins w keeps links id chain (newest ∷ older) is_chain is_attempt (omega (arith, shorter)) in
       absurd (attempt_behind id newest older chain b.more number final attempt b.chain_is (standing w keeps links id (newest ∷ older) is_attempt).permitted ends)
   | inr longer ↦
@@ -265,13 +265,13 @@ granted_by w told node Stops slot is_in = inr (told.granted node slot is_in)
 
 granted_after : (w : World) → Told w → (node : ℕ) (act : Act) (other : ℕ) (slot : Slot) → In slot ((after w node act).actors other).granted → In (deed_by (record { node = other; incarnation = ((after w node act).actors other).incarnation }) (Grants slot)) (after w node act).past
 granted_after w told node act other slot is_in = elim (actors_after w node act other) [
-  inl here ↦
+  | inl here ↦
       subst (λ (a : Actor). In (deed_by (record { node = other; incarnation = a.incarnation }) (Grants slot)) (after w node act).past) (sym here.actor_is) (
-        subst (λ (n : ℕ). In (deed_by (record { node = n; incarnation = (actor_by node (w.actors node) act).incarnation }) (Grants slot)) (after w node act).past) (sym here.node_is) (
-          granted_by w told node act slot (subst (λ (a : Actor). In slot a.granted) here.actor_is is_in)))
+      subst (λ (n : ℕ). In (deed_by (record { node = n; incarnation = (actor_by node (w.actors node) act).incarnation }) (Grants slot)) (after w node act).past) (sym here.node_is) (
+      granted_by w told node act slot (subst (λ (a : Actor). In slot a.granted) here.actor_is is_in)))
   | inr elsewhere ↦
       subst (λ (a : Actor). In (deed_by (record { node = other; incarnation = a.incarnation }) (Grants slot)) (after w node act).past) (sym elsewhere) (
-        inr (told.granted other slot (subst (λ (a : Actor). In slot a.granted) elsewhere is_in)))
+      inr (told.granted other slot (subst (λ (a : Actor). In slot a.granted) elsewhere is_in)))
 ]
 
 timely_new : (w : World) → Keeps w → Links w → Told w → (node : ℕ) (act : Act) → May w node act → Timely (record { node = node; incarnation = (w.actors node).incarnation; act = act }) w.past

@@ -1,15 +1,13 @@
 -- A request whose questions a majority answered knows all that was chosen before it came.
-use Rattle.std.proofs.Common.{◌≡◌, ◌⊎◌, ℕ, suc, pred, ◌+◌, ◌<◌, ◌≤◌, List, [], ◌∷◌, ◌++◌, length, map, filter, Option, Some, None, refl, sym, ◌∙◌, ap, subst, inl, inr, arith}
-use Rattle.std.proofs.lemmas.Bool.{cases_eq}
-use Rattle.mc_model.specs.Chain.{Decree}
-use Rattle.mc_model.specs.OneSlot.{Vote, vote_at, In}
-use Rattle.mc_model.specs.Packet.{Slot, slot_at, slot_of, Packet, Prepare, Promise, Propose, Voted, Refused, Name, Told, Ask, Tell}
+use Rattle.std.proofs.Common.{◌≡◌, ◌⊎◌, ℕ, suc, ◌<◌, ◌≤◌, Option, Some, None, refl, sym, ◌∙◌, ap, subst, inl, inr, arith}
+use Rattle.mc_model.specs.OneSlot.{Vote, In}
+use Rattle.mc_model.specs.Packet.{slot_at, Name, Told, Ask, Tell}
 use Rattle.mc_model.specs.Acceptor.{Records, IsTold}
-use Rattle.mc_model.specs.Actor.{Actor, Request, Submit, Query, Cancel, Waiting}
+use Rattle.mc_model.specs.Actor.{Actor, Request, Waiting}
 use Rattle.mc_model.specs.Replies.{id_in}
 use Rattle.mc_model.specs.World.{World, Act, Receives, Promises, Votes, Refuses, Tells, Prepares, Proposes, Begins, Asks, Settles, Replies, Reports, Grants, Answers, Abandons, Ticks, Stops, Restarts, Cast, cast, May, IsWaiting, MayTell, after, actor_by, settle, sent_by, start}
 use Rattle.mc_laws.proofs.Membership.{in_either, of_only, in_map, in_filter}
-use Rattle.mc_laws.proofs.Growth.{Grows, grows, Remembers, remembers, actors_after, actor_here, actor_apart}
+use Rattle.mc_laws.proofs.Growth.{grows, remembers, actors_after, actor_here}
 use Rattle.mc_laws.proofs.Keeping.{Keeps, IsSent, sent_is}
 
 -- ---- names
@@ -31,13 +29,13 @@ pub record Names (w : World) : Type 0 where
 -- an actor goes on having given it
 named_by : (node : ℕ) (a : Actor) (act : Act) (name : Name) → WasNamed a name → WasNamed (actor_by node a act) name
 named_by node a act name named = elim (remembers node a act) [
-  inl anew ↦ subst (λ (x : Act). WasNamed (actor_by node a x) name) (sym anew.1) (elim named [ inl before ↦ inl (omega (arith, before)) | inr now ↦ inl (omega (arith, now.0)) ])
+  | inl anew ↦ subst (λ (x : Act). WasNamed (actor_by node a x) name) (sym anew.1) (elim named [ inl before ↦ inl (omega (arith, before)) | inr now ↦ inl (omega (arith, now.0)) ])
   | inr r ↦ elim named [ inl before ↦ inl (let same = r.incarnation in omega (arith, before, same)) | inr now ↦ inr (now.0 ∙ sym r.incarnation, let more = r.ticket in omega (arith, now.1, more)) ]
 ]
 
 pub named_after : (w : World) (node : ℕ) (act : Act) (name : Name) → WasNamed (w.actors name.node) name → WasNamed ((after w node act).actors name.node) name
 named_after w node act name named = elim (actors_after w node act name.node) [
-  inl here ↦ subst (λ (a : Actor). WasNamed a name) (sym here.actor_is) (named_by node (w.actors node) act name (subst (λ (n : ℕ). WasNamed (w.actors n) name) here.node_is named))
+  | inl here ↦ subst (λ (a : Actor). WasNamed a name) (sym here.actor_is) (named_by node (w.actors node) act name (subst (λ (n : ℕ). WasNamed (w.actors n) name) here.node_is named))
   | inr elsewhere ↦ subst (λ (a : Actor). WasNamed a name) (sym elsewhere) named
 ]
 
@@ -77,7 +75,7 @@ asking w node (Restarts serial) sender id name is = absurd is
 
 ask_cases : (w : World) (node : ℕ) (act : Act) (sender id : ℕ) (name : Name) → In (Ask sender id name) (after w node act).packets → Asking w node act sender id name ⊎ In (Ask sender id name) w.packets
 ask_cases w node act sender id name is_in = elim (in_either (Ask sender id name) (sent_by w node act) w.packets is_in) [
-  inl new ↦ inl (asking w node act sender id name (sent_is w node act _ new))
+  | inl new ↦ inl (asking w node act sender id name (sent_is w node act _ new))
   | inr old ↦ inr old
 ]
 
@@ -112,13 +110,13 @@ telling w node (Restarts serial) teller name told is = absurd is
 
 tell_cases : (w : World) (node : ℕ) (act : Act) (teller : ℕ) (name : Name) (told : Option Told) → In (Tell teller name told) (after w node act).packets → Telling node act teller name told ⊎ In (Tell teller name told) w.packets
 tell_cases w node act teller name told is_in = elim (in_either (Tell teller name told) (sent_by w node act) w.packets is_in) [
-  inl new ↦ inl (telling w node act teller name told (sent_is w node act _ new))
+  | inl new ↦ inl (telling w node act teller name told (sent_is w node act _ new))
   | inr old ↦ inr old
 ]
 
 asked_after : (w : World) → Names w → (node : ℕ) (act : Act) → May w node act → (sender id : ℕ) (name : Name) → In (Ask sender id name) (after w node act).packets → WasNamed ((after w node act).actors name.node) name
 asked_after w names node act may sender id name is_in = named_after w node act name (elim (ask_cases w node act sender id name is_in) [
-  inl new ↦
+  | inl new ↦
       let m : IsWaiting (w.actors node) id name.ticket = (subst (May w node) new.by may).needs in
       let below = names.tickets node m.waiting m.waits in
       let nodes : name.node ≡ node = ap (λ (n : Name). n.node) new.name_is in
@@ -131,7 +129,7 @@ told_after : (w : World) → Keeps w → Names w → (node : ℕ) (act : Act) �
 told_after w keeps names node act may teller name told is_in =
     let grown = grows w node act may in
     elim (tell_cases w node act teller name told is_in) [
-      inl new ↦
+      | inl new ↦
           let m : MayTell (w.actors node) (w.records node) new.id name told = (subst (May w node) new.by may).needs in
           record { sender = m.asker; id = new.id; sent = grown.packets _ (keeps.received node _ m.asked) }
       | inr old ↦ let a = names.told teller name told old in record { sender = a.sender; id = a.id; sent = grown.packets _ a.sent }
@@ -144,7 +142,7 @@ HaveTickets a = (waiting : Waiting) → In waiting a.waiting → waiting.ticket 
 
 tickets_by : (node : ℕ) (a : Actor) (act : Act) → HaveTickets a → HaveTickets (actor_by node a act)
 tickets_by node a (Begins ticket request) have waiting is_in = elim (in_either waiting a.waiting _ is_in) [
-  inl old ↦ let below = have waiting old in omega (arith, below)
+  | inl old ↦ let below = have waiting old in omega (arith, below)
   | inr new ↦ of_only (λ (x : Waiting). x.ticket < suc a.ticket) _ waiting (omega arith) new
 ]
 tickets_by node a (Settles ticket) have waiting is_in =
@@ -169,7 +167,7 @@ tickets_by node a Stops have waiting is_in = have waiting is_in
 
 tickets_after : (w : World) → Names w → (node : ℕ) (act : Act) (other : ℕ) → HaveTickets ((after w node act).actors other)
 tickets_after w names node act other = elim (actors_after w node act other) [
-  inl here ↦ subst HaveTickets (sym here.actor_is) (tickets_by node (w.actors node) act (names.tickets node))
+  | inl here ↦ subst HaveTickets (sym here.actor_is) (tickets_by node (w.actors node) act (names.tickets node))
   | inr elsewhere ↦ subst HaveTickets (sym elsewhere) (names.tickets other)
 ]
 
@@ -208,13 +206,13 @@ pub record Fresh (before : World) (name : Name) (id : ℕ) (w : World) : Type 0 
 
 about_by : (node : ℕ) (a : Actor) (act : Act) (name : Name) (id : ℕ) → WasNamed a name → IsAbout name id a → IsAbout name id (actor_by node a act)
 about_by node a (Begins ticket request) name id named about same waiting is_in is = elim (in_either waiting a.waiting _ is_in) [
-  inl old ↦ about same waiting old is
+  | inl old ↦ about same waiting old is
   | inr new ↦ of_only (λ (x : Waiting). x.ticket ≡ name.ticket → id_in x.request ≡ id) _ waiting (λ t. absurd (given a name named same t)) new is
 ]
-    where
-      given : (a : Actor) (name : Name) → WasNamed a name → a.incarnation ≡ name.incarnation → a.ticket ≡ name.ticket → ⊥
-      given a name (inl before) same ticket = omega (arith, before, same)
-      given a name (inr now) same ticket = let below = now.1 in omega (arith, below, ticket)
+  where
+    given : (a : Actor) (name : Name) → WasNamed a name → a.incarnation ≡ name.incarnation → a.ticket ≡ name.ticket → ⊥
+    given a name (inl before) same ticket = omega (arith, before, same)
+    given a name (inr now) same ticket = let below = now.1 in omega (arith, below, ticket)
 about_by node a (Settles ticket) name id named about same waiting is_in is =
     let m = in_map (settle ticket) a.waiting waiting is_in in
     subst (λ (x : Waiting). id_in x.request ≡ id) (sym m.made) (about same m.from m.member (ap (λ (x : Waiting). x.ticket) (sym m.made) ∙ is))
@@ -237,13 +235,13 @@ about_by node a Stops name id named about same waiting is_in is = about same wai
 
 about_after : (before w : World) (name : Name) (id : ℕ) → Fresh before name id w → (node : ℕ) (act : Act) → IsAbout name id ((after w node act).actors name.node)
 about_after before w name id fresh node act = elim (actors_after w node act name.node) [
-  inl here ↦ subst (IsAbout name id) (sym here.actor_is) (about_by node (w.actors node) act name id (subst (λ (n : ℕ). WasNamed (w.actors n) name) here.node_is fresh.named) (subst (λ (n : ℕ). IsAbout name id (w.actors n)) here.node_is fresh.about))
+  | inl here ↦ subst (IsAbout name id) (sym here.actor_is) (about_by node (w.actors node) act name id (subst (λ (n : ℕ). WasNamed (w.actors n) name) here.node_is fresh.named) (subst (λ (n : ℕ). IsAbout name id (w.actors n)) here.node_is fresh.about))
   | inr elsewhere ↦ subst (IsAbout name id) (sym elsewhere) fresh.about
 ]
 
 asks_after : (before w : World) (name : Name) (id : ℕ) → Fresh before name id w → (node : ℕ) (act : Act) → May w node act → (sender other : ℕ) → In (Ask sender other name) (after w node act).packets → other ≡ id
 asks_after before w name id fresh node act may sender other is_in = elim (ask_cases w node act sender other name is_in) [
-  inl new ↦
+  | inl new ↦
       let m : IsWaiting (w.actors node) other name.ticket = (subst (May w node) new.by may).needs in
       let nodes : name.node ≡ node = ap (λ (n : Name). n.node) new.name_is in
       let incarnations : (w.actors node).incarnation ≡ name.incarnation = ap (λ (n : Name). n.incarnation) (sym new.name_is) in
@@ -259,7 +257,7 @@ reaches_vote records id place vote held (Some told) holds is = is.highest place 
 
 tells_after : (before w : World) → Keeps w → (name : Name) (id : ℕ) → Fresh before name id w → (node : ℕ) (act : Act) → May w node act → (teller : ℕ) (told : Option Told) → In (Tell teller name told) (after w node act).packets → (place : ℕ) (vote : Vote) → In (cast teller (slot_at id place) vote) before.votes → HasReached told place
 tells_after before w keeps name id fresh node act may teller told is_in place vote voted = elim (tell_cases w node act teller name told is_in) [
-  inl new ↦
+  | inl new ↦
       let m : MayTell (w.actors node) (w.records node) new.id name told = (subst (May w node) new.by may).needs in
       let ids : new.id ≡ id = fresh.asks m.asker new.id (keeps.received node _ m.asked) in
       let kept = keeps.records (cast teller (slot_at id place) vote) (fresh.votes _ voted) in
@@ -288,12 +286,12 @@ fresh_begun w names node ticket request may =
       asks = λ sender other is_in. absurd (not_given (w.actors node) ticket (names.asked sender other name is_in) is_next);
       tells = λ teller told is_in place vote voted. let a = names.told teller name told is_in in absurd (not_given (w.actors node) ticket (names.asked a.sender a.id name a.sent) is_next);
       about = subst (IsAbout name (id_in request)) (sym here) (λ same waiting is_in is. elim (in_either waiting (w.actors node).waiting _ is_in) [
-        inl old ↦ absurd (let below = names.tickets node waiting old in omega (arith, below, is, is_next))
+        | inl old ↦ absurd (let below = names.tickets node waiting old in omega (arith, below, is, is_next))
         | inr new ↦ of_only (λ (x : Waiting). id_in x.request ≡ id_in request) _ waiting refl new
       ]);
       named = subst (λ (a : Actor). WasNamed a name) (sym here) (inr (refl, omega (arith, is_next)));
     }
-    where
-      not_given : (a : Actor) (ticket : ℕ) → WasNamed a (record { node = node; incarnation = a.incarnation; ticket = ticket }) → ticket ≡ a.ticket → ⊥
-      not_given a ticket (inl before) is = omega (arith, before)
-      not_given a ticket (inr now) is = let below = now.1 in omega (arith, below, is)
+  where
+    not_given : (a : Actor) (ticket : ℕ) → WasNamed a (record { node = node; incarnation = a.incarnation; ticket = ticket }) → ticket ≡ a.ticket → ⊥
+    not_given a ticket (inl before) is = omega (arith, before)
+    not_given a ticket (inr now) is = let below = now.1 in omega (arith, below, is)

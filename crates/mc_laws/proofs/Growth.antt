@@ -1,13 +1,13 @@
 -- What every act leaves as it was, or lets grow.
-use Rattle.std.proofs.Common.{◌≡◌, ◌⊎◌, ℕ, suc, ◌<◌, ◌≤◌, Bool, true, false, List, [], ◌∷◌, ◌++◌, Option, Some, None, refl, sym, ◌∙◌, ap, subst, inl, inr, arith}
+use Rattle.std.proofs.Common.{◌≡◌, ◌⊎◌, ℕ, suc, ◌<◌, ◌≤◌, Bool, true, false, List, refl, sym, ◌∙◌, ap, subst, inl, inr, arith}
 use Rattle.std.specs.Prelude.{◌==◌, if◌then◌else◌}
 use Rattle.std.proofs.lemmas.Bool.{eq-eqb}
-use Rattle.mc_model.specs.OneSlot.{Vote, In}
+use Rattle.mc_model.specs.OneSlot.{In}
 use Rattle.mc_model.specs.Packet.{Slot, same_slot, Packet}
 use Rattle.mc_model.specs.Acceptor.{Record, Records, with_record, after_promise, after_vote}
 use Rattle.mc_model.specs.Actor.{Actor, Outcome}
 use Rattle.mc_model.specs.World.{World, Act, Receives, Promises, Votes, Refuses, Tells, Prepares, Proposes, Begins, Asks, Settles, Replies, Reports, Grants, Answers, Abandons, Ticks, Stops, Restarts, Deed, Cast, cast, May, after, changed, records_by, actor_by, votes_by, sent_by}
-use Rattle.mc_laws.proofs.Membership.{in_right, in_either, of_only, same_number, slots_same, either}
+use Rattle.mc_laws.proofs.Membership.{in_right, in_either, of_only, same_number, slots_same}
 
 -- ---- what an act does to a record
 
@@ -113,7 +113,7 @@ pub record NewActor (w : World) (node : ℕ) (act : Act) (other : ℕ) : Type 0 
 
 pub actors_after : (w : World) (node : ℕ) (act : Act) (other : ℕ) → NewActor w node act other ⊎ ((after w node act).actors other ≡ w.actors other)
 actors_after w node act other = elim (changed_cases w.actors node (actor_by node (w.actors node) act) other) [
-  inl here ↦ inl (record { node_is = here.0; actor_is = here.1 })
+  | inl here ↦ inl (record { node_is = here.0; actor_is = here.1 })
   | inr elsewhere ↦ inr elsewhere
 ]
 
@@ -170,14 +170,14 @@ remembers node a Stops = inr (remembers_all a (actor_by node a Stops) refl refl 
 
 pub later : (node : ℕ) (a : Actor) (act : Act) → a.incarnation ≤ (actor_by node a act).incarnation
 later node a act = elim (remembers node a act) [
-  inl anew ↦ subst (λ (x : Act). a.incarnation ≤ (actor_by node a x).incarnation) (sym anew.1) (omega arith)
+  | inl anew ↦ subst (λ (x : Act). a.incarnation ≤ (actor_by node a x).incarnation) (sym anew.1) (omega arith)
   | inr r ↦ let same = r.incarnation in omega (arith, same)
 ]
 
 -- an actor that is in the same incarnation remembers
 pub same_life : (node : ℕ) (a : Actor) (act : Act) → (actor_by node a act).incarnation ≡ a.incarnation → Remembers a (actor_by node a act)
 same_life node a act same = elim (remembers node a act) [
-  inl anew ↦ absurd (let next : (actor_by node a act).incarnation ≡ suc a.incarnation = ap (λ (x : Act). (actor_by node a x).incarnation) anew.1 in omega (arith, same, next))
+  | inl anew ↦ absurd (let next : (actor_by node a act).incarnation ≡ suc a.incarnation = ap (λ (x : Act). (actor_by node a x).incarnation) anew.1 in omega (arith, same, next))
   | inr r ↦ r
 ]
 

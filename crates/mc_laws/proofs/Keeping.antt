@@ -1,17 +1,16 @@
 -- Every world that is reached keeps the rules of the synod in each slot.
-use Rattle.std.proofs.Common.{◌≡◌, ◌⊎◌, ℕ, suc, ◌<◌, ◌≤◌, Bool, true, false, List, [], ◌∷◌, ◌++◌, Option, Some, None, refl, sym, ◌∙◌, ap, subst, inl, inr, arith}
+use Rattle.std.proofs.Common.{◌≡◌, ◌⊎◌, ℕ, ◌<◌, ◌≤◌, Bool, true, false, List, [], ◌∷◌, Option, Some, None, refl, sym, ◌∙◌, ap, subst, inl, inr, arith}
 use Rattle.std.specs.Prelude.{◌==◌, if◌then◌else◌}
 use Rattle.std.proofs.lemmas.Bool.{eq-eqb, and_from}
 use Rattle.mc_model.specs.Ballot.{proposer_of, incarnation_in}
 use Rattle.mc_model.specs.Chain.{Decree}
-use Rattle.mc_model.specs.Majority.{Majority}
-use Rattle.mc_model.specs.OneSlot.{Vote, vote_at, In, Tells as Reaches, IsWithin, IsOfHighest, ReportsWithin, IsJustified, IsSound}
-use Rattle.mc_model.specs.Packet.{Slot, same_slot, Packet, Prepare, Promise, Propose, Voted, Refused, Name, Told, Ask, Tell}
-use Rattle.mc_model.specs.Acceptor.{Record, Records, blank, with_record, after_promise, after_vote}
-use Rattle.mc_model.specs.Actor.{Actor, opened}
-use Rattle.mc_model.specs.World.{World, Act, Receives, Promises, Votes, Refuses, Tells, Prepares, Proposes, Begins, Asks, Settles, Replies, Reports, Grants, Answers, Abandons, Ticks, Stops, Restarts, Deed, Cast, cast, May, after, changed, records_by, actor_by, votes_by, sent_by, if_sent, start}
-use Rattle.mc_laws.proofs.Membership.{in_right, in_either, of_only, same_number, slots_same, either}
-use Rattle.mc_laws.proofs.Growth.{Grows, grows, IsNew, NewRecord, records_after, changed_cases, later, same_life, changed_here}
+use Rattle.mc_model.specs.OneSlot.{Vote, vote_at, In, Tells as Reaches, IsOfHighest, IsJustified, IsSound}
+use Rattle.mc_model.specs.Packet.{Slot, Packet, Prepare, Promise, Propose, Voted, Refused, Ask, Tell}
+use Rattle.mc_model.specs.Acceptor.{Record, Records, with_record, after_promise, after_vote}
+use Rattle.mc_model.specs.Actor.{Actor}
+use Rattle.mc_model.specs.World.{World, Act, Receives, Promises, Votes, Refuses, Tells, Prepares, Proposes, Begins, Asks, Settles, Replies, Reports, Grants, Answers, Abandons, Ticks, Stops, Restarts, Cast, cast, May, after, records_by, actor_by, votes_by, sent_by, if_sent, start}
+use Rattle.mc_laws.proofs.Membership.{in_either}
+use Rattle.mc_laws.proofs.Growth.{Grows, grows, IsNew, records_after, changed_cases, later, same_life, changed_here}
 
 -- ---- what holds of each packet
 

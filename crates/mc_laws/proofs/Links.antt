@@ -1,19 +1,18 @@
 -- Every chain that is proposed is a permitted one, and stands on a chosen one; and an open attempt is not passed.
-use Rattle.std.proofs.Common.{◌≡◌, ◌⊎◌, ℕ, suc, pred, ◌+◌, ◌<◌, ◌≤◌, max, Bool, true, false, List, [], ◌∷◌, ◌++◌, length, map, filter, Option, Some, None, refl, sym, ◌∙◌, ap, subst, inl, inr, arith}
-use Rattle.std.specs.Prelude.{◌==◌, not, if◌then◌else◌}
+use Rattle.std.proofs.Common.{◌≡◌, ◌⊎◌, ℕ, ◌<◌, ◌≤◌, List, [], ◌∷◌, Option, Some, None, refl, sym, ◌∙◌, ap, subst, inl, inr, arith}
 use Rattle.std.proofs.lemmas.Bool.{cases_eq}
-use Rattle.mc_model.specs.Chain.{Author, Submission, Decree, Kind, Taken, Attempt, Failed, Fate, Final, Delivered, Expired, Deleted, Undeliverable, Rejected, IsTaken, IsPermitted, MayBegin, MayFollow, MayExtend, taken_in, attempts_in}
+use Rattle.mc_model.specs.Chain.{Author, Submission, Decree, Kind, Taken, Attempt, Failed, Fate, Delivered, Expired, Deleted, Undeliverable, Rejected, IsTaken, IsPermitted, MayFollow, MayExtend}
 use Rattle.mc_model.specs.Majority.{Majority}
-use Rattle.mc_model.specs.OneSlot.{Vote, vote_at, In, IsWithin, IsOfHighest, IsJustified}
-use Rattle.mc_model.specs.Packet.{Slot, slot_of, same_slot, Packet, Prepare, Promise, Propose, Voted, Refused, Name, Told, Ask, Tell}
-use Rattle.mc_model.specs.Actor.{Actor, Request, Submit, Query, Cancel, Waiting, Outcome, Concluded, Unanswered, decree_of, opened}
-use Rattle.mc_model.specs.Proposal.{IsFirst, IsNext, IsOwn, IsFree, IsClosed, IsLost, Allows, MayPropose}
-use Rattle.mc_model.specs.World.{World, Act, Receives, Promises, Votes, Refuses, Tells, Prepares, Proposes, Begins, Asks, Settles, Replies, Reports, Grants, Answers, Abandons, Ticks, Stops, Restarts, Deed, Cast, cast, May, IsChosenIn, StandsIn, MayWait, after, changed, actor_by, settle, start}
+use Rattle.mc_model.specs.OneSlot.{Vote, vote_at, In, IsOfHighest}
+use Rattle.mc_model.specs.Packet.{Slot, slot_of, Promise}
+use Rattle.mc_model.specs.Actor.{Actor, Request, Submit, Waiting, Outcome, Unanswered, decree_of}
+use Rattle.mc_model.specs.Proposal.{IsFirst, IsNext, IsOwn, IsFree, IsClosed, IsLost, Allows}
+use Rattle.mc_model.specs.World.{World, Act, Receives, Promises, Votes, Refuses, Tells, Prepares, Proposes, Begins, Asks, Settles, Replies, Reports, Grants, Answers, Abandons, Ticks, Stops, Restarts, Deed, cast, May, IsChosenIn, StandsIn, MayWait, after, actor_by, settle, start}
 use Rattle.mc_model.specs.Fate.{deed_by}
-use Rattle.mc_laws.proofs.Membership.{in_right, in_either, of_only, in_map, in_filter}
+use Rattle.mc_laws.proofs.Membership.{in_either, of_only, in_map, in_filter}
 use Rattle.mc_laws.proofs.Majorities.{both}
-use Rattle.mc_laws.proofs.Growth.{Grows, grows, changed_cases, later, same_life, NewActor, actors_after, actor_here, actor_apart}
-use Rattle.mc_laws.proofs.Keeping.{Keeps, WasProposed, PromiseFits, Proposing, proposal_cases, sound}
+use Rattle.mc_laws.proofs.Growth.{Grows, grows, changed_cases, later, same_life, actors_after, actor_here, actor_apart}
+use Rattle.mc_laws.proofs.Keeping.{Keeps, WasProposed, PromiseFits, proposal_cases}
 
 -- ---- what stands behind what
 
@@ -207,13 +206,13 @@ closed_by w links node Stops slot outcome is_in = closed_more w node Stops _ slo
 
 closed_after : (w : World) → Links w → (node : ℕ) (act : Act) (other : ℕ) (slot : Slot) (outcome : Outcome) → In (slot, outcome) ((after w node act).actors other).closed → ClosedIn (after w node act).past (record { node = other; incarnation = ((after w node act).actors other).incarnation }) slot outcome
 closed_after w links node act other slot outcome is_in = elim (changed_cases w.actors node (actor_by node (w.actors node) act) other) [
-  inl here ↦
+  | inl here ↦
       subst (λ (a : Actor). ClosedIn (after w node act).past (record { node = other; incarnation = a.incarnation }) slot outcome) (sym here.1) (
-        subst (λ (n : ℕ). ClosedIn (after w node act).past (record { node = n; incarnation = (actor_by node (w.actors node) act).incarnation }) slot outcome) (sym here.0) (
-          closed_by w links node act slot outcome (subst (λ (a : Actor). In (slot, outcome) a.closed) here.1 is_in)))
+      subst (λ (n : ℕ). ClosedIn (after w node act).past (record { node = n; incarnation = (actor_by node (w.actors node) act).incarnation }) slot outcome) (sym here.0) (
+      closed_by w links node act slot outcome (subst (λ (a : Actor). In (slot, outcome) a.closed) here.1 is_in)))
   | inr elsewhere ↦
       subst (λ (a : Actor). ClosedIn (after w node act).past (record { node = other; incarnation = a.incarnation }) slot outcome) (sym elsewhere) (
-        closed_more w node act _ slot outcome (links.closed other slot outcome (subst (λ (a : Actor). In (slot, outcome) a.closed) elsewhere is_in)))
+      closed_more w node act _ slot outcome (links.closed other slot outcome (subst (λ (a : Actor). In (slot, outcome) a.closed) elsewhere is_in)))
 ]
 
 lived_after : (w : World) → Links w → (node : ℕ) (act : Act) → May w node act → (deed : Deed) → In deed (after w node act).past → deed.incarnation ≤ ((after w node act).actors deed.node).incarnation
@@ -228,7 +227,7 @@ lived_after w links node act may deed (inr old) =
 
 begun_takes : (node : ℕ) (a : Actor) (ticket : ℕ) (request : Request) → MayWait node a request → MayTake node a → MayTake node (actor_by node a (Begins ticket request))
 begun_takes node a ticket request may takes waiting id message is_in submits = elim (in_either waiting a.waiting _ is_in) [
-  inl old ↦ takes waiting id message old submits
+  | inl old ↦ takes waiting id message old submits
   | inr new ↦ of_only (λ (x : Waiting). x.request ≡ Submit id message → IsTaken id (record { node = node; incarnation = a.incarnation }) x.since message) _ waiting (λ is. let m : MayWait node a (Submit id message) = subst (MayWait node a) is may in m.2) new submits
 ]
 
@@ -256,7 +255,7 @@ takes_by w node Stops may takes waiting id message is_in submits = takes waiting
 
 takes_after : (w : World) → Links w → (node : ℕ) (act : Act) → May w node act → (other : ℕ) → MayTake other ((after w node act).actors other)
 takes_after w links node act may other = elim (actors_after w node act other) [
-  inl here ↦ subst (λ (a : Actor). MayTake other a) (sym here.actor_is) (subst (λ (n : ℕ). MayTake n (actor_by node (w.actors node) act)) (sym here.node_is) (takes_by w node act may (links.takes node)))
+  | inl here ↦ subst (λ (a : Actor). MayTake other a) (sym here.actor_is) (subst (λ (n : ℕ). MayTake n (actor_by node (w.actors node) act)) (sym here.node_is) (takes_by w node act may (links.takes node)))
   | inr elsewhere ↦ subst (λ (a : Actor). MayTake other a) (sym elsewhere) (links.takes other)
 ]
 
@@ -281,12 +280,12 @@ closed_lived w links author slot outcome (inr abandoned) = links.lived _ abandon
 recalls_by : (w : World) → Links w → (node : ℕ) (act : Act) → Recalls (after w node act).past node (actor_by node (w.actors node) act)
 recalls_by w links node act slot outcome (inl (inl new)) = closed_new w node act slot outcome (ap (λ (d : Deed). d.act) (sym new))
 recalls_by w links node act slot outcome (inl (inr old)) = recalls_past w links node act slot outcome (inl old)
-    where
-      recalls_past : (w : World) → Links w → (node : ℕ) (act : Act) (slot : Slot) (outcome : Outcome) → ClosedIn w.past (record { node = node; incarnation = (actor_by node (w.actors node) act).incarnation }) slot outcome → In (slot, outcome) (actor_by node (w.actors node) act).closed
-      recalls_past w links node act slot outcome closed =
-          let lived = closed_lived w links _ slot outcome closed in
-          let more = later node (w.actors node) act in
-          recalls_old w links node act slot outcome closed (omega (arith, lived, more))
+  where
+    recalls_past : (w : World) → Links w → (node : ℕ) (act : Act) (slot : Slot) (outcome : Outcome) → ClosedIn w.past (record { node = node; incarnation = (actor_by node (w.actors node) act).incarnation }) slot outcome → In (slot, outcome) (actor_by node (w.actors node) act).closed
+    recalls_past w links node act slot outcome closed =
+        let lived = closed_lived w links _ slot outcome closed in
+        let more = later node (w.actors node) act in
+        recalls_old w links node act slot outcome closed (omega (arith, lived, more))
 recalls_by w links node act slot outcome (inr (is, inl new)) =
     subst (λ (o : Outcome). In (slot, o) (actor_by node (w.actors node) act).closed) (sym is) (abandoned_new w node act slot (ap (λ (d : Deed). d.act) (sym new)))
 recalls_by w links node act slot outcome (inr (is, inr old)) =
@@ -303,7 +302,7 @@ recalls_other w links node act other apart slot outcome (inr (is, inr old)) = li
 
 recalls_after : (w : World) → Links w → (node : ℕ) (act : Act) (other : ℕ) → Recalls (after w node act).past other ((after w node act).actors other)
 recalls_after w links node act other = elim (cases_eq other node) [
-  inl here ↦ subst (λ (n : ℕ). Recalls (after w node act).past n ((after w node act).actors n)) (sym here) (subst (λ (a : Actor). Recalls (after w node act).past node a) (sym (actor_here w node act)) (recalls_by w links node act))
+  | inl here ↦ subst (λ (n : ℕ). Recalls (after w node act).past n ((after w node act).actors n)) (sym here) (subst (λ (a : Actor). Recalls (after w node act).past node a) (sym (actor_here w node act)) (recalls_by w links node act))
   | inr apart ↦ subst (λ (a : Actor). Recalls (after w node act).past other a) (sym (actor_apart w node act other apart)) (recalls_other w links node act other apart)
 ]
 

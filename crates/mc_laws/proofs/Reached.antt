@@ -1,17 +1,17 @@
 -- What holds of every world that acts lead to.
-use Rattle.std.proofs.Common.{◌≡◌, ◌⊎◌, ℕ, ◌+◌, ◌<◌, ◌≤◌, List, [], ◌∷◌, ◌++◌, length, Option, Some, None, refl, sym, ◌∙◌, ap, subst, inl, inr, arith}
+use Rattle.std.proofs.Common.{◌≡◌, ◌⊎◌, ℕ, ◌≤◌, List, [], ◌∷◌, ◌++◌, length, Some, refl, sym, ◌∙◌, ap, subst, inl, inr, arith}
 use Rattle.std.proofs.lemmas.Bool.{cases_lt}
-use Rattle.mc_model.specs.Chain.{Author, Decree, Kind, Attempt, Final, Delivered, IsPermitted, GoesOn, final_in}
-use Rattle.mc_model.specs.OneSlot.{Vote, vote_at, In}
+use Rattle.mc_model.specs.Chain.{Decree, Attempt, Final, Delivered, IsPermitted, GoesOn, final_in}
+use Rattle.mc_model.specs.OneSlot.{Vote, In}
 use Rattle.mc_model.specs.Packet.{Slot, Propose, slot_of}
-use Rattle.mc_model.specs.World.{World, Act, Grants, Deed, Cast, cast, May, IsChosenIn, after, start, reached, IsRun}
+use Rattle.mc_model.specs.World.{World, Act, Deed, cast, May, IsChosenIn, after, start, reached, IsRun}
 use Rattle.mc_model.specs.Actor.{Outcome}
 use Rattle.mc_model.specs.Fate.{States, IsGrant, IsDelivery}
 use Rattle.mc_laws.proofs.Fates.{fate_is_last}
 use Rattle.mc_laws.proofs.Membership.{in_right}
-use Rattle.mc_laws.proofs.Keeping.{Keeps, WasProposed, sound, keeps_start, keeps_after}
-use Rattle.mc_laws.proofs.Links.{Links, ChainFits, Standing, links_start, links_after}
-use Rattle.mc_laws.proofs.Agreement.{Chosen, standing, begins, extended, agree}
+use Rattle.mc_laws.proofs.Keeping.{Keeps, sound, keeps_start, keeps_after}
+use Rattle.mc_laws.proofs.Links.{Links, ChainFits, links_start, links_after}
+use Rattle.mc_laws.proofs.Agreement.{Chosen, standing, begins, agree}
 use Rattle.mc_laws.proofs.Freshness.{Names, names_start, names_after}
 use Rattle.mc_laws.proofs.Stable.{stable}
 use Rattle.mc_laws.proofs.Fated.{open_passed, passed_at, Timely, AllTimely, Told, told_start, told_after}
@@ -55,7 +55,7 @@ one_fate w h one other id first second in_one in_other s t =
     let is_one = h.told.chosen one id s.chain in_one s.tells in
     let is_other = h.told.chosen other id t.chain in_other t.tells in
     elim (cases_lt (length s.chain) (length t.chain)) [
-      inl shorter ↦ fates_same w h id s.chain t.chain first second is_one is_other s.state t.state (omega (arith, shorter))
+      | inl shorter ↦ fates_same w h id s.chain t.chain first second is_one is_other s.state t.state (omega (arith, shorter))
       | inr longer ↦ sym (fates_same w h id t.chain s.chain second first is_other is_one t.state s.state longer)
     ]
 

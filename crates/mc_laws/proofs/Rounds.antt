@@ -1,15 +1,15 @@
 -- How one node alone settles a slot.
-use Rattle.std.proofs.Common.{◌≡◌, ◌⊎◌, ℕ, zero, suc, pred, ◌+◌, ◌*◌, ◌<◌, ◌≤◌, max, Bool, true, false, List, [], ◌∷◌, ◌++◌, length, map, Option, Some, None, refl, sym, ◌∙◌, ap, subst, inl, inr, arith}
+use Rattle.std.proofs.Common.{◌≡◌, ℕ, zero, suc, ◌<◌, ◌≤◌, Bool, true, false, List, ◌∷◌, map, None, refl, sym, ap, subst, inl, inr, arith}
 use Rattle.std.specs.Prelude.{if◌then◌else◌}
 use Rattle.mc_model.specs.Chain.{Author, Submission, Decree, Kind, Taken, Attempt, Failed, Fate, Delivered, Expired, Deleted, Undeliverable, Rejected}
 use Rattle.mc_model.specs.Majority.{Majority, IsMajority, count}
 use Rattle.mc_model.specs.Ballot.{proposer_of, incarnation_in}
 use Rattle.mc_model.specs.OneSlot.{Vote, vote_at, In, ReportsWithin}
-use Rattle.mc_model.specs.Packet.{Slot, slot_of, Packet, Prepare, Promise, Propose, Voted}
-use Rattle.mc_model.specs.Acceptor.{Record, Records, blank, after_promise}
+use Rattle.mc_model.specs.Packet.{Slot, slot_of, Packet, Prepare, Promise, Propose}
+use Rattle.mc_model.specs.Acceptor.{Record, blank, after_promise}
 use Rattle.mc_model.specs.Actor.{Actor}
-use Rattle.mc_model.specs.Proposal.{Allows, IsFirst, IsNext, IsOwn, MayPropose}
-use Rattle.mc_model.specs.World.{World, Act, Receives, Promises, Votes, Prepares, Proposes, May, IsChosenIn, StandsIn, reached, IsRun, after}
+use Rattle.mc_model.specs.Proposal.{Allows, IsOwn, MayPropose}
+use Rattle.mc_model.specs.World.{World, Receives, Promises, Prepares, IsChosenIn, StandsIn, IsRun, after}
 use Rattle.mc_model.specs.Stories.{round, by_node_1}
 use Rattle.mc_laws.proofs.Keeping.{with_here}
 
@@ -74,23 +74,23 @@ allowed_still a received sent slot taken attempted (Fate final cause) (Failed er
 own_still : (Chosen Later : Slot → Vote → Type 0) (a b : Actor) (id : ℕ) (chain : List Decree) → ((slot : Slot) (vote : Vote) → Chosen slot vote → Later slot vote) → b ≡ record a { received = b.received; sent = b.sent } → IsOwn Chosen 1 a id chain → IsOwn Later 1 b id chain
 own_still Chosen Later a b id chain more is own =
     subst (λ (x : Actor). IsOwn Later 1 x id chain) (sym is) (kept own)
-    where
-      kept : IsOwn Chosen 1 a id chain → IsOwn Later 1 (record a { received = b.received; sent = b.sent }) id chain
-      kept (inl first) = inl (record { waiting = first.waiting; message = first.message; waits = first.waits; submits = first.submits; chain_is = first.chain_is })
-      kept (inr n) = inr (record {
-        next = n.next;
-        newest = n.newest;
-        older = n.older;
-        taken = n.taken;
-        ballot = n.ballot;
-        chain_is = n.chain_is;
-        chosen = more _ _ n.chosen;
-        author = n.author;
-        moment = n.moment;
-        message = n.message;
-        may = n.may;
-        allowed = allowed_still a b.received b.sent (slot_of id (n.newest ∷ n.older)) n.taken n.newest.author n.newest.kind n.next.kind n.allowed;
-      })
+  where
+    kept : IsOwn Chosen 1 a id chain → IsOwn Later 1 (record a { received = b.received; sent = b.sent }) id chain
+    kept (inl first) = inl (record { waiting = first.waiting; message = first.message; waits = first.waits; submits = first.submits; chain_is = first.chain_is })
+    kept (inr n) = inr (record {
+      next = n.next;
+      newest = n.newest;
+      older = n.older;
+      taken = n.taken;
+      ballot = n.ballot;
+      chain_is = n.chain_is;
+      chosen = more _ _ n.chosen;
+      author = n.author;
+      moment = n.moment;
+      message = n.message;
+      may = n.may;
+      allowed = allowed_still a b.received b.sent (slot_of id (n.newest ∷ n.older)) n.taken n.newest.author n.newest.kind n.next.kind n.allowed;
+    })
 
 reported : (w : World) (slot : Slot) (vote : Vote) → IsReady w slot vote → Promise 1 slot vote.ballot None ≡ Promise 1 slot vote.ballot (w.records 1 slot).vote
 reported w slot vote ready = ap (λ (r : Record). Promise 1 slot vote.ballot r.vote) (sym ready.unused)
@@ -115,15 +115,28 @@ proposes w slot vote ready = record {
 -- each act of a round may be done where it stands
 pub round_runs : (w : World) (slot : Slot) (vote : Vote) → IsReady w slot vote → IsRun w (map by_node_1 (round slot vote))
 round_runs w slot vote ready =
-    let nodes = ready.nodes in
-    (
+    let nodes = ready.nodes in (
       record { least = omega arith; most = omega (arith, nodes); up = ready.up; needs = inl refl },
-      (record { least = omega arith; most = omega (arith, nodes); up = ready.up; needs = record { sender = 1; proposed = inl refl; may = subst (λ (r : Record). r.promised ≤ vote.ballot) (sym (with_here (w.records 1) slot (after_promise (w.records 1 slot) vote.ballot))) (omega arith) } },
-      (record { least = omega arith; most = omega (arith, nodes); up = ready.up; needs = inl refl },
-      (record { least = omega arith; most = omega (arith, nodes); up = ready.up; needs = proposes w slot vote ready },
-      (record { least = omega arith; most = omega (arith, nodes); up = ready.up; needs = inl (reported w slot vote ready) },
-      (record { least = omega arith; most = omega (arith, nodes); up = ready.up; needs = subst (λ (r : Record). r.promised < vote.ballot) (sym ready.unused) ready.above },
-      (record { least = omega arith; most = omega (arith, nodes); up = ready.up; needs = inl refl },
-      (record { least = omega arith; most = omega (arith, nodes); up = ready.up; needs = (ready.proposer, ready.incarnation) },
-      tt)))))))
+      (
+        record { least = omega arith; most = omega (arith, nodes); up = ready.up; needs = record { sender = 1; proposed = inl refl; may = subst (λ (r : Record). r.promised ≤ vote.ballot) (sym (with_here (w.records 1) slot (after_promise (w.records 1 slot) vote.ballot))) (omega arith) } },
+        (
+          record { least = omega arith; most = omega (arith, nodes); up = ready.up; needs = inl refl },
+          (
+            record { least = omega arith; most = omega (arith, nodes); up = ready.up; needs = proposes w slot vote ready },
+            (
+              record { least = omega arith; most = omega (arith, nodes); up = ready.up; needs = inl (reported w slot vote ready) },
+              (
+                record { least = omega arith; most = omega (arith, nodes); up = ready.up; needs = subst (λ (r : Record). r.promised < vote.ballot) (sym ready.unused) ready.above },
+                (
+                  record { least = omega arith; most = omega (arith, nodes); up = ready.up; needs = inl refl },
+                  (
+                    record { least = omega arith; most = omega (arith, nodes); up = ready.up; needs = (ready.proposer, ready.incarnation) },
+                    tt,
+                  ),
+                ),
+              ),
+            ),
+          ),
+        ),
+      ),
     )

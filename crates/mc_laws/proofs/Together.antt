@@ -1,18 +1,17 @@
 -- What each node does by itself is, put together, a run of the cluster.
-use Rattle.std.proofs.Common.{◌≡◌, ◌⊎◌, ℕ, ◌+◌, ◌<◌, ◌≤◌, Bool, true, false, List, [], ◌∷◌, Option, Some, None, refl, sym, ◌∙◌, ap, subst, inl, inr, arith}
+use Rattle.std.proofs.Common.{◌≡◌, ℕ, Bool, true, false, List, [], ◌∷◌, Option, Some, None, refl, sym, ◌∙◌, ap, subst, inl, inr}
 use Rattle.std.specs.Prelude.{◌==◌, if◌then◌else◌}
 use Rattle.std.proofs.lemmas.Bool.{eqb-true, eq-eqb, ne_eqb, true≢false}
 use Rattle.mc_model.specs.Chain.{Decree}
-use Rattle.mc_model.specs.Majority.{Majority}
-use Rattle.mc_model.specs.OneSlot.{Vote, vote_at, In, IsJustified}
-use Rattle.mc_model.specs.Packet.{Slot, slot_of, Packet, Promise, Propose, Voted}
+use Rattle.mc_model.specs.OneSlot.{Vote, vote_at, In}
+use Rattle.mc_model.specs.Packet.{Slot, slot_of, Promise, Voted}
 use Rattle.mc_model.specs.Acceptor.{Records}
 use Rattle.mc_model.specs.Actor.{Actor}
 use Rattle.mc_model.specs.Knowledge.{IsLearned}
-use Rattle.mc_model.specs.Proposal.{IsFirst, IsNext, IsOwn, IsFree, MayPropose}
-use Rattle.mc_model.specs.World.{World, Act, Receives, Promises, Votes, Refuses, Tells, Prepares, Proposes, Begins, Asks, Settles, Replies, Reports, Grants, Answers, Abandons, Ticks, Stops, Restarts, cast, Needs, May, IsChosenIn, StandsIn, after, changed, records_by, actor_by, start, reached, IsRun}
-use Rattle.mc_model.specs.Alone.{Node, StandsAt, MayAlone, after_alone, opened_alone, reached_alone, IsRunAlone, acts_of, WasSent, EachWasSent}
-use Rattle.mc_laws.proofs.Growth.{changed_here, changed_cases}
+use Rattle.mc_model.specs.Proposal.{IsOwn, IsFree, MayPropose}
+use Rattle.mc_model.specs.World.{World, Act, Receives, Promises, Votes, Refuses, Tells, Prepares, Proposes, Begins, Asks, Settles, Replies, Reports, Grants, Answers, Abandons, Ticks, Stops, Restarts, Needs, May, IsChosenIn, StandsIn, after, changed, records_by, actor_by, start, reached, IsRun}
+use Rattle.mc_model.specs.Alone.{Node, StandsAt, MayAlone, after_alone, reached_alone, IsRunAlone, acts_of, WasSent, EachWasSent}
+use Rattle.mc_laws.proofs.Growth.{changed_here}
 use Rattle.mc_laws.proofs.Keeping.{Keeps, PromiseFits, justified_more}
 use Rattle.mc_laws.proofs.Reached.{holds}
 
@@ -133,7 +132,7 @@ alone_by : (w : World) (newest : ℕ × Act) (older : List (ℕ × Act)) (node s
 alone_by w newest older node serial true same is =
     let is_node : newest.0 ≡ node = eqb-true newest.0 node same in
     subst (λ (acts : List Act). IsAlone (after w newest.0 newest.1) node (reached_alone node serial acts)) (sym (acts_here node newest older is_node)) (
-      subst (λ (n : ℕ). IsAlone (after w n newest.1) node (after_alone node (reached_alone node serial (acts_of node older)) newest.1)) (sym is_node) (alone_here w node newest.1 (reached_alone node serial (acts_of node older)) is))
+    subst (λ (n : ℕ). IsAlone (after w n newest.1) node (after_alone node (reached_alone node serial (acts_of node older)) newest.1)) (sym is_node) (alone_here w node newest.1 (reached_alone node serial (acts_of node older)) is))
 alone_by w newest older node serial false same is =
     subst (λ (acts : List Act). IsAlone (after w newest.0 newest.1) node (reached_alone node serial acts)) (sym (acts_apart node newest older same)) (alone_apart w newest.0 newest.1 node _ (flipped newest.0 node same) is)
 

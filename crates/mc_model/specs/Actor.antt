@@ -1,5 +1,5 @@
 -- What a node holds besides its stable records, and loses when it stops.
-use Rattle.std.specs.Prelude.{ℕ, Bool, true, List, [], Option}
+use Rattle.std.specs.Prelude.{ℕ, Bool, true, List, []}
 use Rattle.mc_model.specs.Chain.{Submission, Kind, Failed, Fate, Final}
 use Rattle.mc_model.specs.Packet.{Slot, Packet}
 

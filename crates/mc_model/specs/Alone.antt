@@ -1,7 +1,7 @@
 -- One node by itself: what it may do by what it received and by its own records.
-use Rattle.std.specs.Prelude.{◌≡◌, ◌⊎◌, ℕ, ◌≤◌, ◌==◌, List, [], ◌∷◌, Option, Some, None, if◌then◌else◌}
+use Rattle.std.specs.Prelude.{◌≡◌, ◌⊎◌, ℕ, ◌≤◌, ◌==◌, List, [], ◌∷◌, Some, if◌then◌else◌}
 use Rattle.mc_model.specs.Chain.{Decree}
-use Rattle.mc_model.specs.OneSlot.{Vote, vote_at, In}
+use Rattle.mc_model.specs.OneSlot.{vote_at, In}
 use Rattle.mc_model.specs.Packet.{Slot, Packet, Promise, Propose, Voted}
 use Rattle.mc_model.specs.Acceptor.{Records, blank}
 use Rattle.mc_model.specs.Actor.{Actor, opened}
@@ -22,8 +22,8 @@ abbrev pub StandsAt : Node → Slot → List Decree → Type 0
 StandsAt s slot chain =
     ((sender : ℕ) × (ballot : ℕ) × In (Propose sender slot (vote_at ballot chain)) s.actor.received)
     ⊎ (((sender : ℕ) × (ballot : ℕ) × In (Voted sender slot (vote_at ballot chain)) s.actor.received)
-      ⊎ (((sender : ℕ) × (asked : ℕ) × (ballot : ℕ) × In (Promise sender slot asked (Some (vote_at ballot chain))) s.actor.received)
-        ⊎ ((ballot : ℕ) × ((s.records slot).vote ≡ Some (vote_at ballot chain)))))
+    ⊎ (((sender : ℕ) × (asked : ℕ) × (ballot : ℕ) × In (Promise sender slot asked (Some (vote_at ballot chain))) s.actor.received)
+    ⊎ ((ballot : ℕ) × ((s.records slot).vote ≡ Some (vote_at ballot chain)))))
 
 -- any packet may come to it, and what it learned is chosen
 pub record MayAlone (nodes node : ℕ) (s : Node) (act : Act) : Type 0 where

@@ -1,11 +1,11 @@
 -- What is said of the fate of a message, and what it stands on.
-use Rattle.std.specs.Prelude.{◌≡◌, ℕ, List, [], ◌∷◌, ◌++◌, Option, Some, None}
+use Rattle.std.specs.Prelude.{◌≡◌, ℕ, List, ◌∷◌, ◌++◌, Option, Some, None}
 use Rattle.mc_model.specs.Chain.{Author, Decree, Attempt, Fate, Final, Delivered, final_in}
 use Rattle.mc_model.specs.OneSlot.{In}
 use Rattle.mc_model.specs.Packet.{Slot, slot_of}
-use Rattle.mc_model.specs.Actor.{Request, Submit, Query, Cancel, Concluded}
-use Rattle.mc_model.specs.Replies.{Answer, Accepted, Shown, Removed, Kept, NotOwner, NotMatched, Unknown, TooLate}
-use Rattle.mc_model.specs.World.{Act, Begins, Replies, Reports, Grants, Answers, Deed}
+use Rattle.mc_model.specs.Actor.{Concluded}
+use Rattle.mc_model.specs.Replies.{Answer, Shown, Removed}
+use Rattle.mc_model.specs.World.{Act, Replies, Reports, Grants, Answers, Deed}
 
 -- the chain of which an answer tells ESME_ROK
 abbrev pub shown_by : Answer → Option (List Decree)

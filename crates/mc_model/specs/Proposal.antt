@@ -1,6 +1,6 @@
 -- What a node may propose (Paxos Made Simple, 2.2 and 2.5): where a majority of acceptors has promised, the chain of
 -- the highest vote that they report; and where they report none, a chain that stands already, or one of its own.
-use Rattle.std.specs.Prelude.{◌≡◌, ◌⊎◌, ℕ, ◌<◌, ◌≤◌, max, Bool, true, List, [], ◌∷◌, ◌++◌, Option, Some, None}
+use Rattle.std.specs.Prelude.{◌≡◌, ◌⊎◌, ℕ, ◌<◌, max, true, List, [], ◌∷◌, Option, Some, None}
 use Rattle.mc_model.specs.Chain.{Author, Submission, Decree, Kind, Taken, Attempt, Failed, Fate, Deleted, MayExtend, taken_in}
 use Rattle.mc_model.specs.Ballot.{proposer_of, incarnation_in}
 use Rattle.mc_model.specs.OneSlot.{Vote, vote_at, IsJustified, In}

@@ -1,7 +1,7 @@
 -- What a request that waited is answered, and what of it states the fate of a message (SMPP 3.4, 4.4.2, 4.8.2, 4.9.2
 -- and appendix B).
-use Rattle.std.specs.Prelude.{◌≡◌, ◌⊎◌, ℕ, ◌+◌, ◌≤◌, Bool, true, List, [], ◌∷◌, Option, Some, None}
-use Rattle.mc_model.specs.Chain.{Submission, Decree, Kind, Taken, Attempt, Failed, Fate, Final, Delivered, Expired, Deleted, Undeliverable, Rejected, taken_in, final_in}
+use Rattle.std.specs.Prelude.{◌≡◌, ℕ, ◌+◌, ◌≤◌, true, List, ◌∷◌, Some, None}
+use Rattle.mc_model.specs.Chain.{Submission, Decree, Kind, Taken, Attempt, Failed, Fate, Delivered, Expired, Deleted, Undeliverable, Rejected, taken_in, final_in}
 use Rattle.mc_model.specs.Packet.{Name}
 use Rattle.mc_model.specs.Actor.{Actor, Request, Submit, Query, Cancel, Waiting}
 use Rattle.mc_model.specs.Knowledge.{Knows, KnowsNothing, IsSettled}

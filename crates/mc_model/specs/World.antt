@@ -2,18 +2,18 @@
 --
 -- What nodes do is told in small acts, of which each changes one node. The network is the list of all packets ever sent, any
 -- of which may come to any node, again and in any order: that is loss, repetition and reordering.
-use Rattle.std.specs.Prelude.{◌≡◌, ◌⊎◌, ℕ, suc, ◌+◌, ◌<◌, ◌≤◌, max, Bool, true, false, ◌==◌, not, List, [], ◌∷◌, ◌++◌, length, map, filter, Option, Some, None, if◌then◌else◌}
-use Rattle.mc_model.specs.Ids.{IsIncarnation, id_of, node_of}
-use Rattle.mc_model.specs.Chain.{Author, Decree, Submission, Kind, Attempt, Final, IsTaken, final_in}
+use Rattle.std.specs.Prelude.{◌≡◌, ◌⊎◌, ℕ, suc, ◌<◌, ◌≤◌, max, Bool, true, false, ◌==◌, not, List, [], ◌∷◌, ◌++◌, length, map, filter, Option, Some, if◌then◌else◌}
+use Rattle.mc_model.specs.Ids.{id_of, node_of}
+use Rattle.mc_model.specs.Chain.{Decree, Attempt, Final, IsTaken, final_in}
 use Rattle.mc_model.specs.Majority.{Majority}
 use Rattle.mc_model.specs.Ballot.{proposer_of, incarnation_in}
 use Rattle.mc_model.specs.OneSlot.{Vote, In}
 use Rattle.mc_model.specs.Packet.{Slot, slot_of, Packet, Prepare, Promise, Propose, Voted, Refused, Name, Told, Ask, Tell}
-use Rattle.mc_model.specs.Acceptor.{Record, Records, blank, with_record, MayPromise, MayVote, after_promise, after_vote, IsTold}
+use Rattle.mc_model.specs.Acceptor.{Records, blank, with_record, MayPromise, MayVote, after_promise, after_vote, IsTold}
 use Rattle.mc_model.specs.Actor.{Actor, Request, Submit, Query, Cancel, Waiting, Outcome, Unanswered, opened}
 use Rattle.mc_model.specs.Knowledge.{Knows, IsKnown, IsSettled}
 use Rattle.mc_model.specs.Proposal.{MayPropose}
-use Rattle.mc_model.specs.Replies.{Answer, Shown, Removed, IsAnswer, id_in, name_of}
+use Rattle.mc_model.specs.Replies.{Answer, IsAnswer, id_in, name_of}
 
 pub data Act : Type 0 where
   -- a packet comes
