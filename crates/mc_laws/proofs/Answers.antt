@@ -1,6 +1,6 @@
 -- What a request is answered that came after others were answered.
 use Rattle.std.proofs.Common.{◌≡◌, ℕ, pred, ◌≤◌, List, [], ◌∷◌, ◌++◌, length, Option, Some, None, refl, sym, ◌∙◌, ap, subst, arith}
-use Rattle.mc_model.specs.Chain.{Decree, Final, final_in}
+use Rattle.mc_model.specs.Chain.{Decree, Final, Deleted, final_in}
 use Rattle.mc_model.specs.Majority.{Majority}
 use Rattle.mc_model.specs.OneSlot.{Vote, vote_at, In}
 use Rattle.mc_model.specs.Packet.{Slot, slot_of, Name, Told}
@@ -8,11 +8,13 @@ use Rattle.mc_model.specs.Actor.{Actor, Request, Submit, Query, Cancel, Waiting}
 use Rattle.mc_model.specs.Knowledge.{Knows, HasTold, IsReached, IsSettled, Covers}
 use Rattle.mc_model.specs.Replies.{Answer, Accepted, Shown, Unknown, IsUnknown, FitsRequest, id_in, name_of}
 use Rattle.mc_model.specs.World.{World, Act, Begins, Replies, Deed, cast, May, MayReply, IsChosenIn, start, reached, IsRun}
-use Rattle.mc_model.specs.Fate.{States}
+use Rattle.mc_model.specs.Fate.{States, IsDeletion}
 use Rattle.mc_laws.proofs.Majorities.{both}
 use Rattle.mc_laws.proofs.Growth.{grows}
 use Rattle.mc_laws.proofs.Links.{chosen_still, chosen_standing}
 use Rattle.mc_laws.proofs.Agreement.{Chosen, known_chosen, not_empty}
+use Rattle.mc_laws.proofs.Fated.{tells_known}
+use Rattle.mc_laws.proofs.Deletions.{chosen_deletion}
 use Rattle.mc_laws.proofs.Freshness.{HasReached, Fresh, fresh_begun, fresh_after}
 use Rattle.mc_laws.proofs.Reached.{Holds, holds, fate_longest}
 
@@ -202,3 +204,15 @@ settled_covers nodes serials later node ticket request earlier slot vote known r
     let place : slot.place ≡ pred (length vote.chain) = ap (λ (x : Slot). x.place) s.place in
     let is : Chosen (reached first earlier) (id_in request) vote.chain = record { ballot = vote.ballot; chosen = subst (λ (i : ℕ). IsChosenIn (reached first earlier) (slot_of i vote.chain) vote) about (subst (λ (x : Slot). IsChosenIn (reached first earlier) x vote) s.place chosen) } in
     subst (Covers known) (sym place) (covered (reached first earlier) now (record { node = node; incarnation = ((reached first earlier).actors node).incarnation; ticket = ticket }) (id_in request) asked.fresh asked.nodes asked.holds node vote.chain is known (subst (λ (n : ℕ). IsSettled n (now.actors node).received (record { node = node; incarnation = ((reached first earlier).actors node).incarnation; ticket = ticket }) known) (sym (nodes_same first (later ++ (node, Begins ticket request) ∷ earlier))) settled))
+
+-- ---- what a statement of DELETED stands on
+
+pub stands_on_cancel : (nodes : ℕ) (serials : ℕ → ℕ) (acts : List (ℕ × Act)) (newer : List Deed) (stating : Deed) (older : List Deed) (id : ℕ) → IsRun (start nodes serials) acts → (reached (start nodes serials) acts).past ≡ newer ++ stating ∷ older → (states : States stating id Deleted) → IsDeletion id states.chain older
+stands_on_cancel nodes serials acts newer stating older id run is states =
+    let first = start nodes serials in
+    let d = done nodes serials acts newer stating older is in
+    let from = runs_to first d.later ((stating.node, stating.act) ∷ d.earlier) (subst (IsRun first) d.split run) in
+    let w = reached first d.earlier in
+    let h = holds nodes serials d.earlier from.1 in
+    let known = tells_known w stating.node stating.act from.0 id states.chain states.tells in
+    subst (IsDeletion id states.chain) d.past (chosen_deletion w h.keeps h.deletions id states.chain (known_chosen w h.keeps stating.node id states.chain known) states.state)

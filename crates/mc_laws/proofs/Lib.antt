@@ -14,3 +14,4 @@ pub mod Answers
 pub mod Together
 pub mod Rounds
 pub mod Delivery
+pub mod Deletions

@@ -1,14 +1,14 @@
 //! Whole runs: whatever packets are delivered, lost, repeated or reordered, and whatever nodes stop and start anew.
 
 ghost use Rattle.std.specs.Prelude.{◌≡◌, ◌⊎◌, ◌∷◌, ◌++◌, ◌≤◌, ℕ, List, Option, Some};
-ghost use Rattle.mc_model.specs.Chain.{Decree, Attempt, Final, Delivered, GoesOn, final_in};
+ghost use Rattle.mc_model.specs.Chain.{Decree, Attempt, Final, Deleted, Delivered, GoesOn, final_in};
 ghost use Rattle.mc_model.specs.OneSlot.{Vote, In};
 ghost use Rattle.mc_model.specs.Packet.{Slot, Propose, slot_of};
 ghost use Rattle.mc_model.specs.Actor.{Request, Outcome};
 ghost use Rattle.mc_model.specs.Knowledge.{IsSettled, Covers};
 ghost use Rattle.mc_model.specs.Replies.{Accepted, Shown, Unknown, id_in};
 ghost use Rattle.mc_model.specs.World.{Act, Begins, Replies, Deed, cast, IsChosenIn, IsRun, reached, start};
-ghost use Rattle.mc_model.specs.Fate.{States, IsGrant, IsDelivery};
+ghost use Rattle.mc_model.specs.Fate.{States, IsGrant, IsDelivery, IsDeletion};
 
 /// Once a chain is chosen at a ballot, every vote of its slot at that ballot or above carries it, across all starts anew and
 /// votes of which no packet told.
@@ -75,6 +75,15 @@ pub fn delivered_stands_on_a_delivery()
         IsRun (start nodes serials) acts →
         (reached (start nodes serials) acts).past ≡ newer ++ stating ∷ older →
         (states : States stating id Delivered) → IsDelivery id states.chain older }
+{}
+
+/// Each statement that a message is DELETED, as ESME_ROK to a cancel_sm, stands on a cancel_sm that came before, with the
+/// account and the addresses of what was taken.
+pub fn deleted_stands_on_a_cancel()
+    ensures { (nodes : ℕ) (serials : ℕ → ℕ) (acts : List (ℕ × Act)) (newer : List Deed) (stating : Deed) (older : List Deed) (id : ℕ) →
+        IsRun (start nodes serials) acts →
+        (reached (start nodes serials) acts).past ≡ newer ++ stating ∷ older →
+        (states : States stating id Deleted) → IsDeletion id states.chain older }
 {}
 
 /// A query_sm that comes after a statement of a final state of its message, and is answered ESME_ROK, is told that state. The

@@ -1,11 +1,12 @@
 -- What is said of the fate of a message, and what it stands on.
 use Rattle.std.specs.Prelude.{◌≡◌, ℕ, List, ◌∷◌, ◌++◌, Option, Some, None}
-use Rattle.mc_model.specs.Chain.{Author, Decree, Attempt, Fate, Final, Delivered, final_in}
+use Rattle.mc_model.specs.Chain.{Author, Submission, Decree, Attempt, Fate, Final, Delivered, taken_in, final_in}
 use Rattle.mc_model.specs.OneSlot.{In}
 use Rattle.mc_model.specs.Packet.{Slot, slot_of}
-use Rattle.mc_model.specs.Actor.{Concluded}
+use Rattle.mc_model.specs.Actor.{Request, Concluded}
+use Rattle.mc_model.specs.Proposal.{Cancels}
 use Rattle.mc_model.specs.Replies.{Answer, Shown, Removed}
-use Rattle.mc_model.specs.World.{Act, Replies, Reports, Grants, Answers, Deed}
+use Rattle.mc_model.specs.World.{Act, Begins, Replies, Reports, Grants, Answers, Deed}
 
 -- the chain of which an answer tells ESME_ROK
 abbrev pub shown_by : Answer → Option (List Decree)
@@ -53,3 +54,18 @@ pub record IsDelivery (id : ℕ) (chain : List Decree) (deeds : List Deed) : Typ
   pub delivered : fate.kind ≡ Fate Delivered error
   pub author : fate.author ≡ attempt.author
   pub granted : CameBefore (deed_by attempt.author (Grants (slot_of id (attempt ∷ older)))) (deed_by attempt.author (Answers (slot_of id (attempt ∷ older)) (Concluded Delivered error))) deeds
+
+-- A cancel_sm of the message came, with the account and the addresses of what was taken.
+pub record CameToCancel (deeds : List Deed) (id : ℕ) (taken : Submission) : Type 0 where
+  pub deed : Deed
+  pub ticket : ℕ
+  pub request : Request
+  pub came : In deed deeds
+  pub begins : deed.act ≡ Begins ticket request
+  pub cancels : Cancels request id taken
+
+-- behind a chain that ends in a deletion stands a cancel_sm of its message
+pub record IsDeletion (id : ℕ) (chain : List Decree) (deeds : List Deed) : Type 0 where
+  pub taken : Submission
+  pub message : taken_in chain ≡ Some taken
+  pub cancelled : CameToCancel deeds id taken
