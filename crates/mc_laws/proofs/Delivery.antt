@@ -9,17 +9,8 @@ use Rattle.mc_model.specs.Replies.{Accepted}
 use Rattle.mc_model.specs.World.{World, Act, Begins, Replies, Reports, Grants, Answers, May, reached, IsRun, after}
 use Rattle.mc_model.specs.Stories.{first_id, first_ballot, decreed, taken_chain, attempted_chain, delivered_chain, round_for, by_node_1, delivery_story, one_node, MayBeTried}
 use Rattle.mc_laws.proofs.Membership.{in_right}
+use Rattle.mc_laws.proofs.Behind.{run_on}
 use Rattle.mc_laws.proofs.Rounds.{all_of_one, one_of_one, IsReady, round_runs}
-
--- ---- one run behind another
-
-run_on : (w : World) (later earlier : List (ℕ × Act)) → IsRun (reached w earlier) later → IsRun w earlier → IsRun w (later ++ earlier)
-run_on w [] earlier run before = before
-run_on w (act ∷ later) earlier run before = (subst (λ (v : World). May v act.0 act.1) (sym (reached_on w later earlier)) run.0, run_on w later earlier run.1 before)
-  where
-    reached_on : (w : World) (later earlier : List (ℕ × Act)) → reached w (later ++ earlier) ≡ reached (reached w earlier) later
-    reached_on w [] earlier = refl
-    reached_on w (act ∷ later) earlier = ap (λ (v : World). after v act.0 act.1) (reached_on w later earlier)
 
 -- ---- what is known by the votes that were told
 

@@ -15,3 +15,4 @@ pub mod Together
 pub mod Rounds
 pub mod Delivery
 pub mod Deletions
+pub mod Behind

@@ -14,3 +14,5 @@ pub mod World
 pub mod Fate
 pub mod Alone
 pub mod Stories
+pub mod Rounds
+pub mod Step

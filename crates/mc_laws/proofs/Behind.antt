@@ -1,0 +1,17 @@
+-- One run behind another, and runs of steps.
+use Rattle.std.proofs.Common.{◌≡◌, ℕ, List, [], ◌∷◌, ◌++◌, refl, sym, ap, subst}
+use Rattle.mc_model.specs.World.{World, Act, May, reached, IsRun, after}
+use Rattle.mc_model.specs.Step.{Step, by_node, acts_in, AreSteps}
+
+pub run_on : (w : World) (later earlier : List (ℕ × Act)) → IsRun (reached w earlier) later → IsRun w earlier → IsRun w (later ++ earlier)
+run_on w [] earlier run before = before
+run_on w (act ∷ later) earlier run before = (subst (λ (v : World). May v act.0 act.1) (sym (reached_on w later earlier)) run.0, run_on w later earlier run.1 before)
+  where
+    reached_on : (w : World) (later earlier : List (ℕ × Act)) → reached w (later ++ earlier) ≡ reached (reached w earlier) later
+    reached_on w [] earlier = refl
+    reached_on w (act ∷ later) earlier = ap (λ (v : World). after v act.0 act.1) (reached_on w later earlier)
+
+-- a run of steps is a run of their acts
+pub steps_run : (first : World) (steps : List Step) → AreSteps first steps → IsRun first (acts_in steps)
+steps_run first [] are = tt
+steps_run first (newest ∷ older) are = run_on first (by_node newest.node newest.acts) (acts_in older) are.0.run (steps_run first older are.1)

@@ -1,0 +1,308 @@
+-- A step of a node: what comes to it, and all that it does then.
+--
+-- A step is a list of acts, in which each may be done where it stands. What the input does by itself, when a request is
+-- settled, which rounds and questions go out, and which replies and receipts, is exact: what is due is done in the step in
+-- which it becomes due, and nothing else is done. Which votes, Proposes and chains there are is free as far as the acts say.
+use Rattle.std.specs.Prelude.{◌≡◌, ◌⊎◌, ◌↔◌, ℕ, pred, suc, ◌+◌, ◌%◌, ◌<◌, ◌≤◌, Bool, true, false, List, [], ◌∷◌, ◌++◌, length, map, Option, Some, None}
+use Rattle.mc_model.specs.Ids.{node_of}
+use Rattle.mc_model.specs.Chain.{Author, Submission, Decree, Kind, Taken, Attempt, Failed, Final, Delivered, taken_in, final_in}
+use Rattle.mc_model.specs.Majority.{Majority}
+use Rattle.mc_model.specs.OneSlot.{Vote, In}
+use Rattle.mc_model.specs.Packet.{Slot, slot_at, slot_of, Packet, Prepare, Promise, Propose, Voted, Refused, Name, Told, Ask, Tell}
+use Rattle.mc_model.specs.Acceptor.{Record, Records, IsTold}
+use Rattle.mc_model.specs.Actor.{Actor, Request, Submit, Query, Cancel, Waiting, Outcome}
+use Rattle.mc_model.specs.Knowledge.{Knows, IsKnown, HasTold, IsSettled}
+use Rattle.mc_model.specs.Proposal.{IsCancelled}
+use Rattle.mc_model.specs.Replies.{Answer, TooLate, FitsRequest, id_in, name_of, longest_wait}
+use Rattle.mc_model.specs.Rounds.{IsRunning, RunsNone, MayPrepare, IsShownAt, IsAhead, IsFirstRule, Rule, GiveUp, IsPromised}
+use Rattle.mc_model.specs.World.{World, Act, Receives, Promises, Votes, Refuses, Tells, Prepares, Proposes, Begins, Asks, Settles, Replies, Reports, Grants, Answers, Abandons, Ticks, Stops, Restarts, after, reached, IsRun}
+
+-- What comes to a node. A request that a check of its fields refuses, or for which there is no room, is answered at once and is
+-- no input here: the crates that have those fields say which they are. So is a grant that is refused.
+pub data Input : Type 0 where
+  Delivery : Packet → Input
+  -- the same, but the node stops, before it has saved what it would save or after it
+  Crash : Packet → Bool → Input
+  Arrival : Request → Input
+  -- a moment, and which accounts have a session that may receive
+  Tick : ℕ → (List ℕ → Bool) → Input
+  -- an attempt is asked for, and what came of one
+  Grant : Slot → Input
+  Response : Slot → Outcome → Input
+  -- the node starts anew, with the serial of its first message
+  Restart : ℕ → Input
+
+-- ---- what the input does by itself; acts stand with the newest first
+
+-- what the acceptor answers
+abbrev pub IsAnswered : Records → Packet → List Act → Type 0
+IsAnswered records (Prepare sender slot ballot) acts =
+    (((records slot).promised < ballot) × (acts ≡ Promises slot ballot true ∷ [])) ⊎ ((ballot ≤ (records slot).promised) × (acts ≡ Refuses slot ballot ∷ []))
+IsAnswered records (Propose sender slot vote) acts =
+    (((records slot).promised ≤ vote.ballot) × (acts ≡ Votes slot vote true ∷ [])) ⊎ ((vote.ballot < (records slot).promised) × (acts ≡ Refuses slot vote.ballot ∷ []))
+IsAnswered records (Ask sender id name) acts = (told : Option Told) × IsTold records id told × (acts ≡ Tells id name told ∷ [])
+IsAnswered records (Promise sender slot ballot report) acts = acts ≡ []
+IsAnswered records (Voted sender slot vote) acts = acts ≡ []
+IsAnswered records (Refused sender slot ballot promised) acts = acts ≡ []
+IsAnswered records (Tell sender name told) acts = acts ≡ []
+
+-- what it does of that when it stops before it has answered: it saves, where there is anything to save
+abbrev pub IsSaved : Records → Packet → List Act → Type 0
+IsSaved records (Prepare sender slot ballot) acts =
+    (((records slot).promised < ballot) × (acts ≡ Promises slot ballot false ∷ [])) ⊎ ((ballot ≤ (records slot).promised) × (acts ≡ []))
+IsSaved records (Propose sender slot vote) acts =
+    (((records slot).promised ≤ vote.ballot) × (acts ≡ Votes slot vote false ∷ Receives (Propose sender slot vote) ∷ [])) ⊎ ((vote.ballot < (records slot).promised) × (acts ≡ []))
+IsSaved records packet acts = acts ≡ []
+
+abbrev pub IsCore : Actor → Records → Input → List Act → Type 0
+IsCore a records (Delivery packet) acts = (answer : List Act) × IsAnswered records packet answer × (acts ≡ answer ++ Receives packet ∷ [])
+IsCore a records (Crash packet false) acts = acts ≡ Stops ∷ []
+IsCore a records (Crash packet true) acts = (saved : List Act) × IsSaved records packet saved × (acts ≡ Stops ∷ saved)
+IsCore a records (Arrival request) acts = acts ≡ Begins a.ticket request ∷ []
+IsCore a records (Tick moment up) acts = acts ≡ Ticks moment ∷ []
+IsCore a records (Grant slot) acts = acts ≡ Grants slot ∷ []
+IsCore a records (Response slot outcome) acts = acts ≡ Answers slot outcome ∷ []
+IsCore a records (Restart serial) acts = acts ≡ Restarts serial ∷ []
+
+-- ---- requests
+
+abbrev pub IsCancelRequest : Request → Type 0
+IsCancelRequest (Submit id message) = ⊥
+IsCancelRequest (Query id account source) = ⊥
+IsCancelRequest (Cancel id account source destination) = Unit {0}
+
+-- a cancel_sm that waits, and that a majority has settled
+pub record IsToSettle (nodes node : ℕ) (a : Actor) (waiting : Waiting) : Type 0 where
+  pub known : Option (List Decree)
+  pub waits : In waiting a.waiting
+  pub cancel : IsCancelRequest waiting.request
+  pub open_yet : waiting.settled ≡ false
+  pub knows : IsKnown nodes a.received (id_in waiting.request) known
+  pub settled : IsSettled nodes a.received (name_of node a waiting) known
+
+-- in a tick it is also due where it waited too long
+abbrev pub IsLate : Input → Actor → Waiting → Type 0
+IsLate (Tick moment up) a waiting = waiting.since + longest_wait ≤ a.clock
+IsLate input a waiting = ⊥
+
+-- a request that waits, and whose answer is due
+pub record IsDueReply (nodes node : ℕ) (input : Input) (a : Actor) (waiting : Waiting) (answer : Answer) : Type 0 where
+  pub waits : In waiting a.waiting
+  pub due : FitsRequest nodes node a waiting waiting.request answer ⊎ ((answer ≡ TooLate) × IsLate input a waiting)
+
+-- a receipt was asked for on every final state, or on every one but DELIVERED (SMPP 3.4, 5.2.17)
+abbrev pub AsksReceipt : Final → Submission → Type 0
+AsksReceipt final taken = (taken.registered_delivery % 4 ≡ 1) ⊎ ((taken.registered_delivery % 4 ≡ 2) × (final ≡ Delivered → ⊥))
+
+-- a receipt is due where the node that the id names learns a final state of which one was asked
+pub record IsDueReport (nodes node : ℕ) (before a : Actor) (id : ℕ) (chain : List Decree) : Type 0 where
+  pub final : Final
+  pub taken : Submission
+  pub named : node_of id ≡ node
+  pub known : Knows nodes a.received id chain
+  pub ends : final_in chain ≡ Some final
+  pub message : taken_in chain ≡ Some taken
+  pub asked : AsksReceipt final taken
+  pub new : (older : List Decree) (other : Final) → Knows nodes before.received id older → final_in older ≡ Some other → ⊥
+
+-- ---- rounds and questions outside a tick
+
+-- a submit_sm comes: its message is to be taken
+abbrev pub CausesTake : Input → ℕ → ℕ → Type 0
+CausesTake (Arrival (Submit other message)) id place = (other ≡ id) × (place ≡ 0)
+CausesTake input id place = ⊥
+
+-- the outcome of an attempt comes
+abbrev pub CausesClose : Input → ℕ → ℕ → Type 0
+CausesClose (Response slot outcome) id place = (slot.id ≡ id) × (place ≡ suc slot.place)
+CausesClose input id place = ⊥
+
+-- a Tell comes to a request that waits, of which a majority has told, and shows a place beyond what the node knows
+pub record ShowsMore (nodes node : ℕ) (a : Actor) (name : Name) (id place : ℕ) : Type 0 where
+  pub waiting : Waiting
+  pub waits : In waiting a.waiting
+  pub named : name ≡ name_of node a waiting
+  pub about : id_in waiting.request ≡ id
+  pub majority : Majority nodes (HasTold a.received name)
+  pub teller : ℕ
+  pub vote : Vote
+  pub told : In (Tell teller name (Some (record { place = place; vote = vote }))) a.received
+  pub highest : (other : ℕ) (told : Told) → In (Tell other name (Some told)) a.received → told.place ≤ place
+  pub ahead : IsAhead nodes a id place
+
+abbrev pub CausesFollow : ℕ → ℕ → Actor → Input → ℕ → ℕ → Type 0
+CausesFollow nodes node a (Delivery (Tell sender name told)) id place = ShowsMore nodes node a name id place
+CausesFollow nodes node a input id place = ⊥
+
+-- A cancel_sm is settled in this step, or was before and what the node knows has grown; the message may be deleted.
+pub record CausesDelete (nodes node : ℕ) (before a : Actor) (id place : ℕ) : Type 0 where
+  pub newest : Decree
+  pub older : List Decree
+  pub taken : Submission
+  pub known : Knows nodes a.received id (newest ∷ older)
+  pub behind : place ≡ length (newest ∷ older)
+  pub message : taken_in (newest ∷ older) ≡ Some taken
+  pub idle : ((message : Submission) × (newest.kind ≡ Taken message)) ⊎ ((error : ℕ) × (newest.kind ≡ Failed error))
+  pub cancelled : IsCancelled a id taken
+  pub new : IsCancelled before id taken → Knows nodes before.received id (newest ∷ older) → ⊥
+
+abbrev pub Causes : ℕ → ℕ → Actor → Actor → Input → ℕ → ℕ → Type 0
+Causes nodes node before a input id place =
+    CausesTake input id place ⊎ (CausesClose input id place ⊎ (CausesFollow nodes node a input id place ⊎ CausesDelete nodes node before a id place))
+
+-- the questions of a request that comes
+abbrev pub IsAsking : Actor → Input → ℕ → ℕ → Type 0
+IsAsking before (Arrival (Query other account source)) id ticket = (other ≡ id) × (ticket ≡ before.ticket)
+IsAsking before (Arrival (Cancel other account source destination)) id ticket = (other ≡ id) × (ticket ≡ before.ticket)
+IsAsking before input id ticket = ⊥
+
+-- in this step the promises of a running round became a majority
+pub record IsCompleted (nodes node : ℕ) (before a : Actor) (slot : Slot) (ballot : ℕ) : Type 0 where
+  pub running : IsRunning nodes node a slot ballot
+  pub promised : IsPromised nodes a slot ballot
+  pub new : IsPromised nodes before slot ballot → ⊥
+
+pub record HasProposed (acts : List Act) (slot : Slot) (ballot : ℕ) : Type 0 where
+  pub vote : Vote
+  pub proposes : In (Proposes slot vote) acts
+  pub at_ballot : vote.ballot ≡ ballot
+
+-- ---- rounds and questions of a tick
+
+-- the questions of a request that lacks a majority of Tells are asked again
+pub record IsUntold (nodes node : ℕ) (a : Actor) (id ticket : ℕ) : Type 0 where
+  pub waiting : Waiting
+  pub waits : In waiting a.waiting
+  pub ticket_is : waiting.ticket ≡ ticket
+  pub about : id_in waiting.request ≡ id
+  pub asks : (message : Submission) → waiting.request ≡ Submit id message → ⊥
+  pub lacking : Majority nodes (HasTold a.received (name_of node a waiting)) → ⊥
+
+-- ---- what goes out besides
+
+-- From the node as it was before and as it is once the input and what it settles are done: exactly these rounds, questions and
+-- proposals go out, and exactly these attempts are given up.
+pub record SendsInTick (nodes node : ℕ) (a : Actor) (records : Records) (up : List ℕ → Bool) (acts : List Act) : Type 0 where
+  pub prepares : (slot : Slot) (ballot : ℕ) → In (Prepares slot ballot) acts ↔ ((rule : Rule) × IsFirstRule nodes node a records up slot.id slot.place rule × MayPrepare nodes node a records slot ballot)
+  pub asks : (id ticket : ℕ) → In (Asks id ticket) acts ↔ IsUntold nodes node a id ticket
+  pub abandons : (slot : Slot) → In (Abandons slot) acts ↔ IsFirstRule nodes node a records up slot.id (suc slot.place) GiveUp
+  pub proposes : (slot : Slot) (vote : Vote) → In (Proposes slot vote) acts → ⊥
+
+pub record SendsElse (nodes node : ℕ) (before a : Actor) (records : Records) (input : Input) (acts : List Act) : Type 0 where
+  pub prepares : (slot : Slot) (ballot : ℕ) → In (Prepares slot ballot) acts ↔ (Causes nodes node before a input slot.id slot.place × MayPrepare nodes node a records slot ballot)
+  pub asks : (id ticket : ℕ) → In (Asks id ticket) acts ↔ IsAsking before input id ticket
+  pub abandons : (slot : Slot) → In (Abandons slot) acts → ⊥
+  pub proposes : (slot : Slot) (vote : Vote) → In (Proposes slot vote) acts → IsCompleted nodes node before a slot vote.ballot
+  pub completes : (slot : Slot) (ballot : ℕ) → IsCompleted nodes node before a slot ballot → HasProposed acts slot ballot
+
+abbrev pub Sends : ℕ → ℕ → Actor → Actor → Records → Input → List Act → Type 0
+Sends nodes node before a records (Tick moment up) acts = SendsInTick nodes node a records up acts
+Sends nodes node before a records input acts = SendsElse nodes node before a records input acts
+
+-- ---- the kinds and the order of acts
+
+abbrev pub Each : (Act → Type 0) → List Act → Type 0
+Each P acts = (act : Act) → In act acts → P act
+
+abbrev pub IsSettling : Act → Type 0
+IsSettling (Settles ticket) = Unit {0}
+IsSettling act = ⊥
+
+abbrev pub IsSending : Act → Type 0
+IsSending (Prepares slot ballot) = Unit {0}
+IsSending (Proposes slot vote) = Unit {0}
+IsSending (Asks id ticket) = Unit {0}
+IsSending (Abandons slot) = Unit {0}
+IsSending act = ⊥
+
+abbrev pub IsLateReply : Act → Type 0
+IsLateReply (Replies ticket id TooLate) = Unit {0}
+IsLateReply act = ⊥
+
+abbrev pub IsReply : Act → Type 0
+IsReply (Replies ticket id TooLate) = ⊥
+IsReply (Replies ticket id answer) = Unit {0}
+IsReply act = ⊥
+
+abbrev pub IsReport : Act → Type 0
+IsReport (Reports id chain) = Unit {0}
+IsReport act = ⊥
+
+-- the tickets that acts settle or answer
+abbrev pub tickets_in : List Act → List ℕ
+tickets_in [] = []
+tickets_in (Settles ticket ∷ older) = ticket ∷ tickets_in older
+tickets_in (Replies ticket id answer ∷ older) = ticket ∷ tickets_in older
+tickets_in (act ∷ older) = tickets_in older
+
+-- the messages for which acts prepare, and the tickets of which they ask
+abbrev pub prepared_in : List Act → List ℕ
+prepared_in [] = []
+prepared_in (Prepares slot ballot ∷ older) = slot.id ∷ prepared_in older
+prepared_in (act ∷ older) = prepared_in older
+
+abbrev pub asked_in : List Act → List ℕ
+asked_in [] = []
+asked_in (Asks id ticket ∷ older) = ticket ∷ asked_in older
+asked_in (act ∷ older) = asked_in older
+
+-- the newest stands first, so the numbers fall
+abbrev pub Fall : List ℕ → Type 0
+Fall [] = Unit {0}
+Fall (newest ∷ []) = Unit {0}
+Fall (newest ∷ older ∷ oldest) = (older < newest) × Fall (older ∷ oldest)
+
+-- ---- a step
+
+abbrev pub by_node : ℕ → List Act → List (ℕ × Act)
+by_node node acts = map (λ act. (node, act)) acts
+
+pub record IsStep (w : World) (node : ℕ) (input : Input) (acts : List Act) : Type 0 where
+  -- the input, what it settles, who waited too long, what is sent, who is answered, and which receipts go out
+  pub core : List Act
+  pub settles : List Act
+  pub late : List Act
+  pub sends : List Act
+  pub replies : List Act
+  pub reports : List Act
+  pub acts_are : acts ≡ reports ++ replies ++ sends ++ late ++ settles ++ core
+  -- each act may be done where it stands
+  pub run : IsRun w (by_node node acts)
+  pub core_is : IsCore (w.actors node) (w.records node) input core
+  -- a request is settled in the step in which a majority has told
+  pub settling : Each IsSettling settles
+  pub settled : (waiting : Waiting) → IsToSettle w.nodes node ((reached w (by_node node (settles ++ core))).actors node) waiting → ⊥
+  -- who waited too long is answered in a tick
+  pub lateness : Each IsLateReply late
+  pub in_time : (waiting : Waiting) → IsLate input ((reached w (by_node node (late ++ settles ++ core))).actors node) waiting → In waiting ((reached w (by_node node (late ++ settles ++ core))).actors node).waiting → ⊥
+  pub only_late : (ticket id : ℕ) → In (Replies ticket id TooLate) late → (waiting : Waiting) × IsLate input ((reached w (by_node node (settles ++ core))).actors node) waiting × (waiting.ticket ≡ ticket)
+  -- rounds and questions
+  pub sending : Each IsSending sends
+  pub sent : Sends w.nodes node (w.actors node) ((reached w (by_node node (late ++ settles ++ core))).actors node) ((reached w (by_node node core)).records node) input sends
+  -- each request is answered in the step in which its answer is due
+  pub replying : Each IsReply replies
+  pub answered : (waiting : Waiting) (answer : Answer) → IsDueReply w.nodes node input ((reached w (by_node node acts)).actors node) waiting answer → ⊥
+  -- and each receipt goes out in the step in which it is
+  pub reporting : Each IsReport reports
+  pub reported : (id : ℕ) (chain : List Decree) → In (Reports id chain) reports ↔ IsDueReport w.nodes node (w.actors node) ((reached w (by_node node core)).actors node) id chain
+  -- in the order of tickets and of messages
+  pub settle_order : Fall (tickets_in settles)
+  pub late_order : Fall (tickets_in late)
+  pub reply_order : Fall (tickets_in replies)
+  pub prepare_order : Fall (prepared_in sends)
+  pub ask_order : Fall (asked_in sends)
+
+-- ---- a run of steps, the newest first
+
+pub record Step : Type 0 where
+  pub node : ℕ
+  pub input : Input
+  pub acts : List Act
+
+abbrev pub acts_in : List Step → List (ℕ × Act)
+acts_in [] = []
+acts_in (newest ∷ older) = by_node newest.node newest.acts ++ acts_in older
+
+abbrev pub AreSteps : World → List Step → Type 0
+AreSteps first [] = Unit {0}
+AreSteps first (newest ∷ older) = IsStep (reached first (acts_in older)) newest.node newest.input newest.acts × AreSteps first older
