@@ -3,8 +3,10 @@
 ghost use Rattle.std.specs.Prelude.{◌≡◌, ◌∷◌, ◌++◌, ℕ, List};
 ghost use Rattle.mc_model.specs.Chain.{Final, Delivered};
 ghost use Rattle.mc_model.specs.OneSlot.{In};
-ghost use Rattle.mc_model.specs.World.{Deed, IsRun, reached, start};
-ghost use Rattle.mc_model.specs.Step.{Step, AreSteps, acts_in};
+ghost use Rattle.mc_model.specs.Acceptor.{Records};
+ghost use Rattle.mc_model.specs.Actor.{Actor};
+ghost use Rattle.mc_model.specs.World.{Act, Deed, IsRun, reached, start};
+ghost use Rattle.mc_model.specs.Step.{Input, IsExact, Step, AreSteps, acts_in};
 ghost use Rattle.mc_model.specs.Fate.{States, IsGrant, IsDelivery};
 
 /// For every list of steps in which packets are delivered, lost, repeated or reordered and nodes restart with their stable
@@ -30,4 +32,15 @@ pub fn headline()
 pub fn steps_are_runs()
     ensures { (nodes : ℕ) (serials : ℕ → ℕ) (steps : List Step) →
         AreSteps (start nodes serials) steps → IsRun (start nodes serials) (acts_in steps) }
+{}
+
+/// From one node and one input the replies and the receipts are decided: those of too long a wait, those by what the node
+/// knows, and the receipts.
+pub fn replies_are_decided()
+    ensures late { (nodes node : ℕ) (a : Actor) (records : Records) (input : Input) (acts others : List Act) →
+        (one : IsExact nodes node a records input acts) (other : IsExact nodes node a records input others) → one.late ≡ other.late }
+    ensures replies { (nodes node : ℕ) (a : Actor) (records : Records) (input : Input) (acts others : List Act) →
+        (one : IsExact nodes node a records input acts) (other : IsExact nodes node a records input others) → one.replies ≡ other.replies }
+    ensures reports { (nodes node : ℕ) (a : Actor) (records : Records) (input : Input) (acts others : List Act) →
+        (one : IsExact nodes node a records input acts) (other : IsExact nodes node a records input others) → one.reports ≡ other.reports }
 {}

@@ -16,3 +16,4 @@ pub mod Alone
 pub mod Stories
 pub mod Rounds
 pub mod Step
+pub mod Grant

@@ -15,7 +15,7 @@ use Rattle.mc_model.specs.Knowledge.{Knows, IsKnown, HasTold, IsSettled}
 use Rattle.mc_model.specs.Proposal.{IsCancelled}
 use Rattle.mc_model.specs.Replies.{Answer, TooLate, FitsRequest, id_in, name_of, longest_wait}
 use Rattle.mc_model.specs.Rounds.{IsRunning, RunsNone, MayPrepare, IsShownAt, IsAhead, IsFirstRule, Rule, GiveUp, IsPromised}
-use Rattle.mc_model.specs.World.{World, Act, Receives, Promises, Votes, Refuses, Tells, Prepares, Proposes, Begins, Asks, Settles, Replies, Reports, Grants, Answers, Abandons, Ticks, Stops, Restarts, after, reached, IsRun}
+use Rattle.mc_model.specs.World.{World, Act, Receives, Promises, Votes, Refuses, Tells, Prepares, Proposes, Begins, Asks, Settles, Replies, Reports, Grants, Answers, Abandons, Ticks, Stops, Restarts, IsWaiting, records_by, actor_by, reached, IsRun}
 
 -- What comes to a node. A request that a check of its fields refuses, or for which there is no room, is answered at once and is
 -- no input here: the crates that have those fields say which they are. So is a grant that is refused.
@@ -71,24 +71,30 @@ IsCancelRequest (Submit id message) = ⊥
 IsCancelRequest (Query id account source) = ⊥
 IsCancelRequest (Cancel id account source destination) = Unit {0}
 
--- a cancel_sm that waits, and that a majority has settled
-pub record IsToSettle (nodes node : ℕ) (a : Actor) (waiting : Waiting) : Type 0 where
+-- a cancel_sm that waits is to be settled: a majority has told
+pub record IsToSettle (nodes node : ℕ) (a : Actor) (ticket : ℕ) : Type 0 where
+  pub waiting : Waiting
   pub known : Option (List Decree)
   pub waits : In waiting a.waiting
+  pub ticket_is : waiting.ticket ≡ ticket
   pub cancel : IsCancelRequest waiting.request
-  pub open_yet : waiting.settled ≡ false
+  pub unsettled : waiting.settled ≡ false
   pub knows : IsKnown nodes a.received (id_in waiting.request) known
   pub settled : IsSettled nodes a.received (name_of node a waiting) known
 
--- in a tick it is also due where it waited too long
-abbrev pub IsLate : Input → Actor → Waiting → Type 0
-IsLate (Tick moment up) a waiting = waiting.since + longest_wait ≤ a.clock
-IsLate input a waiting = ⊥
+-- a request that waits is due to be answered by what its node knows
+pub record IsDueReply (nodes node : ℕ) (a : Actor) (ticket id : ℕ) (answer : Answer) : Type 0 where
+  pub asked : IsWaiting a id ticket
+  pub fits : FitsRequest nodes node a asked.waiting asked.waiting.request answer
 
--- a request that waits, and whose answer is due
-pub record IsDueReply (nodes node : ℕ) (input : Input) (a : Actor) (waiting : Waiting) (answer : Answer) : Type 0 where
-  pub waits : In waiting a.waiting
-  pub due : FitsRequest nodes node a waiting waiting.request answer ⊎ ((answer ≡ TooLate) × IsLate input a waiting)
+-- in a tick, because it waited too long
+pub record IsTooLate (a : Actor) (ticket id : ℕ) : Type 0 where
+  pub asked : IsWaiting a id ticket
+  pub late : asked.waiting.since + longest_wait ≤ a.clock
+
+abbrev pub IsLateIn : Input → Actor → ℕ → ℕ → Type 0
+IsLateIn (Tick moment up) a ticket id = IsTooLate a ticket id
+IsLateIn input a ticket id = ⊥
 
 -- a receipt was asked for on every final state, or on every one but DELIVERED (SMPP 3.4, 5.2.17)
 abbrev pub AsksReceipt : Final → Submission → Type 0
@@ -228,12 +234,12 @@ abbrev pub IsReport : Act → Type 0
 IsReport (Reports id chain) = Unit {0}
 IsReport act = ⊥
 
--- the tickets that acts settle or answer
-abbrev pub tickets_in : List Act → List ℕ
-tickets_in [] = []
-tickets_in (Settles ticket ∷ older) = ticket ∷ tickets_in older
-tickets_in (Replies ticket id answer ∷ older) = ticket ∷ tickets_in older
-tickets_in (act ∷ older) = tickets_in older
+-- the ticket or the message by which acts are ordered
+abbrev pub key_of : Act → ℕ
+key_of (Settles ticket) = ticket
+key_of (Replies ticket id answer) = ticket
+key_of (Reports id chain) = id
+key_of act = 0
 
 -- the messages for which acts prepare, and the tickets of which they ask
 abbrev pub prepared_in : List Act → List ℕ
@@ -254,11 +260,18 @@ Fall (newest ∷ older ∷ oldest) = (older < newest) × Fall (older ∷ oldest)
 
 -- ---- a step
 
-abbrev pub by_node : ℕ → List Act → List (ℕ × Act)
-by_node node acts = map (λ act. (node, act)) acts
+-- what an actor and its records become by acts
+abbrev pub did : ℕ → Actor → List Act → Actor
+did node a [] = a
+did node a (newest ∷ older) = actor_by node (did node a older) newest
 
-pub record IsStep (w : World) (node : ℕ) (input : Input) (acts : List Act) : Type 0 where
-  -- the input, what it settles, who waited too long, what is sent, who is answered, and which receipts go out
+abbrev pub saved : Records → List Act → Records
+saved records [] = records
+saved records (newest ∷ older) = records_by (saved records older) newest
+
+-- From an actor and its records: the input's own acts; what is settled then, and who waited too long; what is sent; who is answered,
+-- and which receipts go out. What is due is done, and nothing else, by ascending tickets and messages.
+pub record IsExact (nodes node : ℕ) (a : Actor) (records : Records) (input : Input) (acts : List Act) : Type 0 where
   pub core : List Act
   pub settles : List Act
   pub late : List Act
@@ -266,31 +279,31 @@ pub record IsStep (w : World) (node : ℕ) (input : Input) (acts : List Act) : T
   pub replies : List Act
   pub reports : List Act
   pub acts_are : acts ≡ reports ++ replies ++ sends ++ late ++ settles ++ core
-  -- each act may be done where it stands
-  pub run : IsRun w (by_node node acts)
-  pub core_is : IsCore (w.actors node) (w.records node) input core
-  -- a request is settled in the step in which a majority has told
+  pub core_is : IsCore a records input core
   pub settling : Each IsSettling settles
-  pub settled : (waiting : Waiting) → IsToSettle w.nodes node ((reached w (by_node node (settles ++ core))).actors node) waiting → ⊥
-  -- who waited too long is answered in a tick
+  pub settled : (ticket : ℕ) → In (Settles ticket) settles ↔ IsToSettle nodes node (did node a core) ticket
+  pub settle_order : Fall (map key_of settles)
   pub lateness : Each IsLateReply late
-  pub in_time : (waiting : Waiting) → IsLate input ((reached w (by_node node (late ++ settles ++ core))).actors node) waiting → In waiting ((reached w (by_node node (late ++ settles ++ core))).actors node).waiting → ⊥
-  pub only_late : (ticket id : ℕ) → In (Replies ticket id TooLate) late → (waiting : Waiting) × IsLate input ((reached w (by_node node (settles ++ core))).actors node) waiting × (waiting.ticket ≡ ticket)
-  -- rounds and questions
+  pub timely : (ticket id : ℕ) → In (Replies ticket id TooLate) late ↔ IsLateIn input (did node a (settles ++ core)) ticket id
+  pub late_order : Fall (map key_of late)
   pub sending : Each IsSending sends
-  pub sent : Sends w.nodes node (w.actors node) ((reached w (by_node node (late ++ settles ++ core))).actors node) ((reached w (by_node node core)).records node) input sends
-  -- each request is answered in the step in which its answer is due
-  pub replying : Each IsReply replies
-  pub answered : (waiting : Waiting) (answer : Answer) → IsDueReply w.nodes node input ((reached w (by_node node acts)).actors node) waiting answer → ⊥
-  -- and each receipt goes out in the step in which it is
-  pub reporting : Each IsReport reports
-  pub reported : (id : ℕ) (chain : List Decree) → In (Reports id chain) reports ↔ IsDueReport w.nodes node (w.actors node) ((reached w (by_node node core)).actors node) id chain
-  -- in the order of tickets and of messages
-  pub settle_order : Fall (tickets_in settles)
-  pub late_order : Fall (tickets_in late)
-  pub reply_order : Fall (tickets_in replies)
+  pub sent : Sends nodes node a (did node a (late ++ settles ++ core)) (saved records core) input sends
   pub prepare_order : Fall (prepared_in sends)
   pub ask_order : Fall (asked_in sends)
+  pub replying : Each IsReply replies
+  pub answered : (ticket id : ℕ) (answer : Answer) → In (Replies ticket id answer) replies ↔ IsDueReply nodes node (did node a (late ++ settles ++ core)) ticket id answer
+  pub reply_order : Fall (map key_of replies)
+  pub reporting : Each IsReport reports
+  pub reported : (id : ℕ) (chain : List Decree) → In (Reports id chain) reports ↔ IsDueReport nodes node a (did node a core) id chain
+  pub report_order : Fall (map key_of reports)
+
+abbrev pub by_node : ℕ → List Act → List (ℕ × Act)
+by_node node acts = map (λ act. (node, act)) acts
+
+-- in a cluster each act may be done where it stands
+pub record IsStep (w : World) (node : ℕ) (input : Input) (acts : List Act) : Type 0 where
+  pub run : IsRun w (by_node node acts)
+  pub exact : IsExact w.nodes node (w.actors node) (w.records node) input acts
 
 -- ---- a run of steps, the newest first
 

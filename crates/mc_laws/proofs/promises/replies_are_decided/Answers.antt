@@ -1,0 +1,11 @@
+use Rattle.mc_laws.proofs.Decided.{late_once, replies_once, reports_once}
+use Rattle.mc_laws.proofs.promises.replies_are_decided.Goals as goal
+
+pub returns-clause-late : goal.returns-clause-late
+returns-clause-late c = late_once
+
+pub returns-clause-replies : goal.returns-clause-replies
+returns-clause-replies c = replies_once
+
+pub returns-clause-reports : goal.returns-clause-reports
+returns-clause-reports c = reports_once
