@@ -17,3 +17,4 @@ pub mod Delivery
 pub mod Deletions
 pub mod Behind
 pub mod Decided
+pub mod FirstStep

@@ -76,3 +76,7 @@ one_node = start 1 (λ node. 1)
 pub record MayBeTried (message : Submission) : Type 0 where
   pub scheduled : message.schedule ≤ opening_clock
   pub valid : opening_clock < message.expiry
+
+-- the first step of a node: a submit_sm comes, and a round for its message is started
+abbrev pub first_step : Submission → List Act
+first_step message = Prepares (slot_of first_id (taken_chain message)) first_ballot ∷ Begins 1 (Submit first_id message) ∷ []
