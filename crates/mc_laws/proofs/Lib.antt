@@ -16,3 +16,4 @@ pub mod Rounds
 pub mod Delivery
 pub mod Deletions
 pub mod Behind
+pub mod Restarts

@@ -2,13 +2,21 @@
 
 ghost use Rattle.mc_model.specs.Chain.{Submission, Delivered};
 ghost use Rattle.mc_model.specs.OneSlot.{In};
-ghost use Rattle.mc_model.specs.World.{IsRun, reached};
+ghost use Rattle.mc_model.specs.World.{IsChosenIn, IsRun, reached};
 ghost use Rattle.mc_model.specs.Fate.{States};
-ghost use Rattle.mc_model.specs.Stories.{MayBeTried, delivery_story, first_id, last_deed, one_node};
+ghost use Rattle.mc_model.specs.Stories.{MayBeTried, accepting_deed, delivery_story, first_id, last_deed, one_node, restart_story, taken_slot, taken_vote, three_nodes, until_anew};
 
 /// A cluster of one node takes a message, attempts it, is answered, and states that it is DELIVERED.
 pub fn a_message_is_delivered()
     ensures run { (message : Submission) → MayBeTried message → IsRun one_node (delivery_story message) }
     ensures told { (message : Submission) → In (last_deed message) (reached one_node (delivery_story message)).past }
     ensures stated { (message : Submission) → States (last_deed message) first_id Delivered }
+{}
+
+/// A node of three stops between the save of its vote and its answer, and starts anew. Its vote counts: with that of one other
+/// node the chain is chosen. It is asked again and votes again, and the submit_sm is answered.
+pub fn a_node_stops_after_a_save()
+    ensures run { (message : Submission) → MayBeTried message → IsRun three_nodes (restart_story message) }
+    ensures chosen { (message : Submission) → IsChosenIn (reached three_nodes (until_anew message)) taken_slot (taken_vote message) }
+    ensures answered { (message : Submission) → In accepting_deed (reached three_nodes (restart_story message)).past }
 {}
