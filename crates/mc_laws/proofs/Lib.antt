@@ -18,3 +18,4 @@ pub mod Deletions
 pub mod Behind
 pub mod Decided
 pub mod FirstStep
+pub mod Restarts

@@ -2,12 +2,13 @@
 
 ghost use Rattle.mc_model.specs.Chain.{Submission, Delivered};
 ghost use Rattle.mc_model.specs.OneSlot.{In};
-ghost use Rattle.mc_model.specs.World.{IsRun, reached};
+ghost use Rattle.mc_model.specs.World.{IsChosenIn, IsRun, reached};
 ghost use Rattle.mc_model.specs.Fate.{States};
 ghost use Rattle.mc_model.specs.Acceptor.{blank};
 ghost use Rattle.mc_model.specs.Actor.{Submit, opened};
+ghost use Rattle.mc_model.specs.Knowledge.{KnowsNothing};
 ghost use Rattle.mc_model.specs.Step.{Arrival, IsExact};
-ghost use Rattle.mc_model.specs.Stories.{MayBeTried, delivery_story, first_id, first_step, last_deed, one_node};
+ghost use Rattle.mc_model.specs.Stories.{MayBeTried, accepting_deed, delivery_story, first_id, first_step, last_deed, one_node, restart_story, taken_slot, taken_vote, three_nodes, until_anew};
 
 /// A cluster of one node takes a message, attempts it, is answered, and states that it is DELIVERED.
 pub fn a_message_is_delivered()
@@ -20,4 +21,13 @@ pub fn a_message_is_delivered()
 /// started at the first ballot.
 pub fn a_submit_starts_a_round()
     ensures { (message : Submission) → IsExact 1 1 (opened 1 1) (λ slot. blank) (Arrival (Submit first_id message)) (first_step message) }
+{}
+
+/// A node of three stops between the save of its vote and its answer, and starts anew. Its vote counts: with that of one other
+/// node the chain is chosen, though nobody knows it yet. It is asked again and votes again, and the submit_sm is answered.
+pub fn a_node_stops_after_a_save()
+    ensures run { (message : Submission) → MayBeTried message → IsRun three_nodes (restart_story message) }
+    ensures chosen { (message : Submission) → IsChosenIn (reached three_nodes (until_anew message)) taken_slot (taken_vote message) }
+    ensures unknown { (message : Submission) → KnowsNothing 3 ((reached three_nodes (until_anew message)).actors 1).received first_id }
+    ensures answered { (message : Submission) → In accepting_deed (reached three_nodes (restart_story message)).past }
 {}

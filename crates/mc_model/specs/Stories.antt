@@ -1,11 +1,12 @@
--- What may happen: a cluster of one node takes a message, delivers it and says so.
-use Rattle.std.specs.Prelude.{ℕ, ◌<◌, ◌≤◌, List, [], ◌∷◌, ◌++◌, map, None, true}
+-- What may happen: a cluster of one node takes a message, delivers it and says so; and a node of three stops between a save
+-- and its answer.
+use Rattle.std.specs.Prelude.{ℕ, ◌<◌, ◌≤◌, List, [], ◌∷◌, ◌++◌, map, None, true, false}
 use Rattle.mc_model.specs.Chain.{Submission, Decree, Kind, Taken, Attempt, Fate, Delivered}
 use Rattle.mc_model.specs.OneSlot.{Vote, vote_at}
-use Rattle.mc_model.specs.Packet.{Slot, slot_of, Prepare, Promise, Propose, Voted}
+use Rattle.mc_model.specs.Packet.{Slot, slot_at, slot_of, Prepare, Promise, Propose, Voted}
 use Rattle.mc_model.specs.Actor.{Submit, Concluded, opening_clock}
 use Rattle.mc_model.specs.Replies.{Accepted}
-use Rattle.mc_model.specs.World.{World, Deed, start, Act, Receives, Promises, Votes, Prepares, Proposes, Begins, Replies, Reports, Grants, Answers}
+use Rattle.mc_model.specs.World.{World, Deed, start, Act, Receives, Promises, Votes, Prepares, Proposes, Begins, Replies, Reports, Grants, Answers, Stops, Restarts}
 
 -- the first message of node 1 in its first incarnation
 abbrev pub first_id : ℕ
@@ -80,3 +81,60 @@ pub record MayBeTried (message : Submission) : Type 0 where
 -- the first step of a node: a submit_sm comes, and a round for its message is started
 abbrev pub first_step : Submission → List Act
 first_step message = Prepares (slot_of first_id (taken_chain message)) first_ballot ∷ Begins 1 (Submit first_id message) ∷ []
+
+-- ---- a node stops between a save and its answer
+
+-- the slot in which the first message is taken, and the vote for that
+abbrev pub taken_slot : Slot
+taken_slot = slot_at first_id 0
+
+abbrev pub taken_vote : Submission → Vote
+taken_vote message = vote_at first_ballot (taken_chain message)
+
+-- The submit_sm comes to node 1, and nodes 1 and 2 promise it its first ballot.
+abbrev pub until_promised : Submission → List (ℕ × Act)
+until_promised message =
+    (1, Receives (Promise 2 taken_slot first_ballot None))
+    ∷ (1, Receives (Promise 1 taken_slot first_ballot None))
+    ∷ (2, Promises taken_slot first_ballot true)
+    ∷ (2, Receives (Prepare 1 taken_slot first_ballot))
+    ∷ (1, Promises taken_slot first_ballot true)
+    ∷ (1, Receives (Prepare 1 taken_slot first_ballot))
+    ∷ (1, Prepares taken_slot first_ballot)
+    ∷ (1, Begins 1 (Submit first_id message))
+    ∷ []
+
+-- Node 1 proposes that the message is taken; node 2 saves its vote, and stops before it has told of it.
+abbrev pub until_stopped : Submission → List (ℕ × Act)
+until_stopped message =
+    (2, Stops)
+    ∷ (2, Votes taken_slot (taken_vote message) false)
+    ∷ (2, Receives (Propose 1 taken_slot (taken_vote message)))
+    ∷ (1, Proposes taken_slot (taken_vote message))
+    ∷ until_promised message
+
+-- Node 2 starts anew, and node 1 votes and hears of its own vote alone.
+abbrev pub until_anew : Submission → List (ℕ × Act)
+until_anew message =
+    (1, Receives (Voted 1 taken_slot (taken_vote message)))
+    ∷ (1, Votes taken_slot (taken_vote message) true)
+    ∷ (1, Receives (Propose 1 taken_slot (taken_vote message)))
+    ∷ (2, Restarts 1)
+    ∷ until_stopped message
+
+-- The Propose comes to node 2 again, which votes again; node 1 hears of it and answers the submit_sm.
+abbrev pub restart_story : Submission → List (ℕ × Act)
+restart_story message =
+    (1, Replies 1 first_id Accepted)
+    ∷ (1, Receives (Voted 2 taken_slot (taken_vote message)))
+    ∷ (2, Votes taken_slot (taken_vote message) true)
+    ∷ (2, Receives (Propose 1 taken_slot (taken_vote message)))
+    ∷ until_anew message
+
+-- the deed with which it ends
+abbrev pub accepting_deed : Deed
+accepting_deed = record { node = 1; incarnation = 1; act = Replies 1 first_id Accepted }
+
+-- a cluster of three nodes, each of which counts its messages from 1
+abbrev pub three_nodes : World
+three_nodes = start 3 (λ node. 1)
