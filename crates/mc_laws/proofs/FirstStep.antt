@@ -11,7 +11,7 @@ use Rattle.mc_model.specs.Knowledge.{IsLearned, Knows}
 use Rattle.mc_model.specs.Replies.{Answer, Accepted, Shown, Removed, Kept, NotOwner, NotMatched, Unknown, TooLate, FitsRequest}
 use Rattle.mc_model.specs.Rounds.{HasSeen, IsNextBallot, IsRunning, MayPrepare}
 use Rattle.mc_model.specs.World.{Act, Prepares, Begins, Settles, Replies, Reports, Asks, Proposes, IsWaiting}
-use Rattle.mc_model.specs.Step.{Input, Arrival, Causes, IsToSettle, IsDueReply, IsDueReport, IsCancelRequest, IsSending, SendsElse, did, saved, IsExact}
+use Rattle.mc_model.specs.Step.{Input, Arrival, Causes, IsToSettle, IsDueReply, IsDueReport, IsCancelRequest, IsOfRound, SendsElse, did, saved, IsExact}
 use Rattle.mc_model.specs.Stories.{first_id, first_ballot, taken_chain, first_step}
 use Rattle.mc_laws.proofs.Rounds.{one_of_one}
 
@@ -89,10 +89,10 @@ prepared_only message slot ballot (inl same) =
     let ballots : ballot ≡ first_ballot = cc in
     subst (λ (s : Slot). Causes 1 1 new_node (asked message) (Arrival (Submit first_id message)) s.id s.place × MayPrepare 1 1 (asked message) no_records s ballot) (sym slots) (subst (λ (b : ℕ). Causes 1 1 new_node (asked message) (Arrival (Submit first_id message)) first_id 0 × MayPrepare 1 1 (asked message) no_records (slot_of first_id (taken_chain message)) b) (sym ballots) (inl (refl, refl), may_prepare message (slot_of first_id (taken_chain message))))
 
-sends : (message : Submission) → SendsElse 1 1 new_node (asked message) no_records (Arrival (Submit first_id message)) (Prepares (slot_of first_id (taken_chain message)) first_ballot ∷ [])
+sends : (message : Submission) → SendsElse 1 1 new_node (asked message) no_records (Arrival (Submit first_id message)) [] (Prepares (slot_of first_id (taken_chain message)) first_ballot ∷ [])
 sends message = record {
   prepares = λ slot ballot. (prepared_only message slot ballot, λ due. inl (λ i. Prepares (only_cause message slot.id slot.place due.0 i) (only_ballot message slot ballot due.1 i)));
-  asks = λ id ticket. (λ is_in. elim is_in [ inl same ↦ cc | inr none ↦ absurd none ], λ due. absurd due);
+  questions = λ id ticket. (λ is_in. absurd is_in, λ due. absurd due);
   abandons = λ slot is_in. elim is_in [ inl same ↦ cc | inr none ↦ absurd none ];
   proposes = λ slot vote is_in. elim is_in [ inl same ↦ cc | inr none ↦ absurd none ];
   completes = λ slot ballot done. absurd (one_of_one _ done.promised).1;
@@ -103,7 +103,8 @@ first_exact message = record {
   core = Begins 1 (Submit first_id message) ∷ [];
   settles = [];
   late = [];
-  sends = Prepares (slot_of first_id (taken_chain message)) first_ballot ∷ [];
+  asks = [];
+  rounds = Prepares (slot_of first_id (taken_chain message)) first_ballot ∷ [];
   replies = [];
   reports = [];
   acts_are = refl;
@@ -114,10 +115,11 @@ first_exact message = record {
   lateness = λ act is_in. absurd is_in;
   timely = λ ticket id. (λ is_in. absurd is_in, λ due. absurd due);
   late_order = tt;
-  sending = λ act is_in. elim is_in [ inl same ↦ subst (λ (x : Act). IsSending x) (sym same) tt | inr none ↦ absurd none ];
+  asking = λ act is_in. absurd is_in;
+  proposing = λ act is_in. elim is_in [ inl same ↦ subst (λ (x : Act). IsOfRound x) (sym same) tt | inr none ↦ absurd none ];
   sent = sends message;
-  prepare_order = tt;
   ask_order = tt;
+  round_order = tt;
   replying = λ act is_in. absurd is_in;
   answered = λ ticket id answer. (λ is_in. absurd is_in, λ due. absurd (nothing_due message ticket id answer due));
   reply_order = tt;

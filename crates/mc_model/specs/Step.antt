@@ -188,22 +188,22 @@ pub record IsUntold (nodes node : ℕ) (a : Actor) (id ticket : ℕ) : Type 0 wh
 
 -- From the node as it was before and as it is once the input and what it settles are done: exactly these rounds, questions and
 -- proposals go out, and exactly these attempts are given up.
-pub record SendsInTick (nodes node : ℕ) (a : Actor) (records : Records) (up : List ℕ → Bool) (acts : List Act) : Type 0 where
-  pub prepares : (slot : Slot) (ballot : ℕ) → In (Prepares slot ballot) acts ↔ ((rule : Rule) × IsFirstRule nodes node a records up slot.id slot.place rule × MayPrepare nodes node a records slot ballot)
-  pub asks : (id ticket : ℕ) → In (Asks id ticket) acts ↔ IsUntold nodes node a id ticket
-  pub abandons : (slot : Slot) → In (Abandons slot) acts ↔ IsFirstRule nodes node a records up slot.id (suc slot.place) GiveUp
-  pub proposes : (slot : Slot) (vote : Vote) → In (Proposes slot vote) acts → ⊥
+pub record SendsInTick (nodes node : ℕ) (a : Actor) (records : Records) (up : List ℕ → Bool) (asks rounds : List Act) : Type 0 where
+  pub prepares : (slot : Slot) (ballot : ℕ) → In (Prepares slot ballot) rounds ↔ ((rule : Rule) × IsFirstRule nodes node a records up slot.id slot.place rule × MayPrepare nodes node a records slot ballot)
+  pub questions : (id ticket : ℕ) → In (Asks id ticket) asks ↔ IsUntold nodes node a id ticket
+  pub abandons : (slot : Slot) → In (Abandons slot) rounds ↔ IsFirstRule nodes node a records up slot.id (suc slot.place) GiveUp
+  pub proposes : (slot : Slot) (vote : Vote) → In (Proposes slot vote) rounds → ⊥
 
-pub record SendsElse (nodes node : ℕ) (before a : Actor) (records : Records) (input : Input) (acts : List Act) : Type 0 where
-  pub prepares : (slot : Slot) (ballot : ℕ) → In (Prepares slot ballot) acts ↔ (Causes nodes node before a input slot.id slot.place × MayPrepare nodes node a records slot ballot)
-  pub asks : (id ticket : ℕ) → In (Asks id ticket) acts ↔ IsAsking before input id ticket
-  pub abandons : (slot : Slot) → In (Abandons slot) acts → ⊥
-  pub proposes : (slot : Slot) (vote : Vote) → In (Proposes slot vote) acts → IsCompleted nodes node before a slot vote.ballot
-  pub completes : (slot : Slot) (ballot : ℕ) → IsCompleted nodes node before a slot ballot → HasProposed acts slot ballot
+pub record SendsElse (nodes node : ℕ) (before a : Actor) (records : Records) (input : Input) (asks rounds : List Act) : Type 0 where
+  pub prepares : (slot : Slot) (ballot : ℕ) → In (Prepares slot ballot) rounds ↔ (Causes nodes node before a input slot.id slot.place × MayPrepare nodes node a records slot ballot)
+  pub questions : (id ticket : ℕ) → In (Asks id ticket) asks ↔ IsAsking before input id ticket
+  pub abandons : (slot : Slot) → In (Abandons slot) rounds → ⊥
+  pub proposes : (slot : Slot) (vote : Vote) → In (Proposes slot vote) rounds → IsCompleted nodes node before a slot vote.ballot
+  pub completes : (slot : Slot) (ballot : ℕ) → IsCompleted nodes node before a slot ballot → HasProposed rounds slot ballot
 
-abbrev pub Sends : ℕ → ℕ → Actor → Actor → Records → Input → List Act → Type 0
-Sends nodes node before a records (Tick moment up) acts = SendsInTick nodes node a records up acts
-Sends nodes node before a records input acts = SendsElse nodes node before a records input acts
+abbrev pub Sends : ℕ → ℕ → Actor → Actor → Records → Input → List Act → List Act → Type 0
+Sends nodes node before a records (Tick moment up) asks rounds = SendsInTick nodes node a records up asks rounds
+Sends nodes node before a records input asks rounds = SendsElse nodes node before a records input asks rounds
 
 -- ---- the kinds and the order of acts
 
@@ -214,12 +214,15 @@ abbrev pub IsSettling : Act → Type 0
 IsSettling (Settles ticket) = Unit {0}
 IsSettling act = ⊥
 
-abbrev pub IsSending : Act → Type 0
-IsSending (Prepares slot ballot) = Unit {0}
-IsSending (Proposes slot vote) = Unit {0}
-IsSending (Asks id ticket) = Unit {0}
-IsSending (Abandons slot) = Unit {0}
-IsSending act = ⊥
+abbrev pub IsQuestion : Act → Type 0
+IsQuestion (Asks id ticket) = Unit {0}
+IsQuestion act = ⊥
+
+abbrev pub IsOfRound : Act → Type 0
+IsOfRound (Prepares slot ballot) = Unit {0}
+IsOfRound (Proposes slot vote) = Unit {0}
+IsOfRound (Abandons slot) = Unit {0}
+IsOfRound act = ⊥
 
 abbrev pub IsLateReply : Act → Type 0
 IsLateReply (Replies ticket id TooLate) = Unit {0}
@@ -234,23 +237,19 @@ abbrev pub IsReport : Act → Type 0
 IsReport (Reports id chain) = Unit {0}
 IsReport act = ⊥
 
--- the ticket or the message by which acts are ordered
+-- the ticket, or the message, by which acts are ordered
 abbrev pub key_of : Act → ℕ
 key_of (Settles ticket) = ticket
 key_of (Replies ticket id answer) = ticket
 key_of (Reports id chain) = id
+key_of (Asks id ticket) = ticket
 key_of act = 0
 
--- the messages for which acts prepare, and the tickets of which they ask
+-- the messages for which acts prepare
 abbrev pub prepared_in : List Act → List ℕ
 prepared_in [] = []
 prepared_in (Prepares slot ballot ∷ older) = slot.id ∷ prepared_in older
 prepared_in (act ∷ older) = prepared_in older
-
-abbrev pub asked_in : List Act → List ℕ
-asked_in [] = []
-asked_in (Asks id ticket ∷ older) = ticket ∷ asked_in older
-asked_in (act ∷ older) = asked_in older
 
 -- the newest stands first, so the numbers fall
 abbrev pub Fall : List ℕ → Type 0
@@ -269,16 +268,17 @@ abbrev pub saved : Records → List Act → Records
 saved records [] = records
 saved records (newest ∷ older) = records_by (saved records older) newest
 
--- From an actor and its records: the input's own acts; what is settled then, and who waited too long; what is sent; who is answered,
--- and which receipts go out. What is due is done, and nothing else, by ascending tickets and messages.
+-- From an actor and its records: the input's own acts; what is settled then, and who waited too long; what is asked, and which
+-- rounds go on; who is answered, and which receipts go out. What is due is done, and nothing else, by ascending tickets and messages.
 pub record IsExact (nodes node : ℕ) (a : Actor) (records : Records) (input : Input) (acts : List Act) : Type 0 where
   pub core : List Act
   pub settles : List Act
   pub late : List Act
-  pub sends : List Act
+  pub asks : List Act
+  pub rounds : List Act
   pub replies : List Act
   pub reports : List Act
-  pub acts_are : acts ≡ reports ++ replies ++ sends ++ late ++ settles ++ core
+  pub acts_are : acts ≡ reports ++ replies ++ rounds ++ asks ++ late ++ settles ++ core
   pub core_is : IsCore a records input core
   pub settling : Each IsSettling settles
   pub settled : (ticket : ℕ) → In (Settles ticket) settles ↔ IsToSettle nodes node (did node a core) ticket
@@ -286,10 +286,11 @@ pub record IsExact (nodes node : ℕ) (a : Actor) (records : Records) (input : I
   pub lateness : Each IsLateReply late
   pub timely : (ticket id : ℕ) → In (Replies ticket id TooLate) late ↔ IsLateIn input (did node a (settles ++ core)) ticket id
   pub late_order : Fall (map key_of late)
-  pub sending : Each IsSending sends
-  pub sent : Sends nodes node a (did node a (late ++ settles ++ core)) (saved records core) input sends
-  pub prepare_order : Fall (prepared_in sends)
-  pub ask_order : Fall (asked_in sends)
+  pub asking : Each IsQuestion asks
+  pub proposing : Each IsOfRound rounds
+  pub sent : Sends nodes node a (did node a (late ++ settles ++ core)) (saved records core) input asks rounds
+  pub ask_order : Fall (map key_of asks)
+  pub round_order : Fall (prepared_in rounds)
   pub replying : Each IsReply replies
   pub answered : (ticket id : ℕ) (answer : Answer) → In (Replies ticket id answer) replies ↔ IsDueReply nodes node (did node a (late ++ settles ++ core)) ticket id answer
   pub reply_order : Fall (map key_of replies)
