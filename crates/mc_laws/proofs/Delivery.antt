@@ -37,7 +37,7 @@ in_whole : (packet : Packet) (newer older packets : List Packet) → packets ≡
 in_whole packet newer older packets is is_in = subst (λ (ps : List Packet). In packet ps) (sym is) (in_right packet newer older is_in)
 
 -- so node 1 knows the chain of the highest place
-knows : (received : List Packet) (chain : List Decree) → VotesWithin (pred (length chain)) (slot_of first_id chain) (vote_at first_ballot chain) received → In (Voted 1 (slot_of first_id chain) (vote_at first_ballot chain)) received → Knows 1 received first_id chain
+pub knows : (received : List Packet) (chain : List Decree) → VotesWithin (pred (length chain)) (slot_of first_id chain) (vote_at first_ballot chain) received → In (Voted 1 (slot_of first_id chain) (vote_at first_ballot chain)) received → Knows 1 received first_id chain
 knows received chain are is_in = record {
   ballot = first_ballot;
   learned = all_of_one 1 _ refl is_in;
@@ -54,13 +54,13 @@ apart m n slot other vote voted places same = let slots : slot ≡ other = cc in
 
 -- ---- the story, part by part
 
-abbrev begun : Submission → World
+abbrev pub begun : Submission → World
 begun message = after one_node 1 (Begins 1 (Submit first_id message))
 
 abbrev taken : Submission → World
 taken message = reached (begun message) (map by_node_1 (round_for (taken_chain message)))
 
-abbrev accepted : Submission → World
+abbrev pub accepted : Submission → World
 accepted message = after (taken message) 1 (Replies 1 first_id Accepted)
 
 abbrev attempted : Submission → World
@@ -69,7 +69,7 @@ attempted message = reached (accepted message) (map by_node_1 (round_for (attemp
 abbrev granted : Submission → World
 granted message = after (attempted message) 1 (Grants (slot_of first_id (attempted_chain message)))
 
-abbrev answered : Submission → World
+abbrev pub answered : Submission → World
 answered message = after (granted message) 1 (Answers (slot_of first_id (attempted_chain message)) (Concluded Delivered 0))
 
 abbrev delivered : Submission → World

@@ -19,3 +19,4 @@ pub mod Behind
 pub mod Decided
 pub mod FirstStep
 pub mod Restarts
+pub mod Questions

@@ -8,7 +8,7 @@ ghost use Rattle.mc_model.specs.Acceptor.{blank};
 ghost use Rattle.mc_model.specs.Actor.{Submit, opened};
 ghost use Rattle.mc_model.specs.Knowledge.{KnowsNothing};
 ghost use Rattle.mc_model.specs.Step.{Arrival, IsExact};
-ghost use Rattle.mc_model.specs.Stories.{MayBeTried, accepting_deed, delivery_story, first_id, first_step, last_deed, one_node, restart_story, taken_slot, taken_vote, three_nodes, until_anew};
+ghost use Rattle.mc_model.specs.Stories.{MayBeTried, accepting_deed, delivery_story, first_id, first_step, last_deed, one_node, query_story, restart_story, showing_deed, taken_slot, taken_vote, three_nodes, until_anew};
 
 /// A cluster of one node takes a message, attempts it, is answered, and states that it is DELIVERED.
 pub fn a_message_is_delivered()
@@ -30,4 +30,12 @@ pub fn a_node_stops_after_a_save()
     ensures chosen { (message : Submission) → IsChosenIn (reached three_nodes (until_anew message)) taken_slot (taken_vote message) }
     ensures unknown { (message : Submission) → KnowsNothing 3 ((reached three_nodes (until_anew message)).actors 1).received first_id }
     ensures answered { (message : Submission) → In accepting_deed (reached three_nodes (restart_story message)).past }
+{}
+
+/// A query_sm of the submitter comes once the message is delivered. The node asks how far the chain has come, a majority tells
+/// it, and the query_sm_resp states DELIVERED.
+pub fn a_query_is_answered()
+    ensures run { (message : Submission) → MayBeTried message → IsRun one_node (query_story message) }
+    ensures answered { (message : Submission) → In (showing_deed message) (reached one_node (query_story message)).past }
+    ensures stated { (message : Submission) → States (showing_deed message) first_id Delivered }
 {}

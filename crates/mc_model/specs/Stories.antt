@@ -1,12 +1,12 @@
--- What may happen: a cluster of one node takes a message, delivers it and says so; and a node of three stops between a save
--- and its answer.
-use Rattle.std.specs.Prelude.{ℕ, ◌<◌, ◌≤◌, List, [], ◌∷◌, ◌++◌, map, None, true, false}
+-- What may happen: a cluster of one node takes a message, delivers it and says so; it answers a query_sm; and a node of three
+-- stops between a save and its answer.
+use Rattle.std.specs.Prelude.{ℕ, ◌<◌, ◌≤◌, List, [], ◌∷◌, ◌++◌, length, map, pred, Some, None, true, false}
 use Rattle.mc_model.specs.Chain.{Submission, Decree, Kind, Taken, Attempt, Fate, Delivered}
 use Rattle.mc_model.specs.OneSlot.{Vote, vote_at}
-use Rattle.mc_model.specs.Packet.{Slot, slot_at, slot_of, Prepare, Promise, Propose, Voted}
-use Rattle.mc_model.specs.Actor.{Submit, Concluded, opening_clock}
-use Rattle.mc_model.specs.Replies.{Accepted}
-use Rattle.mc_model.specs.World.{World, Deed, start, Act, Receives, Promises, Votes, Prepares, Proposes, Begins, Replies, Reports, Grants, Answers, Stops, Restarts}
+use Rattle.mc_model.specs.Packet.{Slot, slot_at, slot_of, Name, Told, Prepare, Promise, Propose, Voted, Ask, Tell}
+use Rattle.mc_model.specs.Actor.{Submit, Query, Concluded, opening_clock}
+use Rattle.mc_model.specs.Replies.{Accepted, Shown}
+use Rattle.mc_model.specs.World.{World, Deed, start, Act, Receives, Promises, Votes, Tells, Prepares, Proposes, Begins, Asks, Replies, Reports, Grants, Answers, Stops, Restarts}
 
 -- the first message of node 1 in its first incarnation
 abbrev pub first_id : ℕ
@@ -138,3 +138,37 @@ accepting_deed = record { node = 1; incarnation = 1; act = Replies 1 first_id Ac
 -- a cluster of three nodes, each of which counts its messages from 1
 abbrev pub three_nodes : World
 three_nodes = start 3 (λ node. 1)
+
+-- ---- a query_sm is answered
+
+-- the name of the questions of the second request
+abbrev pub asking : Name
+asking = record { node = 1; incarnation = 1; ticket = 2 }
+
+-- what the node tells where the chain is all that it voted for
+abbrev pub told_of : List Decree → Told
+told_of chain = record { place = pred (length chain); vote = vote_at first_ballot chain }
+
+-- The node alone asks itself how far the message's chain has come, and hears it.
+abbrev pub question_for : List Decree → List Act
+question_for chain =
+    Receives (Tell 1 asking (Some (told_of chain)))
+    ∷ Tells first_id asking (Some (told_of chain))
+    ∷ Receives (Ask 1 first_id asking)
+    ∷ Asks first_id 2
+    ∷ []
+
+-- Once the message is delivered a query_sm of its submitter comes, the question is asked, and DELIVERED is shown.
+abbrev pub query_acts : Submission → List Act
+query_acts message =
+    Replies 2 first_id (Shown (delivered_chain message))
+    ∷ question_for (delivered_chain message)
+    ++ Begins 2 (Query first_id message.submitter message.source.digits)
+    ∷ delivery_acts message
+
+abbrev pub query_story : Submission → List (ℕ × Act)
+query_story message = map by_node_1 (query_acts message)
+
+-- the deed with which it ends
+abbrev pub showing_deed : Submission → Deed
+showing_deed message = record { node = 1; incarnation = 1; act = Replies 2 first_id (Shown (delivered_chain message)) }

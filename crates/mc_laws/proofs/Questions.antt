@@ -1,0 +1,119 @@
+-- The stories of a query_sm and of a cancel_sm are runs.
+use Rattle.std.proofs.Common.{◌≡◌, ℕ, ◌≤◌, Bool, true, false, List, [], ◌∷◌, ◌++◌, pred, length, map, Option, Some, None, refl, sym, ap, subst, inl, inr, arith}
+use Rattle.std.specs.Prelude.{if◌then◌else◌}
+use Rattle.mc_model.specs.Chain.{Submission, Decree}
+use Rattle.mc_model.specs.OneSlot.{Vote, vote_at, In}
+use Rattle.mc_model.specs.Packet.{Slot, slot_at, slot_of, same_slot, Packet, Prepare, Promise, Propose, Voted, Refused, Name, Told, Ask, Tell}
+use Rattle.mc_model.specs.Acceptor.{Record, Records, blank, with_record, after_promise, after_vote, IsTop}
+use Rattle.mc_model.specs.Actor.{Request, Query, Waiting, opening_clock}
+use Rattle.mc_model.specs.Replies.{Shown}
+use Rattle.mc_model.specs.Knowledge.{Knows, HasTold, IsReached, IsSettled}
+use Rattle.mc_model.specs.World.{World, Act, Receives, Tells, Begins, Asks, Replies, May, reached, IsRun}
+use Rattle.mc_model.specs.Stories.{first_id, first_ballot, taken_chain, attempted_chain, delivered_chain, round_for, delivery_story, asking, told_of, question_for, query_story, by_node_1, one_node, MayBeTried}
+use Rattle.mc_laws.proofs.Membership.{slots_same}
+use Rattle.mc_laws.proofs.Rounds.{all_of_one}
+use Rattle.mc_laws.proofs.Delivery.{begun, accepted, answered, knows, delivery_run}
+
+-- ---- what is told by the records
+
+-- no vote for the message stands above a place
+abbrev NoneAbove : ℕ → Records → Type 0
+NoneAbove bound records = (place : ℕ) (vote : Vote) → (records (slot_at first_id place)).vote ≡ Some vote → place ≤ bound
+
+none_in_blank : (bound : ℕ) → NoneAbove bound (λ slot. blank)
+none_in_blank bound place vote is = absurd cc
+
+none_with : (bound : ℕ) (records : Records) (slot : Slot) (new : Record) → slot.place ≤ bound → NoneAbove bound records → NoneAbove bound (with_record records slot new)
+none_with bound records slot new below none place vote is = by_test (same_slot (slot_at first_id place) slot) refl
+  where
+    by_test : (test : Bool) → same_slot (slot_at first_id place) slot ≡ test → place ≤ bound
+    by_test true same = let places : place ≡ slot.place = ap (λ (s : Slot). s.place) (slots_same (slot_at first_id place) slot same) in omega (arith, places, below)
+    by_test false other = none place vote (subst (λ (test : Bool). (if test then new else records (slot_at first_id place)).vote ≡ Some vote) other is)
+
+-- a round of the node writes a record twice
+none_after : (bound : ℕ) (w : World) (chain : List Decree) → pred (length chain) ≤ bound → NoneAbove bound (w.records 1) → NoneAbove bound ((reached w (map by_node_1 (round_for chain))).records 1)
+none_after bound w chain below none =
+    let promise = after_promise (w.records 1 (slot_of first_id chain)) first_ballot in
+    none_with bound (with_record (w.records 1) (slot_of first_id chain) promise) (slot_of first_id chain) (after_vote (vote_at first_ballot chain)) below (none_with bound (w.records 1) (slot_of first_id chain) promise below none)
+
+-- ---- what is settled by what was told
+
+-- all that a list of packets tells of how far chains have come is this
+abbrev TellsOnce : Told → Packet → Type 0
+TellsOnce told (Tell sender name other) = other ≡ Some told
+TellsOnce told (Voted sender slot vote) = Unit {0}
+TellsOnce told (Prepare sender slot ballot) = Unit {0}
+TellsOnce told (Promise sender slot ballot report) = Unit {0}
+TellsOnce told (Propose sender slot proposed) = Unit {0}
+TellsOnce told (Refused sender slot ballot promised) = Unit {0}
+TellsOnce told (Ask sender id name) = Unit {0}
+
+abbrev TellOnce : Told → List Packet → Type 0
+TellOnce told [] = Unit {0}
+TellOnce told (packet ∷ packets) = TellsOnce told packet × TellOnce told packets
+
+once : (told : Told) (packets : List Packet) → TellOnce told packets → (packet : Packet) → In packet packets → TellsOnce told packet
+once told [] are packet is_in = absurd is_in
+once told (first ∷ packets) are packet (inl same) = subst (TellsOnce told) (sym same) are.0
+once told (first ∷ packets) are packet (inr later) = once told packets are.1 packet later
+
+settled : (received : List Packet) (chain : List Decree) → TellOnce (told_of chain) received → In (Tell 1 asking (Some (told_of chain))) received → IsSettled 1 received asking (Some chain)
+settled received chain are is_in = record {
+  majority = all_of_one 1 (HasTold received asking) refl (record { told = Some (told_of chain); heard = is_in });
+  reached = λ node told heard. subst (IsReached (Some chain)) (sym (once (told_of chain) received are (Tell node asking told) heard)) (omega arith);
+}
+
+-- ---- a query_sm
+
+abbrev queried : Submission → World
+queried message = reached one_node ((1, Begins 2 (Query first_id message.submitter message.source.digits)) ∷ delivery_story message)
+
+abbrev heard : Submission → World
+heard message = reached (queried message) (map by_node_1 (question_for (delivered_chain message)))
+
+abbrev querying : Submission → Waiting
+querying message = record { ticket = 2; since = opening_clock; request = Query first_id message.submitter message.source.digits; settled = false }
+
+top_delivered : (message : Submission) → IsTop ((queried message).records 1) first_id (told_of (delivered_chain message))
+top_delivered message = record {
+  voted = refl;
+  highest = none_after 2 (answered message) (delivered_chain message) (omega arith) (none_after 2 (accepted message) (attempted_chain message) (omega arith) (none_after 2 (begun message) (taken_chain message) (omega arith) (none_in_blank 2)));
+}
+
+knows_still : (message : Submission) → Knows 1 ((heard message).actors 1).received first_id (delivered_chain message)
+knows_still message = knows ((heard message).actors 1).received (delivered_chain message) (tt, (tt, ((omega arith, λ same. refl), (tt, (tt, (tt, ((omega arith, λ same. absurd (omega (arith, same))), (tt, (tt, (tt, ((omega arith, λ same. absurd (omega (arith, same))), (tt, (tt, (tt, tt)))))))))))))) (inr (inr (inl refl)))
+
+may_show : (message : Submission) → May (heard message) 1 (Replies 2 first_id (Shown (delivered_chain message)))
+may_show message = record {
+  least = omega arith;
+  most = omega arith;
+  up = refl;
+  needs = record {
+    asked = record { waiting = querying message; waits = inl refl; ticket_is = refl; about = refl };
+    fits = record {
+      taken = message;
+      known = knows_still message;
+      settled = settled ((heard message).actors 1).received (delivered_chain message) (refl, (tt, (tt, (tt, (tt, (tt, (tt, (tt, (tt, (tt, (tt, (tt, (tt, (tt, tt)))))))))))))) (inl refl);
+      message = refl;
+      owner = record { same_account = refl; same_source = refl };
+    };
+  };
+}
+
+pub query_run : (message : Submission) → MayBeTried message → IsRun one_node (query_story message)
+query_run message tried = (
+  may_show message,
+  (
+    record { least = omega arith; most = omega arith; up = refl; needs = inl refl },
+    (
+      record { least = omega arith; most = omega arith; up = refl; needs = record { asker = 1; asked = inl refl; told_is = top_delivered message } },
+      (
+        record { least = omega arith; most = omega arith; up = refl; needs = inl refl },
+        (
+          record { least = omega arith; most = omega arith; up = refl; needs = record { waiting = querying message; waits = inl refl; ticket_is = refl; about = refl } },
+          (record { least = omega arith; most = omega arith; up = refl; needs = (refl, tt) }, delivery_run message tried),
+        ),
+      ),
+    ),
+  ),
+)
