@@ -1,9 +1,9 @@
 -- The stories of a query_sm and of a cancel_sm are runs.
-use Rattle.std.proofs.Common.{◌≡◌, ℕ, ◌≤◌, Bool, true, false, List, [], ◌∷◌, ◌++◌, pred, length, map, Option, Some, None, refl, sym, ap, subst, inl, inr, arith}
+use Rattle.std.proofs.Common.{◌≡◌, ℕ, ◌≤◌, Bool, true, false, List, [], ◌∷◌, ◌++◌, pred, length, map, Some, refl, sym, ap, subst, inl, inr, arith}
 use Rattle.std.specs.Prelude.{if◌then◌else◌}
 use Rattle.mc_model.specs.Chain.{Submission, Decree, Taken, Fate, Deleted}
 use Rattle.mc_model.specs.OneSlot.{Vote, vote_at, In}
-use Rattle.mc_model.specs.Packet.{Slot, slot_at, slot_of, same_slot, Packet, Prepare, Promise, Propose, Voted, Refused, Name, Told, Ask, Tell}
+use Rattle.mc_model.specs.Packet.{Slot, slot_at, slot_of, same_slot, Packet, Prepare, Promise, Propose, Voted, Refused, Told, Ask, Tell}
 use Rattle.mc_model.specs.Acceptor.{Record, Records, blank, with_record, after_promise, after_vote, IsTop}
 use Rattle.mc_model.specs.Actor.{Query, Cancel, Waiting, opening_clock}
 use Rattle.mc_model.specs.Replies.{Shown, Removed}

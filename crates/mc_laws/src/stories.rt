@@ -32,16 +32,16 @@ pub fn a_node_stops_after_a_save()
     ensures answered { (message : Submission) → In accepting_deed (reached three_nodes (restart_story message)).past }
 {}
 
-/// A query_sm of the submitter comes once the message is delivered. The node asks how far the chain has come, a majority tells
-/// it, and the query_sm_resp states DELIVERED.
+/// A cluster of one node has delivered a message, and a query_sm of its submitter comes. The node asks itself how far the chain
+/// has come and tells it, and the query_sm_resp states DELIVERED.
 pub fn a_query_is_answered()
     ensures run { (message : Submission) → MayBeTried message → IsRun one_node (query_story message) }
     ensures answered { (message : Submission) → In (showing_deed message) (reached one_node (query_story message)).past }
     ensures stated { (message : Submission) → States (showing_deed message) first_id Delivered }
 {}
 
-/// A cancel_sm of the submitter comes once the message is taken. The node asks how far the chain has come, a majority tells it,
-/// the request is settled, the message is deleted, and the cancel_sm_resp states DELETED.
+/// A cluster of one node has taken a message, and a cancel_sm of its submitter comes. The node asks itself how far the chain has
+/// come and tells it, the request is settled, the message is deleted, and the cancel_sm_resp has ESME_ROK for DELETED.
 pub fn a_message_is_cancelled()
     ensures run { (message : Submission) → MayBeTried message → IsRun one_node (cancel_story message) }
     ensures answered { (message : Submission) → In (removing_deed message) (reached one_node (cancel_story message)).past }

@@ -1,5 +1,5 @@
--- What may happen: a cluster of one node takes a message, delivers it and says so; it answers a query_sm, and a
--- cancel_sm; and a node of three stops between a save and its answer.
+-- What may happen: a cluster of one node takes a message, delivers it and says so, also to a query_sm; or it deletes the
+-- message for a cancel_sm; and a node of three stops between a save and its answer.
 use Rattle.std.specs.Prelude.{ℕ, ◌<◌, ◌≤◌, List, [], ◌∷◌, ◌++◌, length, map, pred, Some, None, true, false}
 use Rattle.mc_model.specs.Chain.{Submission, Decree, Kind, Taken, Attempt, Fate, Delivered, Deleted}
 use Rattle.mc_model.specs.OneSlot.{Vote, vote_at}
