@@ -49,7 +49,7 @@ knows received chain are is_in = record {
 }
 
 -- proposals at two places are two
-apart : (m n : ℕ) (slot other : Slot) (vote voted : Vote) → (slot.place ≡ other.place → ⊥) → Propose m slot vote ≡ Propose n other voted → ⊥
+pub apart : (m n : ℕ) (slot other : Slot) (vote voted : Vote) → (slot.place ≡ other.place → ⊥) → Propose m slot vote ≡ Propose n other voted → ⊥
 apart m n slot other vote voted places same = let slots : slot ≡ other = cc in places (ap (λ (s : Slot). s.place) slots)
 
 -- ---- the story, part by part
@@ -213,10 +213,10 @@ may_report message = record {
 taken_run : (message : Submission) → MayBeTried message → IsRun one_node (map by_node_1 (round_for (taken_chain message)) ++ (1, Begins 1 (Submit first_id message)) ∷ [])
 taken_run message tried = run_on one_node (map by_node_1 (round_for (taken_chain message))) ((1, Begins 1 (Submit first_id message)) ∷ []) (round_runs (begun message) _ _ (ready_to_take message)) (may_begin message tried, tt)
 
-abbrev until_accepted : Submission → List (ℕ × Act)
+abbrev pub until_accepted : Submission → List (ℕ × Act)
 until_accepted message = (1, Replies 1 first_id Accepted) ∷ map by_node_1 (round_for (taken_chain message)) ++ (1, Begins 1 (Submit first_id message)) ∷ []
 
-accepted_run : (message : Submission) → MayBeTried message → IsRun one_node (until_accepted message)
+pub accepted_run : (message : Submission) → MayBeTried message → IsRun one_node (until_accepted message)
 accepted_run message tried = (may_accept message, taken_run message tried)
 
 abbrev until_answered : Submission → List (ℕ × Act)

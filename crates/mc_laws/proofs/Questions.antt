@@ -1,18 +1,20 @@
 -- The stories of a query_sm and of a cancel_sm are runs.
-use Rattle.std.proofs.Common.{◌≡◌, ℕ, ◌≤◌, Bool, true, false, List, [], ◌∷◌, ◌++◌, pred, length, map, Option, Some, None, refl, sym, ap, subst, inl, inr, arith}
+use Rattle.std.proofs.Common.{◌≡◌, ℕ, ◌≤◌, Bool, true, false, List, [], ◌∷◌, ◌++◌, pred, length, map, Some, refl, sym, ap, subst, inl, inr, arith}
 use Rattle.std.specs.Prelude.{if◌then◌else◌}
-use Rattle.mc_model.specs.Chain.{Submission, Decree}
+use Rattle.mc_model.specs.Chain.{Submission, Decree, Taken, Fate, Deleted}
 use Rattle.mc_model.specs.OneSlot.{Vote, vote_at, In}
-use Rattle.mc_model.specs.Packet.{Slot, slot_at, slot_of, same_slot, Packet, Prepare, Promise, Propose, Voted, Refused, Name, Told, Ask, Tell}
+use Rattle.mc_model.specs.Packet.{Slot, slot_at, slot_of, same_slot, Packet, Prepare, Promise, Propose, Voted, Refused, Told, Ask, Tell}
 use Rattle.mc_model.specs.Acceptor.{Record, Records, blank, with_record, after_promise, after_vote, IsTop}
-use Rattle.mc_model.specs.Actor.{Request, Query, Waiting, opening_clock}
-use Rattle.mc_model.specs.Replies.{Shown}
+use Rattle.mc_model.specs.Actor.{Query, Cancel, Waiting, opening_clock}
+use Rattle.mc_model.specs.Replies.{Shown, Removed}
+use Rattle.mc_model.specs.Proposal.{IsMatch}
 use Rattle.mc_model.specs.Knowledge.{Knows, HasTold, IsReached, IsSettled}
-use Rattle.mc_model.specs.World.{World, Act, Receives, Tells, Begins, Asks, Replies, May, reached, IsRun}
-use Rattle.mc_model.specs.Stories.{first_id, first_ballot, taken_chain, attempted_chain, delivered_chain, round_for, delivery_story, asking, told_of, question_for, query_story, by_node_1, one_node, MayBeTried}
+use Rattle.mc_model.specs.World.{World, Act, Begins, Settles, Replies, IsWaiting, May, reached, IsRun, after}
+use Rattle.mc_model.specs.Stories.{first_id, first_ballot, taken_chain, attempted_chain, delivered_chain, round_for, delivery_story, asking, told_of, question_for, query_story, deleted_chain, cancel_story, decreed, by_node_1, one_node, MayBeTried}
 use Rattle.mc_laws.proofs.Membership.{slots_same}
-use Rattle.mc_laws.proofs.Rounds.{all_of_one}
-use Rattle.mc_laws.proofs.Delivery.{begun, accepted, answered, knows, delivery_run}
+use Rattle.mc_laws.proofs.Behind.{run_on}
+use Rattle.mc_laws.proofs.Rounds.{all_of_one, IsReady, round_runs}
+use Rattle.mc_laws.proofs.Delivery.{apart, begun, accepted, answered, knows, until_accepted, accepted_run, delivery_run}
 
 -- ---- what is told by the records
 
@@ -63,6 +65,21 @@ settled received chain are is_in = record {
   reached = λ node told heard. subst (IsReached (Some chain)) (sym (once (told_of chain) received are (Tell node asking told) heard)) (omega arith);
 }
 
+-- ---- a question
+
+-- each act of a question may be done where it stands
+question_runs : (w : World) (chain : List Decree) → w.nodes ≡ 1 → (w.actors 1).up ≡ true → (w.actors 1).incarnation ≡ 1 → IsWaiting (w.actors 1) first_id 2 → IsTop (w.records 1) first_id (told_of chain) → IsRun w (map by_node_1 (question_for chain))
+question_runs w chain nodes up incarnation waiting top = (
+  record { least = omega arith; most = omega (arith, nodes); up = up; needs = inl refl },
+  (
+    record { least = omega arith; most = omega (arith, nodes); up = up; needs = record { asker = 1; asked = inl refl; told_is = top } },
+    (
+      record { least = omega arith; most = omega (arith, nodes); up = up; needs = inl (ap (λ (n : ℕ). Ask 1 first_id (record { node = 1; incarnation = n; ticket = 2 })) (sym incarnation)) },
+      (record { least = omega arith; most = omega (arith, nodes); up = up; needs = waiting }, tt),
+    ),
+  ),
+)
+
 -- ---- a query_sm
 
 abbrev queried : Submission → World
@@ -100,20 +117,109 @@ may_show message = record {
   };
 }
 
+begun_query : (message : Submission) → MayBeTried message → IsRun one_node ((1, Begins 2 (Query first_id message.submitter message.source.digits)) ∷ delivery_story message)
+begun_query message tried = (record { least = omega arith; most = omega arith; up = refl; needs = (refl, tt) }, delivery_run message tried)
+
 pub query_run : (message : Submission) → MayBeTried message → IsRun one_node (query_story message)
-query_run message tried = (
-  may_show message,
-  (
-    record { least = omega arith; most = omega arith; up = refl; needs = inl refl },
-    (
-      record { least = omega arith; most = omega arith; up = refl; needs = record { asker = 1; asked = inl refl; told_is = top_delivered message } },
-      (
-        record { least = omega arith; most = omega arith; up = refl; needs = inl refl },
-        (
-          record { least = omega arith; most = omega arith; up = refl; needs = record { waiting = querying message; waits = inl refl; ticket_is = refl; about = refl } },
-          (record { least = omega arith; most = omega arith; up = refl; needs = (refl, tt) }, delivery_run message tried),
-        ),
-      ),
-    ),
-  ),
-)
+query_run message tried =
+    let waits : IsWaiting ((queried message).actors 1) first_id 2 = record { waiting = querying message; waits = inl refl; ticket_is = refl; about = refl } in
+    (may_show message, run_on one_node (map by_node_1 (question_for (delivered_chain message))) ((1, Begins 2 (Query first_id message.submitter message.source.digits)) ∷ delivery_story message) (question_runs (queried message) (delivered_chain message) refl refl refl waits (top_delivered message)) (begun_query message tried))
+
+-- ---- a cancel_sm
+
+abbrev until_called : Submission → List (ℕ × Act)
+until_called message = (1, Begins 2 (Cancel first_id message.submitter message.source.digits [])) ∷ until_accepted message
+
+abbrev called : Submission → World
+called message = reached one_node (until_called message)
+
+abbrev told : Submission → World
+told message = reached (called message) (map by_node_1 (question_for (taken_chain message)))
+
+abbrev settled_at : Submission → World
+settled_at message = after (told message) 1 (Settles 2)
+
+abbrev deleted : Submission → World
+deleted message = reached (settled_at message) (map by_node_1 (round_for (deleted_chain message)))
+
+abbrev cancelling : Submission → Bool → Waiting
+cancelling message settled = record { ticket = 2; since = opening_clock; request = Cancel first_id message.submitter message.source.digits []; settled = settled }
+
+matches : (message : Submission) → IsMatch message message.submitter message.source.digits []
+matches message = record { owner = record { same_account = refl; same_source = refl }; same_destination = inl refl }
+
+top_taken : (message : Submission) → IsTop ((called message).records 1) first_id (told_of (taken_chain message))
+top_taken message = record { voted = refl; highest = none_after 0 (begun message) (taken_chain message) (omega arith) (none_in_blank 0) }
+
+may_settle : (message : Submission) → May (told message) 1 (Settles 2)
+may_settle message = record {
+  least = omega arith;
+  most = omega arith;
+  up = refl;
+  needs = record {
+    id = first_id;
+    known = Some (taken_chain message);
+    asked = record { waiting = cancelling message false; waits = inl refl; ticket_is = refl; about = refl };
+    knows = knows ((told message).actors 1).received (taken_chain message) (tt, (tt, ((omega arith, λ same. refl), (tt, (tt, (tt, tt)))))) (inr (inr (inl refl)));
+    settled = settled ((told message).actors 1).received (taken_chain message) (refl, (tt, (tt, (tt, (tt, (tt, tt)))))) (inl refl);
+  };
+}
+
+ready_to_delete : (message : Submission) → IsReady (settled_at message) (slot_of first_id (deleted_chain message)) (vote_at first_ballot (deleted_chain message))
+ready_to_delete message = record {
+  nodes = refl;
+  up = refl;
+  proposer = refl;
+  incarnation = refl;
+  above = omega arith;
+  unused = refl;
+  once = λ chain is_in. elim is_in [ inl proposed ↦ apart 1 1 _ _ _ _ (λ place. omega (arith, place)) proposed | inr older ↦ elim older [ inl prepared ↦ cc | inr none ↦ absurd none ] ];
+  place = refl;
+  mine = inr (record {
+    next = decreed (Fate Deleted 0);
+    newest = decreed (Taken message);
+    older = [];
+    taken = message;
+    ballot = first_ballot;
+    chain_is = refl;
+    chosen = all_of_one 1 _ refl (inl refl);
+    author = refl;
+    moment = refl;
+    message = refl;
+    may = (omega arith, tt);
+    allowed = record { waiting = cancelling message true; waits = inl refl; settled = refl; cancels = (refl, matches message) };
+  });
+}
+
+may_remove : (message : Submission) → May (deleted message) 1 (Replies 2 first_id (Removed (deleted_chain message)))
+may_remove message = record {
+  least = omega arith;
+  most = omega arith;
+  up = refl;
+  needs = record {
+    asked = record { waiting = cancelling message true; waits = inl refl; ticket_is = refl; about = refl };
+    fits = record {
+      taken = message;
+      known = knows ((deleted message).actors 1).received (deleted_chain message) ((omega arith, λ same. refl), (tt, (tt, (tt, (tt, (tt, ((omega arith, λ same. absurd (omega (arith, same))), (tt, (tt, (tt, tt)))))))))) (inl refl);
+      settled = refl;
+      message = refl;
+      matched = matches message;
+      deleted = refl;
+    };
+  };
+}
+
+begun_cancel : (message : Submission) → MayBeTried message → IsRun one_node (until_called message)
+begun_cancel message tried = (record { least = omega arith; most = omega arith; up = refl; needs = (refl, tt) }, accepted_run message tried)
+
+abbrev until_settled : Submission → List (ℕ × Act)
+until_settled message = (1, Settles 2) ∷ map by_node_1 (question_for (taken_chain message)) ++ until_called message
+
+settled_run : (message : Submission) → MayBeTried message → IsRun one_node (until_settled message)
+settled_run message tried =
+    let waits : IsWaiting ((called message).actors 1) first_id 2 = record { waiting = cancelling message false; waits = inl refl; ticket_is = refl; about = refl } in
+    (may_settle message, run_on one_node (map by_node_1 (question_for (taken_chain message))) (until_called message) (question_runs (called message) (taken_chain message) refl refl refl waits (top_taken message)) (begun_cancel message tried))
+
+pub cancel_run : (message : Submission) → MayBeTried message → IsRun one_node (cancel_story message)
+cancel_run message tried =
+    (may_remove message, run_on one_node (map by_node_1 (round_for (deleted_chain message))) (until_settled message) (round_runs (settled_at message) _ _ (ready_to_delete message)) (settled_run message tried))

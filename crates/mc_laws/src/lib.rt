@@ -17,6 +17,7 @@ pub use runs::{
     delivered_stands_on_a_delivery, no_grant_after_a_fate, one_fate, what_is_chosen_stays,
 };
 pub use stories::{
-    a_message_is_delivered, a_node_stops_after_a_save, a_query_is_answered, a_submit_starts_a_round,
+    a_message_is_cancelled, a_message_is_delivered, a_node_stops_after_a_save, a_query_is_answered,
+    a_submit_starts_a_round,
 };
 pub use synod::{ballots_have_their_parts, choice_is_stable, majorities_meet};

@@ -1,6 +1,6 @@
 //! What may happen, so that the laws over runs are not about nothing.
 
-ghost use Rattle.mc_model.specs.Chain.{Submission, Delivered};
+ghost use Rattle.mc_model.specs.Chain.{Submission, Deleted, Delivered};
 ghost use Rattle.mc_model.specs.OneSlot.{In};
 ghost use Rattle.mc_model.specs.World.{IsChosenIn, IsRun, reached};
 ghost use Rattle.mc_model.specs.Fate.{States};
@@ -8,7 +8,7 @@ ghost use Rattle.mc_model.specs.Acceptor.{blank};
 ghost use Rattle.mc_model.specs.Actor.{Submit, opened};
 ghost use Rattle.mc_model.specs.Knowledge.{KnowsNothing};
 ghost use Rattle.mc_model.specs.Step.{Arrival, IsExact};
-ghost use Rattle.mc_model.specs.Stories.{MayBeTried, accepting_deed, delivery_story, first_id, first_step, last_deed, one_node, query_story, restart_story, showing_deed, taken_slot, taken_vote, three_nodes, until_anew};
+ghost use Rattle.mc_model.specs.Stories.{MayBeTried, accepting_deed, cancel_story, delivery_story, first_id, first_step, last_deed, one_node, query_story, removing_deed, restart_story, showing_deed, taken_slot, taken_vote, three_nodes, until_anew};
 
 /// A cluster of one node takes a message, attempts it, is answered, and states that it is DELIVERED.
 pub fn a_message_is_delivered()
@@ -32,10 +32,18 @@ pub fn a_node_stops_after_a_save()
     ensures answered { (message : Submission) → In accepting_deed (reached three_nodes (restart_story message)).past }
 {}
 
-/// A query_sm of the submitter comes once the message is delivered. The node asks how far the chain has come, a majority tells
-/// it, and the query_sm_resp states DELIVERED.
+/// A cluster of one node has delivered a message, and a query_sm of its submitter comes. The node asks itself how far the chain
+/// has come and tells it, and the query_sm_resp states DELIVERED.
 pub fn a_query_is_answered()
     ensures run { (message : Submission) → MayBeTried message → IsRun one_node (query_story message) }
     ensures answered { (message : Submission) → In (showing_deed message) (reached one_node (query_story message)).past }
     ensures stated { (message : Submission) → States (showing_deed message) first_id Delivered }
+{}
+
+/// A cluster of one node has taken a message, and a cancel_sm of its submitter comes. The node asks itself how far the chain has
+/// come and tells it, the request is settled, the message is deleted, and the cancel_sm_resp has ESME_ROK for DELETED.
+pub fn a_message_is_cancelled()
+    ensures run { (message : Submission) → MayBeTried message → IsRun one_node (cancel_story message) }
+    ensures answered { (message : Submission) → In (removing_deed message) (reached one_node (cancel_story message)).past }
+    ensures stated { (message : Submission) → States (removing_deed message) first_id Deleted }
 {}

@@ -1,12 +1,12 @@
--- What may happen: a cluster of one node takes a message, delivers it and says so; it answers a query_sm; and a node of three
--- stops between a save and its answer.
+-- What may happen: a cluster of one node takes a message, delivers it and says so, also to a query_sm; or it deletes the
+-- message for a cancel_sm; and a node of three stops between a save and its answer.
 use Rattle.std.specs.Prelude.{ℕ, ◌<◌, ◌≤◌, List, [], ◌∷◌, ◌++◌, length, map, pred, Some, None, true, false}
-use Rattle.mc_model.specs.Chain.{Submission, Decree, Kind, Taken, Attempt, Fate, Delivered}
+use Rattle.mc_model.specs.Chain.{Submission, Decree, Kind, Taken, Attempt, Fate, Delivered, Deleted}
 use Rattle.mc_model.specs.OneSlot.{Vote, vote_at}
 use Rattle.mc_model.specs.Packet.{Slot, slot_at, slot_of, Name, Told, Prepare, Promise, Propose, Voted, Ask, Tell}
-use Rattle.mc_model.specs.Actor.{Submit, Query, Concluded, opening_clock}
-use Rattle.mc_model.specs.Replies.{Accepted, Shown}
-use Rattle.mc_model.specs.World.{World, Deed, start, Act, Receives, Promises, Votes, Tells, Prepares, Proposes, Begins, Asks, Replies, Reports, Grants, Answers, Stops, Restarts}
+use Rattle.mc_model.specs.Actor.{Submit, Query, Cancel, Concluded, opening_clock}
+use Rattle.mc_model.specs.Replies.{Accepted, Shown, Removed}
+use Rattle.mc_model.specs.World.{World, Deed, start, Act, Receives, Promises, Votes, Tells, Prepares, Proposes, Begins, Asks, Settles, Replies, Reports, Grants, Answers, Stops, Restarts}
 
 -- the first message of node 1 in its first incarnation
 abbrev pub first_id : ℕ
@@ -45,8 +45,15 @@ round slot vote =
 abbrev pub round_for : List Decree → List Act
 round_for chain = round (slot_of first_id chain) (vote_at first_ballot chain)
 
--- The submit_sm comes, the message is taken, the submit_sm is answered; an attempt is begun, granted and answered ESME_ROK; the
--- message is delivered, and the receipt goes out.
+-- The submit_sm comes, the message is taken, and the submit_sm is answered.
+abbrev pub taking_acts : Submission → List Act
+taking_acts message =
+    Replies 1 first_id Accepted
+    ∷ round_for (taken_chain message)
+    ++ Begins 1 (Submit first_id message)
+    ∷ []
+
+-- Then an attempt is begun, granted and answered ESME_ROK; the message is delivered, and the receipt goes out.
 abbrev pub delivery_acts : Submission → List Act
 delivery_acts message =
     Reports first_id (delivered_chain message)
@@ -54,10 +61,7 @@ delivery_acts message =
     ++ Answers (slot_of first_id (attempted_chain message)) (Concluded Delivered 0)
     ∷ Grants (slot_of first_id (attempted_chain message))
     ∷ round_for (attempted_chain message)
-    ++ Replies 1 first_id Accepted
-    ∷ round_for (taken_chain message)
-    ++ Begins 1 (Submit first_id message)
-    ∷ []
+    ++ taking_acts message
 
 abbrev pub by_node_1 : Act → ℕ × Act
 by_node_1 act = (1, act)
@@ -172,3 +176,26 @@ query_story message = map by_node_1 (query_acts message)
 -- the deed with which it ends
 abbrev pub showing_deed : Submission → Deed
 showing_deed message = record { node = 1; incarnation = 1; act = Replies 2 first_id (Shown (delivered_chain message)) }
+
+-- ---- a message is cancelled
+
+abbrev pub deleted_chain : Submission → List Decree
+deleted_chain message = decreed (Fate Deleted 0) ∷ taken_chain message
+
+-- Once the message is taken a cancel_sm of its submitter comes, the question is asked, the request is settled, the message is
+-- deleted, and the cancel_sm is answered ESME_ROK.
+abbrev pub cancel_acts : Submission → List Act
+cancel_acts message =
+    Replies 2 first_id (Removed (deleted_chain message))
+    ∷ round_for (deleted_chain message)
+    ++ Settles 2
+    ∷ question_for (taken_chain message)
+    ++ Begins 2 (Cancel first_id message.submitter message.source.digits [])
+    ∷ taking_acts message
+
+abbrev pub cancel_story : Submission → List (ℕ × Act)
+cancel_story message = map by_node_1 (cancel_acts message)
+
+-- the deed with which it ends
+abbrev pub removing_deed : Submission → Deed
+removing_deed message = record { node = 1; incarnation = 1; act = Replies 2 first_id (Removed (deleted_chain message)) }
