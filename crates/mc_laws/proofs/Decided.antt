@@ -1,13 +1,12 @@
 -- What a node answers in a step is decided by the node and by what comes to it.
-use Rattle.std.proofs.Common.{◌≡◌, ◌⊎◌, ℕ, ◌+◌, ◌<◌, ◌≤◌, Bool, true, false, List, [], ◌∷◌, ◌++◌, map, Option, Some, None, refl, sym, ◌∙◌, ap, subst, inl, inr, arith}
-use Rattle.std.specs.Prelude.{◌↔◌}
+use Rattle.std.proofs.Common.{◌≡◌, ◌⊎◌, ℕ, ◌<◌, ◌≤◌, true, false, List, [], ◌∷◌, ◌++◌, map, Option, Some, None, refl, sym, ◌∙◌, ap, subst, inl, inr, arith}
 use Rattle.mc_model.specs.Chain.{Decree}
 use Rattle.mc_model.specs.OneSlot.{Vote, In}
-use Rattle.mc_model.specs.Packet.{Slot, slot_at, Packet, Prepare, Promise, Propose, Voted, Refused, Name, Told, Ask, Tell}
-use Rattle.mc_model.specs.Acceptor.{Records, IsTold, IsTop}
+use Rattle.mc_model.specs.Packet.{slot_at, Packet, Prepare, Promise, Propose, Voted, Refused, Told, Ask, Tell}
+use Rattle.mc_model.specs.Acceptor.{Records, IsTold}
 use Rattle.mc_model.specs.Actor.{Actor}
-use Rattle.mc_model.specs.Replies.{Answer, Accepted, Shown, Removed, Kept, NotOwner, NotMatched, Unknown, TooLate}
-use Rattle.mc_model.specs.World.{Act, Receives, Promises, Votes, Refuses, Tells, Settles, Replies, Reports, Stops}
+use Rattle.mc_model.specs.Replies.{Answer, TooLate}
+use Rattle.mc_model.specs.World.{Act, Receives, Tells, Settles, Replies, Reports, Stops}
 use Rattle.mc_model.specs.Step.{Input, Delivery, Crash, Arrival, Tick, Grant, Response, Restart, IsAnswered, IsSaved, IsCore, IsSettling, IsLateReply, IsReply, IsReport, IsToSettle, IsLateIn, IsDueReply, IsDueReport, key_of, Fall, Each, did, IsExact}
 
 -- ---- two lists of one order and of the same members are one

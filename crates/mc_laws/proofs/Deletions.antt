@@ -1,19 +1,17 @@
 -- Behind each deletion stands a cancel_sm.
-use Rattle.std.proofs.Common.{◌≡◌, ◌⊎◌, ℕ, suc, ◌<◌, ◌≤◌, List, [], ◌∷◌, ◌++◌, Option, Some, None, refl, sym, ◌∙◌, ap, subst, inl, inr, arith}
-use Rattle.mc_model.specs.Chain.{Author, Submission, Decree, Kind, Taken, Attempt, Failed, Fate, Final, Delivered, Expired, Deleted, Undeliverable, Rejected, MayFollow, MayExtend, taken_in, taken_by, final_in, final_by}
+use Rattle.std.proofs.Common.{◌≡◌, ◌⊎◌, ℕ, List, [], ◌∷◌, Option, Some, None, refl, sym, ◌∙◌, ap, subst, inl, inr}
+use Rattle.mc_model.specs.Chain.{Author, Submission, Decree, Kind, Taken, Attempt, Failed, Fate, Delivered, Expired, Deleted, Undeliverable, Rejected, MayFollow, taken_in, taken_by, final_in, final_by}
 use Rattle.mc_model.specs.OneSlot.{Vote, vote_at, In, IsOfHighest}
 use Rattle.mc_model.specs.Packet.{Slot, slot_of, Promise}
-use Rattle.mc_model.specs.Actor.{Actor, Request, Waiting}
-use Rattle.mc_model.specs.Knowledge.{Knows}
-use Rattle.mc_model.specs.Proposal.{Cancels, IsCancelled, Allows, IsFirst, IsNext, IsOwn, IsFree}
+use Rattle.mc_model.specs.Actor.{Actor, Waiting}
+use Rattle.mc_model.specs.Proposal.{Cancels, IsCancelled, Allows, IsNext, IsOwn, IsFree}
 use Rattle.mc_model.specs.World.{World, Act, Receives, Promises, Votes, Refuses, Tells, Prepares, Proposes, Begins, Asks, Settles, Replies, Reports, Grants, Answers, Abandons, Ticks, Stops, Restarts, Deed, cast, May, IsChosenIn, StandsIn, after, actor_by, settle, start}
-use Rattle.mc_model.specs.Fate.{TellsOf, deed_by, CameToCancel, IsDeletion}
+use Rattle.mc_model.specs.Fate.{deed_by, CameToCancel, IsDeletion}
 use Rattle.mc_laws.proofs.Membership.{in_either, of_only, in_map, in_filter}
 use Rattle.mc_laws.proofs.Majorities.{both}
-use Rattle.mc_laws.proofs.Growth.{Grows, grows, actors_after}
+use Rattle.mc_laws.proofs.Growth.{actors_after}
 use Rattle.mc_laws.proofs.Keeping.{Keeps, WasProposed, PromiseFits, proposal_cases}
-use Rattle.mc_laws.proofs.Agreement.{Chosen, known_chosen}
-use Rattle.mc_laws.proofs.Fated.{tells_known}
+use Rattle.mc_laws.proofs.Agreement.{Chosen}
 
 -- ---- what holds of a world
 

@@ -1,17 +1,16 @@
 -- The first step of a node is exact.
-use Rattle.std.proofs.Common.{◌≡◌, ◌⊎◌, ℕ, ◌+◌, ◌<◌, ◌≤◌, Bool, true, false, List, [], ◌∷◌, ◌++◌, map, Option, Some, None, refl, sym, ◌∙◌, ap, subst, inl, inr, arith}
+use Rattle.std.proofs.Common.{◌≡◌, ℕ, ◌+◌, false, List, [], ◌∷◌, ◌++◌, refl, sym, ◌∙◌, ap, subst, inl, inr, arith}
 use Rattle.mc_model.specs.Chain.{Submission, Decree}
-use Rattle.mc_model.specs.Majority.{Majority}
-use Rattle.mc_model.specs.Ballot.{ballot_of, round_in}
+use Rattle.mc_model.specs.Ballot.{ballot_of}
 use Rattle.mc_model.specs.OneSlot.{Vote, vote_at, In}
 use Rattle.mc_model.specs.Packet.{Slot, slot_at, slot_of, Packet, Prepare, Voted}
 use Rattle.mc_model.specs.Acceptor.{Records, blank}
-use Rattle.mc_model.specs.Actor.{Actor, Request, Submit, Waiting, opened, opening_clock}
+use Rattle.mc_model.specs.Actor.{Actor, Submit, Waiting, opened, opening_clock}
 use Rattle.mc_model.specs.Knowledge.{IsLearned, Knows}
-use Rattle.mc_model.specs.Replies.{Answer, Accepted, Shown, Removed, Kept, NotOwner, NotMatched, Unknown, TooLate, FitsRequest}
-use Rattle.mc_model.specs.Rounds.{HasSeen, IsNextBallot, IsRunning, MayPrepare}
-use Rattle.mc_model.specs.World.{Act, Prepares, Begins, Settles, Replies, Reports, Asks, Proposes, IsWaiting}
-use Rattle.mc_model.specs.Step.{Input, Arrival, Causes, IsToSettle, IsDueReply, IsDueReport, IsCancelRequest, IsOfRound, SendsElse, did, saved, IsExact}
+use Rattle.mc_model.specs.Replies.{Answer, Accepted, FitsRequest}
+use Rattle.mc_model.specs.Rounds.{HasSeen, MayPrepare}
+use Rattle.mc_model.specs.World.{Act, Prepares, Begins}
+use Rattle.mc_model.specs.Step.{Arrival, Causes, IsToSettle, IsDueReply, IsDueReport, IsCancelRequest, IsOfRound, SendsElse, did, IsExact}
 use Rattle.mc_model.specs.Stories.{first_id, first_ballot, taken_chain, first_step}
 use Rattle.mc_laws.proofs.Rounds.{one_of_one}
 

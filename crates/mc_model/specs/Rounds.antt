@@ -2,14 +2,14 @@
 --
 -- A round is one proposal of a node at a ballot of its own: it asks for promises, and once a majority has promised it asks
 -- for votes (Paxos Made Simple, 2.2). A node runs one round at a time for a message.
-use Rattle.std.specs.Prelude.{◌≡◌, ◌⊎◌, ℕ, pred, ◌+◌, ◌-◌, ◌<◌, ◌≤◌, max, Bool, true, false, List, [], ◌∷◌, ◌++◌, length, take, Option, Some, None}
-use Rattle.mc_model.specs.Chain.{Author, Submission, Decree, Kind, Taken, Attempt, Failed, Fate, Final, Expired, Undeliverable, MayExtend, taken_in, attempts_in, error_in}
+use Rattle.std.specs.Prelude.{◌≡◌, ◌⊎◌, ℕ, pred, ◌+◌, ◌-◌, ◌<◌, ◌≤◌, max, Bool, true, false, List, ◌∷◌, ◌++◌, length, take, Option, Some}
+use Rattle.mc_model.specs.Chain.{Submission, Decree, Kind, Taken, Attempt, Failed, Fate, Expired, Undeliverable, MayExtend, taken_in, attempts_in, error_in}
 use Rattle.mc_model.specs.Majority.{Majority}
 use Rattle.mc_model.specs.Ballot.{ballot_of, round_in, incarnation_in, proposer_of, IsRound}
 use Rattle.mc_model.specs.OneSlot.{Vote, In}
-use Rattle.mc_model.specs.Packet.{Slot, slot_at, slot_of, Packet, Prepare, Promise, Refused, Name, Told, Tell}
+use Rattle.mc_model.specs.Packet.{Slot, slot_at, Packet, Prepare, Promise, Refused, Tell}
 use Rattle.mc_model.specs.Acceptor.{Records}
-use Rattle.mc_model.specs.Actor.{Actor, Request, Submit, Query, Cancel, Waiting, Outcome}
+use Rattle.mc_model.specs.Actor.{Actor, Submit, Waiting, Outcome}
 use Rattle.mc_model.specs.Knowledge.{Knows}
 use Rattle.mc_model.specs.Proposal.{IsCancelled}
 use Rattle.mc_model.specs.Replies.{id_in, name_of}

@@ -3,18 +3,18 @@
 -- A step is a list of acts, in which each may be done where it stands. What the input does by itself, when a request is
 -- settled, which rounds and questions go out, and which replies and receipts, is exact: what is due is done in the step in
 -- which it becomes due, and nothing else is done. Which votes, Proposes and chains there are is free as far as the acts say.
-use Rattle.std.specs.Prelude.{◌≡◌, ◌⊎◌, ◌↔◌, ℕ, pred, suc, ◌+◌, ◌%◌, ◌<◌, ◌≤◌, Bool, true, false, List, [], ◌∷◌, ◌++◌, length, map, Option, Some, None}
+use Rattle.std.specs.Prelude.{◌≡◌, ◌⊎◌, ◌↔◌, ℕ, suc, ◌+◌, ◌%◌, ◌<◌, ◌≤◌, Bool, true, false, List, [], ◌∷◌, ◌++◌, length, map, Option, Some}
 use Rattle.mc_model.specs.Ids.{node_of}
-use Rattle.mc_model.specs.Chain.{Author, Submission, Decree, Kind, Taken, Attempt, Failed, Final, Delivered, taken_in, final_in}
+use Rattle.mc_model.specs.Chain.{Submission, Decree, Taken, Failed, Final, Delivered, taken_in, final_in}
 use Rattle.mc_model.specs.Majority.{Majority}
 use Rattle.mc_model.specs.OneSlot.{Vote, In}
-use Rattle.mc_model.specs.Packet.{Slot, slot_at, slot_of, Packet, Prepare, Promise, Propose, Voted, Refused, Name, Told, Ask, Tell}
-use Rattle.mc_model.specs.Acceptor.{Record, Records, IsTold}
+use Rattle.mc_model.specs.Packet.{Slot, Packet, Prepare, Promise, Propose, Voted, Refused, Name, Told, Ask, Tell}
+use Rattle.mc_model.specs.Acceptor.{Records, IsTold}
 use Rattle.mc_model.specs.Actor.{Actor, Request, Submit, Query, Cancel, Waiting, Outcome}
 use Rattle.mc_model.specs.Knowledge.{Knows, IsKnown, HasTold, IsSettled}
 use Rattle.mc_model.specs.Proposal.{IsCancelled}
 use Rattle.mc_model.specs.Replies.{Answer, TooLate, FitsRequest, id_in, name_of, longest_wait}
-use Rattle.mc_model.specs.Rounds.{IsRunning, RunsNone, MayPrepare, IsShownAt, IsAhead, IsFirstRule, Rule, GiveUp, IsPromised}
+use Rattle.mc_model.specs.Rounds.{IsRunning, MayPrepare, IsAhead, IsFirstRule, Rule, GiveUp, IsPromised}
 use Rattle.mc_model.specs.World.{World, Act, Receives, Promises, Votes, Refuses, Tells, Prepares, Proposes, Begins, Asks, Settles, Replies, Reports, Grants, Answers, Abandons, Ticks, Stops, Restarts, IsWaiting, records_by, actor_by, reached, IsRun}
 
 -- What comes to a node. A request that a check of its fields refuses, or for which there is no room, is answered at once and is
