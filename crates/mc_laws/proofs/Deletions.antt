@@ -5,7 +5,7 @@ use Rattle.mc_model.specs.OneSlot.{Vote, vote_at, In, IsOfHighest}
 use Rattle.mc_model.specs.Packet.{Slot, slot_of, Promise}
 use Rattle.mc_model.specs.Actor.{Actor, Waiting}
 use Rattle.mc_model.specs.Proposal.{Cancels, IsCancelled, Allows, IsNext, IsOwn, IsFree}
-use Rattle.mc_model.specs.World.{World, Act, Receives, Promises, Votes, Refuses, Tells, Prepares, Proposes, Begins, Asks, Settles, Replies, Reports, Grants, Answers, Abandons, Ticks, Stops, Restarts, Deed, cast, May, IsChosenIn, StandsIn, after, actor_by, settle, start}
+use Rattle.mc_model.specs.World.{World, Act, Proposes, Begins, Settles, Replies, Restarts, Deed, cast, May, IsChosenIn, StandsIn, after, actor_by, settle, start}
 use Rattle.mc_model.specs.Fate.{deed_by, CameToCancel, IsDeletion}
 use Rattle.mc_laws.proofs.Membership.{in_either, of_only, in_map, in_filter}
 use Rattle.mc_laws.proofs.Majorities.{both}
@@ -47,20 +47,7 @@ came_by w node (Settles ticket) may came waiting is_in =
     subst (λ (x : Waiting). In (deed_by (lived_by node (w.actors node)) (Begins x.ticket x.request)) (after w node (Settles ticket)).past) (sym m.made) (inr (came m.from m.member))
 came_by w node (Replies ticket id answer) may came waiting is_in = inr (came waiting (in_filter _ (w.actors node).waiting waiting is_in))
 came_by w node (Restarts serial) may came waiting is_in = absurd is_in
-came_by w node (Receives packet) may came waiting is_in = inr (came waiting is_in)
-came_by w node (Promises slot ballot sent) may came waiting is_in = inr (came waiting is_in)
-came_by w node (Votes slot vote sent) may came waiting is_in = inr (came waiting is_in)
-came_by w node (Refuses slot ballot) may came waiting is_in = inr (came waiting is_in)
-came_by w node (Tells other name told) may came waiting is_in = inr (came waiting is_in)
-came_by w node (Prepares slot ballot) may came waiting is_in = inr (came waiting is_in)
-came_by w node (Proposes slot vote) may came waiting is_in = inr (came waiting is_in)
-came_by w node (Asks other ticket) may came waiting is_in = inr (came waiting is_in)
-came_by w node (Reports other chain) may came waiting is_in = inr (came waiting is_in)
-came_by w node (Grants slot) may came waiting is_in = inr (came waiting is_in)
-came_by w node (Answers slot outcome) may came waiting is_in = inr (came waiting is_in)
-came_by w node (Abandons slot) may came waiting is_in = inr (came waiting is_in)
-came_by w node (Ticks moment) may came waiting is_in = inr (came waiting is_in)
-came_by w node Stops may came waiting is_in = inr (came waiting is_in)
+came_by w node act may came waiting is_in = inr (came waiting is_in)
 
 came_after : (w : World) → Deletions w → (node : ℕ) (act : Act) → May w node act → (other : ℕ) → AllCame (after w node act).past other ((after w node act).actors other)
 came_after w deletions node act may other = elim (actors_after w node act other) [

@@ -7,7 +7,7 @@ use Rattle.mc_model.specs.Packet.{Slot, slot_of}
 use Rattle.mc_model.specs.Actor.{Actor, Request, Submit, Query, Cancel, Waiting, Outcome, Concluded, Unanswered, decree_of}
 use Rattle.mc_model.specs.Knowledge.{Knows}
 use Rattle.mc_model.specs.Replies.{Answer, Accepted, Shown, Removed, Kept, NotOwner, NotMatched, Unknown, TooLate, IsAccepted, FitsRequest, IsAnswer, id_in}
-use Rattle.mc_model.specs.World.{World, Act, Receives, Promises, Votes, Refuses, Tells, Prepares, Proposes, Begins, Asks, Settles, Replies, Reports, Grants, Answers, Abandons, Ticks, Stops, Restarts, Deed, May, MayReply, MayGrant, after, actor_by, start}
+use Rattle.mc_model.specs.World.{World, Act, Replies, Reports, Grants, Answers, Restarts, Deed, May, MayReply, MayGrant, after, actor_by, start}
 use Rattle.mc_model.specs.Fate.{shown_by, TellsOf, States, CameBefore, deed_by, IsDelivery}
 use Rattle.mc_laws.proofs.Fates.{fate_is_last}
 use Rattle.mc_laws.proofs.Growth.{grows, later, actors_after}
@@ -47,22 +47,7 @@ tells_known w node (Replies ticket other answer) may id chain tells =
     subst (λ (i : ℕ). Knows w.nodes (w.actors node).received i chain) (m.asked.about ∙ tells.0) (answer_known w.nodes node (w.actors node) m.asked.waiting answer chain m.fits tells.1)
 tells_known w node (Reports other shown) may id chain tells =
     subst (λ (i : ℕ). Knows w.nodes (w.actors node).received i chain) tells.0 (subst (Knows w.nodes (w.actors node).received other) tells.1 may.needs.known)
-tells_known w node (Receives packet) may id chain tells = absurd tells
-tells_known w node (Promises slot ballot sent) may id chain tells = absurd tells
-tells_known w node (Votes slot vote sent) may id chain tells = absurd tells
-tells_known w node (Refuses slot ballot) may id chain tells = absurd tells
-tells_known w node (Tells other name told) may id chain tells = absurd tells
-tells_known w node (Prepares slot ballot) may id chain tells = absurd tells
-tells_known w node (Proposes slot vote) may id chain tells = absurd tells
-tells_known w node (Begins ticket request) may id chain tells = absurd tells
-tells_known w node (Asks other ticket) may id chain tells = absurd tells
-tells_known w node (Settles ticket) may id chain tells = absurd tells
-tells_known w node (Grants slot) may id chain tells = absurd tells
-tells_known w node (Answers slot outcome) may id chain tells = absurd tells
-tells_known w node (Abandons slot) may id chain tells = absurd tells
-tells_known w node (Ticks moment) may id chain tells = absurd tells
-tells_known w node Stops may id chain tells = absurd tells
-tells_known w node (Restarts serial) may id chain tells = absurd tells
+tells_known w node act may id chain tells = absurd tells
 
 -- ---- deeds in their order
 
@@ -246,22 +231,7 @@ granted_by : (w : World) → Told w → (node : ℕ) (act : Act) (slot : Slot) �
 granted_by w told node (Grants other) slot (inl new) = inl (λ i. record { node = node; incarnation = (w.actors node).incarnation; act = Grants (new i) })
 granted_by w told node (Grants other) slot (inr old) = inr (told.granted node slot old)
 granted_by w told node (Restarts serial) slot is_in = absurd is_in
-granted_by w told node (Receives packet) slot is_in = inr (told.granted node slot is_in)
-granted_by w told node (Promises other ballot sent) slot is_in = inr (told.granted node slot is_in)
-granted_by w told node (Votes other vote sent) slot is_in = inr (told.granted node slot is_in)
-granted_by w told node (Refuses other ballot) slot is_in = inr (told.granted node slot is_in)
-granted_by w told node (Tells other name answer) slot is_in = inr (told.granted node slot is_in)
-granted_by w told node (Prepares other ballot) slot is_in = inr (told.granted node slot is_in)
-granted_by w told node (Proposes other vote) slot is_in = inr (told.granted node slot is_in)
-granted_by w told node (Begins ticket request) slot is_in = inr (told.granted node slot is_in)
-granted_by w told node (Asks other ticket) slot is_in = inr (told.granted node slot is_in)
-granted_by w told node (Settles ticket) slot is_in = inr (told.granted node slot is_in)
-granted_by w told node (Replies ticket other answer) slot is_in = inr (told.granted node slot is_in)
-granted_by w told node (Reports other chain) slot is_in = inr (told.granted node slot is_in)
-granted_by w told node (Answers other outcome) slot is_in = inr (told.granted node slot is_in)
-granted_by w told node (Abandons other) slot is_in = inr (told.granted node slot is_in)
-granted_by w told node (Ticks moment) slot is_in = inr (told.granted node slot is_in)
-granted_by w told node Stops slot is_in = inr (told.granted node slot is_in)
+granted_by w told node act slot is_in = inr (told.granted node slot is_in)
 
 granted_after : (w : World) → Told w → (node : ℕ) (act : Act) (other : ℕ) (slot : Slot) → In slot ((after w node act).actors other).granted → In (deed_by (record { node = other; incarnation = ((after w node act).actors other).incarnation }) (Grants slot)) (after w node act).past
 granted_after w told node act other slot is_in = elim (actors_after w node act other) [

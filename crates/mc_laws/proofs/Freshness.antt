@@ -5,7 +5,7 @@ use Rattle.mc_model.specs.Packet.{slot_at, Name, Told, Ask, Tell}
 use Rattle.mc_model.specs.Acceptor.{Records, IsTold}
 use Rattle.mc_model.specs.Actor.{Actor, Request, Waiting}
 use Rattle.mc_model.specs.Replies.{id_in}
-use Rattle.mc_model.specs.World.{World, Act, Receives, Promises, Votes, Refuses, Tells, Prepares, Proposes, Begins, Asks, Settles, Replies, Reports, Grants, Answers, Abandons, Ticks, Stops, Restarts, Cast, cast, May, IsWaiting, MayTell, after, actor_by, settle, sent_by, start}
+use Rattle.mc_model.specs.World.{World, Act, Promises, Votes, Refuses, Tells, Prepares, Proposes, Begins, Asks, Settles, Replies, Restarts, Cast, cast, May, IsWaiting, MayTell, after, actor_by, settle, sent_by, start}
 use Rattle.mc_laws.proofs.Membership.{in_either, of_only, in_map, in_filter}
 use Rattle.mc_laws.proofs.Growth.{grows, remembers, actors_after, actor_here}
 use Rattle.mc_laws.proofs.Keeping.{Keeps, IsSent, sent_is}
@@ -61,17 +61,7 @@ asking w node (Refuses slot ballot) sender id name is = cc
 asking w node (Tells other tells told) sender id name is = cc
 asking w node (Prepares slot ballot) sender id name is = cc
 asking w node (Proposes slot vote) sender id name is = cc
-asking w node (Receives packet) sender id name is = absurd is
-asking w node (Begins ticket request) sender id name is = absurd is
-asking w node (Settles ticket) sender id name is = absurd is
-asking w node (Replies ticket other answer) sender id name is = absurd is
-asking w node (Reports other chain) sender id name is = absurd is
-asking w node (Grants slot) sender id name is = absurd is
-asking w node (Answers slot outcome) sender id name is = absurd is
-asking w node (Abandons slot) sender id name is = absurd is
-asking w node (Ticks moment) sender id name is = absurd is
-asking w node Stops sender id name is = absurd is
-asking w node (Restarts serial) sender id name is = absurd is
+asking w node act sender id name is = absurd is
 
 ask_cases : (w : World) (node : ℕ) (act : Act) (sender id : ℕ) (name : Name) → In (Ask sender id name) (after w node act).packets → Asking w node act sender id name ⊎ In (Ask sender id name) w.packets
 ask_cases w node act sender id name is_in = elim (in_either (Ask sender id name) (sent_by w node act) w.packets is_in) [
@@ -96,17 +86,7 @@ telling w node (Refuses slot ballot) teller name told is = cc
 telling w node (Asks other ticket) teller name told is = cc
 telling w node (Prepares slot ballot) teller name told is = cc
 telling w node (Proposes slot vote) teller name told is = cc
-telling w node (Receives packet) teller name told is = absurd is
-telling w node (Begins ticket request) teller name told is = absurd is
-telling w node (Settles ticket) teller name told is = absurd is
-telling w node (Replies ticket other answer) teller name told is = absurd is
-telling w node (Reports other chain) teller name told is = absurd is
-telling w node (Grants slot) teller name told is = absurd is
-telling w node (Answers slot outcome) teller name told is = absurd is
-telling w node (Abandons slot) teller name told is = absurd is
-telling w node (Ticks moment) teller name told is = absurd is
-telling w node Stops teller name told is = absurd is
-telling w node (Restarts serial) teller name told is = absurd is
+telling w node act teller name told is = absurd is
 
 tell_cases : (w : World) (node : ℕ) (act : Act) (teller : ℕ) (name : Name) (told : Option Told) → In (Tell teller name told) (after w node act).packets → Telling node act teller name told ⊎ In (Tell teller name told) w.packets
 tell_cases w node act teller name told is_in = elim (in_either (Tell teller name told) (sent_by w node act) w.packets is_in) [
@@ -150,20 +130,7 @@ tickets_by node a (Settles ticket) have waiting is_in =
     subst (λ (x : Waiting). x.ticket < a.ticket) (sym m.made) (have m.from m.member)
 tickets_by node a (Replies ticket id answer) have waiting is_in = have waiting (in_filter _ a.waiting waiting is_in)
 tickets_by node a (Restarts serial) have waiting is_in = absurd is_in
-tickets_by node a (Receives packet) have waiting is_in = have waiting is_in
-tickets_by node a (Promises slot ballot sent) have waiting is_in = have waiting is_in
-tickets_by node a (Votes slot vote sent) have waiting is_in = have waiting is_in
-tickets_by node a (Refuses slot ballot) have waiting is_in = have waiting is_in
-tickets_by node a (Tells other name told) have waiting is_in = have waiting is_in
-tickets_by node a (Prepares slot ballot) have waiting is_in = have waiting is_in
-tickets_by node a (Proposes slot vote) have waiting is_in = have waiting is_in
-tickets_by node a (Asks other ticket) have waiting is_in = have waiting is_in
-tickets_by node a (Reports other chain) have waiting is_in = have waiting is_in
-tickets_by node a (Grants slot) have waiting is_in = have waiting is_in
-tickets_by node a (Answers slot outcome) have waiting is_in = have waiting is_in
-tickets_by node a (Abandons slot) have waiting is_in = have waiting is_in
-tickets_by node a (Ticks moment) have waiting is_in = have waiting is_in
-tickets_by node a Stops have waiting is_in = have waiting is_in
+tickets_by node a act have waiting is_in = have waiting is_in
 
 tickets_after : (w : World) → Names w → (node : ℕ) (act : Act) (other : ℕ) → HaveTickets ((after w node act).actors other)
 tickets_after w names node act other = elim (actors_after w node act other) [
@@ -218,20 +185,7 @@ about_by node a (Settles ticket) name id named about same waiting is_in is =
     subst (λ (x : Waiting). id_in x.request ≡ id) (sym m.made) (about same m.from m.member (ap (λ (x : Waiting). x.ticket) (sym m.made) ∙ is))
 about_by node a (Replies ticket other answer) name id named about same waiting is_in is = about same waiting (in_filter _ a.waiting waiting is_in) is
 about_by node a (Restarts serial) name id named about same waiting is_in is = absurd is_in
-about_by node a (Receives packet) name id named about same waiting is_in is = about same waiting is_in is
-about_by node a (Promises slot ballot sent) name id named about same waiting is_in is = about same waiting is_in is
-about_by node a (Votes slot vote sent) name id named about same waiting is_in is = about same waiting is_in is
-about_by node a (Refuses slot ballot) name id named about same waiting is_in is = about same waiting is_in is
-about_by node a (Tells other question told) name id named about same waiting is_in is = about same waiting is_in is
-about_by node a (Prepares slot ballot) name id named about same waiting is_in is = about same waiting is_in is
-about_by node a (Proposes slot vote) name id named about same waiting is_in is = about same waiting is_in is
-about_by node a (Asks other ticket) name id named about same waiting is_in is = about same waiting is_in is
-about_by node a (Reports other chain) name id named about same waiting is_in is = about same waiting is_in is
-about_by node a (Grants slot) name id named about same waiting is_in is = about same waiting is_in is
-about_by node a (Answers slot outcome) name id named about same waiting is_in is = about same waiting is_in is
-about_by node a (Abandons slot) name id named about same waiting is_in is = about same waiting is_in is
-about_by node a (Ticks moment) name id named about same waiting is_in is = about same waiting is_in is
-about_by node a Stops name id named about same waiting is_in is = about same waiting is_in is
+about_by node a act name id named about same waiting is_in is = about same waiting is_in is
 
 about_after : (before w : World) (name : Name) (id : ℕ) → Fresh before name id w → (node : ℕ) (act : Act) → IsAbout name id ((after w node act).actors name.node)
 about_after before w name id fresh node act = elim (actors_after w node act name.node) [

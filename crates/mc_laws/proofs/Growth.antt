@@ -6,7 +6,7 @@ use Rattle.mc_model.specs.OneSlot.{In}
 use Rattle.mc_model.specs.Packet.{Slot, same_slot, Packet}
 use Rattle.mc_model.specs.Acceptor.{Record, Records, with_record, after_promise, after_vote}
 use Rattle.mc_model.specs.Actor.{Actor, Outcome}
-use Rattle.mc_model.specs.World.{World, Act, Receives, Promises, Votes, Refuses, Tells, Prepares, Proposes, Begins, Asks, Settles, Replies, Reports, Grants, Answers, Abandons, Ticks, Stops, Restarts, Deed, Cast, cast, May, after, changed, records_by, actor_by, votes_by, sent_by}
+use Rattle.mc_model.specs.World.{World, Act, Receives, Promises, Votes, Prepares, Proposes, Begins, Grants, Answers, Abandons, Restarts, Deed, Cast, cast, May, after, changed, records_by, actor_by, votes_by, sent_by}
 use Rattle.mc_laws.proofs.Membership.{in_right, in_either, of_only, same_number, slots_same}
 
 -- ---- what an act does to a record
@@ -24,22 +24,7 @@ with_cases records slot new other false same = inl (ap (λ (test : Bool). if tes
 pub record_cases : (records : Records) (act : Act) (slot : Slot) → (records_by records act slot ≡ records slot) ⊎ IsNew records act slot (records_by records act slot)
 record_cases records (Promises slot ballot sent) other = with_cases records slot (after_promise (records slot) ballot) other (same_slot other slot) refl
 record_cases records (Votes slot vote sent) other = with_cases records slot (after_vote vote) other (same_slot other slot) refl
-record_cases records (Receives packet) other = inl refl
-record_cases records (Refuses slot ballot) other = inl refl
-record_cases records (Tells id name told) other = inl refl
-record_cases records (Prepares slot ballot) other = inl refl
-record_cases records (Proposes slot vote) other = inl refl
-record_cases records (Begins ticket request) other = inl refl
-record_cases records (Asks id ticket) other = inl refl
-record_cases records (Settles ticket) other = inl refl
-record_cases records (Replies ticket id answer) other = inl refl
-record_cases records (Reports id chain) other = inl refl
-record_cases records (Grants slot) other = inl refl
-record_cases records (Answers slot outcome) other = inl refl
-record_cases records (Abandons slot) other = inl refl
-record_cases records (Ticks moment) other = inl refl
-record_cases records Stops other = inl refl
-record_cases records (Restarts serial) other = inl refl
+record_cases records act other = inl refl
 
 -- what a node has after an act of some node: the same, or it is that node and has what is new
 pub changed_cases : {A : Type 0} (things : ℕ → A) (node : ℕ) (new : A) (other : ℕ) → ((other ≡ node) × (changed things node new other ≡ new)) ⊎ (changed things node new other ≡ things other)
@@ -82,22 +67,7 @@ new_promised w node (Promises slot ballot sent) may other new is =
 new_promised w node (Votes slot vote sent) may other new is =
     let below : (w.records node slot).promised ≤ vote.ballot = may.needs.may in
     subst (λ (s : Slot). (w.records node s).promised ≤ new.promised) (sym is.0) (subst (λ (r : Record). (w.records node slot).promised ≤ r.promised) (sym is.1) below)
-new_promised w node (Receives packet) may other new is = absurd is
-new_promised w node (Refuses slot ballot) may other new is = absurd is
-new_promised w node (Tells id name told) may other new is = absurd is
-new_promised w node (Prepares slot ballot) may other new is = absurd is
-new_promised w node (Proposes slot vote) may other new is = absurd is
-new_promised w node (Begins ticket request) may other new is = absurd is
-new_promised w node (Asks id ticket) may other new is = absurd is
-new_promised w node (Settles ticket) may other new is = absurd is
-new_promised w node (Replies ticket id answer) may other new is = absurd is
-new_promised w node (Reports id chain) may other new is = absurd is
-new_promised w node (Grants slot) may other new is = absurd is
-new_promised w node (Answers slot outcome) may other new is = absurd is
-new_promised w node (Abandons slot) may other new is = absurd is
-new_promised w node (Ticks moment) may other new is = absurd is
-new_promised w node Stops may other new is = absurd is
-new_promised w node (Restarts serial) may other new is = absurd is
+new_promised w node act may other new is = absurd is
 
 promised_after : (w : World) (node : ℕ) (act : Act) → May w node act → (other : ℕ) (slot : Slot) → (w.records other slot).promised ≤ ((after w node act).records other slot).promised
 promised_after w node act may other slot =
@@ -151,22 +121,13 @@ StartsAnew act = (serial : ℕ) × (act ≡ Restarts serial)
 pub remembers : (node : ℕ) (a : Actor) (act : Act) → StartsAnew act ⊎ Remembers a (actor_by node a act)
 remembers node a (Restarts serial) = inl (serial, refl)
 remembers node a (Receives packet) = inr (record { incarnation = refl; ticket = omega arith; received = λ other is_in. inr is_in; sent = λ other is_in. is_in; granted = λ slot is_in. is_in; closed = λ attempt is_in. is_in })
-remembers node a (Promises slot ballot sent) = inr (remembers_all a (actor_by node a (Promises slot ballot sent)) refl refl refl refl refl refl)
-remembers node a (Votes slot vote sent) = inr (remembers_all a (actor_by node a (Votes slot vote sent)) refl refl refl refl refl refl)
-remembers node a (Refuses slot ballot) = inr (remembers_all a (actor_by node a (Refuses slot ballot)) refl refl refl refl refl refl)
-remembers node a (Tells id name told) = inr (remembers_all a (actor_by node a (Tells id name told)) refl refl refl refl refl refl)
 remembers node a (Prepares slot ballot) = inr (record { incarnation = refl; ticket = omega arith; received = λ packet is_in. is_in; sent = λ packet is_in. inr is_in; granted = λ other is_in. is_in; closed = λ attempt is_in. is_in })
 remembers node a (Proposes slot vote) = inr (record { incarnation = refl; ticket = omega arith; received = λ packet is_in. is_in; sent = λ packet is_in. inr is_in; granted = λ other is_in. is_in; closed = λ attempt is_in. is_in })
 remembers node a (Begins ticket request) = inr (record { incarnation = refl; ticket = omega arith; received = λ packet is_in. is_in; sent = λ packet is_in. is_in; granted = λ slot is_in. is_in; closed = λ attempt is_in. is_in })
-remembers node a (Asks id ticket) = inr (remembers_all a (actor_by node a (Asks id ticket)) refl refl refl refl refl refl)
-remembers node a (Settles ticket) = inr (remembers_all a (actor_by node a (Settles ticket)) refl refl refl refl refl refl)
-remembers node a (Replies ticket id answer) = inr (remembers_all a (actor_by node a (Replies ticket id answer)) refl refl refl refl refl refl)
-remembers node a (Reports id chain) = inr (remembers_all a (actor_by node a (Reports id chain)) refl refl refl refl refl refl)
 remembers node a (Grants slot) = inr (record { incarnation = refl; ticket = omega arith; received = λ packet is_in. is_in; sent = λ packet is_in. is_in; granted = λ other is_in. inr is_in; closed = λ attempt is_in. is_in })
 remembers node a (Answers slot outcome) = inr (record { incarnation = refl; ticket = omega arith; received = λ packet is_in. is_in; sent = λ packet is_in. is_in; granted = λ other is_in. is_in; closed = λ attempt is_in. inr is_in })
 remembers node a (Abandons slot) = inr (record { incarnation = refl; ticket = omega arith; received = λ packet is_in. is_in; sent = λ packet is_in. is_in; granted = λ other is_in. is_in; closed = λ attempt is_in. inr is_in })
-remembers node a (Ticks moment) = inr (remembers_all a (actor_by node a (Ticks moment)) refl refl refl refl refl refl)
-remembers node a Stops = inr (remembers_all a (actor_by node a Stops) refl refl refl refl refl refl)
+remembers node a act = inr (remembers_all a (actor_by node a act) refl refl refl refl refl refl)
 
 pub later : (node : ℕ) (a : Actor) (act : Act) → a.incarnation ≤ (actor_by node a act).incarnation
 later node a act = elim (remembers node a act) [
@@ -191,23 +152,7 @@ later_after w node act other =
 late_by : (w : World) (node : ℕ) (act : Act) → May w node act → (c : Cast) → In c (votes_by node act) → (w.records c.acceptor c.slot).promised ≤ c.vote.ballot
 late_by w node (Votes slot vote sent) may c is_in =
     of_only (λ (x : Cast). (w.records x.acceptor x.slot).promised ≤ x.vote.ballot) (cast node slot vote) c may.needs.may is_in
-late_by w node (Receives packet) may c is_in = absurd is_in
-late_by w node (Promises slot ballot sent) may c is_in = absurd is_in
-late_by w node (Refuses slot ballot) may c is_in = absurd is_in
-late_by w node (Tells id name told) may c is_in = absurd is_in
-late_by w node (Prepares slot ballot) may c is_in = absurd is_in
-late_by w node (Proposes slot vote) may c is_in = absurd is_in
-late_by w node (Begins ticket request) may c is_in = absurd is_in
-late_by w node (Asks id ticket) may c is_in = absurd is_in
-late_by w node (Settles ticket) may c is_in = absurd is_in
-late_by w node (Replies ticket id answer) may c is_in = absurd is_in
-late_by w node (Reports id chain) may c is_in = absurd is_in
-late_by w node (Grants slot) may c is_in = absurd is_in
-late_by w node (Answers slot outcome) may c is_in = absurd is_in
-late_by w node (Abandons slot) may c is_in = absurd is_in
-late_by w node (Ticks moment) may c is_in = absurd is_in
-late_by w node Stops may c is_in = absurd is_in
-late_by w node (Restarts serial) may c is_in = absurd is_in
+late_by w node act may c is_in = absurd is_in
 
 pub grows : (w : World) (node : ℕ) (act : Act) → May w node act → Grows w (after w node act)
 grows w node act may = record {

@@ -8,7 +8,7 @@ use Rattle.mc_model.specs.OneSlot.{Vote, vote_at, In, Tells as Reaches, IsOfHigh
 use Rattle.mc_model.specs.Packet.{Slot, Packet, Prepare, Promise, Propose, Voted, Refused, Ask, Tell}
 use Rattle.mc_model.specs.Acceptor.{Record, Records, with_record, after_promise, after_vote}
 use Rattle.mc_model.specs.Actor.{Actor}
-use Rattle.mc_model.specs.World.{World, Act, Receives, Promises, Votes, Refuses, Tells, Prepares, Proposes, Begins, Asks, Settles, Replies, Reports, Grants, Answers, Abandons, Ticks, Stops, Restarts, Cast, cast, May, after, records_by, actor_by, votes_by, sent_by, if_sent, start}
+use Rattle.mc_model.specs.World.{World, Act, Receives, Promises, Votes, Refuses, Tells, Prepares, Proposes, Asks, Restarts, Cast, cast, May, after, records_by, actor_by, votes_by, sent_by, if_sent, start}
 use Rattle.mc_laws.proofs.Membership.{in_either}
 use Rattle.mc_laws.proofs.Growth.{Grows, grows, IsNew, records_after, changed_cases, later, same_life, changed_here}
 
@@ -135,17 +135,7 @@ sent_is w node (Tells id name told) packet is_in = only packet _ is_in
 sent_is w node (Prepares slot ballot) packet is_in = only packet _ is_in
 sent_is w node (Proposes slot vote) packet is_in = only packet _ is_in
 sent_is w node (Asks id ticket) packet is_in = only packet _ is_in
-sent_is w node (Receives other) packet is_in = absurd is_in
-sent_is w node (Begins ticket request) packet is_in = absurd is_in
-sent_is w node (Settles ticket) packet is_in = absurd is_in
-sent_is w node (Replies ticket id answer) packet is_in = absurd is_in
-sent_is w node (Reports id chain) packet is_in = absurd is_in
-sent_is w node (Grants slot) packet is_in = absurd is_in
-sent_is w node (Answers slot outcome) packet is_in = absurd is_in
-sent_is w node (Abandons slot) packet is_in = absurd is_in
-sent_is w node (Ticks moment) packet is_in = absurd is_in
-sent_is w node Stops packet is_in = absurd is_in
-sent_is w node (Restarts serial) packet is_in = absurd is_in
+sent_is w node act packet is_in = absurd is_in
 
 -- a promise reports the vote of the record, which is the highest so far and below the ballot
 reaches : (report : Option Vote) (held : Vote) (ballot : ℕ) → report ≡ Some held → ballot ≤ held.ballot → Reaches report ballot
@@ -178,17 +168,7 @@ fits_new w keeps node (Refuses slot ballot) may packet is = subst (λ (p : Packe
 fits_new w keeps node (Tells id name told) may packet is = subst (λ (p : Packet). Fits (after w node (Tells id name told)) p) (sym is) tt
 fits_new w keeps node (Prepares slot ballot) may packet is = subst (λ (p : Packet). Fits (after w node (Prepares slot ballot)) p) (sym is) tt
 fits_new w keeps node (Asks id ticket) may packet is = subst (λ (p : Packet). Fits (after w node (Asks id ticket)) p) (sym is) tt
-fits_new w keeps node (Receives other) may packet is = absurd is
-fits_new w keeps node (Begins ticket request) may packet is = absurd is
-fits_new w keeps node (Settles ticket) may packet is = absurd is
-fits_new w keeps node (Replies ticket id answer) may packet is = absurd is
-fits_new w keeps node (Reports id chain) may packet is = absurd is
-fits_new w keeps node (Grants slot) may packet is = absurd is
-fits_new w keeps node (Answers slot outcome) may packet is = absurd is
-fits_new w keeps node (Abandons slot) may packet is = absurd is
-fits_new w keeps node (Ticks moment) may packet is = absurd is
-fits_new w keeps node Stops may packet is = absurd is
-fits_new w keeps node (Restarts serial) may packet is = absurd is
+fits_new w keeps node act may packet is = absurd is
 
 fits_after : (w : World) → Keeps w → (node : ℕ) (act : Act) → May w node act → (packet : Packet) → In packet (after w node act).packets → Fits (after w node act) packet
 fits_after w keeps node act may packet is_in = elim (in_either packet (sent_by w node act) w.packets is_in) [
@@ -209,22 +189,7 @@ keeps_new w keeps node (Votes slot voted sent) may other new is vote is_in =
     let may_vote : (w.records node slot).promised ≤ voted.ballot = may.needs.may in
     let same : (w.records node other).promised ≡ (w.records node slot).promised = ap (λ (s : Slot). (w.records node s).promised) is.0 in
     record { held = voted; holds = ap (λ (r : Record). r.vote) is.1; above = omega (arith, k.above, h.within, may_vote, same) }
-keeps_new w keeps node (Receives packet) may other new is vote is_in = absurd is
-keeps_new w keeps node (Refuses slot ballot) may other new is vote is_in = absurd is
-keeps_new w keeps node (Tells id name told) may other new is vote is_in = absurd is
-keeps_new w keeps node (Prepares slot ballot) may other new is vote is_in = absurd is
-keeps_new w keeps node (Proposes slot voted) may other new is vote is_in = absurd is
-keeps_new w keeps node (Begins ticket request) may other new is vote is_in = absurd is
-keeps_new w keeps node (Asks id ticket) may other new is vote is_in = absurd is
-keeps_new w keeps node (Settles ticket) may other new is vote is_in = absurd is
-keeps_new w keeps node (Replies ticket id answer) may other new is vote is_in = absurd is
-keeps_new w keeps node (Reports id chain) may other new is vote is_in = absurd is
-keeps_new w keeps node (Grants slot) may other new is vote is_in = absurd is
-keeps_new w keeps node (Answers slot outcome) may other new is vote is_in = absurd is
-keeps_new w keeps node (Abandons slot) may other new is vote is_in = absurd is
-keeps_new w keeps node (Ticks moment) may other new is vote is_in = absurd is
-keeps_new w keeps node Stops may other new is vote is_in = absurd is
-keeps_new w keeps node (Restarts serial) may other new is vote is_in = absurd is
+keeps_new w keeps node act may other new is vote is_in = absurd is
 
 same_record : (r s : Record) (vote : Vote) → s ≡ r → KeepsVote r vote → KeepsVote s vote
 same_record r s vote same k = record { held = k.held; holds = ap (λ (x : Record). x.vote) same ∙ k.holds; above = k.above }
@@ -246,44 +211,12 @@ IsCast node act c = ⊥
 
 pub cast_is : (node : ℕ) (act : Act) (c : Cast) → In c (votes_by node act) → IsCast node act c
 cast_is node (Votes slot vote sent) c is_in = only c (cast node slot vote) is_in
-cast_is node (Receives packet) c is_in = absurd is_in
-cast_is node (Promises slot ballot sent) c is_in = absurd is_in
-cast_is node (Refuses slot ballot) c is_in = absurd is_in
-cast_is node (Tells id name told) c is_in = absurd is_in
-cast_is node (Prepares slot ballot) c is_in = absurd is_in
-cast_is node (Proposes slot vote) c is_in = absurd is_in
-cast_is node (Begins ticket request) c is_in = absurd is_in
-cast_is node (Asks id ticket) c is_in = absurd is_in
-cast_is node (Settles ticket) c is_in = absurd is_in
-cast_is node (Replies ticket id answer) c is_in = absurd is_in
-cast_is node (Reports id chain) c is_in = absurd is_in
-cast_is node (Grants slot) c is_in = absurd is_in
-cast_is node (Answers slot outcome) c is_in = absurd is_in
-cast_is node (Abandons slot) c is_in = absurd is_in
-cast_is node (Ticks moment) c is_in = absurd is_in
-cast_is node Stops c is_in = absurd is_in
-cast_is node (Restarts serial) c is_in = absurd is_in
+cast_is node act c is_in = absurd is_in
 
 -- what is known of the one vote that an act saves, for every vote that it saves
 new_cast : (w : World) (node : ℕ) (act : Act) (P : Cast → Type 0) → ((slot : Slot) (vote : Vote) (sent : Bool) → act ≡ Votes slot vote sent → P (cast node slot vote)) → (c : Cast) → IsCast node act c → P c
 new_cast w node (Votes slot vote sent) P each c is = subst P (sym is) (each slot vote sent refl)
-new_cast w node (Receives packet) P each c is = absurd is
-new_cast w node (Promises slot ballot sent) P each c is = absurd is
-new_cast w node (Refuses slot ballot) P each c is = absurd is
-new_cast w node (Tells id name told) P each c is = absurd is
-new_cast w node (Prepares slot ballot) P each c is = absurd is
-new_cast w node (Proposes slot vote) P each c is = absurd is
-new_cast w node (Begins ticket request) P each c is = absurd is
-new_cast w node (Asks id ticket) P each c is = absurd is
-new_cast w node (Settles ticket) P each c is = absurd is
-new_cast w node (Replies ticket id answer) P each c is = absurd is
-new_cast w node (Reports id chain) P each c is = absurd is
-new_cast w node (Grants slot) P each c is = absurd is
-new_cast w node (Answers slot outcome) P each c is = absurd is
-new_cast w node (Abandons slot) P each c is = absurd is
-new_cast w node (Ticks moment) P each c is = absurd is
-new_cast w node Stops P each c is = absurd is
-new_cast w node (Restarts serial) P each c is = absurd is
+new_cast w node act P each c is = absurd is
 
 records_kept : (w : World) → Keeps w → (node : ℕ) (act : Act) → May w node act → (c : Cast) → In c (after w node act).votes → KeepsVote ((after w node act).records c.acceptor c.slot) c.vote
 records_kept w keeps node act may c is_in = elim (in_either c (votes_by node act) w.votes is_in) [
@@ -305,22 +238,7 @@ held_new w keeps node (Votes slot voted sent) may other new is vote holds =
     let votes : voted ≡ vote = cc in
     let promised : new.promised ≡ voted.ballot = ap (λ (r : Record). r.promised) is.1 in
     (inl (λ i. cast node (is.0 i) (sym votes i)), let ballots : voted.ballot ≡ vote.ballot = ap (λ (v : Vote). v.ballot) votes in omega (arith, promised, ballots))
-held_new w keeps node (Receives packet) may other new is vote holds = absurd is
-held_new w keeps node (Refuses slot ballot) may other new is vote holds = absurd is
-held_new w keeps node (Tells id name told) may other new is vote holds = absurd is
-held_new w keeps node (Prepares slot ballot) may other new is vote holds = absurd is
-held_new w keeps node (Proposes slot voted) may other new is vote holds = absurd is
-held_new w keeps node (Begins ticket request) may other new is vote holds = absurd is
-held_new w keeps node (Asks id ticket) may other new is vote holds = absurd is
-held_new w keeps node (Settles ticket) may other new is vote holds = absurd is
-held_new w keeps node (Replies ticket id answer) may other new is vote holds = absurd is
-held_new w keeps node (Reports id chain) may other new is vote holds = absurd is
-held_new w keeps node (Grants slot) may other new is vote holds = absurd is
-held_new w keeps node (Answers slot outcome) may other new is vote holds = absurd is
-held_new w keeps node (Abandons slot) may other new is vote holds = absurd is
-held_new w keeps node (Ticks moment) may other new is vote holds = absurd is
-held_new w keeps node Stops may other new is vote holds = absurd is
-held_new w keeps node (Restarts serial) may other new is vote holds = absurd is
+held_new w keeps node act may other new is vote holds = absurd is
 
 held_after : (w : World) → Keeps w → (node : ℕ) (act : Act) → May w node act → (other : ℕ) (slot : Slot) (vote : Vote) → ((after w node act).records other slot).vote ≡ Some vote → HoldsVote (after w node act) other slot vote
 held_after w keeps node act may other slot vote holds =
@@ -360,17 +278,7 @@ proposing w node (Refuses other ballot) sender slot vote is = cc
 proposing w node (Tells id name told) sender slot vote is = cc
 proposing w node (Prepares other ballot) sender slot vote is = cc
 proposing w node (Asks id ticket) sender slot vote is = cc
-proposing w node (Receives packet) sender slot vote is = absurd is
-proposing w node (Begins ticket request) sender slot vote is = absurd is
-proposing w node (Settles ticket) sender slot vote is = absurd is
-proposing w node (Replies ticket id answer) sender slot vote is = absurd is
-proposing w node (Reports id chain) sender slot vote is = absurd is
-proposing w node (Grants other) sender slot vote is = absurd is
-proposing w node (Answers other outcome) sender slot vote is = absurd is
-proposing w node (Abandons other) sender slot vote is = absurd is
-proposing w node (Ticks moment) sender slot vote is = absurd is
-proposing w node Stops sender slot vote is = absurd is
-proposing w node (Restarts serial) sender slot vote is = absurd is
+proposing w node act sender slot vote is = absurd is
 
 pub proposal_cases : (w : World) (node : ℕ) (act : Act) (sender : ℕ) (slot : Slot) (vote : Vote) → In (Propose sender slot vote) (after w node act).packets → Proposing node act sender slot vote ⊎ In (Propose sender slot vote) w.packets
 proposal_cases w node act sender slot vote is_in = elim (in_either (Propose sender slot vote) (sent_by w node act) w.packets is_in) [
@@ -446,22 +354,7 @@ heard : (w : World) → Keeps w → (node : ℕ) (act : Act) → May w node act 
 heard w keeps node (Receives new) may packet (inl same) = subst (λ (p : Packet). In p w.packets) (sym same) may.needs
 heard w keeps node (Receives new) may packet (inr old) = keeps.received node packet old
 heard w keeps node (Restarts serial) may packet is_in = absurd is_in
-heard w keeps node (Promises slot ballot sent) may packet is_in = keeps.received node packet is_in
-heard w keeps node (Votes slot vote sent) may packet is_in = keeps.received node packet is_in
-heard w keeps node (Refuses slot ballot) may packet is_in = keeps.received node packet is_in
-heard w keeps node (Tells id name told) may packet is_in = keeps.received node packet is_in
-heard w keeps node (Prepares slot ballot) may packet is_in = keeps.received node packet is_in
-heard w keeps node (Proposes slot vote) may packet is_in = keeps.received node packet is_in
-heard w keeps node (Begins ticket request) may packet is_in = keeps.received node packet is_in
-heard w keeps node (Asks id ticket) may packet is_in = keeps.received node packet is_in
-heard w keeps node (Settles ticket) may packet is_in = keeps.received node packet is_in
-heard w keeps node (Replies ticket id answer) may packet is_in = keeps.received node packet is_in
-heard w keeps node (Reports id chain) may packet is_in = keeps.received node packet is_in
-heard w keeps node (Grants slot) may packet is_in = keeps.received node packet is_in
-heard w keeps node (Answers slot outcome) may packet is_in = keeps.received node packet is_in
-heard w keeps node (Abandons slot) may packet is_in = keeps.received node packet is_in
-heard w keeps node (Ticks moment) may packet is_in = keeps.received node packet is_in
-heard w keeps node Stops may packet is_in = keeps.received node packet is_in
+heard w keeps node act may packet is_in = keeps.received node packet is_in
 
 received_after : (w : World) → Keeps w → (node : ℕ) (act : Act) → May w node act → (other : ℕ) (packet : Packet) → In packet ((after w node act).actors other).received → In packet (after w node act).packets
 received_after w keeps node act may other packet is_in =

@@ -7,7 +7,7 @@ use Rattle.mc_model.specs.OneSlot.{Vote, vote_at, In, IsOfHighest}
 use Rattle.mc_model.specs.Packet.{Slot, slot_of, Promise}
 use Rattle.mc_model.specs.Actor.{Actor, Request, Submit, Waiting, Outcome, Unanswered, decree_of}
 use Rattle.mc_model.specs.Proposal.{IsFirst, IsNext, IsOwn, IsFree, IsClosed, IsLost, Allows}
-use Rattle.mc_model.specs.World.{World, Act, Receives, Promises, Votes, Refuses, Tells, Prepares, Proposes, Begins, Asks, Settles, Replies, Reports, Grants, Answers, Abandons, Ticks, Stops, Restarts, Deed, cast, May, IsChosenIn, StandsIn, MayWait, after, actor_by, settle, start}
+use Rattle.mc_model.specs.World.{World, Act, Proposes, Begins, Settles, Replies, Answers, Abandons, Restarts, Deed, cast, May, IsChosenIn, StandsIn, MayWait, after, actor_by, settle, start}
 use Rattle.mc_model.specs.Fate.{deed_by}
 use Rattle.mc_laws.proofs.Membership.{in_either, of_only, in_map, in_filter}
 use Rattle.mc_laws.proofs.Majorities.{both}
@@ -188,21 +188,7 @@ closed_by w links node (Answers other came) slot outcome (inr old) = closed_more
 closed_by w links node (Abandons other) slot outcome (inl new) = inr (ap (λ (x : Slot × Outcome). x.1) new, inl (λ i. record { node = node; incarnation = (w.actors node).incarnation; act = Abandons (new i).0 }))
 closed_by w links node (Abandons other) slot outcome (inr old) = closed_more w node (Abandons other) _ slot outcome (links.closed node slot outcome old)
 closed_by w links node (Restarts serial) slot outcome is_in = absurd is_in
-closed_by w links node (Receives packet) slot outcome is_in = closed_more w node (Receives packet) _ slot outcome (links.closed node slot outcome is_in)
-closed_by w links node (Promises other ballot sent) slot outcome is_in = closed_more w node (Promises other ballot sent) _ slot outcome (links.closed node slot outcome is_in)
-closed_by w links node (Votes other vote sent) slot outcome is_in = closed_more w node (Votes other vote sent) _ slot outcome (links.closed node slot outcome is_in)
-closed_by w links node (Refuses other ballot) slot outcome is_in = closed_more w node (Refuses other ballot) _ slot outcome (links.closed node slot outcome is_in)
-closed_by w links node (Tells id name told) slot outcome is_in = closed_more w node (Tells id name told) _ slot outcome (links.closed node slot outcome is_in)
-closed_by w links node (Prepares other ballot) slot outcome is_in = closed_more w node (Prepares other ballot) _ slot outcome (links.closed node slot outcome is_in)
-closed_by w links node (Proposes other vote) slot outcome is_in = closed_more w node (Proposes other vote) _ slot outcome (links.closed node slot outcome is_in)
-closed_by w links node (Begins ticket request) slot outcome is_in = closed_more w node (Begins ticket request) _ slot outcome (links.closed node slot outcome is_in)
-closed_by w links node (Asks id ticket) slot outcome is_in = closed_more w node (Asks id ticket) _ slot outcome (links.closed node slot outcome is_in)
-closed_by w links node (Settles ticket) slot outcome is_in = closed_more w node (Settles ticket) _ slot outcome (links.closed node slot outcome is_in)
-closed_by w links node (Replies ticket id answer) slot outcome is_in = closed_more w node (Replies ticket id answer) _ slot outcome (links.closed node slot outcome is_in)
-closed_by w links node (Reports id chain) slot outcome is_in = closed_more w node (Reports id chain) _ slot outcome (links.closed node slot outcome is_in)
-closed_by w links node (Grants other) slot outcome is_in = closed_more w node (Grants other) _ slot outcome (links.closed node slot outcome is_in)
-closed_by w links node (Ticks moment) slot outcome is_in = closed_more w node (Ticks moment) _ slot outcome (links.closed node slot outcome is_in)
-closed_by w links node Stops slot outcome is_in = closed_more w node Stops _ slot outcome (links.closed node slot outcome is_in)
+closed_by w links node act slot outcome is_in = closed_more w node act _ slot outcome (links.closed node slot outcome is_in)
 
 closed_after : (w : World) → Links w → (node : ℕ) (act : Act) (other : ℕ) (slot : Slot) (outcome : Outcome) → In (slot, outcome) ((after w node act).actors other).closed → ClosedIn (after w node act).past (record { node = other; incarnation = ((after w node act).actors other).incarnation }) slot outcome
 closed_after w links node act other slot outcome is_in = elim (changed_cases w.actors node (actor_by node (w.actors node) act) other) [
@@ -238,20 +224,7 @@ takes_by w node (Settles ticket) may takes waiting id message is_in submits =
     subst (λ (x : Waiting). IsTaken id (record { node = node; incarnation = (w.actors node).incarnation }) x.since message) (sym m.made) (takes m.from id message m.member (ap (λ (x : Waiting). x.request) (sym m.made) ∙ submits))
 takes_by w node (Replies ticket other answer) may takes waiting id message is_in submits = takes waiting id message (in_filter _ (w.actors node).waiting waiting is_in) submits
 takes_by w node (Restarts serial) may takes waiting id message is_in submits = absurd is_in
-takes_by w node (Receives packet) may takes waiting id message is_in submits = takes waiting id message is_in submits
-takes_by w node (Promises slot ballot sent) may takes waiting id message is_in submits = takes waiting id message is_in submits
-takes_by w node (Votes slot vote sent) may takes waiting id message is_in submits = takes waiting id message is_in submits
-takes_by w node (Refuses slot ballot) may takes waiting id message is_in submits = takes waiting id message is_in submits
-takes_by w node (Tells other name told) may takes waiting id message is_in submits = takes waiting id message is_in submits
-takes_by w node (Prepares slot ballot) may takes waiting id message is_in submits = takes waiting id message is_in submits
-takes_by w node (Proposes slot vote) may takes waiting id message is_in submits = takes waiting id message is_in submits
-takes_by w node (Asks other ticket) may takes waiting id message is_in submits = takes waiting id message is_in submits
-takes_by w node (Reports other chain) may takes waiting id message is_in submits = takes waiting id message is_in submits
-takes_by w node (Grants slot) may takes waiting id message is_in submits = takes waiting id message is_in submits
-takes_by w node (Answers slot outcome) may takes waiting id message is_in submits = takes waiting id message is_in submits
-takes_by w node (Abandons slot) may takes waiting id message is_in submits = takes waiting id message is_in submits
-takes_by w node (Ticks moment) may takes waiting id message is_in submits = takes waiting id message is_in submits
-takes_by w node Stops may takes waiting id message is_in submits = takes waiting id message is_in submits
+takes_by w node act may takes waiting id message is_in submits = takes waiting id message is_in submits
 
 takes_after : (w : World) → Links w → (node : ℕ) (act : Act) → May w node act → (other : ℕ) → MayTake other ((after w node act).actors other)
 takes_after w links node act may other = elim (actors_after w node act other) [

@@ -9,7 +9,7 @@ use Rattle.mc_model.specs.Acceptor.{Records}
 use Rattle.mc_model.specs.Actor.{Actor}
 use Rattle.mc_model.specs.Knowledge.{IsLearned}
 use Rattle.mc_model.specs.Proposal.{IsOwn, IsFree, MayPropose}
-use Rattle.mc_model.specs.World.{World, Act, Receives, Promises, Votes, Refuses, Tells, Prepares, Proposes, Begins, Asks, Settles, Replies, Reports, Grants, Answers, Abandons, Ticks, Stops, Restarts, Needs, May, IsChosenIn, StandsIn, after, changed, records_by, actor_by, start, reached, IsRun}
+use Rattle.mc_model.specs.World.{World, Act, Receives, Proposes, Needs, May, IsChosenIn, StandsIn, after, changed, records_by, actor_by, start, reached, IsRun}
 use Rattle.mc_model.specs.Alone.{Node, StandsAt, MayAlone, after_alone, reached_alone, IsRunAlone, acts_of, WasSent, EachWasSent}
 use Rattle.mc_laws.proofs.Growth.{changed_here}
 use Rattle.mc_laws.proofs.Keeping.{Keeps, PromiseFits, justified_more}
@@ -71,22 +71,7 @@ proposes w keeps node slot vote may = record {
 needs : (w : World) → Keeps w → (node : ℕ) (act : Act) → WasSent w act → Needs w.nodes (λ packet. Unit {0}) (λ packet. In packet (w.actors node).received) (StandsAt (here w node)) (IsLearned w.nodes (w.actors node).received) node (w.actors node) (w.records node) act → Needs w.nodes (λ packet. In packet w.packets) (λ packet. In packet w.packets) (StandsIn w) (IsChosenIn w) node (w.actors node) (w.records node) act
 needs w keeps node (Receives packet) sent needed = sent
 needs w keeps node (Proposes slot vote) sent needed = proposes w keeps node slot vote needed
-needs w keeps node (Promises slot ballot sent) was needed = needed
-needs w keeps node (Votes slot vote sent) was needed = needed
-needs w keeps node (Refuses slot ballot) was needed = needed
-needs w keeps node (Tells id name told) was needed = needed
-needs w keeps node (Prepares slot ballot) was needed = needed
-needs w keeps node (Begins ticket request) was needed = needed
-needs w keeps node (Asks id ticket) was needed = needed
-needs w keeps node (Settles ticket) was needed = needed
-needs w keeps node (Replies ticket id answer) was needed = needed
-needs w keeps node (Reports id chain) was needed = needed
-needs w keeps node (Grants slot) was needed = needed
-needs w keeps node (Answers slot outcome) was needed = needed
-needs w keeps node (Abandons slot) was needed = needed
-needs w keeps node (Ticks moment) was needed = needed
-needs w keeps node Stops was needed = needed
-needs w keeps node (Restarts serial) was needed = needed
+needs w keeps node act was needed = needed
 
 may_here : (w : World) → Keeps w → (node : ℕ) (act : Act) → WasSent w act → MayAlone w.nodes node (here w node) act → May w node act
 may_here w keeps node act sent may = record { least = may.least; most = may.most; up = may.up; needs = needs w keeps node act sent may.needs }
