@@ -10,7 +10,7 @@ mod synod;
 
 pub use assembly::nodes_make_a_run;
 pub use chains::{a_fate_is_the_end, chains_are_short, newest_decree_says_the_state};
-pub use promises::{headline, replies_are_decided, steps_are_runs};
+pub use promises::{answers_are_fresh, headline, replies_are_decided, steps_are_runs};
 pub use runs::{
     a_query_is_fresh, a_settling_majority_has_seen_every_choice, an_accepted_message_is_known,
     an_open_attempt_is_not_passed, chosen_chains_agree, deleted_stands_on_a_cancel,

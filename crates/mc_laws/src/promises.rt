@@ -1,11 +1,12 @@
 //! The headline, over every list of steps.
 
-ghost use Rattle.std.specs.Prelude.{◌≡◌, ◌∷◌, ◌++◌, ℕ, List};
-ghost use Rattle.mc_model.specs.Chain.{Final, Delivered};
+ghost use Rattle.std.specs.Prelude.{◌≡◌, ◌∷◌, ◌++◌, ℕ, List, Some};
+ghost use Rattle.mc_model.specs.Chain.{Decree, Final, Delivered, final_in};
 ghost use Rattle.mc_model.specs.OneSlot.{In};
 ghost use Rattle.mc_model.specs.Acceptor.{Records};
-ghost use Rattle.mc_model.specs.Actor.{Actor};
-ghost use Rattle.mc_model.specs.World.{Act, Deed, IsRun, reached, start};
+ghost use Rattle.mc_model.specs.Actor.{Actor, Request};
+ghost use Rattle.mc_model.specs.Replies.{Accepted, Shown, Unknown, id_in};
+ghost use Rattle.mc_model.specs.World.{Act, Begins, Replies, Deed, IsRun, reached, start};
 ghost use Rattle.mc_model.specs.Step.{Input, IsExact, Step, AreSteps, acts_in};
 ghost use Rattle.mc_model.specs.Fate.{States, IsGrant, IsDelivery};
 
@@ -43,4 +44,23 @@ pub fn replies_are_decided()
         (one : IsExact nodes node a records input acts) (other : IsExact nodes node a records input others) → one.replies ≡ other.replies }
     ensures reports { (nodes node : ℕ) (a : Actor) (records : Records) (input : Input) (acts others : List Act) →
         (one : IsExact nodes node a records input acts) (other : IsExact nodes node a records input others) → one.reports ≡ other.reports }
+{}
+
+/// The same for fresh answers. A query_sm that comes after a statement of a final state of its message, and is answered
+/// ESME_ROK, is told that state; a request that comes after ESME_ROK to the submit_sm of its message is never answered that
+/// there is no such message. The deeds stand with the newest first: the reply, some others, the request with its ticket, and
+/// what was before it.
+pub fn answers_are_fresh()
+    ensures told { (nodes : ℕ) (serials : ℕ → ℕ) (steps : List Step) (newer : List Deed) (replying : Deed) (middle : List Deed) (beginning : Deed) (older : List Deed) (ticket : ℕ) (request : Request) (id : ℕ) (chain : List Decree) (stating : Deed) (final : Final) →
+        AreSteps (start nodes serials) steps →
+        (reached (start nodes serials) (acts_in steps)).past ≡ newer ++ replying ∷ (middle ++ beginning ∷ older) →
+        beginning.act ≡ Begins ticket request →
+        replying ≡ record beginning { act = Replies ticket id (Shown chain) } →
+        In stating older → States stating (id_in request) final → final_in chain ≡ Some final }
+    ensures known { (nodes : ℕ) (serials : ℕ → ℕ) (steps : List Step) (newer : List Deed) (replying : Deed) (middle : List Deed) (beginning : Deed) (older : List Deed) (ticket : ℕ) (request : Request) (id : ℕ) (accepting : Deed) (taken : ℕ) →
+        AreSteps (start nodes serials) steps →
+        (reached (start nodes serials) (acts_in steps)).past ≡ newer ++ replying ∷ (middle ++ beginning ∷ older) →
+        beginning.act ≡ Begins ticket request →
+        replying ≡ record beginning { act = Replies ticket id Unknown } →
+        In accepting older → accepting.act ≡ Replies taken (id_in request) Accepted → ⊥ }
 {}
