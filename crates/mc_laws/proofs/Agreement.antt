@@ -4,7 +4,7 @@ use Rattle.std.proofs.lemmas.Bool.{cases_lt}
 use Rattle.mc_model.specs.Chain.{Decree, GoesOn}
 use Rattle.mc_model.specs.OneSlot.{Vote, vote_at}
 use Rattle.mc_model.specs.Packet.{Slot, slot_of, Voted}
-use Rattle.mc_model.specs.Knowledge.{Knows}
+use Rattle.mc_model.specs.Knowledge.{IsLearned, Knows}
 use Rattle.mc_model.specs.World.{World, cast, IsChosenIn}
 use Rattle.mc_laws.proofs.Majorities.{both}
 use Rattle.mc_laws.proofs.Stable.{stable}
@@ -19,15 +19,18 @@ pub record Chosen (w : World) (id : ℕ) (chain : List Decree) : Type 0 where
 pub standing : (w : World) → Keeps w → Links w → (id : ℕ) (chain : List Decree) → Chosen w id chain → Standing w (slot_of id chain) chain
 standing w keeps links id chain c = chosen_standing w keeps links (slot_of id chain) (vote_at c.ballot chain) c.chosen
 
--- what a node knows is chosen
+-- what a node learned is chosen
+pub learned_chosen : (w : World) → Keeps w → (node : ℕ) (slot : Slot) (vote : Vote) → IsLearned w.nodes (w.actors node).received slot vote → IsChosenIn w slot vote
+learned_chosen w keeps node slot vote learned = record {
+  test = learned.test;
+  most = learned.most;
+  each = λ acceptor least most passes. keeps.fits (Voted acceptor slot vote) (keeps.received node _ (learned.each acceptor least most passes));
+}
+
 pub known_chosen : (w : World) → Keeps w → (node id : ℕ) (chain : List Decree) → Knows w.nodes (w.actors node).received id chain → Chosen w id chain
 known_chosen w keeps node id chain known = record {
   ballot = known.ballot;
-  chosen = record {
-    test = known.learned.test;
-    most = known.learned.most;
-    each = λ acceptor least most passes. keeps.fits (Voted acceptor (slot_of id chain) (vote_at known.ballot chain)) (keeps.received node _ (known.learned.each acceptor least most passes));
-  };
+  chosen = learned_chosen w keeps node (slot_of id chain) (vote_at known.ballot chain) known.learned;
 }
 
 proposed : (w : World) → Keeps w → (slot : Slot) (vote : Vote) → IsChosenIn w slot vote → WasProposed w slot vote
@@ -88,3 +91,14 @@ agree w keeps links one other first second same is_one is_other =
       | inl shorter ↦ inr (begins w keeps links one.id first.chain second.chain a b (omega (arith, shorter)))
       | inr longer ↦ inl (begins w keeps links one.id second.chain first.chain b a longer)
     ]
+
+-- a node knows one chain of a message
+pub known_once : (w : World) → Keeps w → Links w → (node id : ℕ) (one other : List Decree) → Knows w.nodes (w.actors node).received id one → Knows w.nodes (w.actors node).received id other → other ≡ one
+known_once w keeps links node id one other knows_one knows_other =
+    let is_one = known_chosen w keeps node id one knows_one in
+    let is_other = known_chosen w keeps node id other knows_other in
+    let some = not_empty w keeps links id one is_one in
+    let more = not_empty w keeps links id other is_other in
+    let up = knows_other.longest (pred (length one)) (vote_at knows_one.ballot one) knows_one.learned in
+    let down = knows_one.longest (pred (length other)) (vote_at knows_other.ballot other) knows_other.learned in
+    same_length w keeps id one other is_one is_other (omega (arith, some, more, up, down))

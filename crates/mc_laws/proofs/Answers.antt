@@ -1,5 +1,5 @@
 -- What a request is answered that came after others were answered.
-use Rattle.std.proofs.Common.{◌≡◌, ℕ, pred, ◌≤◌, List, [], ◌∷◌, ◌++◌, length, Option, Some, None, refl, sym, ◌∙◌, ap, subst, arith}
+use Rattle.std.proofs.Common.{◌≡◌, ℕ, pred, ◌≤◌, List, [], ◌∷◌, ◌++◌, length, Option, Some, None, sym, ◌∙◌, ap, subst, arith}
 use Rattle.mc_model.specs.Chain.{Decree, Final, Deleted, final_in}
 use Rattle.mc_model.specs.Majority.{Majority}
 use Rattle.mc_model.specs.OneSlot.{Vote, vote_at, In}
@@ -10,7 +10,7 @@ use Rattle.mc_model.specs.Replies.{Answer, Accepted, Shown, Unknown, IsUnknown, 
 use Rattle.mc_model.specs.World.{World, Act, Begins, Replies, Deed, cast, May, MayReply, IsChosenIn, start, reached, IsRun}
 use Rattle.mc_model.specs.Fate.{States, IsDeletion}
 use Rattle.mc_laws.proofs.Majorities.{both}
-use Rattle.mc_laws.proofs.Growth.{grows}
+use Rattle.mc_laws.proofs.Growth.{grows, nodes_same}
 use Rattle.mc_laws.proofs.Links.{chosen_still, chosen_standing}
 use Rattle.mc_laws.proofs.Agreement.{Chosen, known_chosen, not_empty}
 use Rattle.mc_laws.proofs.Fated.{tells_known}
@@ -78,10 +78,6 @@ covered before w name id fresh same h node chain chosen known settled =
 -- the request that is answered is about the message for which it came
 about_it : (before w : World) (name : Name) (id : ℕ) → Fresh before name id w → (waiting : Waiting) → (w.actors name.node).incarnation ≡ name.incarnation → In waiting (w.actors name.node).waiting → waiting.ticket ≡ name.ticket → id_in waiting.request ≡ id
 about_it before w name id fresh waiting same waits is = fresh.about same waiting waits is
-
-nodes_same : (first : World) (acts : List (ℕ × Act)) → (reached first acts).nodes ≡ first.nodes
-nodes_same first [] = refl
-nodes_same first (act ∷ acts) = nodes_same first acts
 
 -- ---- the answers
 

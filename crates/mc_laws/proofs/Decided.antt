@@ -52,16 +52,13 @@ same_list (x ∷ xs) (y ∷ ys) fall_x fall_y there back =
 
 -- ---- what the input does by itself
 
+clash : (vote : Option Vote) (held : Vote) → vote ≡ None → vote ≡ Some held → ⊥
+clash vote held none some = cc
+
 told_once : (records : Records) (id : ℕ) (one other : Option Told) → IsTold records id one → IsTold records id other → one ≡ other
 told_once records id None None is_one is_other = refl
 told_once records id None (Some told) is_one is_other = absurd (clash (records (slot_at id told.place)).vote told.vote (is_one told.place) is_other.voted)
-  where
-    clash : (vote : Option Vote) (held : Vote) → vote ≡ None → vote ≡ Some held → ⊥
-    clash vote held none some = cc
 told_once records id (Some told) None is_one is_other = absurd (clash (records (slot_at id told.place)).vote told.vote (is_other told.place) is_one.voted)
-  where
-    clash : (vote : Option Vote) (held : Vote) → vote ≡ None → vote ≡ Some held → ⊥
-    clash vote held none some = cc
 told_once records id (Some one) (Some other) is_one is_other =
     let up = is_other.highest one.place one.vote is_one.voted in
     let down = is_one.highest other.place other.vote is_other.voted in

@@ -1,12 +1,12 @@
 -- What every act leaves as it was, or lets grow.
-use Rattle.std.proofs.Common.{◌≡◌, ◌⊎◌, ℕ, suc, ◌<◌, ◌≤◌, Bool, true, false, List, refl, sym, ◌∙◌, ap, subst, inl, inr, arith}
+use Rattle.std.proofs.Common.{◌∷◌, [], ◌≡◌, ◌⊎◌, ℕ, suc, ◌<◌, ◌≤◌, Bool, true, false, List, refl, sym, ◌∙◌, ap, subst, inl, inr, arith}
 use Rattle.std.specs.Prelude.{◌==◌, if◌then◌else◌}
 use Rattle.std.proofs.lemmas.Bool.{eq-eqb}
 use Rattle.mc_model.specs.OneSlot.{In}
 use Rattle.mc_model.specs.Packet.{Slot, same_slot, Packet}
 use Rattle.mc_model.specs.Acceptor.{Record, Records, with_record, after_promise, after_vote}
 use Rattle.mc_model.specs.Actor.{Actor, Outcome}
-use Rattle.mc_model.specs.World.{World, Act, Receives, Promises, Votes, Prepares, Proposes, Begins, Grants, Answers, Abandons, Restarts, Deed, Cast, cast, May, after, changed, records_by, actor_by, votes_by, sent_by}
+use Rattle.mc_model.specs.World.{World, Act, Receives, Promises, Votes, Prepares, Proposes, Begins, Grants, Answers, Abandons, Restarts, Deed, Cast, cast, May, after, changed, records_by, actor_by, votes_by, sent_by, reached}
 use Rattle.mc_laws.proofs.Membership.{in_right, in_either, of_only, same_number, slots_same}
 
 -- ---- what an act does to a record
@@ -164,3 +164,8 @@ grows w node act may = record {
   incarnations = later_after w node act;
   past = λ deed is_in. inr is_in;
 }
+
+-- the nodes stay
+pub nodes_same : (first : World) (acts : List (ℕ × Act)) → (reached first acts).nodes ≡ first.nodes
+nodes_same first [] = refl
+nodes_same first (act ∷ acts) = nodes_same first acts

@@ -20,3 +20,4 @@ pub mod Decided
 pub mod FirstStep
 pub mod Restarts
 pub mod Questions
+pub mod Refusals

@@ -11,8 +11,9 @@ use Rattle.mc_model.specs.Knowledge.{IsLearned}
 use Rattle.mc_model.specs.Proposal.{IsOwn, IsFree, MayPropose}
 use Rattle.mc_model.specs.World.{World, Act, Receives, Proposes, Needs, May, IsChosenIn, StandsIn, after, changed, records_by, actor_by, start, reached, IsRun}
 use Rattle.mc_model.specs.Alone.{Node, StandsAt, MayAlone, after_alone, reached_alone, IsRunAlone, acts_of, WasSent, EachWasSent}
-use Rattle.mc_laws.proofs.Growth.{changed_here}
+use Rattle.mc_laws.proofs.Growth.{changed_here, nodes_same}
 use Rattle.mc_laws.proofs.Keeping.{Keeps, PromiseFits, justified_more}
+use Rattle.mc_laws.proofs.Agreement.{learned_chosen}
 use Rattle.mc_laws.proofs.Reached.{holds}
 
 -- ---- what a node sees is so in the cluster
@@ -28,13 +29,6 @@ stands w keeps node slot chain (inr (inr (inl promised))) =
     let voted = fits.honest (vote_at promised.2 chain) refl in
     inr (promised.0, promised.2, voted.0)
 stands w keeps node slot chain (inr (inr (inr held))) = inr (node, held.0, (keeps.held node slot (vote_at held.0 chain) held.1).voted)
-
-learned_chosen : (w : World) → Keeps w → (node : ℕ) (slot : Slot) (vote : Vote) → IsLearned w.nodes (w.actors node).received slot vote → IsChosenIn w slot vote
-learned_chosen w keeps node slot vote learned = record {
-  test = learned.test;
-  most = learned.most;
-  each = λ acceptor least most passes. keeps.fits (Voted acceptor slot vote) (keeps.received node _ (learned.each acceptor least most passes));
-}
 
 own : (w : World) → Keeps w → (node id : ℕ) (chain : List Decree) → IsOwn (IsLearned w.nodes (w.actors node).received) node (w.actors node) id chain → IsOwn (IsChosenIn w) node (w.actors node) id chain
 own w keeps node id chain (inl first) = inl first
@@ -131,14 +125,10 @@ older_alone : (nodes serial : ℕ) (newest : ℕ × Act) (older : List (ℕ × A
 older_alone nodes serial newest older node true same run = (subst (IsRunAlone nodes node serial) (acts_here node newest older (eqb-true newest.0 node same)) run).1
 older_alone nodes serial newest older node false same run = subst (IsRunAlone nodes node serial) (acts_apart node newest older same) run
 
-nodes_same : (nodes : ℕ) (serials : ℕ → ℕ) (acts : List (ℕ × Act)) → (reached (start nodes serials) acts).nodes ≡ nodes
-nodes_same nodes serials [] = refl
-nodes_same nodes serials (newest ∷ older) = nodes_same nodes serials older
-
 pub put_together : (nodes : ℕ) (serials : ℕ → ℕ) (acts : List (ℕ × Act)) → ((node : ℕ) → IsRunAlone nodes node (serials node) (acts_of node acts)) → EachWasSent (start nodes serials) acts → IsRun (start nodes serials) acts
 put_together nodes serials [] runs sent = tt
 put_together nodes serials (newest ∷ older) runs sent =
     let before = put_together nodes serials older (λ node. older_alone nodes (serials node) newest older node (newest.0 == node) refl (runs node)) sent.1 in
     let w = reached (start nodes serials) older in
     let mine = subst (IsRunAlone nodes newest.0 (serials newest.0)) (acts_here newest.0 newest older refl) (runs newest.0) in
-    (may_here w (holds nodes serials older before).keeps newest.0 newest.1 sent.0 (may_alone w nodes newest.0 _ newest.1 (nodes_same nodes serials older) (alone nodes serials older newest.0) mine.0), before)
+    (may_here w (holds nodes serials older before).keeps newest.0 newest.1 sent.0 (may_alone w nodes newest.0 _ newest.1 (nodes_same (start nodes serials) older) (alone nodes serials older newest.0) mine.0), before)

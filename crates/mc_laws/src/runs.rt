@@ -7,7 +7,8 @@ ghost use Rattle.mc_model.specs.Packet.{Slot, Propose, slot_of};
 ghost use Rattle.mc_model.specs.Actor.{Request, Outcome};
 ghost use Rattle.mc_model.specs.Knowledge.{IsSettled, Covers};
 ghost use Rattle.mc_model.specs.Replies.{Accepted, Shown, Unknown, id_in};
-ghost use Rattle.mc_model.specs.World.{Act, Begins, Replies, Deed, cast, IsChosenIn, IsRun, reached, start};
+ghost use Rattle.mc_model.specs.World.{Act, Begins, MayGrant, Replies, Deed, cast, IsChosenIn, IsRun, reached, start};
+ghost use Rattle.mc_model.specs.Grant.{Refusal, IsRefusedFor};
 ghost use Rattle.mc_model.specs.Fate.{States, IsGrant, IsDelivery, IsDeletion};
 
 /// Once a chain is chosen at a ballot, every vote of its slot at that ballot or above carries it, across all starts anew and
@@ -105,4 +106,12 @@ pub fn an_accepted_message_is_known()
         beginning.act ≡ Begins ticket request →
         replying ≡ record beginning { act = Replies ticket id Unknown } →
         In accepting older → accepting.act ≡ Replies taken (id_in request) Accepted → ⊥ }
+{}
+
+/// An attempt that may be granted at a node is refused there for none of the reasons.
+pub fn a_grant_is_not_refused()
+    ensures { (nodes : ℕ) (serials : ℕ → ℕ) (acts : List (ℕ × Act)) (node : ℕ) (slot : Slot) (refusal : Refusal) →
+        IsRun (start nodes serials) acts →
+        MayGrant nodes node ((reached (start nodes serials) acts).actors node) slot →
+        IsRefusedFor nodes node ((reached (start nodes serials) acts).actors node) slot.id refusal → ⊥ }
 {}
