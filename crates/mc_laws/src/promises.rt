@@ -8,12 +8,12 @@ ghost use Rattle.mc_model.specs.Actor.{Actor, Request};
 ghost use Rattle.mc_model.specs.Replies.{Accepted, Shown, Unknown, id_in};
 ghost use Rattle.mc_model.specs.World.{Act, Begins, Replies, Deed, IsRun, reached, start};
 ghost use Rattle.mc_model.specs.Step.{Input, IsExact, Step, AreSteps, acts_in};
-ghost use Rattle.mc_model.specs.Fate.{States, IsGrant, IsDelivery};
+ghost use Rattle.mc_model.specs.Fate.{States, IsGrant, IsDelivery, IsToldChosen};
 
 /// For every list of steps in which packets are delivered, lost, repeated or reordered and nodes restart with their stable
 /// records: no two statements of a final state for one message id differ; after a statement, as ESME_ROK to its cancel_sm,
 /// no attempt of it is ever granted; each DELIVERED that is stated, as by a receipt, stands on an attempt that was granted and
-/// then answered ESME_ROK.
+/// then answered ESME_ROK; and the chain that is stated is chosen.
 pub fn headline()
     ensures one_fate { (nodes : ℕ) (serials : ℕ → ℕ) (steps : List Step) (one other : Deed) (id : ℕ) (first second : Final) →
         AreSteps (start nodes serials) steps →
@@ -27,6 +27,10 @@ pub fn headline()
         AreSteps (start nodes serials) steps →
         (reached (start nodes serials) (acts_in steps)).past ≡ newer ++ stating ∷ older →
         (states : States stating id Delivered) → IsDelivery id states.chain older }
+    ensures chosen { (nodes : ℕ) (serials : ℕ → ℕ) (steps : List Step) (stating : Deed) (id : ℕ) (final : Final) →
+        AreSteps (start nodes serials) steps →
+        In stating (reached (start nodes serials) (acts_in steps)).past →
+        (states : States stating id final) → IsToldChosen (reached (start nodes serials) (acts_in steps)) id states.chain }
 {}
 
 /// A run of steps is a run of their acts, so that every law over runs holds of it.

@@ -1,12 +1,12 @@
 -- What is said of the fate of a message, and what it stands on.
 use Rattle.std.specs.Prelude.{◌≡◌, ℕ, List, ◌∷◌, ◌++◌, Option, Some, None}
 use Rattle.mc_model.specs.Chain.{Author, Submission, Decree, Attempt, Fate, Final, Delivered, taken_in, final_in}
-use Rattle.mc_model.specs.OneSlot.{In}
+use Rattle.mc_model.specs.OneSlot.{In, vote_at}
 use Rattle.mc_model.specs.Packet.{Slot, slot_of}
 use Rattle.mc_model.specs.Actor.{Request, Concluded}
 use Rattle.mc_model.specs.Proposal.{Cancels}
 use Rattle.mc_model.specs.Replies.{Answer, Shown, Removed}
-use Rattle.mc_model.specs.World.{Act, Begins, Replies, Reports, Grants, Answers, Deed}
+use Rattle.mc_model.specs.World.{World, IsChosenIn, Act, Begins, Replies, Reports, Grants, Answers, Deed}
 
 -- the chain of which an answer tells ESME_ROK
 abbrev pub shown_by : Answer → Option (List Decree)
@@ -69,3 +69,8 @@ pub record IsDeletion (id : ℕ) (chain : List Decree) (deeds : List Deed) : Typ
   pub taken : Submission
   pub message : taken_in chain ≡ Some taken
   pub cancelled : CameToCancel deeds id taken
+
+-- the chain of which a deed tells is chosen, at some ballot
+pub record IsToldChosen (w : World) (id : ℕ) (chain : List Decree) : Type 0 where
+  pub ballot : ℕ
+  pub chosen : IsChosenIn w (slot_of id chain) (vote_at ballot chain)

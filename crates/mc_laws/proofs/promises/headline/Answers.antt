@@ -15,3 +15,8 @@ returns-clause-no_grant c = λ nodes serials steps newer stating granting older 
 pub returns-clause-delivery : goal.returns-clause-delivery
 returns-clause-delivery c = λ nodes serials steps newer stating older id are.
     stands_on_delivery (reached (start nodes serials) (acts_in steps)) (holds nodes serials (acts_in steps) (steps_run (start nodes serials) steps are)) newer stating older id
+
+pub returns-clause-chosen : goal.returns-clause-chosen
+returns-clause-chosen c = λ nodes serials steps stating id final are is_in states.
+    let told = (holds nodes serials (acts_in steps) (steps_run (start nodes serials) steps are)).told.chosen stating id states.chain is_in states.tells in
+    record { ballot = told.ballot; chosen = told.chosen }
