@@ -6,15 +6,15 @@ use Rattle.mc_model.specs.OneSlot.{Vote, vote_at}
 use Rattle.mc_model.specs.Packet.{Slot, slot_of, Voted}
 use Rattle.mc_model.specs.Knowledge.{IsLearned, Knows}
 use Rattle.mc_model.specs.World.{World, cast, IsChosenIn}
+use Rattle.mc_model.specs.Fate.{IsToldChosen}
 use Rattle.mc_laws.proofs.Majorities.{both}
 use Rattle.mc_laws.proofs.Stable.{stable}
 use Rattle.mc_laws.proofs.Keeping.{Keeps, WasProposed, sound}
 use Rattle.mc_laws.proofs.Links.{Links, Standing, chosen_standing}
 
 -- what is chosen at some ballot
-pub record Chosen (w : World) (id : ℕ) (chain : List Decree) : Type 0 where
-  pub ballot : ℕ
-  pub chosen : IsChosenIn w (slot_of id chain) (vote_at ballot chain)
+abbrev pub Chosen : World → ℕ → List Decree → Type 0
+Chosen w id chain = IsToldChosen w id chain
 
 pub standing : (w : World) → Keeps w → Links w → (id : ℕ) (chain : List Decree) → Chosen w id chain → Standing w (slot_of id chain) chain
 standing w keeps links id chain c = chosen_standing w keeps links (slot_of id chain) (vote_at c.ballot chain) c.chosen

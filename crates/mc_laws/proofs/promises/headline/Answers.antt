@@ -18,5 +18,4 @@ returns-clause-delivery c = λ nodes serials steps newer stating older id are.
 
 pub returns-clause-chosen : goal.returns-clause-chosen
 returns-clause-chosen c = λ nodes serials steps stating id final are is_in states.
-    let told = (holds nodes serials (acts_in steps) (steps_run (start nodes serials) steps are)).told.chosen stating id states.chain is_in states.tells in
-    record { ballot = told.ballot; chosen = told.chosen }
+    (holds nodes serials (acts_in steps) (steps_run (start nodes serials) steps are)).told.chosen stating id states.chain is_in states.tells
