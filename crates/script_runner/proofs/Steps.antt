@@ -1,0 +1,20 @@
+-- What a line does, by what it says.
+use Rattle.std.proofs.Common.{◌≡◌, ◌↔◌, ℕ, List, Option, Some, ap}
+use Rattle.script_lines.specs.Said.{Said, Skipped, Nodes, Frame, Tick, Settle, Spells, said_of}
+use Rattle.script_runner.specs.Script.{Stage, step_by, step_of}
+use Rattle.script_runner.specs.Outcome.{NumberFits}
+
+pub step_of-said : (stage : Stage) (line : List ℕ) (said : Option Said) → said_of line ≡ said → step_of stage line ≡ step_by stage said
+unfolding step_of
+step_of-said stage line said e = ap (step_by stage) e
+
+-- a line says what it spells
+abbrev pub SaysItsSpelling : Type 0
+SaysItsSpelling = (line : List ℕ) (said : Said) → (said_of line ≡ Some said) ↔ Spells said line
+
+pub number_fits : SaysItsSpelling → (line : List ℕ) (said : Said) → said_of line ≡ Some said → NumberFits said
+number_fits spelled line Skipped e = tt
+number_fits spelled line (Nodes serial) e = let spells = (spelled line (Nodes serial)).0 e in (spells.wording.0, spells.wording.1)
+number_fits spelled line (Frame session octets) e = tt
+number_fits spelled line (Tick moment) e = ((spelled line (Tick moment)).0 e).wording.0
+number_fits spelled line Settle e = tt

@@ -1,0 +1,103 @@
+-- What came of a script: what was read of it, and what was written.
+use Rattle.std.specs.Prelude.{◌≡◌, ◌⊎◌, ℕ, ◌≤◌, Bool, true, false, List, [], ◌∷◌, ◌++◌, Option, Some, None, Result, Ok, Err}
+use Rattle.std.specs.Io.KnownBytes.{Consumes, Appends, Keeps, IsAtEnd}
+use Rattle.mc_model.specs.Ids.{IsMoment}
+use Rattle.script_lines.specs.Said.{Said, Skipped, Nodes, Frame, Tick, Settle}
+use Rattle.script_runner.specs.Script.{Stage, Stepped, opened, step_of, text_of, bad_line}
+use Rattle.script_runner.specs.declared.fault.ScriptFault.{ScriptFault}
+use Rattle.script_runner.specs.declared.fault.ScriptFault.TheVariants.{BadLine, Read, Write, Memory}
+
+-- ---- one line
+
+-- a serial or moment that a line gives is one
+abbrev pub NumberFits : Said → Type 0
+NumberFits Skipped = Unit {0}
+NumberFits (Nodes serial) = (1 ≤ serial) × (serial ≤ 99999)
+NumberFits (Frame session octets) = Unit {0}
+NumberFits (Tick moment) = IsMoment moment
+NumberFits Settle = Unit {0}
+
+-- the centre is started once
+abbrev pub IsStarted : Stage → Bool → Stage → ℕ → Type 0
+IsStarted None good new serial = (good ≡ true) × (new ≡ Some (opened serial))
+IsStarted (Some centre) good new serial = (good ≡ false) × (new ≡ Some centre)
+
+-- A line was good, led to this stage and added its text; or it was bad.
+abbrev pub IsStepBy : Option Stepped → Bool → Stage → List ℕ → List ℕ → Type 0
+IsStepBy None good new before after = good ≡ false
+IsStepBy (Some done) good new before after = (good ≡ true) × (new ≡ done.stage) × (after ≡ before ++ done.text)
+
+abbrev pub IsStep : Stage → List ℕ → Bool → Stage → List ℕ → List ℕ → Type 0
+IsStep old line good new before after = IsStepBy (step_of old line) good new before after
+
+-- A good line led to this stage, and its text was written.
+pub record Writes (old : Stage) (line : List ℕ) (new : Stage) (written out : Option (List ℕ)) : Type 0 where
+  pub done : Stepped
+  pub step : step_of old line ≡ Some done
+  pub stage : new ≡ done.stage
+  pub text : Appends written out done.text
+
+-- the line of this number is bad, and nothing was written
+pub record Refuses (old : Stage) (line : List ℕ) (number told : ℕ) (written out : Option (List ℕ)) : Type 0 where
+  pub bad : step_of old line ≡ None
+  pub counted : told ≡ number
+  pub text : Keeps written out
+
+abbrev pub WritesLine : Result (Unit {0}) ScriptFault → Stage → List ℕ → ℕ → Stage → Option (List ℕ) → Option (List ℕ) → Type 0
+WritesLine (Ok done) old line number new written out = Writes old line new written out
+WritesLine (Err (BadLine told)) old line number new written out = Refuses old line number told written out
+WritesLine (Err Read) old line number new written out = ⊥
+WritesLine (Err Write) old line number new written out = Unit {0}
+WritesLine (Err Memory) old line number new written out = Keeps written out
+
+-- ---- a script
+
+-- all of the script was read, no line of it is bad, and its text was written
+pub record IsWhole (before left written out : Option (List ℕ)) : Type 0 where
+  pub read : List ℕ
+  pub consumed : Consumes before left read
+  pub ended : IsAtEnd left
+  pub good : bad_line read ≡ None
+  pub text : Appends written out (text_of read)
+
+-- more octets would change neither the first bad line nor the text before it
+abbrev pub IsDecided : List ℕ → ℕ → Type 0
+IsDecided read number = (more : List ℕ) → (bad_line (read ++ more) ≡ Some number) × (text_of (read ++ more) ≡ text_of read)
+
+-- The first bad line of what was read has this number, whatever follows or since nothing follows; and the text of the
+-- lines before it was written.
+pub record StopsAt (number : ℕ) (before left written out : Option (List ℕ)) : Type 0 where
+  pub read : List ℕ
+  pub consumed : Consumes before left read
+  pub bad : bad_line read ≡ Some number
+  pub decided : IsAtEnd left ⊎ IsDecided read number
+  pub text : Appends written out (text_of read)
+
+-- whole lines are nothing, or end with a line feed
+abbrev pub AreLines : List ℕ → Type 0
+AreLines octets = (octets ≡ []) ⊎ ((front : List ℕ) × (octets ≡ front ++ 10 ∷ []))
+
+-- The front of what was read is whole lines that are good, and their text was written.
+pub record StopsBetween (before left written out : Option (List ℕ)) : Type 0 where
+  pub done : List ℕ
+  pub rest : List ℕ
+  pub consumed : Consumes before left (done ++ rest)
+  pub lines : AreLines done
+  pub good : bad_line done ≡ None
+  pub text : Appends written out (text_of done)
+
+-- Where the output can't be written, nothing is said of it.
+abbrev pub IsOutcome : Result (Unit {0}) ScriptFault → Option (List ℕ) → Option (List ℕ) → Option (List ℕ) → Option (List ℕ) → Type 0
+IsOutcome (Ok done) before left written out = IsWhole before left written out
+IsOutcome (Err (BadLine number)) before left written out = StopsAt number before left written out
+IsOutcome (Err Read) before left written out = StopsBetween before left written out
+IsOutcome (Err Write) before left written out = Unit {0}
+IsOutcome (Err Memory) before left written out = StopsBetween before left written out
+
+-- the exit status of a program that ran a script
+abbrev pub status_after : Result (Unit {0}) ScriptFault → ℕ
+status_after (Ok done) = 0
+status_after (Err (BadLine number)) = 2
+status_after (Err Read) = 1
+status_after (Err Write) = 1
+status_after (Err Memory) = 1
