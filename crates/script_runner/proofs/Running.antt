@@ -3,11 +3,12 @@ use Rattle.std.proofs.Common.{◌≡◌, ℕ, suc, ◌+◌, ◌*◌, ◌^◌, �
 use Rattle.std.proofs.lemmas.List.{append-nil, length-append, length-drop, drop_more, take_all, take-append-drop}
 use Rattle.std.proofs.lemmas.Option.{slice_get_within, get_or_from_slice_get}
 use Rattle.std.specs.Prelude.{◌⊎◌}
+use Rattle.std.specs.Result.{IsErrAnd}
 use Rattle.std.specs.Io.KnownBytes.{Consumes, Appends, Keeps, IsAtEnd}
-use Rattle.script_lines.specs.Lines.{Held, Grew, lines_of, BeginsWithLine, IsLastLine, BeginsTooLong, LinesAreRead}
+use Rattle.script_lines.specs.Lines.{Held, Grew, NeedsMore, lines_of, BeginsWithLine, IsLastLine, BeginsTooLong, LinesAreRead}
 use Rattle.script_runner.specs.Script.{Stage, Stepped, after, step_of, text_from, bad_from, text_of, bad_line}
 use Rattle.script_lines.specs.Said.{Said, said_of}
-use Rattle.script_runner.specs.Outcome.{AreLines, Writes, WritesLine, IsWhole, IsDecided, StopsAt, StopsBetween, IsOutcome}
+use Rattle.script_runner.specs.Outcome.{AreLines, Writes, WritesLine, IsWhole, IsDecided, StopsAt, StopsBetween, StopsInLine, IsOutcome}
 use Rattle.script_runner.specs.declared.fault.ScriptFault.{ScriptFault}
 use Rattle.script_runner.specs.declared.fault.ScriptFault.TheVariants.{BadLine, Read, Write, Memory}
 use Rattle.script_runner.proofs.Steps.{SaysItsSpelling, step_of-said}
@@ -91,15 +92,18 @@ grown before left now written out old new stage number got p took grew =
 
 -- ---- the ends
 
-pub between : (before left written out : Option (List ℕ)) (held : Held) (stage : Stage) (number : ℕ) → Progress before left written out held stage number → StopsBetween before left written out
-between before left written out held stage number p = record {
-  done = p.done;
-  rest = held.octets;
-  consumed = p.consumed;
-  lines = p.lines;
-  good = p.good;
-  text = p.text;
-}
+-- the reader failed within a line
+pub within_line : (before left written out : Option (List ℕ)) (held : Held) (stage : Stage) (number : ℕ) → Progress before left written out held stage number → NeedsMore held.octets → StopsInLine before left written out
+within_line before left written out held stage number p more =
+    let lines : StopsBetween before left written out = record {
+      done = p.done;
+      rest = held.octets;
+      consumed = p.consumed;
+      lines = p.lines;
+      good = p.good;
+      text = p.text;
+    } in
+    record { lines = lines; unfinished = more }
 
 pub between_kept : (before left written out now : Option (List ℕ)) (held : Held) (stage : Stage) (number : ℕ)
     → Progress before left written out held stage number → Keeps out now → StopsBetween before left written now
@@ -316,6 +320,12 @@ nothing_done before written = record {
 
 all_taken : (count : ℕ) (octets : List ℕ) → length octets ≡ count → take count octets ≡ octets
 all_taken count octets e = take_all count octets (omega (arith, e))
+
+-- an outcome of the fault that a result holds
+pub with_fault : (r : Result (Unit {0}) ScriptFault) (fault : ScriptFault) (before left written out : Option (List ℕ))
+    → IsErrAnd r (λ told. told ≡ fault) → IsOutcome (Err fault) before left written out → IsOutcome r before left written out
+with_fault (Ok done) fault before left written out told outcome = absurd told
+with_fault (Err e) fault before left written out told outcome = subst (λ f. IsOutcome (Err f) before left written out) (sym told) outcome
 
 pub after_last : LinesAreRead → (r : Result (Unit {0}) ScriptFault) (before left written out now : Option (List ℕ)) (held : Held) (stage new : Stage) (number count : ℕ) (octets : List ℕ)
     → octets ≡ held.octets → Progress before left written out held stage number → IsLastLine count held.octets → IsAtEnd left

@@ -2,6 +2,7 @@
 use Rattle.std.specs.Prelude.{◌≡◌, ◌⊎◌, ℕ, ◌≤◌, Bool, true, false, List, [], ◌∷◌, ◌++◌, Option, Some, None, Result, Ok, Err}
 use Rattle.std.specs.Io.KnownBytes.{Consumes, Appends, Keeps, IsAtEnd}
 use Rattle.mc_model.specs.Ids.{IsMoment}
+use Rattle.script_lines.specs.Lines.{NeedsMore}
 use Rattle.script_lines.specs.Said.{Said, Skipped, Nodes, Frame, Tick, Settle}
 use Rattle.script_runner.specs.Script.{Stage, Stepped, opened, step_of, text_of, bad_line}
 use Rattle.script_runner.specs.declared.fault.ScriptFault.{ScriptFault}
@@ -86,11 +87,16 @@ pub record StopsBetween (before left written out : Option (List ℕ)) : Type 0 w
   pub good : bad_line done ≡ None
   pub text : Appends written out (text_of done)
 
+-- The reader failed within a line: the lines before it are good, and their text was written.
+pub record StopsInLine (before left written out : Option (List ℕ)) : Type 0 where
+  pub lines : StopsBetween before left written out
+  pub unfinished : NeedsMore lines.rest
+
 -- Where the output can't be written, nothing is said of it.
 abbrev pub IsOutcome : Result (Unit {0}) ScriptFault → Option (List ℕ) → Option (List ℕ) → Option (List ℕ) → Option (List ℕ) → Type 0
 IsOutcome (Ok done) before left written out = IsWhole before left written out
 IsOutcome (Err (BadLine number)) before left written out = StopsAt number before left written out
-IsOutcome (Err Read) before left written out = StopsBetween before left written out
+IsOutcome (Err Read) before left written out = StopsInLine before left written out
 IsOutcome (Err Write) before left written out = Unit {0}
 IsOutcome (Err Memory) before left written out = StopsBetween before left written out
 

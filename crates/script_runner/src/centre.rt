@@ -4,12 +4,12 @@ ghost use Rattle.std.specs.Prelude.{◌≡◌, ◌≤◌, IsErr, OnOk, IfOk};
 ghost use Rattle.script_runner.specs.Responses.{requested_by};
 ghost use Rattle.pdu_tables.specs.CommandCodes.{command_of};
 
+use crate::accounts::route_from;
 use crate::bound::Bound;
 use crate::checks::{refusal_of_bind, told_of_fault};
 use crate::clock::Clock;
 use crate::output::{write_answer, write_gone, write_response};
 use crate::pending::{Pending, PendingRequests};
-use crate::accounts::route_from;
 use crate::response::{Requested, Response};
 use desk::{Begun, Chains, Desk, Request};
 use mc_types::{Incarnation, Moment, NodeNo};
@@ -89,7 +89,13 @@ impl Centre {
     {
         while let Some(waiting) = self.desk.settle() {
             if let Some(request) = self.pending.find(waiting.ticket) {
-                write_answer(alloc, text, request.session, request.sequence, waiting.answer)?;
+                write_answer(
+                    alloc,
+                    text,
+                    request.session,
+                    request.sequence,
+                    waiting.answer,
+                )?;
             }
         }
         self.pending.clear();

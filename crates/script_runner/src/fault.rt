@@ -3,6 +3,7 @@
 ghost use Rattle.std.specs.Prelude.{◌≡◌};
 ghost use Rattle.script_runner.specs.Outcome.{status_after};
 
+use script_lines::ReadFault;
 use std::alloc::AllocError;
 use thiserror::Error;
 
@@ -30,6 +31,16 @@ impl From<AllocError> for ScriptFault {
 
     fn from(_error: AllocError) -> ScriptFault {
         ScriptFault::Memory
+    }
+}
+
+impl From<ReadFault> for ScriptFault {
+    ghost use Rattle.script_runner.specs.declared.fault.ScriptFault.TheVariants.{Read};
+
+    ghost from_gives = { λ _ fault. fault ≡ Read };
+
+    fn from(_fault: ReadFault) -> ScriptFault {
+        ScriptFault::Read
     }
 }
 

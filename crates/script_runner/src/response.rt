@@ -127,11 +127,7 @@ fn bind_answer(alloc: Global, interface_version: u8) -> Result<BindAnswer, Alloc
 }
 
 /// The octets of the answer to a request that waited. An `Err` is want of memory.
-pub fn answer_octets(
-    alloc: Global,
-    sequence: u32,
-    answer: Answer,
-) -> Result<Vec<u8>, AllocError>
+pub fn answer_octets(alloc: Global, sequence: u32, answer: Answer) -> Result<Vec<u8>, AllocError>
     ensures { IfOk result (λ octets. octets.items ≡ octets_of (answer_pdu sequence answer)) }
 {
     encoded(alloc, pdu_of_answer(alloc, sequence, answer)?)

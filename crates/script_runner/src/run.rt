@@ -23,16 +23,11 @@ pub fn run_script<R: Read, W: Write>(
     // What the proof takes of lines and of what they say; neither call does anything.
     lines_are_read();
     spelled_so();
-    let Ok(mut buffer) = LineBuffer::make(alloc) else {
-        return Err(ScriptFault::Memory);
-    };
+    let mut buffer = LineBuffer::make(alloc)?;
     let mut stage = None;
     let mut number = 0u64;
     'lines: loop {
-        let Ok(found) = buffer.find_line(reader) else {
-            return Err(ScriptFault::Read);
-        };
-        match found {
+        match buffer.find_line(reader)? {
             Found::End => return Ok(()),
             Found::TooLong => return Err(ScriptFault::BadLine(number + 1)),
             Found::Last(count) => {
@@ -41,9 +36,7 @@ pub fn run_script<R: Read, W: Write>(
             }
             Found::Line(count) => {
                 let line = &buffer.octets()[..count];
-                if let Err(fault) = write_line(alloc, &mut stage, line, number + 1, writer) {
-                    return Err(fault);
-                }
+                write_line(alloc, &mut stage, line, number + 1, writer)?;
                 buffer.take_off(count + 1);
                 number += 1;
             }
@@ -62,16 +55,10 @@ fn write_line<W: Write>(
     ensures { WritesLine result stage.old line.now number stage.new (W.contents writer.old) (W.contents writer.new) }
 {
     let mut text = Vec::new(alloc);
-    let Ok(is_good) = step(alloc, stage, line, &mut text) else {
-        return Err(ScriptFault::Memory);
-    };
-    if !is_good {
+    if !step(alloc, stage, line, &mut text)? {
         return Err(ScriptFault::BadLine(number));
     }
-    match writer.write_all(&text) {
-        Ok(()) => Ok(()),
-        Err(_) => Err(ScriptFault::Write),
-    }
+    writer.write_all(&text).map_err(|_| ScriptFault::Write)
 }
 
 /// Does what a line says: adds its output to the text, and answers whether the line is good.

@@ -1,0 +1,11 @@
+//! Tests of the program, from outside: scripts with what they write, faults, exit statuses.
+#![tactic(auto)]
+
+#[cfg(test)]
+mod ends;
+#[cfg(test)]
+mod program;
+#[cfg(test)]
+mod rows;
+#[cfg(test)]
+mod scripts;

@@ -1,0 +1,110 @@
+//! Scripts that are long, and ends that fail.
+
+use crate::ends::{Closed, Failing};
+use script_runner::{ScriptFault, run_script};
+use std::alloc::{AllocError, Global};
+use std::test::Fail;
+
+/// A script that binds session 1, and what it writes.
+pub const BIND: &[u8] =
+    b"nodes 1\npdu 1 1 0000001e000000090000000000000001736d653100707731000034000000\n";
+
+const BOUND: &[u8] = b"pdu 1 1 0000001c80000009000000000000000143454e545245000210000134\n";
+
+const SUBMIT: &[u8] =
+    b"pdu 1 1 0000002900000004000000000000000200010131343400010131353500000000000000000000024869\n";
+
+const QUERY: &[u8] =
+    b"pdu 1 1 000000210000000300000000000000033130303031303030303100010131343400\n";
+
+/// Octets so many times over.
+fn times(alloc: Global, octets: &[u8], count: usize) -> Result<Vec<u8>, AllocError> {
+    let mut all = Vec::new(alloc);
+    for _ in 0..count {
+        all.extend_from_slice(octets)?;
+    }
+    Ok(all)
+}
+
+/// These parts, one behind another.
+fn joined(alloc: Global, parts: &[&[u8]]) -> Result<Vec<u8>, AllocError> {
+    let mut all = Vec::new(alloc);
+    for part in parts {
+        all.extend_from_slice(part)?;
+    }
+    Ok(all)
+}
+
+#[test]
+fn long_lines_are_bad(rt: HostRuntime) -> Result<(), Fail> {
+    let alloc = rt.alloc();
+    let zeros = times(alloc, b"0", 19982)?;
+    let spaced = joined(alloc, &[BIND, b"pdu 1 1 ", &zeros, b"          \n"])?;
+    let longer = joined(alloc, &[BIND, b"pdu 1 1 ", &zeros, b"00000000000"])?;
+    for script in [spaced, longer] {
+        let mut output = Vec::new(alloc);
+        let outcome = run_script(alloc, &mut script.as_slice(), &mut output);
+        assert_eq!(rt; outcome, Err(ScriptFault::BadLine(3)));
+        assert_eq!(rt; output.as_slice(), BOUND);
+    }
+    Ok(())
+}
+
+#[test]
+fn failing_ends_are_told(rt: HostRuntime) -> Result<(), Fail> {
+    let alloc = rt.alloc();
+    let mut output = Vec::new(alloc);
+    let outcome = run_script(alloc, &mut Failing(BIND), &mut output);
+    assert_eq!(rt; outcome, Err(ScriptFault::Read));
+    assert_eq!(rt; output.as_slice(), BOUND);
+    let mut script = BIND;
+    assert_eq!(rt;
+        run_script(alloc, &mut script, &mut Closed),
+        Err(ScriptFault::Write)
+    );
+    Ok(())
+}
+
+/// More than a thousand requests before a settle: the one after the thousandth is answered at once, ESME_RTHROTTLED,
+/// and the others in their order.
+#[test]
+fn a_thousand_requests_wait(rt: HostRuntime) -> Result<(), Fail> {
+    let alloc = rt.alloc();
+    let queries = times(alloc, QUERY, 1001)?;
+    let script = joined(alloc, &[BIND, &queries, b"settle\n"])?;
+    let mut output = Vec::new(alloc);
+    assert_eq!(rt;
+        run_script(alloc, &mut script.as_slice(), &mut output),
+        Ok(())
+    );
+    let unknown = times(alloc, b"pdu 1 1 00000010800000030000000c00000003\n", 1000)?;
+    let throttled = b"pdu 1 1 00000010800000030000005800000003\n";
+    let wanted = joined(alloc, &[BOUND, throttled, &unknown])?;
+    assert!(rt; output == wanted);
+    Ok(())
+}
+
+/// A tick at which five hundred messages expire: the last of them is EXPIRED.
+#[test]
+fn many_messages_expire(rt: HostRuntime) -> Result<(), Fail> {
+    let alloc = rt.alloc();
+    let submits = times(alloc, SUBMIT, 500)?;
+    let query =
+        b"pdu 1 1 000000210000000300000000000000033130303031303035303000010131343400\nsettle\n";
+    let script = joined(
+        alloc,
+        &[BIND, &submits, b"settle\ntick 1 946944000\n", query],
+    )?;
+    let mut output = Vec::new(alloc);
+    assert_eq!(rt;
+        run_script(alloc, &mut script.as_slice(), &mut output),
+        Ok(())
+    );
+    let expired =
+        b"pdu 1 1 0000001e8000000300000000000000033130303031303035303000000300\n".as_slice();
+    assert!(rt; output.as_slice().ends_with(expired));
+    // Each answer to a submit_sm has 27 octets.
+    let answers = 500 * (b"pdu 1 1 \n".len() + 2 * 27);
+    assert_eq!(rt; output.len(), BOUND.len() + answers + expired.len());
+    Ok(())
+}
