@@ -3,7 +3,7 @@ use Rattle.std.proofs.Common.{◌≡◌, ℕ, List, Option, Some, Result, sym, a
 use Rattle.std.specs.Prelude.{IfOk}
 use Rattle.std.specs.declared.alloc.AllocError.{AllocError}
 use Rattle.desk.specs.Table.{Table}
-use Rattle.desk.specs.Desk.{Desk, Begins, begins}
+use Rattle.desk.specs.Desk.{Desk, begins}
 use Rattle.desk.specs.declared.request.Begun.{Begun}
 use Rattle.desk.specs.declared.request.Request.{Request}
 use Rattle.script_runner.specs.Centre.{Reacts}

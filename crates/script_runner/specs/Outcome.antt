@@ -107,3 +107,12 @@ status_after (Err (BadLine number)) = 2
 status_after (Err Read) = 1
 status_after (Err Write) = 1
 status_after (Err Memory) = 1
+
+-- ---- the program
+
+-- The arguments asked for no script: the status is 1, and nothing was read or written. Or they asked for one: it was run, and
+-- the status is that of its outcome.
+abbrev pub IsProgramRun : ℕ → Option (List ℕ) → Option (List ℕ) → Option (List ℕ) → Option (List ℕ) → Type 0
+IsProgramRun status before left written out =
+    ((status ≡ 1) × Consumes before left [] × Keeps written out)
+    ⊎ ((outcome : Result (Unit {0}) ScriptFault) × (status ≡ status_after outcome) × IsOutcome outcome before left written out)

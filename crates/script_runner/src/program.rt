@@ -1,10 +1,9 @@
 //! The program: what its arguments ask for, its exit status, and its line on standard error.
 
-ghost use Rattle.std.specs.Prelude.{◌≡◌};
+ghost use Rattle.script_runner.specs.Outcome.{IsProgramRun};
 
 use crate::fault::exit_status;
 use crate::run::run_script;
-use std::alloc::Global;
 use std::env;
 use std::io::{Read, Write};
 use std::rt::Env;
@@ -28,7 +27,9 @@ pub fn run_program<A: Env + AllocGlobal, R: Read, W: Write, E: Write>(
     reader: &mut R,
     writer: &mut W,
     errors: &mut E,
-) -> u8 {
+) -> u8
+    ensures { IsProgramRun result (R.remaining reader.old) (R.remaining reader.new) (W.contents writer.old) (W.contents writer.new) }
+{
     if !asks_for_script(arguments) {
         let _ = writeln!(errors, "usage: centre script");
         return 1;
