@@ -4,8 +4,6 @@
 mod fault;
 mod id;
 mod number;
-#[cfg(test)]
-mod tests;
 
 pub use fault::TypeFault;
 pub use id::{MsgId, ids_are_their_texts};

@@ -1,7 +1,7 @@
 pub mod Optional
 pub mod FieldLaws
 pub mod TlvLaws
-pub mod SubmitLaws
+pub mod MessageLaws
 pub mod PduLaws
 pub mod NoMemory
 pub mod BodyLaws

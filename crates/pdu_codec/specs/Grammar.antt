@@ -43,8 +43,9 @@ bind_parts =
 abbrev pub bind_answer_parts : List Part
 bind_answer_parts = part SystemId (TextBelow 16) ∷ part OptionalParameters Optional ∷ []
 
-abbrev pub message_parts : List Part
-message_parts =
+-- a message: who it is from and to, how it is to be handled, and its text
+abbrev pub envelope_parts : List Part
+envelope_parts =
     part ServiceType (TextBelow 6)
     ∷ part SourceAddrTon Octet
     ∷ part SourceAddrNpi Octet
@@ -52,7 +53,11 @@ message_parts =
     ∷ part DestAddrTon Octet
     ∷ part DestAddrNpi Octet
     ∷ part DestinationAddr (TextBelow 21)
-    ∷ part EsmClass Octet
+    ∷ []
+
+abbrev pub handling_parts : List Part
+handling_parts =
+    part EsmClass Octet
     ∷ part ProtocolId Octet
     ∷ part PriorityFlag Octet
     ∷ part ScheduleDeliveryTime (TextBelow 17)
@@ -61,9 +66,13 @@ message_parts =
     ∷ part ReplaceIfPresentFlag Octet
     ∷ part DataCoding Octet
     ∷ part SmDefaultMsgId Octet
-    ∷ part ShortMessage Counted
-    ∷ part OptionalParameters Optional
     ∷ []
+
+abbrev pub text_parts : List Part
+text_parts = part ShortMessage Counted ∷ part OptionalParameters Optional ∷ []
+
+abbrev pub message_parts : List Part
+message_parts = envelope_parts ++ handling_parts ++ text_parts
 
 abbrev pub message_id_parts : List Part
 message_id_parts = part MessageId (TextBelow 65) ∷ []

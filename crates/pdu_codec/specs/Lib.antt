@@ -2,5 +2,5 @@ pub mod Text
 pub mod Tlv
 pub mod Grammar
 pub mod Pdu
-pub mod Submit
+pub mod Message
 pub mod Laws

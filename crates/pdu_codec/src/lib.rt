@@ -6,9 +6,9 @@ mod fault;
 mod fields;
 mod header;
 mod laws;
+mod message;
 mod pdu;
 mod reading;
-mod submit;
 mod text;
 mod tlv;
 mod writing;
@@ -22,6 +22,3 @@ pub use reading::decode;
 pub use text::{ShortMessage, Text};
 pub use tlv::{Tlv, Tlvs};
 pub use writing::{encode, put_tlvs};
-
-#[cfg(test)]
-mod tests;

@@ -7,8 +7,8 @@ ghost use Rattle.pdu_codec.specs.Pdu.{Fits, Gives, IsMade, body_at, octets_of, r
 use crate::bodies::{bind_answer_of, bind_of, cancel_of, message_id_of, query_answer_of, query_of};
 use crate::fault::PduFault;
 use crate::header::read_header;
+use crate::message::message_of;
 use crate::pdu::{Body, Pdu};
-use crate::submit::message_of;
 use pdu_tables::{Command, limits};
 use std::alloc::Global;
 

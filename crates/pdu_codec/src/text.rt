@@ -1,6 +1,6 @@
 //! Texts that keep their limits.
 
-ghost use Rattle.std.specs.Prelude.{◌≡◌, ◌↔◌, [], List, ℕ, IsSome, IsTrue, IfSome, IfOk};
+ghost use Rattle.std.specs.Prelude.{◌≡◌, ◌↔◌, [], List, ℕ, IsSome, IsTrue, IfSome, IfOk, OnErr};
 ghost use Rattle.pdu_codec.specs.Text.{IsText, IsShortMessage};
 
 use pdu_tables::limits;
@@ -23,10 +23,12 @@ impl<const LIMIT: usize> Model for Text<LIMIT> {
 }
 
 impl<const LIMIT: usize> Text<LIMIT> {
-    /// The text of these octets; none where they are too many or one of them is zero, or where there is no memory.
+    /// The text of these octets; none if they are `LIMIT` or more, or one of them is zero. An `Err` is want of memory,
+    /// which only a text needs.
     pub fn make(alloc: Global, octets: &[u8]) -> Result<Option<Self>, AllocError>
         ensures made { IfOk result (λ made. IsSome made ↔ IsText LIMIT octets.now) }
         ensures text { IfOk result (λ made. IfSome made (λ text. text ≡ octets.now)) }
+        ensures memory { OnErr result (IsText LIMIT octets.now) }
     {
         if octets.len() >= LIMIT || octets.contains(&0) {
             return Ok(None);
@@ -83,10 +85,12 @@ impl Model for ShortMessage {
 }
 
 impl ShortMessage {
-    /// The short message of these octets; none where they are more than 254.
+    /// The short message of these octets; none if they are more than 254. An `Err` is want of memory, which only a short
+    /// message needs.
     pub fn make(alloc: Global, octets: &[u8]) -> Result<Option<Self>, AllocError>
         ensures made { IfOk result (λ made. IsSome made ↔ IsShortMessage octets.now) }
         ensures text { IfOk result (λ made. IfSome made (λ message. message ≡ octets.now)) }
+        ensures memory { OnErr result (IsShortMessage octets.now) }
     {
         if octets.len() > limits::SHORT_MESSAGE {
             return Ok(None);

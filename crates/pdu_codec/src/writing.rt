@@ -2,6 +2,7 @@
 
 ghost use Rattle.std.specs.Prelude.{◌≡◌, ◌<◌, ◌++◌, ◌∷◌, [], length, OnOk, OnErr, IfOk};
 ghost use Rattle.std.specs.Int.{w32, to_be_bytes};
+ghost use Rattle.std.specs.Io.{StartsWith};
 ghost use Rattle.pdu_codec.specs.Text.{IsOctets, IsText, IsShortMessage, AreOptional, optional_octets};
 ghost use Rattle.pdu_codec.specs.Grammar.{spellings, AreWithin, bind_parts, bind_answer_parts, message_parts, message_id_parts, query_parts, query_answer_parts, cancel_parts};
 ghost use Rattle.pdu_codec.specs.Pdu.{body_octets, octets_of, Fits, BodyFits, bind_contents, bind_answer_contents, message_contents, query_contents, query_answer_contents, cancel_contents};
@@ -41,9 +42,11 @@ fn put_short_message(out: &mut Vec<u8>, message: &ShortMessage) -> Result<(), Al
     Ok(())
 }
 
-/// Each optional parameter: its tag, its length and its value.
+/// Appends each optional parameter: its tag, its length and its value. An `Err` is want of memory: the octets that were
+/// there are there still, and some may follow them.
 pub fn put_tlvs(out: &mut Vec<u8>, tlvs: &Tlvs) -> Result<(), AllocError>
     ensures ok { OnOk result (out.new.items ≡ out.old.items ++ optional_octets tlvs.now) }
+    ensures err { OnErr result (StartsWith out.new.items out.old.items) }
     ensures limits { AreOptional tlvs.now }
 {
     let tlvs = tlvs.as_slice();

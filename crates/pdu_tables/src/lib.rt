@@ -7,8 +7,6 @@ pub mod limits;
 mod state;
 mod status;
 mod tag;
-#[cfg(test)]
-mod tests;
 
 pub use command::Command;
 pub use state::State;

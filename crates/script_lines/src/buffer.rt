@@ -1,6 +1,7 @@
 //! Lines out of a reader, with one buffer of 20,001 octets.
 
-ghost use Rattle.std.specs.Prelude.{◌≡◌, ◌≤◌, ◌<◌, ◌^◌, ◌+◌, ◌-◌, ◌++◌, ◌⊎◌, List, ℕ, Option, [], take, drop, slice_range, length, IfOk, OnOk, OnErr, IfSome, IfNone};
+ghost use Rattle.std.specs.Prelude.{◌≡◌, ◌≢◌, ◌≤◌, ◌<◌, ◌^◌, ◌+◌, ◌-◌, ◌++◌, ◌⊎◌, List, ℕ, Option, [], true, nat_lt, take, drop, slice_range, length, IfOk, IfErr, IsErr, OnOk, OnErr, IfSome, IfNone};
+ghost use Rattle.std.specs.IoError.{error_kind};
 ghost use Rattle.std.specs.Io.KnownBytes.{Consumes, IsAtEnd, ReadConsumes};
 ghost use Rattle.std.specs.Bool.{OnFalse};
 ghost use Rattle.script_lines.specs.Lines.{Grew, IsOneLine, IsFound, FoundNone, NeedsMore, LinesAreRead};
@@ -113,10 +114,10 @@ impl LineBuffer {
     fn read_more<R: Read>(&mut self, reader: &mut R) -> Result<bool, ReadFault>
         requires { length self.old.octets ≤ 20000 }
         ensures grew { IfOk result (λ _. (got : List ℕ) × Consumes (R.remaining reader.old) (R.remaining reader.new) got × (self.new.octets ≡ self.old.octets ++ got)) }
-        ensures reads { OnOk result (self.new.reads_left < self.old.reads_left) }
+        ensures reads { OnOk result (self.new.reads_left + 1 ≡ self.old.reads_left) }
         ensures end { IfOk result (λ more. OnFalse more ((self.new.octets ≡ self.old.octets) × IsAtEnd (R.remaining reader.new))) }
         ensures err { OnErr result ((self.new.octets ≡ self.old.octets) × Consumes (R.remaining reader.old) (R.remaining reader.new) []) }
-        ensures fault { OnErr result (((self.new ≡ self.old) × (self.old.reads_left ≡ 0)) ⊎ (self.new.reads_left < self.old.reads_left)) }
+        ensures fault { OnErr result (((self.new ≡ self.old) × (self.old.reads_left ≡ 0)) ⊎ (self.new.reads_left + 1 ≡ self.old.reads_left)) }
     {
         if self.reads_left == 0 {
             return Err(ReadFault);
@@ -128,11 +129,24 @@ impl LineBuffer {
         match read_behind(reader, self.octets.as_mut_slice(), held) {
             Ok(count) => {
                 self.end += count;
-                Ok(count > 0)
+                may_have_more(Ok(count))
             }
-            Err(error) if error.kind() == ErrorKind::Interrupted => Ok(true),
-            Err(_) => Err(ReadFault),
+            failed => may_have_more(failed),
         }
+    }
+}
+
+/// Whether a reader that answered so may have more: not once it gives no octet, and again after an interruption. Any other
+/// failure is a fault.
+fn may_have_more(read: io::Result<usize>) -> Result<bool, ReadFault>
+    ensures octets { IfOk read (λ count. result ≡ Ok (nat_lt 0 count)) }
+    ensures again { IfErr read (λ error. error_kind error ≡ ErrorKind.Interrupted → result ≡ Ok true) }
+    ensures fault { IfErr read (λ error. error_kind error ≢ ErrorKind.Interrupted → IsErr result) }
+{
+    match read {
+        Ok(count) => Ok(count > 0),
+        Err(error) if error.kind() == ErrorKind::Interrupted => Ok(true),
+        Err(_) => Err(ReadFault),
     }
 }
 

@@ -4,8 +4,6 @@
 mod buffer;
 mod line;
 mod octets;
-#[cfg(test)]
-mod tests;
 
 pub use buffer::{Found, LineBuffer, ReadFault, lines_are_read};
 pub use line::{Line, MOST_OCTETS, read_line, spelled_so};

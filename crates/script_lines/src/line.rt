@@ -83,11 +83,11 @@ fn words_of(alloc: Global, line: &[u8]) -> Result<Option<Line>, AllocError>
 fn nodes_of(words: &[u8]) -> Option<Line>
     ensures { option_map said_by result ≡ nodes_said words.now }
 {
-    let words = behind(b" 1", words)?;
-    if words.is_empty() {
+    let serial = behind(b" 1", words)?;
+    if serial.is_empty() {
         return Some(Line::Nodes(1));
     }
-    let (serial, rest) = number_at(1, MOST_SERIAL, words)?;
+    let (serial, rest) = number_at(1, MOST_SERIAL, serial)?;
     if !rest.is_empty() {
         return None;
     }

@@ -1,4 +1,4 @@
-use Rattle.std.proofs.Common.{ℕ, List, ◌∙◌, sym, arith}
+use Rattle.std.proofs.Common.{rules, ℕ, List, ◌∙◌, sym, arith}
 use Rattle.pdu_codec.proofs.TlvLaws.{tlv-length, is_some-next, optional-cut, optional-whole}
 use Rattle.pdu_codec.proofs.fields.check_optional.Goals as goal
 
@@ -14,8 +14,8 @@ loop-after-preserved c =
 
 pub returns-then-not-is_empty : goal.returns-then-not-is_empty
 returns-then-not-is_empty c =
-    optional-cut c.args.octets.now c.loop-after.rest.now c.if-octets-gt-OPTIONAL_PARAMETERS.false c.in_default.ensures c.loop-after.invariant (sym c.if-not-is_empty.ensures)
+    optional-cut c.args.octets.now c.loop-after.rest.now (search rules) c.in_default.ensures c.loop-after.invariant (sym c.if-not-is_empty.ensures)
 
 pub returns : goal.returns
 returns c =
-    optional-whole c.args.octets.now c.loop-after.rest.now c.if-octets-gt-OPTIONAL_PARAMETERS.false c.loop-after.invariant (sym c.if-not-is_empty.ensures)
+    optional-whole c.args.octets.now c.loop-after.rest.now (search rules) c.loop-after.invariant (sym c.if-not-is_empty.ensures)

@@ -2,7 +2,7 @@ use Rattle.std.proofs.Common.{Err, sym, subst}
 use Rattle.std.proofs.lemmas.Result.{err_from_is_err_and}
 use Rattle.pdu_codec.specs.declared.pdu.Body.TheVariants.{SubmitSm}
 use Rattle.pdu_codec.specs.Pdu.{IsMade, body_at, message_at}
-use Rattle.pdu_codec.proofs.SubmitLaws.{message_at-in_pieces}
+use Rattle.pdu_codec.proofs.MessageLaws.{message_at-in_pieces}
 use Rattle.pdu_codec.proofs.PduLaws.{IsMade-then}
 use Rattle.pdu_codec.proofs.reading.body_of.Goals as goal
 

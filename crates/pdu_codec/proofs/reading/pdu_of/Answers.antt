@@ -1,4 +1,4 @@
-use Rattle.std.proofs.Common.{◌-◌, length, take, drop, ap, sym, refl, ◌∙◌}
+use Rattle.std.proofs.Common.{rules, ◌-◌, length, take, drop, ap, refl, ◌∙◌}
 use Rattle.std.proofs.lemmas.Result.{err_from_is_err_and}
 use Rattle.pdu_tables.specs.CommandCodes.{command_of}
 use Rattle.pdu_codec.specs.Pdu.{body_at, read_pdu}
@@ -12,7 +12,7 @@ returns-in_err-body-clause-exact c =
     let fault = c.in_err-body.field-0.0 in
     let octets = c.args.octets.now in
     let rest = take (length octets - 16) (drop 16 octets) in
-    let whole = read_pdu-whole octets rest c.of_code-command.result (c.in-Some.ensures.whole.0 refl) c.if-octets-gt-PDU.false (sym c.in-Some.ensures.length ∙ c.if-header-octets.false) (c.of_code-command.ensures.table ∙ ap command_of c.in-Some.ensures.command) refl in
+    let whole = read_pdu-whole octets rest c.of_code-command.result (c.in-Some.ensures.whole.0 refl) (search rules) (search rules) (c.of_code-command.ensures.table ∙ ap command_of c.in-Some.ensures.command) refl in
     rw (p.1, p.2, whole) (Gives-from_made _ fault (IsMade-then (body_at c.of_code-command.result rest) (with_body octets) fault c.in_err-body.ensures))
 
 pub returns-in_err-body-clause-memory : goal.returns-in_err-body-clause-memory
@@ -21,7 +21,7 @@ returns-in_err-body-clause-memory c =
     let fault = c.in_err-body.field-0.0 in
     let octets = c.args.octets.now in
     let rest = take (length octets - 16) (drop 16 octets) in
-    let whole = read_pdu-whole octets rest c.of_code-command.result (c.in-Some.ensures.whole.0 refl) c.if-octets-gt-PDU.false (sym c.in-Some.ensures.length ∙ c.if-header-octets.false) (c.of_code-command.ensures.table ∙ ap command_of c.in-Some.ensures.command) refl in
+    let whole = read_pdu-whole octets rest c.of_code-command.result (c.in-Some.ensures.whole.0 refl) (search rules) (search rules) (c.of_code-command.ensures.table ∙ ap command_of c.in-Some.ensures.command) refl in
     let made = IsMade-then (body_at c.of_code-command.result rest) (with_body octets) fault c.in_err-body.ensures in
     IsOk-from_made (read_pdu octets) c.from_residual.result fault p.0 (rw whole made) (read_pdu-no_memory octets) p.1 p.2
 
@@ -29,5 +29,5 @@ pub returns-clause-exact : goal.returns-clause-exact
 returns-clause-exact c =
     let octets = c.args.octets.now in
     let rest = take (length octets - 16) (drop 16 octets) in
-    let whole = read_pdu-whole octets rest c.of_code-command.result (c.in-Some.ensures.whole.0 refl) c.if-octets-gt-PDU.false (sym c.in-Some.ensures.length ∙ c.if-header-octets.false) (c.of_code-command.ensures.table ∙ ap command_of c.in-Some.ensures.command) refl in
+    let whole = read_pdu-whole octets rest c.of_code-command.result (c.in-Some.ensures.whole.0 refl) (search rules) (search rules) (c.of_code-command.ensures.table ∙ ap command_of c.in-Some.ensures.command) refl in
     rw (whole, c.in_ok-body.ensures, c.in-Some.ensures.status, c.in-Some.ensures.sequence) refl

@@ -11,7 +11,8 @@ returns-in-Ok-clause-grew g c =
     let front = b.end - b.start in
     let held = ap (λ (h : Held). h.octets) c.self.view_is in
     let kept = c.in-Ok.ensures.front ∙ ap (λ xs. slice_range xs b.start b.end) c.as_mut_slice.ensures.value ∙ held in
-    let whole = take_at filled (drop (length filled) b.octets.items) b.octets.len (omega arith) in (
+    let whole = take_at filled (drop (length filled) b.octets.items) b.octets.len (omega arith) in
+    rw c.may_have_more.ensures.octets (
       take c.in-Ok.count (drop front filled),
       c.in-Ok.ensures.bytes.0,
       ap (λ xs. slice_range xs 0 (front + c.in-Ok.count)) whole ∙ slice_range-filled c.args.self.now.octets filled front c.in-Ok.count kept,

@@ -1,0 +1,22 @@
+//! The tests of `mc_types`, `pdu_tables`, `pdu_codec` and `script_lines`, in a crate without code so that each of those is
+//! proved once.
+#![tactic(auto)]
+
+#[cfg(test)]
+mod bodies;
+#[cfg(test)]
+mod full_pdus;
+#[cfg(test)]
+mod ids;
+#[cfg(test)]
+mod lines;
+#[cfg(test)]
+mod pdu_faults;
+#[cfg(test)]
+mod pdus;
+#[cfg(test)]
+mod tables;
+#[cfg(test)]
+mod texts;
+#[cfg(test)]
+mod vectors;

@@ -1,0 +1,217 @@
+//! Lines out of readers, and what they say.
+
+use script_lines::{Found, Line, LineBuffer, MOST_OCTETS, ReadFault, read_line};
+use std::alloc::Global;
+use std::io;
+use std::io::{ErrorKind, Read};
+use std::test::Fail;
+
+#[test]
+fn good_lines_are_read(rt: HostRuntime) -> Result<(), Fail> {
+    let alloc = rt.alloc();
+    assert_eq!(rt; read_line(alloc, b"")?, Some(Line::Skipped));
+    assert_eq!(rt; read_line(alloc, b"#nodes")?, Some(Line::Skipped));
+    assert_eq!(rt; read_line(alloc, b"nodes 1")?, Some(Line::Nodes(1)));
+    assert_eq!(rt;
+        read_line(alloc, b"nodes 1 99999")?,
+        Some(Line::Nodes(99999))
+    );
+    assert_eq!(rt; read_line(alloc, b"settle")?, Some(Line::Settle));
+    assert_eq!(rt; read_line(alloc, b"settle 1 1 1")?, Some(Line::Settle));
+    let octets = Vec::from_slice(alloc, &[0xab, 0xcd, 0x09])?;
+    assert_eq!(rt;
+        read_line(alloc, b"pdu 1 99 aBCd09")?,
+        Some(Line::Frame(99, octets))
+    );
+    Ok(())
+}
+
+#[test]
+fn moments_are_read(rt: HostRuntime) -> Result<(), Fail> {
+    let alloc = rt.alloc();
+    assert_eq!(rt;
+        read_line(alloc, b"tick 1 946684800")?,
+        Some(Line::Tick(946_684_800))
+    );
+    assert_eq!(rt;
+        read_line(alloc, b"tick 1 4102444799")?,
+        Some(Line::Tick(4_102_444_799))
+    );
+    Ok(())
+}
+
+#[test]
+fn bad_lines_say_nothing(rt: HostRuntime) -> Result<(), Fail> {
+    let lines = [
+        " ",
+        "nodes",
+        "nodes 2",
+        "nodes 01",
+        "nodes 1 ",
+        "nodes  1",
+        "nodes 1 0",
+        "nodes 1 100000",
+        "nodes 1 +1",
+        "nodes 1 2 3",
+        "nodes 1 18446744073709551617",
+        "pdu 1 0 00",
+        "pdu 1 100 00",
+        "pdu 1 1 0",
+        "pdu 1 1 ",
+        "pdu 1 1",
+        "pdu 1 1 0g",
+        "pdu 1 01 00",
+        "pdu 1 1 00 00",
+        "pdu 2 1 00",
+        "tick",
+        "tick 1",
+        "tick 1 ",
+        "tick 2 946684800",
+        "tick 0 946684800",
+        "tick 1 946684799",
+        "tick 1 4102444800",
+        "tick 1 0946684800",
+        "tick 1 +946684800",
+        "tick 1 946684800 ",
+        "tick 1 946684800 1",
+        "tick 946684800",
+        "settle  1",
+        "settle 1 ",
+        "settle 2",
+        "settle1",
+        "settle\r",
+        "Settle",
+        "drop",
+    ];
+    for line in lines {
+        assert_eq!(rt; read_line(rt.alloc(), line.as_bytes())?, None, "{line}");
+    }
+    Ok(())
+}
+
+#[test]
+fn a_line_has_20000_octets_at_most(rt: HostRuntime) -> Result<(), Fail> {
+    let alloc = rt.alloc();
+    let mut line = vec![in alloc; b'#'; MOST_OCTETS]?;
+    assert_eq!(rt; read_line(alloc, line.as_slice())?, Some(Line::Skipped));
+    line.push(b'#')?;
+    assert_eq!(rt; read_line(alloc, line.as_slice())?, None);
+    assert_eq!(rt;
+        LineBuffer::make(alloc)?.find_line(&mut line.as_slice()),
+        Ok(Found::TooLong)
+    );
+    Ok(())
+}
+
+#[test]
+fn the_longest_line_is_9996_octets_on_a_session(rt: HostRuntime) -> Result<(), Fail> {
+    let alloc = rt.alloc();
+    let mut line = Vec::from_slice(alloc, b"pdu 1 1 ")?;
+    for _ in 0..9996 {
+        line.extend_from_slice(b"a5")?;
+    }
+    assert_eq!(rt; line.len(), 20000);
+    let octets = vec![in alloc; 0xa5u8; 9996]?;
+    assert_eq!(rt;
+        read_line(alloc, line.as_slice())?,
+        Some(Line::Frame(1, octets))
+    );
+    line.push(b'\n')?;
+    assert_eq!(rt;
+        LineBuffer::make(alloc)?.find_line(&mut line.as_slice()),
+        Ok(Found::Line(20000))
+    );
+    Ok(())
+}
+
+/// The lines that a reader gives, each with a bar behind it.
+fn barred_lines<R: Read>(alloc: Global, reader: &mut R) -> Result<Vec<u8>, Fail> {
+    let mut buffer = LineBuffer::make(alloc)?;
+    let mut lines = Vec::new(alloc);
+    for _ in 0..9 {
+        let (count, taken) = match buffer.find_line(reader)? {
+            Found::Line(count) => (count, count + 1),
+            Found::Last(count) => (count, count),
+            Found::TooLong | Found::End => break,
+        };
+        lines.extend_from_slice(&buffer.octets()[..count])?;
+        lines.push(b'|')?;
+        buffer.take_off(taken);
+    }
+    Ok(lines)
+}
+
+/// Gives one octet at a time, and is interrupted before each.
+#[derive(Drop)]
+struct Slow<'a> {
+    text: &'a [u8],
+    interrupted: bool,
+}
+
+impl Read for Slow<'_> {
+    fn read(&mut self, buf: &mut [u8]) -> io::Result<usize> {
+        self.interrupted = !self.interrupted;
+        if self.interrupted {
+            return Err(ErrorKind::Interrupted.into());
+        }
+        match self.text {
+            [first, rest @ ..] if !buf.is_empty() => {
+                buf[0] = *first;
+                self.text = rest;
+                Ok(1)
+            }
+            _ => Ok(0),
+        }
+    }
+}
+
+#[test]
+fn lines_come_at_any_pace(rt: HostRuntime) -> Result<(), Fail> {
+    let text = b"nodes 1\n\n#\nsettle";
+    let whole = barred_lines(rt.alloc(), &mut text.as_slice())?;
+    assert_eq!(rt; whole.as_slice(), b"nodes 1||#|settle|".as_slice());
+    let mut slow = Slow {
+        text,
+        interrupted: false,
+    };
+    assert_eq!(rt; barred_lines(rt.alloc(), &mut slow)?, whole);
+    Ok(())
+}
+
+#[test]
+fn a_line_of_1000_octets_comes_one_by_one(rt: HostRuntime) -> Result<(), Fail> {
+    let text = vec![in rt.alloc(); b'#'; 1000]?;
+    let mut slow = Slow {
+        text: text.as_slice(),
+        interrupted: false,
+    };
+    let mut buffer = LineBuffer::make(rt.alloc())?;
+    assert_eq!(rt; buffer.find_line(&mut slow), Ok(Found::Last(1000)));
+    assert_eq!(rt; buffer.octets(), text.as_slice());
+    Ok(())
+}
+
+/// Gives some octets, and fails then.
+#[derive(Drop)]
+struct Failing<'a>(&'a [u8]);
+
+impl Read for Failing<'_> {
+    fn read(&mut self, buf: &mut [u8]) -> io::Result<usize> {
+        if self.0.is_empty() {
+            return Err(ErrorKind::Other.into());
+        }
+        self.0.read(buf)
+    }
+}
+
+#[test]
+fn a_failure_loses_nothing(rt: HostRuntime) -> Result<(), Fail> {
+    let mut reader = Failing(b"nodes 1\nset");
+    let mut buffer = LineBuffer::make(rt.alloc())?;
+    assert_eq!(rt; buffer.find_line(&mut reader), Ok(Found::Line(7)));
+    assert_eq!(rt; buffer.octets(), b"nodes 1\nset".as_slice());
+    buffer.take_off(8);
+    assert_eq!(rt; buffer.find_line(&mut reader), Err(ReadFault));
+    assert_eq!(rt; buffer.octets(), b"set".as_slice());
+    Ok(())
+}

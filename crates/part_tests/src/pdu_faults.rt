@@ -1,0 +1,172 @@
+//! The first fault of octets that are no PDU, and the longest PDUs that are read.
+
+use crate::bodies::*;
+use crate::vectors::*;
+use pdu_codec::{Field, Message, PduFault, decode};
+use std::alloc::Global;
+use std::process::Abort;
+use std::test::Fail;
+
+/// The fault of the octets and those after them, once command_length says how many they are.
+fn fault_of(alloc: Global, octets: &[u8], after: &[u8]) -> Result<Option<PduFault>, Fail> {
+    let mut framed = Vec::from_slice(alloc, octets)?;
+    framed.extend_from_slice(after)?;
+    let length = u32::try_from(framed.len())?.to_be_bytes();
+    if let [a, b, c, d, ..] = framed.as_mut_slice() {
+        [*a, *b, *c, *d] = length;
+    }
+    Ok(decode(alloc, &framed).err())
+}
+
+#[test]
+fn lengths(rt: HostRuntime) -> Result<(), Fail> {
+    let short = fault_of(rt.alloc(), &QUERY[..15], b"")?;
+    assert_eq!(rt; short, Some(PduFault::Length));
+    // One octet fewer than command_length says, and one more.
+    let less = decode(rt.alloc(), &QUERY[..32]).err();
+    assert_eq!(rt; less, Some(PduFault::Length));
+    let mut octets = Vec::from_slice(rt.alloc(), &QUERY)?;
+    octets.push(0)?;
+    let more = decode(rt.alloc(), &octets).err();
+    assert_eq!(rt; more, Some(PduFault::Length));
+    // 8,192 octets may be a PDU, and 8,193 are none, whatever their command.
+    let unknown = b"\0\0\0\0\0\0\xff\xff\0\0\0\0\0\0\0\x01";
+    let most = vec![in rt.alloc(); 0u8; 8176]?;
+    let served = fault_of(rt.alloc(), unknown, &most)?;
+    assert_eq!(rt; served, Some(PduFault::Command));
+    let most = vec![in rt.alloc(); 0u8; 8177]?;
+    let long = fault_of(rt.alloc(), unknown, &most)?;
+    assert_eq!(rt; long, Some(PduFault::Length));
+    Ok(())
+}
+
+#[test]
+fn commands(rt: HostRuntime) -> Result<(), Fail> {
+    // No command of SMPP 3.4; replace_sm; and one that SMPP 3.4 reserves.
+    for command in [0x0000_ffffu32, 7, 0x8000_0016] {
+        let mut octets = Vec::from_slice(rt.alloc(), b"\0\0\0\0")?;
+        octets.extend_from_slice(&command.to_be_bytes())?;
+        let fault = fault_of(rt.alloc(), &octets[..8], b"\0\0\0\0\0\0\0\x01")?;
+        assert_eq!(rt; fault, Some(PduFault::Command), "{command}");
+    }
+    Ok(())
+}
+
+#[test]
+fn faults(rt: HostRuntime) -> Result<(), Fail> {
+    let cut = fault_of(rt.alloc(), &QUERY[..32], &[])?;
+    assert_eq!(rt; cut, Some(PduFault::Cut(Field::SourceAddr)));
+    let long = fault_of(rt.alloc(), &BIND_TRANSCEIVER[..16], b"sixteen octets..")?;
+    assert_eq!(rt; long, Some(PduFault::LongText(Field::SystemId)));
+    let length = fault_of(rt.alloc(), &SUBMIT[..38], &[0xff, 0x48, 0x69])?;
+    assert_eq!(rt; length, Some(PduFault::TextLength));
+    let tlvs = fault_of(rt.alloc(), &BIND_ANSWER[..27], &[])?;
+    assert_eq!(rt; tlvs, Some(PduFault::Tlvs));
+    let extra = fault_of(rt.alloc(), &SUBMIT_ANSWER, &[0])?;
+    assert_eq!(rt; extra, Some(PduFault::Extra));
+    Ok(())
+}
+
+#[test]
+fn faults_of_cancels(rt: HostRuntime) -> Result<(), Fail> {
+    let extra = fault_of(rt.alloc(), &CANCEL, &[0])?;
+    assert_eq!(rt; extra, Some(PduFault::Extra));
+    let long = fault_of(rt.alloc(), &CANCEL[..36], b"twenty-one characters\0")?;
+    assert_eq!(rt; long, Some(PduFault::LongText(Field::DestinationAddr)));
+    let answer = fault_of(rt.alloc(), &CANCEL_OK, &[0])?;
+    assert_eq!(rt; answer, Some(PduFault::Extra));
+    Ok(())
+}
+
+/// Appends so many octets `a`, and a zero.
+fn put_long(octets: &mut Vec<u8>, count: usize) -> Result<(), Fail> {
+    for _ in 0..count {
+        octets.push(b'a')?;
+    }
+    octets.push(0)?;
+    Ok(())
+}
+
+/// A submit_sm (SMPP 3.4, section 4.4.1) with each text as long as it may be, the greatest short_message, and 7,000 octets
+/// of optional parameters: a message_payload of 6,996.
+fn longest_submit(alloc: Global) -> Result<Vec<u8>, Fail> {
+    let mut octets = Vec::from_slice(alloc, b"\0\0\x1c\xc4\0\0\0\x04\0\0\0\0\0\0\0\x01")?;
+    put_long(&mut octets, 5)?;
+    octets.extend_from_slice(b"\x01\x02")?;
+    put_long(&mut octets, 20)?;
+    octets.extend_from_slice(b"\x03\x04")?;
+    put_long(&mut octets, 20)?;
+    octets.extend_from_slice(b"\x05\x06\x07")?;
+    put_long(&mut octets, 16)?;
+    put_long(&mut octets, 16)?;
+    octets.extend_from_slice(b"\x08\x09\x0a\x0b\xfe")?;
+    put_counting(&mut octets, 254)?;
+    octets.extend_from_slice(b"\x04\x24\x1b\x54")?;
+    put_counting(&mut octets, 6996)?;
+    Ok(octets)
+}
+
+/// Appends so many octets: 0, 1, 2 and so on up to 250, and again.
+fn put_counting(octets: &mut Vec<u8>, count: usize) -> Result<(), Fail> {
+    for place in 0..count {
+        octets.push((place % 251) as u8)?;
+    }
+    Ok(())
+}
+
+/// The fields of the message above.
+fn assert_longest(rt: &impl Abort, message: &Message) {
+    let long = b"aaaaaaaaaaaaaaaaaaaa";
+    assert_field(
+        rt,
+        "service_type",
+        message.service_type.octets(),
+        &long[..5],
+    );
+    assert_address(rt, &message.source, [1, 2], long);
+    assert_address(rt, &message.destination, [3, 4], long);
+    let first = [
+        message.esm_class,
+        message.protocol_id,
+        message.priority_flag,
+    ];
+    assert_field(rt, "esm_class to priority_flag", &first, &[5, 6, 7]);
+    let schedule = message.schedule_delivery_time.octets();
+    assert_field(rt, "schedule_delivery_time", schedule, &long[..16]);
+    let validity = message.validity_period.octets();
+    assert_field(rt, "validity_period", validity, &long[..16]);
+    let second = [message.registered_delivery, message.replace_if_present_flag];
+    assert_field(rt, "registered_delivery and replace", &second, &[8, 9]);
+    let third = [message.data_coding, message.sm_default_msg_id];
+    assert_field(rt, "data_coding and sm_default", &third, &[10, 11]);
+}
+
+#[test]
+fn a_submit_of_7364_octets_is_read_and_written(rt: HostRuntime) -> Result<(), Fail> {
+    let octets = longest_submit(rt.alloc())?;
+    assert_eq!(rt; octets.len(), 7364);
+    let pdu = decode(rt.alloc(), &octets)?;
+    assert_pdu(&rt, rt.alloc(), &pdu, [0, 1], &octets);
+    let message = message_in(pdu).ok_or("a submit_sm")?;
+    assert_longest(&rt, &message);
+    let mut text = Vec::new(rt.alloc());
+    put_counting(&mut text, 254)?;
+    assert_field(&rt, "short_message", message.short_message.octets(), &text);
+    let mut value = Vec::new(rt.alloc());
+    put_counting(&mut value, 6996)?;
+    let [payload] = message.tlvs.as_slice() else {
+        return Err("one optional parameter")?;
+    };
+    assert_eq!(rt; payload.tag, 0x0424);
+    assert_field(&rt, "message_payload", &payload.value, &value);
+    Ok(())
+}
+
+#[test]
+fn optional_parameters_have_7000_octets_at_most(rt: HostRuntime) -> Result<(), Fail> {
+    let mut tlvs = Vec::from_slice(rt.alloc(), b"\x04\x24\x1b\x55")?;
+    put_counting(&mut tlvs, 6997)?;
+    let fault = fault_of(rt.alloc(), &SUBMIT, &tlvs)?;
+    assert_eq!(rt; fault, Some(PduFault::Tlvs));
+    Ok(())
+}

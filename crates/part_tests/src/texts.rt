@@ -1,0 +1,52 @@
+//! Texts, short messages and optional parameters.
+
+use pdu_codec::{PduFault, ShortMessage, Text, Tlvs, check_optional, put_tlvs};
+use std::test::Fail;
+
+#[test]
+fn texts(rt: HostRuntime) -> Result<(), Fail> {
+    let text: Text<5> = Text::make(rt.alloc(), b"sme1")?.ok_or("four octets are a text")?;
+    assert!(rt; !text.is_empty());
+    assert_eq!(rt; text.copy()?.octets(), b"sme1".as_slice());
+    assert!(rt; Text::<4>::make(rt.alloc(), b"sme1")?.is_none());
+    assert!(rt; Text::<5>::make(rt.alloc(), b"s\0e")?.is_none());
+    let empty: Text<1> = Text::of(rt.alloc(), b"")?;
+    assert!(rt; empty.is_empty());
+    Ok(())
+}
+
+#[test]
+fn short_messages(rt: HostRuntime) -> Result<(), Fail> {
+    let message = ShortMessage::make(rt.alloc(), b"Hi")?.ok_or("two octets are a message")?;
+    assert_eq!(rt; message.copy()?.octets(), b"Hi".as_slice());
+    let most = vec![in rt.alloc(); 0u8; 254]?;
+    let message = ShortMessage::of(rt.alloc(), &most)?;
+    assert_eq!(rt; message.octets().len(), 254);
+    let more = vec![in rt.alloc(); 0u8; 255]?;
+    assert!(rt; ShortMessage::make(rt.alloc(), &more)?.is_none());
+    Ok(())
+}
+
+#[test]
+fn optional_parameters(rt: HostRuntime) -> Result<(), Fail> {
+    let mut tlvs = Tlvs::empty(rt.alloc());
+    tlvs.push(0x0204, &[0, 7])?;
+    let tlvs = tlvs.copy()?;
+    assert_eq!(rt; tlvs.with_tags(&[0x0204])?.as_slice().len(), 1);
+    assert_eq!(rt; tlvs.with_tags(&[0x0427])?.as_slice().len(), 0);
+    let mut octets = Vec::from_slice(rt.alloc(), b"before")?;
+    put_tlvs(&mut octets, &tlvs)?;
+    assert_eq!(rt;
+        octets.as_slice(),
+        b"before\x02\x04\x00\x02\x00\x07".as_slice()
+    );
+    Ok(())
+}
+
+#[test]
+fn optional_parameters_are_checked(rt: HostRuntime) -> Result<(), Fail> {
+    let octets = b"\x02\x04\x00\x02\x00\x07";
+    assert_eq!(rt; check_optional(octets), Ok(()));
+    assert_eq!(rt; check_optional(&octets[..5]), Err(PduFault::Tlvs));
+    Ok(())
+}
