@@ -6,8 +6,6 @@ mod laws;
 mod request;
 mod state;
 mod table;
-#[cfg(test)]
-mod tests;
 
 pub use laws::fates_are_permitted;
 pub use request::{Answer, Begun, Request, Waiting};

@@ -10,8 +10,6 @@ mod octets;
 mod progress;
 mod reading;
 mod submission;
-#[cfg(test)]
-mod tests;
 mod writing;
 
 pub use decree::{Author, Decree, ErrorCode, Final, Kind};

@@ -1,22 +1,11 @@
-//! Each public function once.
+//! Chains: each public function once, and octets that bench/chain_octets.py wrote and judged, apart from the program.
 
-use crate::{Author, Chain, ChainFault, Decree, ErrorCode, Final, Kind, Submission};
+use crate::values::{address, text};
+use fate_chain::{Author, Chain, ChainFault, Decree, ErrorCode, Final, Kind, Submission};
 use mc_types::{Incarnation, Moment, MsgId, NodeNo};
-use pdu_codec::{Address, ShortMessage, Text, Tlvs};
+use pdu_codec::{ShortMessage, Tlvs};
 use pdu_tables::State;
 use std::test::Fail;
-
-fn text<const LIMIT: usize>(rt: &HostRuntime, octets: &[u8]) -> Result<Text<LIMIT>, Fail> {
-    Ok(Text::make(rt.alloc(), octets)?.ok_or("a text")?)
-}
-
-fn address(rt: &HostRuntime, digits: &[u8]) -> Result<Address, Fail> {
-    Ok(Address {
-        ton: 1,
-        npi: 1,
-        digits: text(rt, digits)?,
-    })
-}
 
 // A message of sme1 to itself, from 144 to 155, of three days.
 fn message(rt: &HostRuntime) -> Result<Submission, Fail> {
@@ -71,15 +60,9 @@ fn a_fate_has_its_error(rt: HostRuntime) -> Result<(), Fail> {
     let error = ErrorCode::make(999).ok_or("an error")?;
     assert_eq!(rt; ErrorCode::of(999), error);
     assert!(rt; ErrorCode::make(1000).is_none());
-    let fate = Decree {
-        author: Author {
-            node: NodeNo::of(1),
-            incarnation: Incarnation::of(1),
-        },
-        moment: Moment::least(),
-        kind: Kind::Fate(Final::Undeliverable, error),
-    };
-    assert_eq!(rt; fate.copy()?.error_after(0), 999);
+    let deleted = Kind::Fate(Final::Deleted, error);
+    let chain = taken(&rt)?.extended(decree(1, TAKEN, deleted)?)?;
+    assert_eq!(rt; chain.copy()?.error(), 999);
     assert_eq!(rt; Final::Undeliverable.state(), State::Undeliverable);
     Ok(())
 }
@@ -234,22 +217,89 @@ fn octets_that_are_no_text_are_refused(rt: HostRuntime) -> Result<(), Fail> {
     Ok(())
 }
 
+// What becomes of those octets with one of them changed to 00, 7f, 80 or ff, a line a place: k is a permitted chain, p a
+// chain that is not permitted, and b no chain's octets.
+const CHANGED: [&[u8; 4]; 60] = [
+    b"bbbb", b"kbbb", b"kbbb", b"kbbb", b"kbbb", b"bppp", b"bbbp", b"bkkk", b"bbbk", b"kbbb",
+    b"bbbb", b"bbbb", b"bbbb", b"kbbb", b"bppp", b"bppb", b"bppp", b"bkkk", b"bbkk", b"bbbb",
+    b"bkkk", b"bkkk", b"bkkk", b"bkkk", b"bbbb", b"bkkk", b"bkkk", b"bkkk", b"bkkk", b"kbbb",
+    b"kkkk", b"kkkk", b"bbbb", b"bkkk", b"bkkk", b"bkkk", b"kkkk", b"kkkk", b"bbbb", b"bkkk",
+    b"bkkk", b"bkkk", b"kkkk", b"kkkk", b"kkkk", b"kkkk", b"kkkk", b"bppb", b"bppp", b"bkkk",
+    b"bbkk", b"bkkb", b"bkkk", b"kkkk", b"kkkk", b"bbbb", b"kkkk", b"kkkk", b"kbbb", b"kbbb",
+];
+
 #[test]
-fn what_is_read_is_written(rt: HostRuntime) -> Result<(), Fail> {
-    let mut is_any_read = false;
-    for place in 0..TAKEN_CHAIN.len() {
-        for octet in [0x00, 0x7f, 0x80, 0xff] {
+fn changed_octets_are_judged(rt: HostRuntime) -> Result<(), Fail> {
+    for (place, outcomes) in CHANGED.iter().enumerate() {
+        for (octet, outcome) in [0x00, 0x7f, 0x80, 0xff].iter().zip(*outcomes) {
             let mut octets = TAKEN_CHAIN;
-            octets[place] = octet;
-            match Chain::read(rt.alloc(), &octets) {
-                Ok(chain) => {
-                    assert_eq!(rt; chain.bytes()?.as_slice(), octets.as_slice());
-                    is_any_read = true;
-                }
-                Err(fault) => assert!(rt; fault != ChainFault::Memory),
-            }
+            octets[place] = *octet;
+            let letter = match Chain::read(rt.alloc(), &octets) {
+                Ok(_) => b'k',
+                Err(ChainFault::NotPermitted) => b'p',
+                Err(ChainFault::NotBytes) => b'b',
+                Err(ChainFault::Memory) => b'm',
+            };
+            assert_eq!(rt; letter, *outcome, "at {place}");
         }
     }
-    assert!(rt; is_any_read);
+    Ok(())
+}
+
+// The longest chain: taken, tried eight times, each failure seven seconds after its attempt, and given up by another node.
+const TRIED_CHAIN: [u8; 223] = [
+    // format, id and number of decrees
+    0x01, 0x00, 0x00, 0x00, 0x00, 0x3b, 0x9c, 0x50, 0xa1, 0x00, 0x12,
+    // taken
+    0x01, 0x01, 0x00, 0x01, 0x38, 0x6d, 0x43, 0x80, 0x04, 0x73, 0x6d, 0x65, 0x31, 0x04, 0x73, 0x6d,
+    0x65, 0x31, 0x00, 0x01, 0x01, 0x03, 0x31, 0x34, 0x34, 0x01, 0x01, 0x03, 0x31, 0x35, 0x35, 0x00,
+    0x00, 0x00, 0x01, 0x00, 0x38, 0x6d, 0x43, 0x80, 0x38, 0x71, 0x38, 0x00, 0x02, 0x48, 0x69, 0x00,
+    0x00,
+    // attempts, each with its failure
+    0x02, 0x01, 0x00, 0x01, 0x38, 0x6d, 0x43, 0x80, 0x01, 0x03, 0x01, 0x00, 0x02, 0x38, 0x6d, 0x43,
+    0x87, 0x00, 0x64, 0x02, 0x01, 0x00, 0x02, 0x38, 0x6d, 0x43, 0xc3, 0x02, 0x03, 0x01, 0x00, 0x03,
+    0x38, 0x6d, 0x43, 0xca, 0x00, 0xc8, 0x02, 0x01, 0x00, 0x03, 0x38, 0x6d, 0x44, 0x42, 0x03, 0x03,
+    0x01, 0x00, 0x04, 0x38, 0x6d, 0x44, 0x49, 0x01, 0x2c, 0x02, 0x01, 0x00, 0x04, 0x38, 0x6d, 0x44,
+    0xfd, 0x04, 0x03, 0x01, 0x00, 0x05, 0x38, 0x6d, 0x45, 0x04, 0x01, 0x90, 0x02, 0x01, 0x00, 0x05,
+    0x38, 0x6d, 0x45, 0xf4, 0x05, 0x03, 0x01, 0x00, 0x06, 0x38, 0x6d, 0x45, 0xfb, 0x01, 0xf4, 0x02,
+    0x01, 0x00, 0x06, 0x38, 0x6d, 0x47, 0x27, 0x06, 0x03, 0x01, 0x00, 0x07, 0x38, 0x6d, 0x47, 0x2e,
+    0x02, 0x58, 0x02, 0x01, 0x00, 0x07, 0x38, 0x6d, 0x48, 0x96, 0x07, 0x03, 0x01, 0x00, 0x08, 0x38,
+    0x6d, 0x48, 0x9d, 0x02, 0xbc, 0x02, 0x01, 0x00, 0x08, 0x38, 0x6d, 0x4a, 0x41, 0x08, 0x03, 0x01,
+    0x00, 0x09, 0x38, 0x6d, 0x4a, 0x48, 0x03, 0x20,
+    // fate
+    0x04, 0x09, 0x27, 0x0f, 0x38, 0x6d, 0x4c, 0x28, 0x05, 0x03, 0xe7,
+];
+
+fn tried_eight_times(rt: &HostRuntime) -> Result<Chain, Fail> {
+    let mut chain = taken(rt)?;
+    let mut begun = Moment::make(TAKEN)?;
+    for number in 1..9 {
+        let attempt = decree(u16::from(number), begun.seconds(), Kind::Attempt(number))?;
+        let failed = begun.later(7);
+        let error = ErrorCode::make(100 * u16::from(number)).ok_or("an error")?;
+        let failure = decree(u16::from(number) + 1, failed.seconds(), Kind::Failed(error))?;
+        chain = chain.extended(attempt)?.extended(failure)?;
+        begun = failed.later(60 * u32::from(number));
+    }
+    let given_up = Decree {
+        author: Author {
+            node: NodeNo::of(9),
+            incarnation: Incarnation::of(9999),
+        },
+        moment: begun,
+        kind: Kind::Fate(Final::Undeliverable, ErrorCode::of(999)),
+    };
+    Ok(chain.extended(given_up)?)
+}
+
+#[test]
+fn the_longest_chain_is_its_octets(rt: HostRuntime) -> Result<(), Fail> {
+    let tried = tried_eight_times(&rt)?.copy()?;
+    assert_eq!(rt; tried.bytes()?.as_slice(), TRIED_CHAIN.as_slice());
+    let read = Chain::read(rt.alloc(), &TRIED_CHAIN)?;
+    assert_eq!(rt; read.decrees().len(), 18);
+    assert_eq!(rt; read.state(), State::Undeliverable);
+    assert_eq!(rt; read.error(), 999);
+    assert_eq!(rt; read.bytes()?.as_slice(), TRIED_CHAIN.as_slice());
     Ok(())
 }

@@ -2,19 +2,17 @@
 
 ghost use Rattle.std.specs.Prelude.{◌≤◌};
 
-use crate::{Answer, Begun, Chains, Desk, Request, Waiting};
+use crate::values::{address, text};
+use desk::{Answer, Begun, Chains, Desk, Request, Waiting};
+use fate_chain::Chain;
 use mc_types::{Incarnation, Moment, MsgId, NodeNo};
-use pdu_codec::{Address, Body, Cancel, Query, Text, decode};
+use pdu_codec::{Body, Cancel, Query, decode};
 use pdu_tables::{State, Status};
 use std::test::Fail;
 
 // From 144 to 155, with the text Hi and a receipt asked for.
 const SUBMIT: &[u8] =
     b"\x00\x00\x00\x29\x00\x00\x00\x04\x00\x00\x00\x00\x00\x00\x00\x02\x00\x01\x01144\x00\x01\x01155\x00\x00\x00\x00\x00\x00\x01\x00\x00\x00\x02Hi";
-
-fn text<const LIMIT: usize>(rt: &HostRuntime, octets: &[u8]) -> Result<Text<LIMIT>, Fail> {
-    Ok(Text::make(rt.alloc(), octets)?.ok_or("a text")?)
-}
 
 // The message above, for sme1, with this registered_delivery.
 fn submit(rt: &HostRuntime, registered_delivery: u8) -> Result<Request, Fail> {
@@ -23,14 +21,6 @@ fn submit(rt: &HostRuntime, registered_delivery: u8) -> Result<Request, Fail> {
     };
     message.registered_delivery = registered_delivery;
     Ok(Request::Submit(message, Some(text(rt, b"sme1")?)))
-}
-
-fn address(rt: &HostRuntime, digits: &[u8]) -> Result<Address, Fail> {
-    Ok(Address {
-        ton: 1,
-        npi: 1,
-        digits: text(rt, digits)?,
-    })
 }
 
 fn query(rt: &HostRuntime, message_id: &[u8], source: &[u8]) -> Result<Request, Fail> {
@@ -258,5 +248,23 @@ fn messages_expire_at_their_expiry(rt: HostRuntime) -> Result<(), Fail> {
     let request = cancel(&rt, b"1000100001", b"144", b"")?;
     let late = Answer::NotCancelled(Status::CancelFailed);
     assert_eq!(rt; answer(&rt, &mut desk, &mut chains, request)?, late);
+    Ok(())
+}
+
+#[test]
+fn thousands_of_messages_expire(rt: HostRuntime) -> Result<(), Fail> {
+    let mut chains = Chains::empty(rt.alloc());
+    let mut desk = desk(&rt, 1);
+    for _ in 0..3000 {
+        answer(&rt, &mut desk, &mut chains, submit(&rt, 0)?)?;
+    }
+    for (now, state) in [(946943999, State::Enroute), (946944000, State::Expired)] {
+        desk.expire(rt.alloc(), &mut chains, Moment::make(now)?)?;
+        for serial in 1..3001 {
+            let id = MsgId::make(NodeNo::of(1), Incarnation::of(1), serial)?;
+            let found = chains.get(id).map(Chain::state);
+            assert_eq!(rt; found, Some(state), "at {serial}");
+        }
+    }
     Ok(())
 }
