@@ -1,20 +1,23 @@
 //! Chains: each public function once, and octets that bench/chain_octets.py wrote and judged, apart from the program.
 
+ghost use Rattle.std.specs.Prelude.{◌≤◌};
+
 use crate::values::{address, text};
 use fate_chain::{Author, Chain, ChainFault, Decree, ErrorCode, Final, Kind, Submission};
 use mc_types::{Incarnation, Moment, MsgId, NodeNo};
 use pdu_codec::{ShortMessage, Tlvs};
 use pdu_tables::State;
+use std::process::Abort;
 use std::test::Fail;
 
 // A message of sme1 to itself, from 144 to 155, of three days.
 fn message(rt: &HostRuntime) -> Result<Submission, Fail> {
     Ok(Submission {
-        submitter: text(rt, b"sme1")?,
-        target: text(rt, b"sme1")?,
-        service_type: text(rt, b"")?,
-        source: address(rt, b"144")?,
-        destination: address(rt, b"155")?,
+        submitter: text(rt.alloc(), b"sme1")?,
+        target: text(rt.alloc(), b"sme1")?,
+        service_type: text(rt.alloc(), b"")?,
+        source: address(rt.alloc(), b"144")?,
+        destination: address(rt.alloc(), b"155")?,
         esm_class: 0,
         protocol_id: 0,
         priority_flag: 0,
@@ -27,17 +30,28 @@ fn message(rt: &HostRuntime) -> Result<Submission, Fail> {
     })
 }
 
-#[test]
-fn a_message_is_taken(rt: HostRuntime) -> Result<(), Fail> {
+const TAKEN: u32 = 946684800;
+
+const FAILED: u32 = TAKEN + 7;
+
+const EXPIRY: u32 = 946944000;
+
+fn begun(rt: &HostRuntime, seconds: u32) -> Result<Result<Chain, ChainFault>, Fail> {
     let id = MsgId::read(b"1000100001")?;
-    let moment = Moment::make(946684800)?;
-    let first = Chain::begin(rt.alloc(), id, moment, message(&rt)?)?;
-    let chain = first.copy()?;
-    assert_eq!(rt; chain.id(), id);
+    let moment = Moment::make(seconds)?;
+    Ok(Chain::begin(rt.alloc(), id, moment, message(rt)?))
+}
+
+fn taken(rt: &HostRuntime) -> Result<Chain, Fail> {
+    Ok(begun(rt, TAKEN)??)
+}
+
+fn is_as_taken(rt: &impl Abort, chain: &Chain) -> Result<(), Fail> {
+    assert_eq!(rt; chain.id(), MsgId::read(b"1000100001")?);
     assert_eq!(rt; chain.decrees().len(), 1);
     assert_eq!(rt; chain.newest().author.node.number(), 1);
     assert_eq!(rt; chain.newest().author.incarnation.number(), 1);
-    assert_eq!(rt; chain.newest().moment, moment);
+    assert_eq!(rt; chain.newest().moment.seconds(), 946684800);
     assert_eq!(rt; chain.submission().expiry.seconds(), 946944000);
     assert_eq!(rt;
         chain.submission().destination.digits.octets(),
@@ -45,114 +59,237 @@ fn a_message_is_taken(rt: HostRuntime) -> Result<(), Fail> {
     );
     assert_eq!(rt; chain.state(), State::Enroute);
     assert_eq!(rt; chain.error(), 0);
-    let late = Moment::make(946944000)?;
-    assert!(rt;
-        matches!(
-            Chain::begin(rt.alloc(), id, late, message(&rt)?),
-            Err(ChainFault::NotPermitted)
-        )
-    );
     Ok(())
 }
 
 #[test]
-fn a_fate_has_its_error(rt: HostRuntime) -> Result<(), Fail> {
+fn a_message_is_taken(rt: HostRuntime) -> Result<(), Fail> {
+    let chain = taken(&rt)?;
+    is_as_taken(&rt, &chain)
+}
+
+#[test]
+fn a_message_is_not_taken_at_its_expiry(rt: HostRuntime) -> Result<(), Fail> {
+    assert!(rt; matches!(begun(&rt, EXPIRY)?, Err(ChainFault::NotPermitted)));
+    Ok(())
+}
+
+#[test]
+fn an_error_is_below_a_thousand(rt: HostRuntime) -> Result<(), Fail> {
     let error = ErrorCode::make(999).ok_or("an error")?;
     assert_eq!(rt; ErrorCode::of(999), error);
+    assert_eq!(rt; error.number(), 999);
     assert!(rt; ErrorCode::make(1000).is_none());
-    let deleted = Kind::Fate(Final::Deleted, error);
-    let chain = taken(&rt)?.extended(decree(1, TAKEN, deleted)?)?;
-    assert_eq!(rt; chain.copy()?.error(), 999);
     assert_eq!(rt; Final::Undeliverable.state(), State::Undeliverable);
     Ok(())
 }
 
-// A decree of node 1.
-fn decree(incarnation: u16, seconds: u32, kind: Kind) -> Result<Decree, Fail> {
+// What a decree decides that takes no message.
+#[derive(Clone, Copy)]
+enum Next {
+    Attempt(u8),
+    Failed(u16),
+    Fate(Final, u16),
+}
+
+// A decree of an incarnation of node 1.
+#[derive(Clone, Copy)]
+struct Step {
+    incarnation: u16,
+    seconds: u32,
+    next: Next,
+}
+
+fn by(incarnation: u16, seconds: u32, next: Next) -> Step {
+    Step {
+        incarnation,
+        seconds,
+        next,
+    }
+}
+
+fn error(number: u16) -> Result<ErrorCode, Fail> {
+    Ok(ErrorCode::make(number).ok_or("an error")?)
+}
+
+fn decree(step: Step) -> Result<Decree, Fail> {
+    let author = Author {
+        node: NodeNo::of(1),
+        incarnation: Incarnation::make(step.incarnation)?,
+    };
+    let moment = Moment::make(step.seconds)?;
+    let kind = match step.next {
+        Next::Attempt(number) => Kind::Attempt(number),
+        Next::Failed(number) => Kind::Failed(error(number)?),
+        Next::Fate(last, number) => Kind::Fate(last, error(number)?),
+    };
     Ok(Decree {
-        author: Author {
-            node: NodeNo::of(1),
-            incarnation: Incarnation::make(incarnation)?,
-        },
-        moment: Moment::make(seconds)?,
+        author,
+        moment,
         kind,
     })
 }
 
-const TAKEN: u32 = 946684800;
-
-const FAILED: u32 = TAKEN + 7;
-
-const EXPIRY: u32 = 946944000;
-
-fn fate(last: Final) -> Kind {
-    Kind::Fate(last, ErrorCode::of(0))
-}
-
-fn taken(rt: &HostRuntime) -> Result<Chain, Fail> {
-    let id = MsgId::read(b"1000100001")?;
-    let moment = Moment::make(TAKEN)?;
-    Ok(Chain::begin(rt.alloc(), id, moment, message(rt)?)?)
+// A message that was taken, and these decrees on it.
+fn chain_of(rt: &HostRuntime, steps: &[Step]) -> Result<Chain, Fail> {
+    let mut chain = taken(rt)?;
+    for step in steps {
+        chain = chain.extended(decree(*step)?)?;
+    }
+    Ok(chain)
 }
 
 // Attempted by the first incarnation of node 1, and failed by the second.
 fn failed_once(rt: &HostRuntime) -> Result<Chain, Fail> {
-    let chain = taken(rt)?.extended(decree(1, TAKEN, Kind::Attempt(1))?)?;
-    let failure = decree(2, FAILED, Kind::Failed(ErrorCode::of(999)))?;
-    Ok(chain.extended(failure)?)
+    chain_of(
+        rt,
+        &[
+            by(1, TAKEN, Next::Attempt(1)),
+            by(2, FAILED, Next::Failed(999)),
+        ],
+    )
 }
 
-// Whether a decree that may not follow is refused, asked or given.
-fn is_refused(chain: &Chain, decree: Decree) -> bool {
-    !chain.permits(&decree) && matches!(chain.extended(decree), Err(ChainFault::NotPermitted))
+// That decrees which may not follow are refused, asked or given.
+fn refuses(rt: &impl Abort, chain: &Chain, steps: &[Step]) -> Result<(), Fail> {
+    for step in steps {
+        assert!(rt; !chain.permits(&decree(*step)?));
+        assert!(rt;
+            matches!(
+                chain.extended(decree(*step)?),
+                Err(ChainFault::NotPermitted)
+            )
+        );
+    }
+    Ok(())
 }
 
 #[test]
 fn an_attempt_ends_by_its_author(rt: HostRuntime) -> Result<(), Fail> {
-    let chain = taken(&rt)?.extended(decree(1, TAKEN, Kind::Attempt(1))?)?;
-    assert!(rt; is_refused(&chain, decree(2, TAKEN, fate(Final::Delivered))?));
-    for incarnation in 1..3 {
-        assert!(rt; is_refused(&chain, decree(incarnation, TAKEN, fate(Final::Deleted))?));
-        assert!(rt; is_refused(&chain, decree(incarnation, EXPIRY, fate(Final::Expired))?));
-    }
-    let failure = decree(2, FAILED, Kind::Failed(ErrorCode::of(999)))?;
-    assert!(rt; chain.permits(&failure));
-    let failed = chain.extended(failure)?;
-    assert_eq!(rt; failed.error(), 999);
-    assert_eq!(rt; failed.decrees().len(), 3);
-    assert_eq!(rt; chain.decrees().len(), 2);
+    let chain = chain_of(&rt, &[by(1, TAKEN, Next::Attempt(1))])?;
+    refuses(
+        &rt,
+        &chain,
+        &[
+            by(2, TAKEN, Next::Fate(Final::Delivered, 0)),
+            by(1, TAKEN, Next::Fate(Final::Deleted, 0)),
+            by(2, TAKEN, Next::Fate(Final::Deleted, 0)),
+            by(1, EXPIRY, Next::Fate(Final::Expired, 0)),
+            by(2, EXPIRY, Next::Fate(Final::Expired, 0)),
+        ],
+    )
+}
+
+// How many decrees a chain has, its state and its error, and that its copy has the same.
+fn stands(
+    rt: &impl Abort,
+    chain: &Chain,
+    decrees: usize,
+    state: State,
+    error: u16,
+) -> Result<(), Fail> {
+    assert_eq!(rt; chain.decrees().len(), decrees);
+    assert_eq!(rt; chain.state(), state);
+    assert_eq!(rt; chain.error(), error);
+    assert_eq!(rt; chain.copy()?.error(), error);
     Ok(())
+}
+
+#[test]
+fn a_later_incarnation_may_fail_an_attempt(rt: HostRuntime) -> Result<(), Fail> {
+    let chain = chain_of(&rt, &[by(1, TAKEN, Next::Attempt(1))])?;
+    let failure = decree(by(2, FAILED, Next::Failed(999)))?;
+    assert!(rt; chain.permits(&failure));
+    Ok(())
+}
+
+#[test]
+fn a_later_incarnation_fails_an_attempt(rt: HostRuntime) -> Result<(), Fail> {
+    let chain = failed_once(&rt)?;
+    stands(&rt, &chain, 3, State::Enroute, 999)
+}
+
+#[test]
+fn a_fate_has_its_error(rt: HostRuntime) -> Result<(), Fail> {
+    let chain = chain_of(&rt, &[by(1, TAKEN, Next::Fate(Final::Deleted, 999))])?;
+    stands(&rt, &chain, 2, State::Deleted, 999)
 }
 
 #[test]
 fn the_second_attempt_waits_a_minute(rt: HostRuntime) -> Result<(), Fail> {
     let chain = failed_once(&rt)?;
-    assert!(rt; is_refused(&chain, decree(2, FAILED + 59, Kind::Attempt(2))?));
-    assert!(rt; is_refused(&chain, decree(2, FAILED + 60, Kind::Attempt(3))?));
-    let second = chain.extended(decree(2, FAILED + 60, Kind::Attempt(2))?)?;
-    let done = second.extended(decree(2, FAILED + 60, fate(Final::Delivered))?)?;
-    assert_eq!(rt; done.state(), State::Delivered);
-    assert!(rt; is_refused(&done, decree(2, FAILED + 60, fate(Final::Delivered))?));
-    assert!(rt;
-        is_refused(
-            &done,
-            decree(2, FAILED + 60, Kind::Failed(ErrorCode::of(1)))?
-        )
-    );
-    assert!(rt; is_refused(&done, decree(2, FAILED + 600, Kind::Attempt(3))?));
-    assert!(rt; is_refused(&done, decree(2, EXPIRY, fate(Final::Expired))?));
-    assert!(rt; is_refused(&done, decree(2, FAILED + 60, Kind::Taken(message(&rt)?))?));
+    refuses(
+        &rt,
+        &chain,
+        &[
+            by(2, FAILED + 59, Next::Attempt(2)),
+            by(2, FAILED + 60, Next::Attempt(3)),
+            by(2, EXPIRY - 1, Next::Fate(Final::Expired, 0)),
+        ],
+    )
+}
+
+fn delivered(rt: &HostRuntime) -> Result<Chain, Fail> {
+    chain_of(
+        rt,
+        &[
+            by(1, TAKEN, Next::Attempt(1)),
+            by(2, FAILED, Next::Failed(999)),
+            by(2, FAILED + 60, Next::Attempt(2)),
+            by(2, FAILED + 60, Next::Fate(Final::Delivered, 0)),
+        ],
+    )
+}
+
+#[test]
+fn a_message_is_delivered_at_its_second_attempt(rt: HostRuntime) -> Result<(), Fail> {
+    let chain = delivered(&rt)?;
+    stands(&rt, &chain, 5, State::Delivered, 0)
+}
+
+#[test]
+fn nothing_follows_a_fate(rt: HostRuntime) -> Result<(), Fail> {
+    let chain = delivered(&rt)?;
+    refuses(
+        &rt,
+        &chain,
+        &[
+            by(2, FAILED + 60, Next::Fate(Final::Delivered, 0)),
+            by(2, FAILED + 60, Next::Failed(1)),
+            by(2, FAILED + 600, Next::Attempt(3)),
+            by(2, EXPIRY, Next::Fate(Final::Expired, 0)),
+        ],
+    )
+}
+
+// The message of a chain, taken once more by its author at its newest moment.
+fn taken_again(rt: &HostRuntime, chain: &Chain) -> Result<Decree, Fail> {
+    Ok(Decree {
+        author: chain.newest().author,
+        moment: chain.newest().moment,
+        kind: Kind::Taken(message(rt)?),
+    })
+}
+
+#[test]
+fn a_message_is_taken_once(rt: HostRuntime) -> Result<(), Fail> {
+    let chain = delivered(&rt)?;
+    let again = taken_again(&rt, &chain)?;
+    assert!(rt; matches!(chain.extended(again), Err(ChainFault::NotPermitted)));
     Ok(())
 }
 
 #[test]
 fn a_message_expires_at_its_expiry(rt: HostRuntime) -> Result<(), Fail> {
-    let chain = failed_once(&rt)?;
-    assert!(rt; is_refused(&chain, decree(2, EXPIRY - 1, fate(Final::Expired))?));
-    let expired = chain.extended(decree(2, EXPIRY, fate(Final::Expired))?)?;
-    assert_eq!(rt; expired.state(), State::Expired);
-    assert_eq!(rt; expired.error(), 0);
-    Ok(())
+    let chain = chain_of(
+        &rt,
+        &[
+            by(1, TAKEN, Next::Attempt(1)),
+            by(2, FAILED, Next::Failed(999)),
+            by(2, EXPIRY, Next::Fate(Final::Expired, 0)),
+        ],
+    )?;
+    stands(&rt, &chain, 4, State::Expired, 0)
 }
 
 // The chain of a message that was taken at the least moment.
@@ -175,22 +312,33 @@ const TAKEN_CHAIN: [u8; 60] = [
     0x00, 0x00, // optional parameters
 ];
 
+// That these are a chain's octets.
+fn is_spelled(rt: &impl Abort, chain: &Chain, octets: &[u8]) -> Result<(), Fail> {
+    assert_eq!(rt; chain.bytes()?.as_slice(), octets);
+    Ok(())
+}
+
 #[test]
 fn a_chain_is_its_octets(rt: HostRuntime) -> Result<(), Fail> {
-    assert_eq!(rt; taken(&rt)?.bytes()?.as_slice(), TAKEN_CHAIN.as_slice());
+    let chain = taken(&rt)?;
+    is_spelled(&rt, &chain, &TAKEN_CHAIN)
+}
+
+fn read_again(rt: &HostRuntime, chain: &Chain) -> Result<Chain, Fail> {
+    Ok(Chain::read(rt.alloc(), &chain.bytes()?)?)
+}
+
+#[test]
+fn what_is_written_is_read(rt: HostRuntime) -> Result<(), Fail> {
+    let chain = read_again(&rt, &delivered(&rt)?)?;
+    stands(&rt, &chain, 5, State::Delivered, 0)
+}
+
+#[test]
+fn the_chain_of_octets_is_as_taken(rt: HostRuntime) -> Result<(), Fail> {
     let read = Chain::read(rt.alloc(), &TAKEN_CHAIN)?;
-    assert_eq!(rt; read.id().number(), 1000100001);
     assert_eq!(rt; read.submission().text.octets(), b"Hi".as_slice());
-    assert_eq!(rt; read.bytes()?.as_slice(), TAKEN_CHAIN.as_slice());
-    let second = failed_once(&rt)?.extended(decree(2, FAILED + 60, Kind::Attempt(2))?)?;
-    let done = second.extended(decree(2, FAILED + 60, fate(Final::Delivered))?)?;
-    let octets = done.bytes()?;
-    let again = Chain::read(rt.alloc(), &octets)?;
-    assert_eq!(rt; again.decrees().len(), 5);
-    assert_eq!(rt; again.state(), State::Delivered);
-    assert_eq!(rt; again.error(), 0);
-    assert_eq!(rt; again.bytes()?.as_slice(), octets.as_slice());
-    Ok(())
+    is_as_taken(&rt, &read)
 }
 
 fn is_no_text(rt: &HostRuntime, octets: &[u8]) -> bool {
@@ -270,36 +418,54 @@ const TRIED_CHAIN: [u8; 223] = [
     0x04, 0x09, 0x27, 0x0f, 0x38, 0x6d, 0x4c, 0x28, 0x05, 0x03, 0xe7,
 ];
 
+// An attempt, and seven seconds later its failure by the next incarnation.
+fn tried(chain: &Chain, number: u8, seconds: u32, failed: u32) -> Result<Chain, Fail>
+    requires { number ≤ 8 }
+{
+    let incarnation = u16::from(number);
+    let attempt = decree(by(incarnation, seconds, Next::Attempt(number)))?;
+    let failure = decree(by(incarnation + 1, failed, Next::Failed(100 * incarnation)))?;
+    Ok(chain.extended(attempt)?.extended(failure)?)
+}
+
 fn tried_eight_times(rt: &HostRuntime) -> Result<Chain, Fail> {
     let mut chain = taken(rt)?;
     let mut begun = Moment::make(TAKEN)?;
     for number in 1..9 {
-        let attempt = decree(u16::from(number), begun.seconds(), Kind::Attempt(number))?;
         let failed = begun.later(7);
-        let error = ErrorCode::make(100 * u16::from(number)).ok_or("an error")?;
-        let failure = decree(u16::from(number) + 1, failed.seconds(), Kind::Failed(error))?;
-        chain = chain.extended(attempt)?.extended(failure)?;
+        chain = tried(&chain, number, begun.seconds(), failed.seconds())?;
         begun = failed.later(60 * u32::from(number));
     }
-    let given_up = Decree {
-        author: Author {
-            node: NodeNo::of(9),
-            incarnation: Incarnation::of(9999),
-        },
-        moment: begun,
-        kind: Kind::Fate(Final::Undeliverable, ErrorCode::of(999)),
+    given_up(&chain, begun)
+}
+
+// Given up by another node.
+fn given_up(chain: &Chain, moment: Moment) -> Result<Chain, Fail> {
+    let author = Author {
+        node: NodeNo::of(9),
+        incarnation: Incarnation::of(9999),
     };
-    Ok(chain.extended(given_up)?)
+    Ok(chain.extended(Decree {
+        author,
+        moment,
+        kind: Kind::Fate(Final::Undeliverable, ErrorCode::of(999)),
+    })?)
 }
 
 #[test]
-fn the_longest_chain_is_its_octets(rt: HostRuntime) -> Result<(), Fail> {
-    let tried = tried_eight_times(&rt)?.copy()?;
-    assert_eq!(rt; tried.bytes()?.as_slice(), TRIED_CHAIN.as_slice());
-    let read = Chain::read(rt.alloc(), &TRIED_CHAIN)?;
-    assert_eq!(rt; read.decrees().len(), 18);
-    assert_eq!(rt; read.state(), State::Undeliverable);
-    assert_eq!(rt; read.error(), 999);
-    assert_eq!(rt; read.bytes()?.as_slice(), TRIED_CHAIN.as_slice());
-    Ok(())
+fn the_longest_chain_is_written(rt: HostRuntime) -> Result<(), Fail> {
+    let chain = tried_eight_times(&rt)?;
+    is_spelled(&rt, &chain, &TRIED_CHAIN)
+}
+
+#[test]
+fn the_longest_chain_is_copied(rt: HostRuntime) -> Result<(), Fail> {
+    let chain = Chain::read(rt.alloc(), &TRIED_CHAIN)?.copy()?;
+    is_spelled(&rt, &chain, &TRIED_CHAIN)
+}
+
+#[test]
+fn the_longest_chain_is_read(rt: HostRuntime) -> Result<(), Fail> {
+    let chain = Chain::read(rt.alloc(), &TRIED_CHAIN)?;
+    stands(&rt, &chain, 18, State::Undeliverable, 999)
 }

@@ -1,16 +1,17 @@
 //! Values that the tests are given.
 
 use pdu_codec::{Address, Text};
+use std::alloc::Global;
 use std::test::Fail;
 
-pub fn text<const LIMIT: usize>(rt: &HostRuntime, octets: &[u8]) -> Result<Text<LIMIT>, Fail> {
-    Ok(Text::make(rt.alloc(), octets)?.ok_or("a text")?)
+pub fn text<const LIMIT: usize>(alloc: Global, octets: &[u8]) -> Result<Text<LIMIT>, Fail> {
+    Ok(Text::make(alloc, octets)?.ok_or("a text")?)
 }
 
-pub fn address(rt: &HostRuntime, digits: &[u8]) -> Result<Address, Fail> {
+pub fn address(alloc: Global, digits: &[u8]) -> Result<Address, Fail> {
     Ok(Address {
         ton: 1,
         npi: 1,
-        digits: text(rt, digits)?,
+        digits: text(alloc, digits)?,
     })
 }
