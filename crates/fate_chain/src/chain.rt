@@ -147,12 +147,19 @@ impl Chain {
         if !self.permits(&decree) {
             return Err(ChainFault::NotPermitted);
         }
-        let mut decrees = self.copies(self.decrees.len() + 1)?;
-        decrees.push(decree)?;
         Ok(Chain {
             id: self.id,
-            decrees,
+            decrees: self.followed_by(decree)?,
         })
+    }
+
+    /// Its decrees, the oldest first, and this one behind them.
+    fn followed_by(&self, decree: Decree) -> Result<Vec<Decree>, AllocError>
+        ensures { IfOk result (λ decrees. reverse decrees.items ≡ decree ∷ self.now.decrees) }
+    {
+        let mut decrees = self.copies(self.decrees.len() + 1)?;
+        decrees.push(decree)?;
+        Ok(decrees)
     }
 
     /// The same decrees once more, the oldest first, in a vector with room for so many.
