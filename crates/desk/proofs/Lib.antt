@@ -1,1 +1,2 @@
 pub mod Expiry
+pub mod Keys

@@ -31,12 +31,13 @@ pub record Desk : Type 0 where
   pub given : ℕ
   pub waiting : List Waiting
 
--- the serials go to 99999, and the tickets to 2^64 - 1
+-- the serials go to 99999, the tickets to 2^64 - 1, and 1,000 requests wait at most
 pub record IsDesk (desk : Desk) : Type 0 where
   pub node : IsNode desk.node
   pub incarnation : IsIncarnation desk.incarnation
   pub serial_least : 1 ≤ desk.serial
   pub serial_most : desk.serial ≤ 100000
+  pub waiting_most : length desk.waiting ≤ 1000
 
 -- who decides at the desk
 abbrev pub author_at : Desk → Author

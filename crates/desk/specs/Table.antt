@@ -1,5 +1,5 @@
 -- The chains of a node, by their ids.
-use Rattle.std.specs.Prelude.{ℕ, List, Option}
+use Rattle.std.specs.Prelude.{◌≡◌, ℕ, List, [], ◌∷◌, Option}
 use Rattle.std.specs.Ordering.{nat_cmp}
 use Rattle.std.specs.Map.{lookup}
 use Rattle.std.specs.BTreeMap.{is_at, insert_entry}
@@ -8,6 +8,11 @@ use Rattle.mc_model.specs.Chain.{Chain}
 -- from id to chain, the ids ascending
 abbrev pub Table : Type 0
 Table = List (ℕ × Chain)
+
+-- each chain stands under its own id
+abbrev pub IsTable : Table → Type 0
+IsTable [] = Unit {0}
+IsTable (entry ∷ entries) = (entry.0 ≡ entry.1.id) × IsTable entries
 
 -- the chain of an id, where there is one
 abbrev pub chain_at : Table → ℕ → Option Chain

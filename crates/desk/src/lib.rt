@@ -1,15 +1,16 @@
 //! What requests are answered, over a table of chains.
 #![tactic(auto)]
 
+mod cancel;
+mod desk;
 mod fates;
 mod laws;
+mod query;
 mod request;
-mod state;
+mod submit;
 mod table;
-#[cfg(test)]
-mod tests;
 
+pub use desk::Desk;
 pub use laws::fates_are_permitted;
 pub use request::{Answer, Begun, Request, Waiting};
-pub use state::Desk;
 pub use table::Chains;

@@ -23,11 +23,13 @@ pub struct Chains {
 }
 
 impl Model for Chains {
-    ghost use Rattle.desk.specs.Table.{Table};
+    ghost use Rattle.desk.specs.Table.{Table, IsTable};
 
     ghost Value = { Table };
 
     ghost view = { λ c. c.chains.entries };
+
+    ghost invariant = { λ c. IsTable c.chains.entries };
 }
 
 impl Chains {

@@ -27,6 +27,9 @@ spelled octets c is = ap read_chain is.spelled ∙ chain_again c is.fits
 same_read : (octets : List ℕ) (c d : Chain) → read_chain octets ≡ Some c → read_chain octets ≡ Some d → c ≡ d
 same_read octets c d e f = some_is c d (sym e ∙ f)
 
+pub one-chain : (octets : List ℕ) (one other : Chain) → IsSpelled octets one → IsSpelled octets other → one ≡ other
+one-chain octets one other is also = same_read octets one other (spelled octets one is) (spelled octets other also)
+
 never : (octets : List ℕ) (c : Chain) → read_chain octets ≡ None → read_chain octets ≡ Some c → ⊥
 never octets c e f = let clash = sym e ∙ f in cc
 

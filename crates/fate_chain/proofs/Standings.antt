@@ -41,6 +41,10 @@ standing-after standing mark decrees decree attempts stands is may more =
       mark = is;
     }
 
+pub permitted-more : (id : ℕ) (decrees : List Decree) (decree : Decree) → IsPermitted id decrees → MayExtend (taken_in decrees) decrees decree → IsPermitted id (decree ∷ decrees)
+permitted-more id [] decree permitted may = absurd permitted
+permitted-more id (newest ∷ older) decree permitted may = (permitted, may)
+
 -- ---- a permitted chain has at most 18 decrees
 
 abbrev Measures : Kind → ℕ → ℕ → Type 0

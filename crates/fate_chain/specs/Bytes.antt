@@ -111,6 +111,10 @@ pub record IsSpelled (octets : List ℕ) (c : Chain) : Type 0 where
   pub fits : Fits c
   pub spelled : octets ≡ chain_octets c
 
+-- no two chains have the same octets
+abbrev pub OctetsAreOfOneChain : Type 0
+OctetsAreOfOneChain = (octets : List ℕ) (one other : Chain) → IsSpelled octets one → IsSpelled octets other → one ≡ other
+
 -- ---- reading
 
 -- the optional parameters that octets are

@@ -1,7 +1,7 @@
 //! Decrees.
 
 ghost use Rattle.std.specs.Prelude.{◌≡◌, ◌≤◌, ◌↔◌, Some, IfSome, IfOk, IsSome, option_map};
-ghost use Rattle.mc_model.specs.Chain.{attempts_of, error_by};
+ghost use Rattle.mc_model.specs.Chain.{error_by};
 ghost use Rattle.fate_chain.specs.Fields.{final_in};
 ghost use Rattle.fate_chain.specs.Kinds.{final_of, kind_of};
 ghost use Rattle.fate_chain.specs.Marks.{bare, bare_kind, IsMarkOf};
@@ -123,7 +123,7 @@ pub enum Kind {
 
 impl Kind {
     /// The same once more.
-    pub fn copy(&self) -> Result<Kind, AllocError>
+    pub(crate) fn copy(&self) -> Result<Kind, AllocError>
         ensures { IfOk result (λ kind. kind ≡ self.now) }
     {
         match self {
@@ -166,7 +166,7 @@ impl Model for Decree {
 
 impl Decree {
     /// The same decree once more.
-    pub fn copy(&self) -> Result<Decree, AllocError>
+    pub(crate) fn copy(&self) -> Result<Decree, AllocError>
         ensures { IfOk result (λ decree. decree ≡ self.now) }
     {
         Ok(Decree {
@@ -187,19 +187,8 @@ impl Decree {
         }
     }
 
-    /// One where it begins an attempt, else none.
-    pub(crate) fn attempts(&self) -> usize
-        ensures attempts { result ≡ attempts_of self.now.kind }
-        ensures range { result ≤ 1 }
-    {
-        match self.kind {
-            Kind::Attempt(_) => 1,
-            _ => 0,
-        }
-    }
-
     /// The error of the message after it, 0 to 999, by the error before it.
-    pub fn error_after(&self, before: u16) -> u16
+    pub(crate) fn error_after(&self, before: u16) -> u16
         requires { before ≤ 999 }
         ensures error { result ≡ error_by self.now.kind before }
         ensures range { result ≤ 999 }

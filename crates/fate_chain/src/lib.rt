@@ -1,20 +1,20 @@
 //! Chains of decrees on messages, of which only the permitted ones exist.
 #![tactic(auto)]
 
+mod chain;
 mod decree;
 mod fault;
 mod fields;
-mod list;
+mod laws;
 mod marks;
 mod octets;
 mod progress;
 mod reading;
 mod submission;
-#[cfg(test)]
-mod tests;
 mod writing;
 
+pub use chain::Chain;
 pub use decree::{Author, Decree, ErrorCode, Final, Kind};
 pub use fault::ChainFault;
-pub use list::Chain;
+pub use laws::octets_are_of_one_chain;
 pub use submission::Submission;

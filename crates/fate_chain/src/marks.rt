@@ -1,6 +1,6 @@
 //! Which decree may follow which.
 
-ghost use Rattle.std.specs.Prelude.{◌≡◌, ◌≤◌, ◌↔◌, ◌∷◌, List, length, IsTrue};
+ghost use Rattle.std.specs.Prelude.{◌≡◌, ◌<◌, ◌≤◌, ◌↔◌, ◌∷◌, List, length, IsTrue};
 ghost use Rattle.mc_model.specs.Chain.{Decree, IsFailureOf, IsFirstAttempt, IsNextAttempt, MayExtend, MayFollow, attempts_of, taken_in};
 ghost use Rattle.fate_chain.specs.Kinds.{author_of};
 ghost use Rattle.fate_chain.specs.Marks.{bare_kind, bare_message, IsMarkOf, IsStandingOf};
@@ -9,7 +9,7 @@ use crate::decree::{Author, Final};
 use mc_types::Moment;
 
 /// The moments between which a message is tried.
-#[derive(Clone, Copy, Debug, PartialEq, Eq)]
+#[derive(Clone, Copy)]
 pub struct Term {
     /// From this moment on it is tried.
     pub schedule: Moment,
@@ -17,8 +17,17 @@ pub struct Term {
     pub expiry: Moment,
 }
 
+impl Term {
+    /// Whether a message of this term may be taken then.
+    pub fn may_begin(self, moment: Moment) -> bool
+        ensures { IsTrue result ↔ (moment < self.expiry) × (self.schedule < self.expiry) }
+    {
+        moment < self.expiry && self.schedule < self.expiry
+    }
+}
+
 /// What of a decree's kind decides which decree may follow.
-#[derive(Clone, Copy, Debug, PartialEq, Eq)]
+#[derive(Clone, Copy)]
 pub enum Act {
     Taken(Term),
     Attempt(u8),
@@ -27,7 +36,7 @@ pub enum Act {
 }
 
 /// What of a decree decides which may follow it.
-#[derive(Clone, Copy, Debug, PartialEq, Eq)]
+#[derive(Clone, Copy)]
 pub struct Mark {
     pub author: Author,
     pub moment: Moment,
@@ -58,7 +67,7 @@ macro_rules! on_case {
 }
 
 /// Where a chain stands: what decides which decree may come next.
-#[derive(Clone, Copy, Debug, PartialEq, Eq)]
+#[derive(Clone, Copy)]
 pub struct Standing {
     pub term: Term,
     /// How many attempts were begun.
@@ -79,7 +88,7 @@ impl Standing {
     /// After one more decree, of this mark, that may come next.
     pub fn after(self, next: Mark) -> Standing
         ensures { (decrees : List Decree) (decree : Decree) →
-            length decrees ≤ 65535 → IsStandingOf decrees self → IsMarkOf decree next →
+            length decrees ≤ 18 → IsStandingOf decrees self → IsMarkOf decree next →
             MayExtend (taken_in decrees) decrees decree → IsStandingOf (decree ∷ decrees) result }
     {
         Standing {

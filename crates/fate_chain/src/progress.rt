@@ -1,11 +1,12 @@
 //! Whether decrees that are read one after another are a permitted chain.
 
-ghost use Rattle.std.specs.Prelude.{◌≡◌, ◌≤◌, ◌∷◌, [], ℕ, List, length, MatchOption};
-ghost use Rattle.mc_model.specs.Chain.{Decree, IsPermitted, MayBegin};
+ghost use Rattle.std.specs.Prelude.{◌≡◌, ◌∷◌, [], ℕ, List, reverse, MatchOption};
+ghost use Rattle.mc_model.specs.Chain.{Decree as DecreeValue, IsPermitted, MayBegin};
 ghost use Rattle.fate_chain.specs.Kinds.{author_of};
 ghost use Rattle.fate_chain.specs.Marks.{bare_kind, IsMarkOf, IsProgressOf, IsStandingOf};
 ghost use Rattle.fate_chain.specs.declared.marks.Act.TheVariants as acts;
 
+use crate::decree::Decree;
 use crate::marks::{Act, Mark, Standing, Term};
 use mc_types::MsgId;
 
@@ -21,10 +22,21 @@ pub enum Progress {
 }
 
 impl Progress {
+    /// Of decrees on the message of this id, the oldest first.
+    pub fn of(id: MsgId, decrees: &[Decree]) -> Progress
+        ensures { IsProgressOf id (reverse decrees.now) result }
+    {
+        let mut progress = Progress::Begins;
+        for decree in decrees {
+            progress = progress.after(id, decree.mark());
+        }
+        progress
+    }
+
     /// With one more decree, of this mark, on the message of this id.
     pub fn after(self, id: MsgId, next: Mark) -> Progress
-        ensures { (decrees : List Decree) (decree : Decree) →
-            length decrees ≤ 65535 → IsProgressOf id decrees self → IsMarkOf decree next →
+        ensures { (decrees : List DecreeValue) (decree : DecreeValue) →
+            IsProgressOf id decrees self → IsMarkOf decree next →
             IsProgressOf id (decree ∷ decrees) result }
     {
         match self {
@@ -37,7 +49,7 @@ impl Progress {
 
 /// With the first decree.
 fn begun(id: MsgId, first: Mark) -> Progress
-    ensures { (decree : Decree) → IsMarkOf decree first → IsProgressOf id (decree ∷ []) result }
+    ensures { (decree : DecreeValue) → IsMarkOf decree first → IsProgressOf id (decree ∷ []) result }
 {
     match first_term(id, &first) {
         Some(term) => Progress::Stands(Standing {
@@ -62,16 +74,13 @@ fn first_term(id: MsgId, first: &Mark) -> Option<Term>
     if first.author.node != id.node() || first.author.incarnation != id.incarnation() {
         return None;
     }
-    if term.expiry <= first.moment || term.schedule >= term.expiry {
-        return None;
-    }
-    Some(*term)
+    term.may_begin(first.moment).then_some(*term)
 }
 
 /// With one more decree behind a permitted chain.
 fn extended(standing: Standing, next: Mark) -> Progress
-    ensures { (id : ℕ) (decrees : List Decree) (decree : Decree) →
-        length decrees ≤ 65535 → IsPermitted id decrees → IsStandingOf decrees standing →
+    ensures { (id : ℕ) (decrees : List DecreeValue) (decree : DecreeValue) →
+        IsPermitted id decrees → IsStandingOf decrees standing →
         IsMarkOf decree next → IsProgressOf id (decree ∷ decrees) result }
 {
     if standing.permits(&next) {

@@ -69,7 +69,7 @@ impl Submission {
     }
 
     /// The same once more.
-    pub fn copy(&self) -> Result<Submission, AllocError>
+    pub(crate) fn copy(&self) -> Result<Submission, AllocError>
         ensures { IfOk result (λ message. message ≡ self.now) }
     {
         Ok(Submission {

@@ -1,4 +1,4 @@
-use Rattle.std.proofs.Common.{ℕ, List, ◌∷◌, sym, arith}
+use Rattle.std.proofs.Common.{ℕ, List, ◌∷◌, sym}
 use Rattle.mc_model.specs.Chain.{Decree}
 use Rattle.fate_chain.specs.Octets.{decree_seen}
 use Rattle.fate_chain.proofs.Steps.{so-far-more, so-far-cut, so-far-all, chain_at-none, chain_at-more, chain_at-all, progress-stands, progress-fails, nothing_left, something_left}
@@ -16,7 +16,7 @@ loop-left-preserved c =
     record {
       read = x.0 ∷ known.read;
       so_far = so-far-more c.args.count c.args.octets.now c.loop-left.left known.read c.loop-left.rest.now x known.so_far c.loop-left-test.true c.in-Some.ensures.read;
-      comes = c.after-progress.ensures known.read x.0 (omega (arith, known.so_far.counted, c.ranges.count.fits)) known.comes c.mark.ensures;
+      comes = c.after-progress.ensures known.read x.0 known.comes c.mark.ensures;
     }
 
 pub returns-then-not-is_empty : goal.returns-then-not-is_empty

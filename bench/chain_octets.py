@@ -1,0 +1,158 @@
+#!/usr/bin/env python3
+"""Prints what the tests of chains expect, worked out here from the written format, apart from the program.
+
+First the octets of a chain of 18 decrees, then what becomes of TAKEN_CHAIN with one of its octets changed: a letter for
+each place and each of the octets 00, 7f, 80 and ff, which is k where it still is a permitted chain, p where it is a chain
+that is not permitted, and b where it is no chain's octets.
+
+    python3 bench/chain_octets.py
+"""
+from struct import Struct
+
+TAKEN = 946_684_800
+EXPIRY = TAKEN + 3 * 86_400
+MOMENTS = range(946_684_800, 4_102_444_800)
+FINAL_STATES = {2: "DELIVERED", 3: "EXPIRED", 4: "DELETED", 5: "UNDELIVERABLE", 8: "REJECTED"}
+CHAIN = Struct(">BQH")
+HEAD = Struct(">BBHI")
+
+
+def text(octets):
+    return bytes([len(octets)]) + octets
+
+
+def address(digits):
+    return bytes([1, 1]) + text(digits)
+
+
+def taken():
+    """From 144 to 155, of sme1 to itself, with the text Hi; registered_delivery is 1."""
+    parties = text(b"sme1") + text(b"sme1") + text(b"") + address(b"144") + address(b"155")
+    handling = bytes([0, 0, 0, 1, 0]) + TAKEN.to_bytes(4, "big") + EXPIRY.to_bytes(4, "big")
+    return HEAD.pack(1, 1, 1, TAKEN) + parties + handling + text(b"Hi") + bytes([0, 0])
+
+
+def tried_eight_times():
+    """The message is tried eight times, fails after seven seconds each time, and is given up by another node."""
+    decrees = [taken()]
+    begun = TAKEN
+    for number in range(1, 9):
+        failed = begun + 7
+        decrees.append(HEAD.pack(2, 1, number, begun) + bytes([number]))
+        decrees.append(HEAD.pack(3, 1, number + 1, failed) + (100 * number).to_bytes(2, "big"))
+        begun = failed + 60 * number
+    decrees.append(HEAD.pack(4, 9, 9999, begun) + bytes([5]) + (999).to_bytes(2, "big"))
+    return decrees
+
+
+def chain(decrees):
+    return CHAIN.pack(1, 1_000_100_001, len(decrees)) + b"".join(decrees)
+
+
+class NotBytes(Exception):
+    pass
+
+
+class Reader:
+    def __init__(self, octets):
+        self.octets = octets
+
+    def take(self, count):
+        if len(self.octets) < count:
+            raise NotBytes
+        front, self.octets = self.octets[:count], self.octets[count:]
+        return front
+
+    def number(self, count, allowed):
+        number = int.from_bytes(self.take(count), "big")
+        if number not in allowed:
+            raise NotBytes
+        return number
+
+    def text(self, below):
+        found = self.take(self.number(1, range(256)))
+        if len(found) >= below or 0 in found:
+            raise NotBytes
+        return found
+
+    def address(self):
+        self.take(2)
+        return self.text(21)
+
+    def parameters(self):
+        whole = self.take(self.number(2, range(65_536)))
+        if len(whole) > 7_000:
+            raise NotBytes
+        inner = Reader(whole)
+        while inner.octets:
+            inner.take(2)
+            inner.take(inner.number(2, range(65_536)))
+
+    def message(self):
+        for below in (16, 16, 6):
+            self.text(below)
+        self.address()
+        self.address()
+        self.take(5)
+        schedule, expiry = self.number(4, MOMENTS), self.number(4, MOMENTS)
+        if len(self.take(self.number(1, range(256)))) > 254:
+            raise NotBytes
+        self.parameters()
+        return schedule, expiry
+
+    def decree(self):
+        kind = self.number(1, range(1, 5))
+        node, incarnation = self.number(1, range(1, 10)), self.number(2, range(1, 10_000))
+        moment = self.number(4, MOMENTS)
+        term = None
+        if kind == 1:
+            term = self.message()
+        elif kind == 2:
+            self.take(1)
+        elif kind == 3:
+            self.number(2, range(1_000))
+        else:
+            self.number(1, FINAL_STATES)
+            self.number(2, range(1_000))
+        return node, incarnation, moment, term
+
+
+def judged(octets):
+    """What becomes of octets that hold one decree at most."""
+    reader = Reader(octets)
+    try:
+        reader.number(1, [1])
+        number = reader.number(8, range(10**10))
+        if not (1 <= number // 10**9 <= 9 and 1 <= number // 10**5 % 10**4 and 1 <= number % 10**5):
+            raise NotBytes
+        decrees = [reader.decree() for _ in range(reader.number(2, range(65_536)))]
+        if reader.octets:
+            raise NotBytes
+    except NotBytes:
+        return "b"
+    if len(decrees) != 1:
+        return "p"
+    node, incarnation, moment, term = decrees[0]
+    if term is None or (node, incarnation) != (number // 10**9, number // 10**5 % 10**4):
+        return "p"
+    schedule, expiry = term
+    return "k" if moment < expiry and schedule < expiry else "p"
+
+
+def rows(octets, width=16):
+    for start in range(0, len(octets), width):
+        print("    " + " ".join(f"0x{octet:02x}," for octet in octets[start : start + width]))
+
+
+whole = chain([taken()])
+assert judged(whole) == "k"
+print("TAKEN_CHAIN,", len(whole), "octets")
+rows(whole)
+decrees = tried_eight_times()
+print("TRIED_CHAIN,", len(chain(decrees)), "octets")
+rows(CHAIN.pack(1, 1_000_100_001, len(decrees)))
+for decree in decrees:
+    rows(decree)
+print("CHANGED, a line a place")
+for place in range(len(whole)):
+    print('    b"' + "".join(judged(whole[:place] + bytes([octet]) + whole[place + 1 :]) for octet in (0, 0x7F, 0x80, 0xFF)) + '",')

@@ -1,0 +1,240 @@
+//! Chains.
+
+ghost use Rattle.std.specs.Prelude.{◌≡◌, ◌<◌, ◌≤◌, ◌↔◌, ◌∷◌, [], Some, reverse, slice_get, IfOk, IsErrOf, IsTrue};
+ghost use Rattle.mc_model.specs.Ids.{node_of, incarnation_of};
+ghost use Rattle.mc_model.specs.Chain.{Chain as ChainValue, Taken, IsPermitted, MayExtend, taken_in, final_in, error_in};
+ghost use Rattle.fate_chain.specs.Bytes.{chain_octets, read_chain, Fits, IsSpelled, Judges};
+ghost use Rattle.fate_chain.specs.Marks.{IsStandingOf};
+ghost use Rattle.fate_chain.specs.States.{state_of};
+ghost use Rattle.fate_chain.specs.declared.fault.ChainFault.TheVariants.{NotPermitted, NotBytes, Memory};
+
+use crate::decree::{Author, Decree, Kind};
+use crate::fault::ChainFault;
+use crate::marks::Standing;
+use crate::progress::Progress;
+use crate::reading::{check, decrees_of, head_at};
+use crate::submission::Submission;
+use crate::writing::{put_chain_head, put_decrees};
+use mc_types::{Moment, MsgId};
+use pdu_tables::State;
+use std::alloc::{AllocError, Global};
+use std::marker::Model;
+
+/// The decrees on one message. Contracts see them the newest first; each may follow the one before.
+#[derive(Debug, Drop)]
+pub struct Chain {
+    id: MsgId,
+    // The oldest first.
+    decrees: Vec<Decree>,
+}
+
+impl Model for Chain {
+    ghost use Rattle.std.specs.Prelude.{reverse};
+    ghost use Rattle.mc_model.specs.Chain.{Chain, IsPermitted};
+
+    ghost Value = { Chain };
+
+    ghost view = { λ c. record { id = c.id; decrees = reverse c.decrees.items } };
+
+    ghost invariant = { λ c. IsPermitted c.id (reverse c.decrees.items) };
+}
+
+impl Chain {
+    /// The chain of a message that is taken by the node and incarnation that its id names. NotPermitted where its
+    /// expiry is not later than the moment, or its schedule not earlier than its expiry.
+    pub fn begin(
+        alloc: Global,
+        id: MsgId,
+        moment: Moment,
+        message: Submission,
+    ) -> Result<Chain, ChainFault>
+        ensures id { IfOk result (λ chain. chain.id ≡ id) }
+        ensures decrees { IfOk result (λ chain. chain.decrees ≡ record {
+          author = record { node = node_of id; incarnation = incarnation_of id };
+          moment = moment;
+          kind = Taken message;
+        } ∷ []) }
+        ensures refused { IsErrOf result NotPermitted ↔ ((moment < message.expiry) × (message.schedule < message.expiry) → ⊥) }
+        ensures no_other { IsErrOf result NotBytes → ⊥ }
+    {
+        if !message.term().may_begin(moment) {
+            return Err(ChainFault::NotPermitted);
+        }
+        let author = Author {
+            node: id.node(),
+            incarnation: id.incarnation(),
+        };
+        let mut decrees = Vec::new(alloc);
+        decrees.push(Decree {
+            author,
+            moment,
+            kind: Kind::Taken(message),
+        })?;
+        Ok(Chain { id, decrees })
+    }
+
+    /// The message's id.
+    pub fn id(&self) -> MsgId
+        ensures { result ≡ self.now.id }
+    {
+        self.id
+    }
+
+    /// The newest decree.
+    pub fn newest(&self) -> &Decree
+        ensures { slice_get self.now.decrees 0 ≡ Some result.now }
+    {
+        self.decrees.last().unwrap()
+    }
+
+    /// What was taken, by its first decree.
+    pub fn submission(&self) -> &Submission
+        ensures { taken_in self.now.decrees ≡ Some result.now }
+    {
+        let first = self.decrees.first().unwrap();
+        match &first.kind {
+            Kind::Taken(message) => message,
+            _ => unreachable!(),
+        }
+    }
+
+    /// The state of the message: that of its fate, and ENROUTE while it has none.
+    pub fn state(&self) -> State
+        ensures { result ≡ state_of (final_in self.now.decrees) }
+    {
+        match self.newest().kind {
+            Kind::Fate(last, _) => last.state(),
+            _ => State::Enroute,
+        }
+    }
+
+    /// The error of its last failure or fate, 0 to 999, and 0 where there is none.
+    pub fn error(&self) -> u16
+        ensures error { result ≡ error_in self.now.decrees }
+        ensures range { result ≤ 999 }
+    {
+        let mut error = 0;
+        for decree in &self.decrees {
+            error = decree.error_after(error);
+        }
+        error
+    }
+
+    /// What decides which decree may come next.
+    fn standing(&self) -> Standing
+        ensures { IsStandingOf self.now.decrees result }
+    {
+        match Progress::of(self.id, &self.decrees) {
+            Progress::Stands(standing) => standing,
+            Progress::Begins | Progress::Fails => unreachable!(),
+        }
+    }
+
+    /// Whether the decree may come next.
+    pub fn permits(&self, decree: &Decree) -> bool
+        ensures { IsTrue result ↔ MayExtend (taken_in self.now.decrees) self.now.decrees decree.now }
+    {
+        self.standing().permits(&decree.mark())
+    }
+
+    /// The chain with one more decree at its end. NotPermitted where the decree may not come next.
+    pub fn extended(&self, decree: Decree) -> Result<Chain, ChainFault>
+        ensures id { IfOk result (λ chain. chain.id ≡ self.now.id) }
+        ensures decrees { IfOk result (λ chain. chain.decrees ≡ decree ∷ self.now.decrees) }
+        ensures refused { IsErrOf result NotPermitted ↔ (MayExtend (taken_in self.now.decrees) self.now.decrees decree → ⊥) }
+        ensures no_other { IsErrOf result NotBytes → ⊥ }
+    {
+        if !self.permits(&decree) {
+            return Err(ChainFault::NotPermitted);
+        }
+        Ok(Chain {
+            id: self.id,
+            decrees: self.followed_by(decree)?,
+        })
+    }
+
+    /// Its decrees, the oldest first, and this one behind them.
+    fn followed_by(&self, decree: Decree) -> Result<Vec<Decree>, AllocError>
+        ensures { IfOk result (λ decrees. reverse decrees.items ≡ decree ∷ self.now.decrees) }
+    {
+        let mut decrees = self.copies(self.decrees.len() + 1)?;
+        decrees.push(decree)?;
+        Ok(decrees)
+    }
+
+    /// The same decrees once more, the oldest first, in a vector with room for so many.
+    fn copies(&self, room: usize) -> Result<Vec<Decree>, AllocError>
+        ensures { IfOk result (λ decrees. reverse decrees.items ≡ self.now.decrees) }
+    {
+        let mut decrees = Vec::with_capacity(*self.decrees.allocator(), room)?;
+        for decree in &self.decrees {
+            decrees.push(decree.copy()?)?;
+        }
+        Ok(decrees)
+    }
+
+    /// The same chain once more.
+    pub fn copy(&self) -> Result<Chain, AllocError>
+        ensures { IfOk result (λ chain. chain ≡ self.now) }
+    {
+        Ok(Chain {
+            id: self.id,
+            decrees: self.copies(self.decrees.len())?,
+        })
+    }
+
+    /// Its octets, format 1. Each number has its highest octet first.
+    pub fn bytes(&self) -> Result<Vec<u8>, AllocError>
+        ensures octets { IfOk result (λ octets. octets.items ≡ chain_octets self.now) }
+        ensures fits { IfOk result (λ _. Fits self.now) }
+    {
+        let mut octets = Vec::new(*self.decrees.allocator());
+        put_chain_head(&mut octets, self.id, self.decrees.len() as u16)?;
+        put_decrees(&mut octets, &self.decrees)?;
+        Ok(octets)
+    }
+
+    /// The chain whose octets these are. NotBytes where they are not the octets of an id and of decrees, from the
+    /// first octet to the last; NotPermitted where they are, and the decrees are no permitted chain. Memory is taken
+    /// once they are found to be a chain's.
+    pub fn read(alloc: Global, octets: &[u8]) -> Result<Chain, ChainFault>
+        // What is read is spelled so.
+        ensures read { IfOk result (IsSpelled octets.now) }
+        // Where a chain is spelled so, no other is read.
+        ensures only { (chain : ChainValue) → IsSpelled octets.now chain →
+            IfOk result (λ found. found ≡ chain) }
+        ensures not_bytes { IsErrOf result NotBytes ↔ ((chain : ChainValue) →
+            IsSpelled octets.now chain → ⊥) }
+        ensures not_permitted { IsErrOf result NotPermitted ↔ ((chain : ChainValue) ×
+            IsSpelled octets.now chain × (IsPermitted chain.id chain.decrees → ⊥)) }
+        // Memory runs out only for what is a chain's octets.
+        ensures memory { IsErrOf result Memory → (chain : ChainValue) ×
+            IsSpelled octets.now chain × IsPermitted chain.id chain.decrees }
+    {
+        Chain::judged(alloc, octets)
+    }
+
+    /// The chain that the octets are read to.
+    #[tactic(auto, unfolding(crate::specs::Bytes::read_chain))]
+    fn judged(alloc: Global, octets: &[u8]) -> Result<Chain, ChainFault>
+        ensures { Judges (λ chain read. read ≡ chain) result (read_chain octets.now) }
+    {
+        let Some(head) = head_at(octets) else {
+            return Err(ChainFault::NotBytes);
+        };
+        check(head.id, head.count, head.decrees)?;
+        let decrees = decrees_of(alloc, head.count, head.decrees)?;
+        Ok(Chain {
+            id: head.id,
+            decrees,
+        })
+    }
+
+    /// The decrees, the oldest first.
+    pub fn decrees(&self) -> &[Decree]
+        ensures decrees { reverse result.now ≡ self.now.decrees }
+        ensures permitted { IsPermitted self.now.id self.now.decrees }
+    {
+        &self.decrees
+    }
+}
