@@ -1,0 +1,7 @@
+//! Tests.
+#![tactic(auto)]
+
+#[cfg(test)]
+mod time_rows;
+#[cfg(test)]
+mod times;
