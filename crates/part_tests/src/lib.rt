@@ -1,5 +1,5 @@
-//! The tests of `mc_types`, `pdu_tables`, `pdu_codec` and `script_lines`, in a crate without code so that each of those is
-//! proved once.
+//! The tests of `mc_types`, `pdu_tables`, `pdu_codec`, `script_lines` and `smpp_time`, in a crate without code so that each of
+//! those is proved once.
 #![tactic(auto)]
 
 #[cfg(test)]
@@ -18,5 +18,9 @@ mod pdus;
 mod tables;
 #[cfg(test)]
 mod texts;
+#[cfg(test)]
+mod time_rows;
+#[cfg(test)]
+mod times;
 #[cfg(test)]
 mod vectors;

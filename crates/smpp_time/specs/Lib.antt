@@ -1,0 +1,3 @@
+pub mod Calendar
+pub mod Texts
+pub mod Dates
