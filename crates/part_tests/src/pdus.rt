@@ -2,7 +2,7 @@
 
 use crate::bodies::*;
 use crate::vectors::*;
-use pdu_codec::{Message, decode, encode, read_header};
+use pdu_codec::{Message, Pdu, decode, encode, read_header};
 use pdu_tables::Command;
 use std::alloc::Global;
 use std::process::Abort;
@@ -184,11 +184,16 @@ fn responses_without_a_body(rt: HostRuntime) -> Result<(), Fail> {
     Ok(())
 }
 
+/// Whether there was memory to append the PDU.
+fn is_appended(pdu: Pdu, octets: &mut Vec<u8>) -> bool {
+    encode(&pdu, octets).is_ok()
+}
+
 #[test]
 fn a_pdu_is_written_behind_what_is_there(rt: HostRuntime) -> Result<(), Fail> {
     let mut octets = Vec::from_slice(rt.alloc(), b"before")?;
     let pdu = decode(rt.alloc(), &CANCEL_REFUSED)?;
-    encode(&pdu, &mut octets)?;
+    assert!(rt; is_appended(pdu, &mut octets));
     let whole = b"before\0\0\0\x10\x80\0\0\x08\0\0\0\x11\0\0\0\x04";
     assert_field(&rt, "the whole", &octets, whole);
     Ok(())
