@@ -1,15 +1,14 @@
 -- What is written is read.
-use Rattle.std.proofs.Common.{◌≡◌, ℕ, ◌+◌, ◌-◌, ◌*◌, ◌/◌, ◌%◌, ◌<◌, ◌≤◌, true, List, ◌++◌, Option, Some, Result, Ok, refl, sym, ap, ◌∙◌, arith}
+use Rattle.std.proofs.Common.{◌≡◌, ℕ, ◌+◌, ◌-◌, ◌*◌, ◌/◌, ◌%◌, ◌<◌, ◌≤◌, true, List, ◌++◌, Some, Ok, refl, sym, ap, ◌∙◌, arith}
 use Rattle.std.specs.Prelude.{codes}
 use Rattle.std.specs.Char.{is_ascii_digit}
 use Rattle.std.proofs.lemmas.Bool.{lt-ltb}
 use Rattle.std.proofs.lemmas.Bool.Decides.{nat_tests}
 use Rattle.mc_model.specs.Ids.{IsMoment}
-use Rattle.smpp_time.specs.Calendar.{Date, IsDateOf, is_date, day_number, date_at, days_in_month}
-use Rattle.smpp_time.specs.Texts.{two_digits, is_shaped, is_clock, moment_of, said_of, IsWritten, Says}
+use Rattle.smpp_time.specs.Calendar.{Date, IsDateOf, is_date, day_number, date_at, date_of, days_in_month}
+use Rattle.smpp_time.specs.Texts.{two_digits, is_shaped, is_clock, moment_of, said_of, time_said, time_text}
 use Rattle.smpp_time.proofs.Texts.{said_absolute}
-use Rattle.smpp_time.proofs.Years.{from_2000, to_2099, one_date}
-use Rattle.smpp_time.specs.declared.fault.TimeFault.{TimeFault}
+use Rattle.smpp_time.proofs.Years.{from_2000, to_2099, is_date_of}
 
 -- six numbers of two digits, and the end of a time in UTC
 abbrev written : ℕ → ℕ → ℕ → ℕ → ℕ → ℕ → List ℕ
@@ -56,30 +55,22 @@ moment_said : (seconds : ℕ) → IsMoment seconds → moment_of seconds ≡ Ok 
 moment_said seconds is = grind (arith, nat_tests)
 
 -- what is written is read, at any moment
-pub written_said : (moment : ℕ) (text : List ℕ) (now : ℕ) (today : Date) → IsMoment moment → IsWritten moment text → said_of text now today ≡ Ok (Some moment)
-written_said moment text now today is w =
-    let d = w.today in
+pub written_said : (moment now : ℕ) → IsMoment moment → time_said (time_text moment) now ≡ Ok (Some moment)
+written_said moment now is =
+    let today = date_of (now / 86400) in
+    let d = date_of (moment / 86400) in
+    let is_today = is_date_of (moment / 86400) in
     let clock = moment % 86400 in
-    let least : 2000 ≤ d.year = from_2000 (moment / 86400) d w.is_today (omega (arith, is)) in
-    let most : d.year ≤ 2099 = to_2099 (moment / 86400) d w.is_today (omega (arith, is)) in
+    let least : 2000 ≤ d.year = from_2000 (moment / 86400) d is_today (omega (arith, is)) in
+    let most : d.year ≤ 2099 = to_2099 (moment / 86400) d is_today (omega (arith, is)) in
     let year : 2000 + (d.year - 2000) ≡ d.year = omega (arith, least) in
-    let real : is_date (date_at (2000 + (d.year - 2000)) d.month d.day) ≡ true = ap (λ y. is_date (date_at y d.month d.day)) year ∙ date_is (moment / 86400) d w.is_today in
-    let days : day_number (date_at (2000 + (d.year - 2000)) d.month d.day) ≡ moment / 86400 = ap (λ y. day_number (date_at y d.month d.day)) year ∙ w.is_today.number in
+    let real : is_date (date_at (2000 + (d.year - 2000)) d.month d.day) ≡ true = ap (λ y. is_date (date_at y d.month d.day)) year ∙ date_is (moment / 86400) d is_today in
+    let days : day_number (date_at (2000 + (d.year - 2000)) d.month d.day) ≡ moment / 86400 = ap (λ y. day_number (date_at y d.month d.day)) year ∙ is_today.number in
     let all : 86400 * day_number (date_at (2000 + (d.year - 2000)) d.month d.day) + (3600 * (clock / 3600) + 60 * (clock / 60 % 60) + clock % 60) ≡ moment = omega (arith, days) in
-    ap (λ t. said_of t now today) w.text_is
-    ∙ said (d.year - 2000) d.month d.day (clock / 3600) (clock / 60 % 60) (clock % 60) now today (omega (arith, least, most)) (omega (arith, w.is_today.most_month)) (omega (arith, w.is_today.most_day, month_most d.year d.month)) (omega arith) (omega arith) (omega arith) real
+    said (d.year - 2000) d.month d.day (clock / 3600) (clock / 60 % 60) (clock % 60) now today (omega (arith, least, most)) (omega (arith, is_today.most_month)) (omega (arith, is_today.most_day, month_most d.year d.month)) (omega arith) (omega arith) (omega arith) real
     ∙ ap moment_of all ∙ moment_said moment is
 
--- ---- laws
-
-pub one_moment : (one other : ℕ) (text : List ℕ) → IsMoment one → IsMoment other → IsWritten one text → IsWritten other text → one ≡ other
-one_moment one other text is_one is_other w v =
-    let same = sym (written_said one text one w.today is_one w) ∙ written_said other text one w.today is_other v in
+pub one_moment : (one other : ℕ) → IsMoment one → IsMoment other → time_text one ≡ time_text other → one ≡ other
+one_moment one other is_one is_other e =
+    let same = sym (written_said one one is_one) ∙ ap (λ t. time_said t one) e ∙ written_said other one is_other in
     cc
-
-pub says_moment : (moment : ℕ) (text : List ℕ) (now : ℕ) (said : Result (Option ℕ) TimeFault) → IsMoment moment → IsWritten moment text → Says text now said → said ≡ Ok (Some moment)
-says_moment moment text now said is w says = says.said_is ∙ written_said moment text now says.today is w
-
-pub says_one : (text : List ℕ) (now : ℕ) (one other : Result (Option ℕ) TimeFault) → Says text now one → Says text now other → one ≡ other
-says_one text now one other a b =
-    a.said_is ∙ ap (said_of text now) (one_date (now / 86400) a.today b.today a.is_today b.is_today) ∙ sym b.said_is

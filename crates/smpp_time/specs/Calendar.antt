@@ -1,5 +1,5 @@
 -- The Gregorian calendar from 1970 on, by days.
-use Rattle.std.specs.Prelude.{◌≡◌, ℕ, zero, suc, ◌+◌, ◌-◌, ◌*◌, ◌/◌, ◌%◌, ◌≤◌, Bool, not, ◌&&◌, ◌||◌, ◌==◌, nat_le, min, if◌then◌else◌}
+use Rattle.std.specs.Prelude.{◌≡◌, ℕ, zero, suc, ◌+◌, ◌-◌, ◌*◌, ◌/◌, ◌%◌, ◌≤◌, Bool, not, ◌&&◌, ◌||◌, ◌==◌, nat_le, nat_lt, min, if◌then◌else◌}
 
 -- every fourth year, but of the centuries only every fourth
 abbrev pub is_leap : ℕ → Bool
@@ -48,6 +48,17 @@ pub record IsDateOf (day : ℕ) (date : Date) : Type 0 where
   pub least_day : 1 ≤ date.day
   pub most_day : date.day ≤ days_in_month date.year date.month
   pub number : day_number date ≡ day
+
+-- the date of the day after a date
+abbrev pub next_date : Date → Date
+next_date date =
+    if nat_lt date.day (days_in_month date.year date.month) then date_at date.year date.month (date.day + 1)
+    else (if nat_lt date.month 12 then date_at date.year (date.month + 1) 1 else date_at (date.year + 1) 1 1)
+
+-- the date so many days after 1970-01-01
+unfoldable pub date_of : ℕ → Date
+date_of zero = date_at 1970 1 1
+date_of (suc days) = next_date (date_of days)
 
 -- so many months later, on the same day, or on the month's last if it has fewer days
 abbrev pub in_month : ℕ → ℕ → ℕ → Date

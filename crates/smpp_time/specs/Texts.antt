@@ -1,7 +1,7 @@
 -- Times as texts of 16 characters, YYMMDDhhmmsstnnp (SMPP 3.4, 7.1.1). Years are those from 2000 to 2099 (own).
-use Rattle.std.specs.Prelude.{◌≡◌, ℕ, ◌+◌, ◌-◌, ◌*◌, ◌/◌, ◌%◌, Bool, ◌&&◌, ◌||◌, ◌==◌, nat_le, nat_lt, List, [], ◌∷◌, ◌++◌, length, take, get_or, Option, Some, None, Result, Ok, Err, codes, if◌then◌else◌}
+use Rattle.std.specs.Prelude.{ℕ, ◌+◌, ◌-◌, ◌*◌, ◌/◌, ◌%◌, Bool, ◌&&◌, ◌||◌, ◌==◌, nat_le, nat_lt, List, [], ◌∷◌, ◌++◌, length, take, get_or, Option, Some, None, Result, Ok, Err, codes, if◌then◌else◌}
 use Rattle.std.specs.Str.{all_ascii_digits}
-use Rattle.smpp_time.specs.Calendar.{Date, is_date, day_number, IsDateOf, months_later}
+use Rattle.smpp_time.specs.Calendar.{Date, is_date, day_number, date_of, months_later}
 use Rattle.smpp_time.specs.declared.fault.TimeFault.{TimeFault}
 use Rattle.smpp_time.specs.declared.fault.TimeFault.TheVariants.{Shape, Field, Range}
 
@@ -87,11 +87,9 @@ abbrev pub said_of : List ℕ → ℕ → Date → Result (Option ℕ) TimeFault
 said_of [] now today = Ok None
 said_of (first ∷ rest) now today = if is_shaped (first ∷ rest) then said_of_shaped (first ∷ rest) now today else Err Shape
 
--- a text says this to who reads it at a moment
-pub record Says (text : List ℕ) (now : ℕ) (said : Result (Option ℕ) TimeFault) : Type 0 where
-  pub today : Date
-  pub is_today : IsDateOf (now / 86400) today
-  pub said_is : said ≡ said_of text now today
+-- what a text says to who reads it at a moment: the moment that it names, none, or a fault
+abbrev pub time_said : List ℕ → ℕ → Result (Option ℕ) TimeFault
+time_said text now = said_of text now (date_of (now / 86400))
 
 -- ---- how a moment is written
 
@@ -105,7 +103,5 @@ text_of date clock =
     two_digits (date.year - 2000) ++ two_digits date.month ++ two_digits date.day
     ++ two_digits (clock / 3600) ++ two_digits (clock / 60 % 60) ++ two_digits (clock % 60) ++ codes "000+"
 
-pub record IsWritten (moment : ℕ) (text : List ℕ) : Type 0 where
-  pub today : Date
-  pub is_today : IsDateOf (moment / 86400) today
-  pub text_is : text ≡ text_of today (moment % 86400)
+abbrev pub time_text : ℕ → List ℕ
+time_text moment = text_of (date_of (moment / 86400)) (moment % 86400)

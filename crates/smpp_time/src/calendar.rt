@@ -1,7 +1,7 @@
 //! Dates by the number of their day, over the dates of `jiff_core`.
 
 ghost use Rattle.std.specs.Prelude.{◌≡◌, ◌≤◌, ◌≤ℤ◌, pos, unsigned_abs};
-ghost use Rattle.smpp_time.specs.Calendar.{IsDateOf, date_at, is_date, day_number, months_later};
+ghost use Rattle.smpp_time.specs.Calendar.{date_of, date_at, is_date, day_number, months_later};
 ghost use Rattle.smpp_time.specs.Dates.{plain_date, IsDateIf};
 
 use jiff_core::civil::Date;
@@ -9,7 +9,7 @@ use jiff_core::civil::Date;
 /// The date of a day, by the days since 1970-01-01; up to 100,000. Day 10,957 is 2000-01-01, and day 47,481 is 2099-12-31.
 pub fn date_of_day(day: u32) -> Date
     requires { day ≤ 100000 }
-    ensures value { IsDateOf day (plain_date result) }
+    ensures value { plain_date result ≡ date_of day }
     ensures least { pos 1970 ≤ℤ result.year }
     ensures most { result.year ≤ℤ pos 2500 }
     ensures from_2000 { 10957 ≤ day → 2000 ≤ (plain_date result).year }

@@ -8,6 +8,6 @@ mod reading;
 mod writing;
 
 pub use fault::TimeFault;
-pub use laws::{a_text_says_one_thing, moments_are_their_texts, what_is_written_is_read};
+pub use laws::{a_day_has_one_date, moments_are_their_texts, what_is_written_is_read};
 pub use reading::read_time;
 pub use writing::{receipt_date, write_time};

@@ -2,7 +2,7 @@
 
 ghost use Rattle.std.specs.Prelude.{◌≡◌, ◌<◌, ◌≤◌, ◌≤ℤ◌, ◌+◌, length, pos};
 ghost use Rattle.std.specs.Str.{all_ascii_digits};
-ghost use Rattle.smpp_time.specs.Texts.{Says, digit_at, number_at, is_shaped, is_clock, is_real, date_in, clock_in, utc_seconds, moment_of, said_of_absolute, said_of_relative};
+ghost use Rattle.smpp_time.specs.Texts.{time_said, digit_at, number_at, is_shaped, is_clock, is_real, date_in, clock_in, utc_seconds, moment_of, said_of_absolute, said_of_relative};
 ghost use Rattle.smpp_time.specs.Dates.{plain_date, IsDateIf};
 
 use crate::calendar::{date_of_day, date_of_parts, day_of_date, months_after};
@@ -14,7 +14,7 @@ use mc_types::Moment;
 /// No memory is taken, and nothing is looped over but the text. Shape if it has not that form, Field if a part of it is
 /// out of range, Range if the moment is before 2000 or after 2099.
 pub fn read_time(text: &[u8], now: Moment) -> Result<Option<Moment>, TimeFault>
-    ensures { Says text.now now result }
+    ensures { result ≡ time_said text.now now }
 {
     let today = date_of_day(now.seconds() / DAY);
     if text.is_empty() {

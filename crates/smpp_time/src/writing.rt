@@ -1,14 +1,14 @@
 //! A moment as a text.
 
-ghost use Rattle.std.specs.Prelude.{◌≡◌, ◌<◌, ℕ, List, take};
-ghost use Rattle.smpp_time.specs.Texts.{IsWritten, two_digits};
+ghost use Rattle.std.specs.Prelude.{◌≡◌, ◌<◌, take};
+ghost use Rattle.smpp_time.specs.Texts.{time_text, two_digits};
 
 use crate::calendar::{date_of_day, year_of};
 use mc_types::Moment;
 
 /// The text of a moment in UTC: 16 characters that end with `000+` (SMPP 3.4, section 7.1.1). No memory is taken.
 pub fn write_time(moment: Moment) -> [u8; 16]
-    ensures { IsWritten moment result }
+    ensures { result ≡ time_text moment }
 {
     let today = date_of_day(moment.seconds() / 86400);
     let clock = moment.seconds() % 86400;
@@ -25,7 +25,7 @@ pub fn write_time(moment: Moment) -> [u8; 16]
 
 /// The date of a moment as a receipt has it, YYMMDDhhmm (SMPP 3.4, appendix B): the first ten characters of its text.
 pub fn receipt_date(moment: Moment) -> [u8; 10]
-    ensures { (text : List ℕ) × IsWritten moment text × (result ≡ take 10 text) }
+    ensures { result ≡ take 10 (time_text moment) }
 {
     let [a, b, c, d, e, f, g, h, i, j, ..] = write_time(moment);
     [a, b, c, d, e, f, g, h, i, j]

@@ -1,11 +1,13 @@
 use Rattle.std.proofs.Common.{◌∙◌, w64, arith}
 use Rattle.smpp_time.proofs.Dates.{back, is_date_of, from_1970, up_to_2500, from_2000, up_to_2099}
+use Rattle.smpp_time.specs.Dates.{plain_date}
+use Rattle.smpp_time.proofs.Years.{date_is_of}
 use Rattle.smpp_time.proofs.calendar.date_of_day.Goals as goal
 
 pub returns-clause-value : goal.returns-clause-value
 returns-clause-value c =
     let told = rw c.unwrap.ensures at c.from_unix_epoch_day.ensures.value in
-    is_date_of c.unwrap.result c.args.day (told ∙ back w64 c.from.result c.args.day c.from.ensures (omega (arith, c.requires)))
+    (date_is_of c.args.day (plain_date c.unwrap.result)).1 (is_date_of c.unwrap.result c.args.day (told ∙ back w64 c.from.result c.args.day c.from.ensures (omega (arith, c.requires))))
 
 pub returns-clause-least : goal.returns-clause-least
 returns-clause-least c =
