@@ -1,8 +1,9 @@
 -- What a request is answered at once, or the ticket under which it waits, and what its answer then is.
-use Rattle.std.specs.Prelude.{ℕ, Bool, ◌+◌, ◌-◌, ◌%◌, ◌^◌, ◌≤◌, min, nat_le, nat_lt, ◌==◌, ◌&&◌, ◌||◌, not, is_some, List, [], ◌∷◌, ◌++◌, length, filter, Option, Some, None, if◌then◌else◌}
+use Rattle.std.specs.Prelude.{ℕ, Bool, ◌+◌, ◌-◌, ◌%◌, ◌^◌, ◌≤◌, min, nat_le, nat_lt, ◌==◌, ◌&&◌, ◌||◌, not, is_some, List, [], ◌∷◌, ◌++◌, length, filter, Option, Some, None, Result, Ok, Err, if◌then◌else◌}
 use Rattle.std.specs.Str.{bytes_eq}
+use Rattle.std.specs.Option.{option_map}
 use Rattle.mc_model.specs.Ids.{IsNode, IsIncarnation, id_of}
-use Rattle.mc_model.specs.Chain.{Author, Submission, Final, Delivered, Expired, Deleted, Undeliverable, Rejected, Taken, Chain, taken_in, final_in, error_in}
+use Rattle.mc_model.specs.Chain.{Author, Submission, Final, Delivered, Expired, Deleted, Undeliverable, Rejected, Taken, Decree, Chain, taken_in, final_in, error_in}
 use Rattle.mc_types.specs.Texts.{id_in}
 use Rattle.pdu_tables.specs.declared.status.Status.{Status}
 use Rattle.pdu_tables.specs.declared.status.Status.TheVariants as statuses
@@ -21,12 +22,14 @@ use Rattle.desk.specs.declared.request.Answer.TheVariants.{Submitted, Found, Not
 use Rattle.desk.specs.declared.request.Waiting.{Waiting}
 use Rattle.desk.specs.Table.{Table, chain_at, with_chain}
 use Rattle.desk.specs.Fates.{is_idle, ended}
+use Rattle.desk.specs.Times.{Times, times_of}
 
--- Whose requests these are, the serial of the next message, the tickets given so far, and the requests that wait,
--- each with its answer, the oldest first.
+-- Whose requests these are, how long a message is valid that asks for nothing else, in seconds, the serial of the next
+-- message, the tickets given so far, and the requests that wait, each with its answer, the oldest first.
 pub record Desk : Type 0 where
   pub node : ℕ
   pub incarnation : ℕ
+  pub validity : ℕ
   pub serial : ℕ
   pub given : ℕ
   pub waiting : List Waiting
@@ -45,13 +48,6 @@ author_at desk = record { node = desk.node; incarnation = desk.incarnation }
 
 -- ---- a submit_sm
 
--- how long a message is valid that asks for nothing else, in seconds: three days
-abbrev pub default_validity : ℕ
-default_validity = 259200
-
-abbrev pub expiry_from : ℕ → ℕ
-expiry_from now = min (now + default_validity) 4102444799
-
 -- bits 1 and 0 of registered_delivery are both set (SMPP 3.4, 5.2.17)
 abbrev pub asks_reserved_receipt : Message → Bool
 asks_reserved_receipt message = message.registered_delivery % 4 == 3
@@ -65,27 +61,39 @@ abbrev pub first_failing : List (Bool × Status) → Option Status
 first_failing [] = None
 first_failing (check ∷ checks) = if check.0 then Some check.1 else first_failing checks
 
--- the checks of a submit_sm, in their order
-abbrev pub submit_refusal : Bool → ℕ → Message → Desk → Option Status
-submit_refusal has_route now message desk =
+-- the checks of a submit_sm before its times: its destination, and registered_delivery
+abbrev pub fields_refusal : Bool → Message → Option Status
+fields_refusal has_route message =
     first_failing (
     (bytes_eq message.destination.digits [] || not has_route, statuses.InvalidDestinationAddress)
     ∷ (asks_reserved_receipt message, statuses.InvalidRegisteredDelivery)
-    ∷ (not (bytes_eq message.schedule_delivery_time []), statuses.InvalidSchedule)
-    ∷ (not (bytes_eq message.validity_period []), statuses.InvalidExpiry)
-    ∷ (nat_le (expiry_from now) now, statuses.InvalidExpiry)
-    ∷ (nat_lt 99999 desk.serial, statuses.MessageQueueFull)
-    ∷ (is_busy desk, statuses.Throttled)
     ∷ []
     )
+
+-- and those behind: a serial, and room for a request
+abbrev pub room_refusal : Desk → Option Status
+room_refusal desk = first_failing ((nat_lt 99999 desk.serial, statuses.MessageQueueFull) ∷ (is_busy desk, statuses.Throttled) ∷ [])
+
+-- a result, unless there is a refusal
+abbrev pub unless : {A : Type 0} → Option Status → Result A Status → Result A Status
+unless None result = result
+unless (Some status) result = Err status
+
+abbrev pub with_room : Desk → Result Times Status → Result Times Status
+with_room desk (Err status) = Err status
+with_room desk (Ok times) = unless (room_refusal desk) (Ok times)
+
+-- the times of a submit_sm, or the status of the first of its checks that fails
+abbrev pub submit_judged : Bool → ℕ → Message → Desk → Result Times Status
+submit_judged has_route now message desk = unless (fields_refusal has_route message) (with_room desk (times_of desk.validity now message))
 
 -- the optional parameters that are passed on: user_message_reference and the three of concatenated messages
 abbrev pub passed_tags : List ℕ
 passed_tags = 0x0204 ∷ 0x020c ∷ 0x020e ∷ 0x020f ∷ []
 
 -- what is taken of it
-abbrev pub submission_of : List ℕ → List ℕ → ℕ → Message → Submission
-submission_of account target now message = record {
+abbrev pub submission_of : List ℕ → List ℕ → Times → Message → Submission
+submission_of account target times message = record {
   submitter = account;
   target = target;
   service_type = message.service_type;
@@ -96,8 +104,8 @@ submission_of account target now message = record {
   priority_flag = message.priority_flag;
   registered_delivery = message.registered_delivery;
   data_coding = message.data_coding;
-  schedule = now;
-  expiry = expiry_from now;
+  schedule = times.schedule;
+  expiry = times.expiry;
   text = message.short_message;
   passed = filter (has_tag_among passed_tags) message.tlvs;
 }
@@ -125,6 +133,11 @@ with_waiting desk answer = record desk {
 
 -- ---- a query_sm
 
+-- the moment of a final state
+abbrev pub final_moment : List Decree → Option ℕ
+final_moment [] = None
+final_moment (newest ∷ older) = option_map (λ final. newest.moment) (final_in (newest ∷ older))
+
 -- the message is the account's, from this source address
 abbrev pub is_sent_by : List ℕ → List ℕ → Submission → Bool
 is_sent_by account source message = bytes_eq message.submitter account && bytes_eq message.source.digits source
@@ -132,7 +145,7 @@ is_sent_by account source message = bytes_eq message.submitter account && bytes_
 abbrev pub found_in : List ℕ → List ℕ → Chain → Option Submission → Answer
 found_in account source chain None = NotFound statuses.InvalidMessageId
 found_in account source chain (Some message) =
-    if is_sent_by account source message then Found chain.id (state_of (final_in chain.decrees)) (min (error_in chain.decrees) 255)
+    if is_sent_by account source message then Found chain.id (state_of (final_in chain.decrees)) (final_moment chain.decrees) (min (error_in chain.decrees) 255)
     else NotFound statuses.QueryFailed
 
 abbrev pub answer_from : List ℕ → List ℕ → Option Chain → Answer
@@ -186,14 +199,14 @@ refused desk table status = record { begun = Refused status; desk = desk; table 
 abbrev pub waits : Desk → Table → Answer → Begins
 waits desk table answer = record { begun = Waits (desk.given + 1); desk = with_waiting desk answer; table = table }
 
-abbrev pub taken : List ℕ → List ℕ → ℕ → Message → Desk → Table → Begins
-taken account target now message desk table =
-    waits (record desk { serial = desk.serial + 1 }) (with_chain table (chain_begun desk now (submission_of account target now message))) (Submitted (next_id desk))
+abbrev pub taken : List ℕ → List ℕ → ℕ → Times → Message → Desk → Table → Begins
+taken account target now times message desk table =
+    waits (record desk { serial = desk.serial + 1 }) (with_chain table (chain_begun desk now (submission_of account target times message))) (Submitted (next_id desk))
 
-abbrev pub submitted : List ℕ → ℕ → Message → Option (List ℕ) → Desk → Table → Option Status → Begins
-submitted account now message target desk table (Some status) = refused desk table status
-submitted account now message None desk table None = refused desk table statuses.InvalidDestinationAddress
-submitted account now message (Some target) desk table None = taken account target now message desk table
+abbrev pub submitted : List ℕ → ℕ → Message → Option (List ℕ) → Desk → Table → Result Times Status → Begins
+submitted account now message target desk table (Err status) = refused desk table status
+submitted account now message None desk table (Ok times) = refused desk table statuses.InvalidDestinationAddress
+submitted account now message (Some target) desk table (Ok times) = taken account target now times message desk table
 
 abbrev pub asked : List ℕ → Query → Desk → Table → Option ℕ → Begins
 asked account query desk table None = refused desk table statuses.InvalidMessageId
@@ -214,7 +227,7 @@ cancelled account now cancel desk table (Some id) =
 -- route leads to one, or a query_sm or a cancel_sm, whose text may name no id.
 abbrev pub begins : List ℕ → ℕ → Request → Desk → Table → Begins
 begins account now (Submit message target) desk table =
-    submitted account now message target desk table (submit_refusal (is_some target) now message desk)
+    submitted account now message target desk table (submit_judged (is_some target) now message desk)
 begins account now (Ask query) desk table = asked account query desk table (id_in query.message_id)
 begins account now (Cancel cancel) desk table =
     if bytes_eq cancel.message_id [] then refused desk table statuses.CancelFailed

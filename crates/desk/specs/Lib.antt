@@ -1,4 +1,5 @@
 pub mod Table
 pub mod Fates
 pub mod Due
+pub mod Times
 pub mod Desk

@@ -24,6 +24,8 @@ const MOST_WAITING: usize = 1000;
 pub struct Desk {
     pub(crate) node: NodeNo,
     pub(crate) incarnation: Incarnation,
+    // How long a message is valid that asks for nothing else, in seconds.
+    pub(crate) validity: u32,
     // Of the next message; 100000 where none is left.
     pub(crate) serial: u32,
     // The tickets given so far.
@@ -40,6 +42,7 @@ impl Model for Desk {
     ghost view = { λ d. record {
       node = d.node;
       incarnation = d.incarnation;
+      validity = d.validity;
       serial = d.serial;
       given = d.given;
       waiting = d.waiting.items;
@@ -48,6 +51,7 @@ impl Model for Desk {
     ghost invariant = { λ d. IsDesk (record {
       node = d.node;
       incarnation = d.incarnation;
+      validity = d.validity;
       serial = d.serial;
       given = d.given;
       waiting = d.waiting.items;
@@ -55,12 +59,20 @@ impl Model for Desk {
 }
 
 impl Desk {
-    /// The desk of a node's incarnation at which nothing was asked yet. The first message has this serial.
-    pub fn make(alloc: Global, node: NodeNo, incarnation: Incarnation, serial: u32) -> Desk
+    /// The desk of a node's incarnation at which nothing was asked yet. A message that asks for nothing else is valid for
+    /// `validity` seconds. The first message has this serial.
+    pub fn make(
+        alloc: Global,
+        node: NodeNo,
+        incarnation: Incarnation,
+        validity: u32,
+        serial: u32,
+    ) -> Desk
         requires least { 1 ≤ serial }
         requires most { serial ≤ 99999 }
         ensures node { result.node ≡ node }
         ensures incarnation { result.incarnation ≡ incarnation }
+        ensures validity { result.validity ≡ validity }
         ensures serial { result.serial ≡ serial }
         ensures given { result.given ≡ 0 }
         ensures waiting { result.waiting ≡ [] }
@@ -68,6 +80,7 @@ impl Desk {
         Desk {
             node,
             incarnation,
+            validity,
             serial,
             given: 0,
             waiting: VecDeque::new(alloc),

@@ -9,6 +9,7 @@ mod query;
 mod request;
 mod submit;
 mod table;
+mod times;
 
 pub use desk::Desk;
 pub use laws::fates_are_permitted;

@@ -3,13 +3,13 @@
 ghost use Rattle.std.specs.Prelude.{◌≡◌, IfOk, OnErr};
 ghost use Rattle.std.specs.Option.{option_copied};
 ghost use Rattle.mc_types.specs.Texts.{id_in};
-ghost use Rattle.desk.specs.Desk.{asked, answer_from, is_sent_by};
+ghost use Rattle.desk.specs.Desk.{asked, answer_from, final_moment, is_sent_by};
 
 use crate::desk::Desk;
 use crate::request::{Answer, Begun, Waiting};
 use crate::table::Chains;
-use fate_chain::{Chain, Submission};
-use mc_types::MsgId;
+use fate_chain::{Chain, Kind, Submission};
+use mc_types::{Moment, MsgId};
 use pdu_codec::{Query, Text};
 use pdu_tables::Status;
 use std::alloc::AllocError;
@@ -52,7 +52,19 @@ fn answer(chain: Option<&Chain>, account: &Text<16>, source: &Text<21>) -> Answe
     if !is_sent_by(message, account, source) {
         return Answer::NotFound(Status::QueryFailed);
     }
-    Answer::Found(chain.id(), chain.state(), chain.error().min(255) as u8)
+    let error = chain.error().min(255) as u8;
+    Answer::Found(chain.id(), chain.state(), final_moment(chain), error)
+}
+
+/// The moment of the final state of a chain, if it has one.
+fn final_moment(chain: &Chain) -> Option<Moment>
+    ensures { result ≡ final_moment chain.now.decrees }
+{
+    let newest = chain.newest();
+    match newest.kind {
+        Kind::Fate(..) => Some(newest.moment),
+        _ => None,
+    }
 }
 
 /// Whether the message is the account's, from this source address.

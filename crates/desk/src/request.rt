@@ -1,6 +1,6 @@
 //! Requests and what they are answered.
 
-use mc_types::MsgId;
+use mc_types::{Moment, MsgId};
 use pdu_codec::{Cancel, Message, Query, Text};
 use pdu_tables::{State, Status};
 
@@ -29,8 +29,9 @@ pub enum Begun {
 pub enum Answer {
     /// The message of the submit_sm was taken under this id.
     Submitted(MsgId),
-    /// The message of the query_sm has this state, and this error, which is cut to 255.
-    Found(MsgId, State, u8),
+    /// The message of the query_sm has this state, since this moment if it is a final one, and this error, which is cut
+    /// to 255.
+    Found(MsgId, State, Option<Moment>, u8),
     /// The query_sm is refused with this status: no such message is known, or it is not the account's.
     NotFound(Status),
     /// The message of the cancel_sm is deleted, or was before.
