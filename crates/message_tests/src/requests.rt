@@ -88,7 +88,7 @@ fn node_from(alloc: Global, serial: u32) -> Node
     requires most { serial ≤ 99999 }
 {
     Node {
-        desk: Desk::make(alloc, NodeNo::of(1), Incarnation::of(1), serial),
+        desk: Desk::make(alloc, NodeNo::of(1), Incarnation::of(1), 259200, serial),
         chains: Chains::empty(alloc),
     }
 }
@@ -159,7 +159,7 @@ fn waits_twice(rt: &impl Abort, alloc: Global, node: &mut Node) -> Result<(), Fa
         (
             2,
             Asked::Query(FIRST, b"144"),
-            Answer::Found(id, State::Enroute, 0),
+            Answer::Found(id, State::Enroute, None, 0),
         ),
     ] {
         assert_eq!(rt; node.begin(alloc, asked)?, Begun::Waits(ticket));
@@ -182,7 +182,7 @@ fn a_message_is_taken_and_found(rt: HostRuntime) -> Result<(), Fail> {
             (Asked::Submit(1), Answer::Submitted(id)),
             (
                 Asked::Query(FIRST, b"144"),
-                Answer::Found(id, State::Enroute, 0),
+                Answer::Found(id, State::Enroute, None, 0),
             ),
             (
                 Asked::Query(FIRST, b"145"),
@@ -280,7 +280,7 @@ fn a_message_is_cancelled_twice(rt: HostRuntime) -> Result<(), Fail> {
             (Asked::Cancel(FIRST, b"144", b""), Answer::Cancelled),
             (
                 Asked::Query(FIRST, b"144"),
-                Answer::Found(id, State::Deleted, 0),
+                Answer::Found(id, State::Deleted, Some(Moment::least()), 0),
             ),
         ],
     )
@@ -299,11 +299,15 @@ fn expires(rt: &impl Abort, alloc: Global, node: &mut Node) -> Result<(), Fail> 
     // Three days after it was taken.
     for (seconds, state) in [(946943999, State::Enroute), (946944000, State::Expired)] {
         node.tick(alloc, seconds)?;
+        let ended = (state == State::Expired).then_some(Moment::make(seconds)?);
         let found = [
-            (Asked::Query(FIRST, b"144"), Answer::Found(first, state, 0)),
+            (
+                Asked::Query(FIRST, b"144"),
+                Answer::Found(first, state, ended, 0),
+            ),
             (
                 Asked::Query(SECOND, b"144"),
-                Answer::Found(second, State::Deleted, 0),
+                Answer::Found(second, State::Deleted, Some(Moment::least()), 0),
             ),
         ];
         answers(rt, alloc, node, &found)?;

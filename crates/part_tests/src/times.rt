@@ -32,11 +32,8 @@ fn moments_are_written(rt: HostRuntime) -> Result<(), Fail> {
         if text.ends_with("000+") {
             let moment = Moment::make(seconds)?;
             assert_eq!(rt; write_time(moment).as_slice(), text.as_bytes(), "{text}");
-            assert_eq!(rt;
-                receipt_date(moment).as_slice(),
-                text[..10].as_bytes(),
-                "{text}"
-            );
+            let date = receipt_date(moment);
+            assert!(rt; text.as_bytes().starts_with(&date), "{text}");
         }
     }
     Ok(())

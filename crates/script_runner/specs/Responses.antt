@@ -1,6 +1,7 @@
 -- The PDUs that go out (SMPP 3.4, 4.1, 4.3, 4.4, 4.8, 4.9 and 4.11).
-use Rattle.std.specs.Prelude.{ℕ, nat_le, [], ◌∷◌, Option, Some, None, codes, if◌then◌else◌}
+use Rattle.std.specs.Prelude.{ℕ, nat_le, List, [], ◌∷◌, Option, Some, None, codes, if◌then◌else◌}
 use Rattle.std.specs.Fmt.{decimal}
+use Rattle.smpp_time.specs.Texts.{time_text}
 use Rattle.pdu_tables.specs.declared.command.Command.{Command}
 use Rattle.pdu_tables.specs.declared.command.Command.TheVariants as commands
 use Rattle.pdu_tables.specs.declared.status.Status.{Status}
@@ -45,12 +46,17 @@ bound_answer interface_version = record {
 abbrev pub pdu_with : Status → ℕ → Body → Pdu
 pdu_with status sequence body = record { status = status_code status; sequence = sequence; body = body }
 
+-- the final_date: empty before a final state, and else its moment (SMPP 3.4, 4.8.2)
+abbrev pub final_date_of : Option ℕ → List ℕ
+final_date_of None = []
+final_date_of (Some moment) = time_text moment
+
 -- what a request is answered that waited
 abbrev pub answer_pdu : ℕ → Answer → Pdu
 answer_pdu sequence (Submitted id) = pdu_with statuses.Ok sequence (SubmitSmResp (Some (decimal id)))
-answer_pdu sequence (Found id state error) = pdu_with statuses.Ok sequence (QuerySmResp (Some (record {
+answer_pdu sequence (Found id state ended error) = pdu_with statuses.Ok sequence (QuerySmResp (Some (record {
   message_id = decimal id;
-  final_date = [];
+  final_date = final_date_of ended;
   message_state = state_code state;
   error_code = error;
 })))

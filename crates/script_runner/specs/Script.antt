@@ -6,10 +6,11 @@ use Rattle.script_runner.specs.declared.centre.Centre.{Centre}
 use Rattle.script_runner.specs.Centre.{Done}
 use Rattle.script_runner.specs.OneNode.{on_frame, on_tick, on_settle}
 
--- node 1 in its first incarnation, at which nothing was asked yet; its clock begins at the least moment
+-- node 1 in its first incarnation, at which nothing was asked yet: a message is valid for three days if it asks for nothing else,
+-- and the clock begins at the least moment
 abbrev pub opened : ℕ → Centre
 opened serial = record {
-  desk = record { node = 1; incarnation = 1; serial = serial; given = 0; waiting = [] };
+  desk = record { node = 1; incarnation = 1; validity = 259200; serial = serial; given = 0; waiting = [] };
   chains = [];
   bound = [];
   pending = [];

@@ -17,6 +17,9 @@ use pdu_codec::{Bind, Body, Header, Message, PduFault, Text, decode, read_header
 use pdu_tables::Status;
 use std::alloc::{AllocError, Global};
 
+/// How long a message is valid that asks for nothing else, in seconds: three days.
+const DEFAULT_VALIDITY: u32 = 259200;
+
 /// One node: its desk, its chains and its clock; the sessions that are bound; the requests that wait.
 #[derive(Drop)]
 pub struct Centre {
@@ -40,7 +43,13 @@ impl Centre {
         ensures { result ≡ opened serial }
     {
         Centre {
-            desk: Desk::make(alloc, NodeNo::of(1), Incarnation::of(1), serial),
+            desk: Desk::make(
+                alloc,
+                NodeNo::of(1),
+                Incarnation::of(1),
+                DEFAULT_VALIDITY,
+                serial,
+            ),
             chains: Chains::empty(alloc),
             bound: Bound::none(alloc),
             pending: PendingRequests::empty(alloc),

@@ -5,8 +5,10 @@ ghost use Rattle.pdu_codec.specs.Pdu.{octets_of};
 ghost use Rattle.pdu_tables.specs.CommandCodes.{command_of};
 
 use desk::Answer;
+use mc_types::Moment;
 use pdu_codec::{BindAnswer, Body, Pdu, QueryAnswer, Text, Tlvs, encode};
 use pdu_tables::{Command, Status};
+use smpp_time::{times_fit_their_field, write_time};
 use std::alloc::{AllocError, Global};
 
 /// The centre's name, as a bind_transceiver_resp tells it (SMPP 3.4, section 5.2.1).
@@ -100,7 +102,7 @@ impl Response {
     }
 }
 
-ghost use Rattle.script_runner.specs.Responses.{pdu_with, bound_answer, answer_pdu};
+ghost use Rattle.script_runner.specs.Responses.{pdu_with, bound_answer, answer_pdu, final_date_of};
 ghost use Rattle.pdu_codec.specs.Text.{IsText};
 
 /// A PDU with this status and body.
@@ -142,10 +144,10 @@ fn pdu_of_answer(alloc: Global, sequence: u32, answer: Answer) -> Result<Pdu, Al
             let id = Text::of(alloc, &id.text())?;
             Ok(pdu_with(Status::Ok, sequence, Body::SubmitSmResp(Some(id))))
         }
-        Answer::Found(id, state, error_code) => {
+        Answer::Found(id, state, ended, error_code) => {
             let found = QueryAnswer {
                 message_id: Text::of(alloc, &id.text())?,
-                final_date: Text::of(alloc, b"")?,
+                final_date: final_date(alloc, ended)?,
                 message_state: state.code(),
                 error_code,
             };
@@ -154,6 +156,17 @@ fn pdu_of_answer(alloc: Global, sequence: u32, answer: Answer) -> Result<Pdu, Al
         Answer::NotFound(status) => Ok(pdu_with(status, sequence, Body::QuerySmResp(None))),
         Answer::Cancelled => Ok(pdu_with(Status::Ok, sequence, Body::CancelSmResp)),
         Answer::NotCancelled(status) => Ok(pdu_with(status, sequence, Body::CancelSmResp)),
+    }
+}
+
+/// The text of the moment of a final state; empty before one.
+fn final_date(alloc: Global, ended: Option<Moment>) -> Result<Text<17>, AllocError>
+    ensures { IfOk result (λ text. text ≡ final_date_of ended) }
+{
+    times_fit_their_field();
+    match ended {
+        None => Text::of(alloc, b""),
+        Some(moment) => Text::of(alloc, &write_time(moment)),
     }
 }
 

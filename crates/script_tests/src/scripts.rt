@@ -101,7 +101,7 @@ fn many_messages_expire(rt: HostRuntime) -> Result<(), Fail> {
         Ok(())
     );
     let expired =
-        b"pdu 1 1 0000001e8000000300000000000000033130303031303035303000000300\n".as_slice();
+        b"pdu 1 1 0000002e80000003000000000000000331303030313030353030003030303130343030303030303030302b000300\n".as_slice();
     assert!(rt; output.as_slice().ends_with(expired));
     // Each answer to a submit_sm has 27 octets.
     let answers = 500 * (b"pdu 1 1 \n".len() + 2 * 27);

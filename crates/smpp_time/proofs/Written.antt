@@ -1,6 +1,8 @@
 -- What is written is read.
 use Rattle.std.proofs.Common.{◌≡◌, ℕ, ◌+◌, ◌-◌, ◌*◌, ◌/◌, ◌%◌, ◌<◌, ◌≤◌, true, List, ◌++◌, Some, Ok, refl, sym, ap, ◌∙◌, arith}
-use Rattle.std.specs.Prelude.{codes}
+use Rattle.std.specs.Prelude.{codes, All, length}
+use Rattle.std.specs.List.{AllByRecursion}
+use Rattle.std.proofs.lemmas.List.Elements.{All-from_recursion}
 use Rattle.std.specs.Char.{is_ascii_digit}
 use Rattle.std.proofs.lemmas.Bool.{lt-ltb}
 use Rattle.std.proofs.lemmas.Bool.Decides.{nat_tests}
@@ -74,3 +76,20 @@ pub one_moment : (one other : ℕ) → IsMoment one → IsMoment other → time_
 one_moment one other is_one is_other e =
     let same = sym (written_said one one is_one) ∙ ap (λ t. time_said t one) e ∙ written_said other one is_other in
     cc
+
+-- no octet of a text is zero
+digits_above : (n : ℕ) → 0 < 48 + n
+digits_above n = omega arith
+
+all_above : (a b c d e f : ℕ) → AllByRecursion (λ octet. 0 < octet) (written a b c d e f)
+all_above a b c d e f =
+    (digits_above _, (digits_above _, (digits_above _, (digits_above _, (digits_above _, (digits_above _, (digits_above _, (digits_above _, (digits_above _, (digits_above _, (digits_above _, (digits_above _, (omega arith, (omega arith, (omega arith, (omega arith, tt))))))))))))))))
+
+no_zero : (moment : ℕ) → All (λ octet. 0 < octet) (time_text moment)
+no_zero moment =
+    let d = date_of (moment / 86400) in
+    let clock = moment % 86400 in
+    All-from_recursion (λ octet. 0 < octet) (time_text moment) (all_above (d.year - 2000) d.month d.day (clock / 3600) (clock / 60 % 60) (clock % 60))
+
+pub fits_field : (moment : ℕ) → (length (time_text moment) ≡ 16) × All (λ octet. 0 < octet) (time_text moment)
+fits_field moment = (refl, no_zero moment)
