@@ -1,5 +1,5 @@
 -- What stands at the front of a stream: a part of a frame, a wrong length, or a frame, and one of these alone.
-use Rattle.std.proofs.Common.{◌≡◌, ℕ, ◌+◌, ◌<◌, ◌≤◌, ◌⊎◌, inl, inr, List, [], ◌++◌, length, take, drop, refl, sym, ap, ◌∙◌, subst, arith}
+use Rattle.std.proofs.Common.{◌≡◌, ℕ, ◌≤◌, ◌⊎◌, inl, inr, List, ◌++◌, length, take, drop, refl, sym, ap, ◌∙◌, subst, arith}
 use Rattle.std.proofs.lemmas.List.{append_cancel_left, length-append, length-take-le, take_at, take-append-le, take-append-drop, take-take}
 use Rattle.std.proofs.lemmas.Bool.{cases_lt}
 use Rattle.std.specs.Int.{from_be_bytes, w32}
@@ -42,14 +42,14 @@ whole_front stream least most whole =
 pub front_cases : (stream : List ℕ) → (IsPart stream ⊎ HasWrongLength stream) ⊎ ((frame : List ℕ) × (behind : List ℕ) × IsFrame frame × (stream ≡ frame ++ behind))
 front_cases stream =
     elim (cases_lt (length stream) 4) [
-      inl short ↦ inl (inl (inl short))
-    | inr come ↦ elim (cases_lt (command_length stream) 16) [
-        inl low ↦ inl (inr (record { come = come; outside = inl low }))
-      | inr least ↦ elim (cases_lt 8192 (command_length stream)) [
-          inl high ↦ inl (inr (record { come = come; outside = inr high }))
-        | inr most ↦ elim (cases_lt (length stream) (command_length stream)) [
-            inl short ↦ inl (inl (inr (least, most, short)))
-          | inr whole ↦ inr (take (command_length stream) stream, drop (command_length stream) stream, whole_front stream least most whole, sym (take-append-drop (command_length stream) stream))
+      | inl short ↦ inl (inl (inl short))
+      | inr come ↦ elim (cases_lt (command_length stream) 16) [
+        | inl low ↦ inl (inr (record { come = come; outside = inl low }))
+        | inr least ↦ elim (cases_lt 8192 (command_length stream)) [
+          | inl high ↦ inl (inr (record { come = come; outside = inr high }))
+          | inr most ↦ elim (cases_lt (length stream) (command_length stream)) [
+            | inl short ↦ inl (inl (inr (least, most, short)))
+            | inr whole ↦ inr (take (command_length stream) stream, drop (command_length stream) stream, whole_front stream least most whole, sym (take-append-drop (command_length stream) stream))
           ]
         ]
       ]

@@ -1,7 +1,7 @@
 -- The laws of frames, by recursion on the frames of a stream and on calls.
-use Rattle.std.proofs.Common.{◌≡◌, ℕ, zero, suc, ◌+◌, ◌<◌, ◌≤◌, ◌⊎◌, inl, inr, List, [], ◌∷◌, ◌++◌, length, take, drop, refl, sym, ap, ◌∙◌, subst, arith, append_assoc}
-use Rattle.std.proofs.lemmas.List.{append-nil, length-append, length-take-le, take-append-drop}
-use Rattle.pdu_frames.specs.Frames.{command_length, IsFrame, IsPart, HasWrongLength, AreFrames}
+use Rattle.std.proofs.Common.{◌≡◌, ℕ, zero, suc, ◌≤◌, ◌⊎◌, inl, inr, List, [], ◌∷◌, ◌++◌, length, refl, sym, ap, ◌∙◌, subst, arith, append_assoc}
+use Rattle.std.proofs.lemmas.List.{append-nil, length-append}
+use Rattle.pdu_frames.specs.Frames.{IsPart, HasWrongLength, AreFrames}
 use Rattle.pdu_frames.specs.Calls.{Call, Run, taken_in, given_out}
 use Rattle.pdu_frames.specs.Calls.Call.{TakesIn, GivesOut}
 use Rattle.pdu_frames.specs.Laws.{StreamHasFrames, FramesAreOne, FirstFramesAreGiven, AllFramesAreGiven}
@@ -21,11 +21,11 @@ frames_within : (most : ℕ) (stream : List ℕ) → length stream ≤ most → 
 frames_within zero stream within = ([], stream, (refl, inl (inl (omega arith))))
 frames_within (suc most) stream within =
     elim (front_cases stream) [
-      inl end ↦ ([], stream, (refl, end))
-    | inr front ↦
-        let fewer : length front.1 ≤ most = omega (arith, front.2.least, length-append front.0 front.1, ap (λ s. length s) front.3) in
-        let more = frames_within most front.1 fewer in
-        (front.0 ∷ more.0, more.1, (front.2, (front.1, front.3, more.2)))
+      | inl end ↦ ([], stream, (refl, end))
+      | inr front ↦
+          let fewer : length front.1 ≤ most = omega (arith, front.2.least, length-append front.0 front.1, ap (λ s. length s) front.3) in
+          let more = frames_within most front.1 fewer in
+          (front.0 ∷ more.0, more.1, (front.2, (front.1, front.3, more.2)))
     ]
 
 pub stream_frames : StreamHasFrames
@@ -33,11 +33,11 @@ stream_frames stream = frames_within (length stream) stream (omega arith)
 
 -- The same of calls on a Framer that holds some octets already.
 first_given : (calls : List Call) (old held more rest : List ℕ) (frames : List (List ℕ)) → Run old calls held → AreFrames (old ++ (taken_in calls ++ more)) frames rest
-  → (further : List (List ℕ)) × (frames ≡ given_out calls ++ further) × AreFrames (held ++ more) further rest
+    → (further : List (List ℕ)) × (frames ≡ given_out calls ++ further) × AreFrames (held ++ more) further rest
 first_given [] old held more rest frames run are = (frames, refl, subst (λ s. AreFrames (s ++ more) frames rest) (sym run) are)
 first_given (TakesIn octets ∷ calls) old held more rest frames run are =
     let joined : old ++ ((octets ++ taken_in calls) ++ more) ≡ run.0 ++ (taken_in calls ++ more) =
-        rw run.1 (simp append_assoc) in
+    rw run.1 (simp append_assoc) in
     first_given calls run.0 held more rest frames run.2 (subst (λ s. AreFrames s frames rest) joined are)
 first_given (GivesOut frame ∷ calls) old held more rest [] run are =
     absurd (no_frame frame (taken_in calls ++ more) rest (sym are.0 ∙ ap (λ s. s ++ (taken_in calls ++ more)) run.1.1) run.1.0 are.1)

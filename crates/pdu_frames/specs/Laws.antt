@@ -14,7 +14,7 @@ FramesAreOne = (stream : List ℕ) (frames others : List (List ℕ)) (rest left 
 -- come, and its further frames are those of what is held and what is to come.
 abbrev pub FirstFramesAreGiven : Type 0
 FirstFramesAreGiven = (calls : List Call) (held more rest : List ℕ) (frames : List (List ℕ)) → Run [] calls held → AreFrames (taken_in calls ++ more) frames rest
-  → (further : List (List ℕ)) × (frames ≡ given_out calls ++ further) × AreFrames (held ++ more) further rest
+    → (further : List (List ℕ)) × (frames ≡ given_out calls ++ further) × AreFrames (held ++ more) further rest
 
 -- Once no whole frame is held, the frames that were given out are all frames of what came.
 abbrev pub AllFramesAreGiven : Type 0

@@ -85,15 +85,15 @@ impl Framer {
         ensures waits { result ≡ Ok false → (self.new ≡ self.old) × (into.new.items ≡ into.old.items) }
         ensures kept { OnErr result ((self.new ≡ self.old) × (into.new.items ≡ into.old.items)) }
     {
-        if has_wrong_length(&self.octets) {
-            return Err(PduFault::Length);
+        match self.wanted() {
+            0 if has_wrong_length(&self.octets) => Err(PduFault::Length),
+            0 => {
+                replace(into, &self.octets)?;
+                self.octets.clear();
+                Ok(true)
+            }
+            _ => Ok(false),
         }
-        if self.wanted() > 0 {
-            return Ok(false);
-        }
-        replace(into, &self.octets)?;
-        self.octets.clear();
-        Ok(true)
     }
 
     /// How many octets are missing: up to the end of command_length, then up to the end of the frame; 0 where the frame is

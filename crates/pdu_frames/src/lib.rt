@@ -5,6 +5,4 @@ mod framer;
 mod laws;
 
 pub use framer::Framer;
-pub use laws::{
-    all_frames_are_given, first_frames_are_given, frames_are_one, stream_has_frames,
-};
+pub use laws::{all_frames_are_given, first_frames_are_given, frames_are_one, stream_has_frames};
