@@ -1,6 +1,6 @@
 -- What stands at the front of a stream: a part of a frame, a wrong length, or a frame, and one of these alone.
-use Rattle.std.proofs.Common.{◌≡◌, ℕ, ◌≤◌, ◌⊎◌, inl, inr, List, ◌++◌, length, take, drop, refl, sym, ap, ◌∙◌, subst, arith}
-use Rattle.std.proofs.lemmas.List.{append_cancel_left, length-append, length-take-le, take_at, take-append-le, take-append-drop, take-take}
+use Rattle.std.proofs.Common.{◌≡◌, ℕ, ◌+◌, ◌-◌, ◌≤◌, ◌⊎◌, inl, inr, List, ◌++◌, length, take, drop, refl, sym, ap, ◌∙◌, subst, arith, append_assoc}
+use Rattle.std.proofs.lemmas.List.{append_cancel_left, length-append, length-take-le, take_at, take-append-le, take-append-drop, take-take, take_rest, drop-take}
 use Rattle.std.proofs.lemmas.Bool.{cases_lt}
 use Rattle.std.specs.Int.{from_be_bytes, w32}
 use Rattle.pdu_frames.specs.Frames.{command_length, IsFrame, IsPart, HasWrongLength}
@@ -54,3 +54,10 @@ front_cases stream =
         ]
       ]
     ]
+
+-- What is added to what is held in two goes, off a piece and off the rest of it, is the front of the piece.
+pub added_in_two : (held piece : List ℕ) (first second : ℕ) → (held ++ take first piece) ++ take second (take (length piece - first) (drop first piece)) ≡ held ++ take (first + second) piece
+added_in_two held piece first second =
+    let joined : take first piece ++ take second (drop first piece) ≡ take (first + second) piece =
+        rw (← take-take first (first + second) piece (omega arith), ← drop-take first second piece) (take-append-drop first (take (first + second) piece)) in
+    rw (take_rest, append_assoc) (ap (λ taken. held ++ taken) joined)

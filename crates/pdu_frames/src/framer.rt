@@ -50,6 +50,7 @@ impl Framer {
     /// Takes octets from the front of the piece, and says how many: all of them, or those up to the end of the frame that
     /// it holds then, or up to the end of a wrong command_length. `Err(Length)` where such a command_length stands next: it
     /// takes nothing then, and what is held stays. It takes no memory.
+    #[tactic(auto, using(crate::proofs::Fronts::added_in_two))]
     pub fn feed(&mut self, piece: &[u8]) -> Result<usize, PduFault>
         ensures within { IfOk result (λ count. count ≤ length piece.now) }
         ensures taken { IfOk result (λ count. Leads self.old (TakesIn (take count piece.now)) self.new) }
