@@ -5,7 +5,7 @@ use Rattle.pdu_frames.specs.Frames.{IsPart, HasWrongLength, AreFrames}
 use Rattle.pdu_frames.specs.Calls.{Call, Run, taken_in, given_out}
 use Rattle.pdu_frames.specs.Calls.Call.{TakesIn, GivesOut}
 use Rattle.pdu_frames.specs.Laws.{StreamHasFrames, FramesAreOne, FirstFramesAreGiven, AllFramesAreGiven}
-use Rattle.pdu_frames.proofs.Fronts.{no_frame, one_frame, front_cases}
+use Rattle.pdu_frames.proofs.Fronts.{no_frame, one_frame, front_cases, within_limits}
 
 pub frames_one : FramesAreOne
 frames_one stream [] [] rest left a b = (refl, sym a.0 ∙ b.0)
@@ -23,7 +23,7 @@ frames_within (suc most) stream within =
     elim (front_cases stream) [
       | inl end ↦ ([], stream, (refl, end))
       | inr front ↦
-          let fewer : length front.1 ≤ most = omega (arith, front.2.least, length-append front.0 front.1, ap (λ s. length s) front.3) in
+          let fewer : length front.1 ≤ most = omega (arith, within_limits (length front.0) front.2.allowed, length-append front.0 front.1, ap (λ s. length s) front.3) in
           let more = frames_within most front.1 fewer in
           (front.0 ∷ more.0, more.1, (front.2, (front.1, front.3, more.2)))
     ]

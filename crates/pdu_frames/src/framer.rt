@@ -134,7 +134,7 @@ fn front_end(octets: &[u8]) -> usize
     ensures { result ≡ spec.front_end octets.now }
 {
     match command_length(octets) {
-        Some(count) if !is_wrong(count) => count,
+        Some(count) if is_pdu_length(count) => count,
         _ => LENGTH_FIELD,
     }
 }
@@ -144,16 +144,16 @@ fn has_wrong_length(octets: &[u8]) -> bool
     ensures { IsTrue result ↔ HasWrongLength octets.now }
 {
     match command_length(octets) {
-        Some(count) => is_wrong(count),
+        Some(count) => !is_pdu_length(count),
         None => false,
     }
 }
 
-/// Whether no PDU has so many octets.
-fn is_wrong(count: usize) -> bool
-    ensures { IsTrue result ↔ ((count < 16) ⊎ (8192 < count)) }
+/// Whether a PDU may have so many octets.
+fn is_pdu_length(count: usize) -> bool
+    ensures { result ≡ spec.is_pdu_length count }
 {
-    count < limits::HEADER || limits::PDU < count
+    (limits::HEADER..=limits::PDU).contains(&count)
 }
 
 /// The command_length with which octets begin; none if it has not come whole.
