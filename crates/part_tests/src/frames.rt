@@ -99,49 +99,75 @@ fn a_piece_has_several_frames(rt: HostRuntime) -> Result<(), Fail> {
     Ok(())
 }
 
+/// So many octets of the piece are taken, and so many are wanted then.
+fn assert_fed(rt: &impl Abort, framer: &mut Framer, piece: &[u8], taken: usize, wanted: usize) {
+    assert_eq!(rt; framer.feed(piece), Ok(taken));
+    assert_eq!(rt; framer.wanted(), wanted);
+}
+
+/// `take` answers this, and leaves these octets in the vector.
+fn assert_taken(
+    rt: &impl Abort,
+    framer: &mut Framer,
+    frame: &mut Vec<u8>,
+    answer: Result<bool, PduFault>,
+    octets: &[u8],
+) {
+    assert_eq!(rt; framer.take(frame), answer);
+    assert_field(rt, "the frame", frame, octets);
+}
+
 #[test]
 fn a_frame_is_fed_and_taken(rt: HostRuntime) -> Result<(), Fail> {
-    let mut framer = Framer::make(rt.alloc())?;
-    let mut frame = Vec::from_slice(rt.alloc(), b"what was there before")?;
-    assert_eq!(rt; framer.wanted(), 4);
-    assert_eq!(rt; framer.feed(&QUERY[..3]), Ok(3));
-    assert_eq!(rt; framer.wanted(), 1);
-    assert_eq!(rt; framer.feed(b""), Ok(0));
-    assert_eq!(rt; framer.feed(&QUERY[3..4]), Ok(1));
-    assert_eq!(rt; framer.wanted(), 29);
-    assert_eq!(rt; framer.take(&mut frame), Ok(false));
-    assert_field(&rt, "before", &frame, b"what was there before");
+    let before = b"what was there before";
+    let mut frame = Vec::from_slice(rt.alloc(), before)?;
     let mut rest = Vec::from_slice(rt.alloc(), &QUERY[4..])?;
     rest.extend_from_slice(&CANCEL)?;
-    assert_eq!(rt; framer.feed(&rest), Ok(29));
-    assert_eq!(rt; framer.wanted(), 0);
-    assert_eq!(rt; framer.feed(&CANCEL), Ok(0));
-    assert_eq!(rt; framer.take(&mut frame), Ok(true));
-    assert_field(&rt, "query_sm", &frame, &QUERY);
-    assert_eq!(rt; framer.take(&mut frame), Ok(false));
-    assert_eq!(rt; framer.feed(&CANCEL), Ok(37));
-    assert_eq!(rt; framer.take(&mut frame), Ok(true));
-    assert_field(&rt, "cancel_sm", &frame, &CANCEL);
+    let mut framer = Framer::make(rt.alloc())?;
+    assert_eq!(rt; framer.wanted(), 4);
+    assert_fed(&rt, &mut framer, &QUERY[..3], 3, 1);
+    assert_fed(&rt, &mut framer, b"", 0, 1);
+    assert_fed(&rt, &mut framer, &QUERY[3..4], 1, 29);
+    assert_taken(&rt, &mut framer, &mut frame, Ok(false), before);
+    assert_fed(&rt, &mut framer, &rest, 29, 0);
+    assert_fed(&rt, &mut framer, &CANCEL, 0, 0);
+    assert_taken(&rt, &mut framer, &mut frame, Ok(true), &QUERY);
+    assert_taken(&rt, &mut framer, &mut frame, Ok(false), &QUERY);
     Ok(())
 }
 
-/// A wrong length comes behind a frame, and is told from then on; nothing behind it is taken.
 #[test]
-fn a_wrong_length_is_kept(rt: HostRuntime) -> Result<(), Fail> {
+fn each_frame_takes_the_place_of_the_last(rt: HostRuntime) -> Result<(), Fail> {
+    let mut frame = Vec::new(rt.alloc());
+    let mut framer = Framer::make(rt.alloc())?;
+    let frames: [&[u8]; 3] = [&QUERY, &CANCEL, &QUERY];
+    for octets in frames {
+        assert_fed(&rt, &mut framer, octets, octets.len(), 0);
+        assert_taken(&rt, &mut framer, &mut frame, Ok(true), octets);
+    }
+    Ok(())
+}
+
+/// `feed` and `take` tell a wrong length, and what was taken before stays in the vector.
+fn assert_wrong(rt: &impl Abort, framer: &mut Framer, frame: &mut Vec<u8>, octets: &[u8]) {
+    assert_taken(rt, framer, frame, Err(PduFault::Length), octets);
+    assert_eq!(rt; framer.feed(octets), Err(PduFault::Length));
+    assert_eq!(rt; framer.feed(b""), Err(PduFault::Length));
+    assert_eq!(rt; framer.wanted(), 0);
+}
+
+#[test]
+fn a_wrong_length_is_told_from_then_on(rt: HostRuntime) -> Result<(), Fail> {
     let mut stream = Vec::from_slice(rt.alloc(), &QUERY)?;
     stream.extend_from_slice(b"\x00\x00\x20\x01")?;
     stream.extend_from_slice(&QUERY)?;
     let mut framer = Framer::make(rt.alloc())?;
     let mut frame = Vec::new(rt.alloc());
-    assert_eq!(rt; framer.feed(&stream), Ok(33));
-    assert_eq!(rt; framer.take(&mut frame), Ok(true));
-    assert_eq!(rt; framer.feed(&stream[33..]), Ok(4));
+    assert_fed(&rt, &mut framer, &stream, 33, 0);
+    assert_taken(&rt, &mut framer, &mut frame, Ok(true), &QUERY);
+    assert_fed(&rt, &mut framer, &stream[33..], 4, 0);
     for _ in 0..2 {
-        assert_eq!(rt; framer.wanted(), 0);
-        assert_eq!(rt; framer.take(&mut frame), Err(PduFault::Length));
-        assert_field(&rt, "query_sm", &frame, &QUERY);
-        assert_eq!(rt; framer.feed(&QUERY), Err(PduFault::Length));
-        assert_eq!(rt; framer.feed(b""), Err(PduFault::Length));
+        assert_wrong(&rt, &mut framer, &mut frame, &QUERY);
     }
     Ok(())
 }

@@ -5,7 +5,7 @@ use Rattle.std.proofs.lemmas.Bool.{cases_lt, cases_Bool, and_parts, leb-true}
 use Rattle.std.specs.Int.{from_be_bytes, w32}
 use Rattle.pdu_frames.specs.Frames.{command_length, is_pdu_length, IsFrame, IsPart, HasWrongLength}
 
--- what a PDU may count
+-- a length that a PDU may have, in numbers
 pub within_limits : (count : ℕ) → is_pdu_length count ≡ true → (16 ≤ count) × (count ≤ 8192)
 within_limits count may = let both = and_parts (nat_le 16 count) (nat_le count 8192) may in (leb-true 16 count both.0, leb-true count 8192 both.1)
 
@@ -39,7 +39,7 @@ one_frame frame other behind rest is too e =
     let same : frame ≡ other = sym (take_at frame behind (length frame) refl) ∙ (ap (λ s. take (length frame) s) e ∙ take_at other rest (length frame) lengths) in
     (same, append_cancel_left other behind rest (ap (λ f. f ++ behind) (sym same) ∙ e))
 
--- As many octets as a command_length says are a frame, where a PDU may count them and they have come.
+-- As many octets as a command_length says are a frame, if it is no wrong one and they have come.
 whole_front : (stream : List ℕ) → is_pdu_length (command_length stream) ≡ true → command_length stream ≤ length stream → IsFrame (take (command_length stream) stream)
 whole_front stream may whole =
     let count : length (take (command_length stream) stream) ≡ command_length stream = length-take-le (command_length stream) stream whole in

@@ -48,8 +48,9 @@ impl Framer {
     }
 
     /// Takes octets from the front of the piece, and says how many: all of them, or those up to the end of the frame that
-    /// it holds then, or up to the end of a wrong command_length. `Err(Length)` where such a command_length stands next: it
-    /// takes nothing then, and what is held stays. It takes no memory.
+    /// it holds then, or up to the end of a wrong command_length. So of a piece with octets it takes none only if a whole
+    /// frame is held. `Err(Length)` if a wrong command_length stands next: then it takes none, and what is held stays. It
+    /// takes no memory.
     #[tactic(auto, using(crate::proofs::Fronts::added_in_two))]
     pub fn feed(&mut self, piece: &[u8]) -> Result<usize, PduFault>
         ensures within { IfOk result (λ count. count ≤ length piece.now) }
@@ -73,7 +74,7 @@ impl Framer {
     }
 
     /// Puts the frame that is held in the place of the vector's content, if it is whole, and holds nothing then; `false` if
-    /// it is not whole yet. `Err(Length)` where a wrong command_length stands next, and `Err(Memory)` for want of memory for
+    /// it is not whole yet. `Err(Length)` if a wrong command_length stands next, and `Err(Memory)` for want of memory for
     /// the vector. Without a frame both the Framer and the vector stay as they were.
     pub fn take(&mut self, into: &mut Vec<u8>) -> Result<bool, PduFault>
         ensures frame { result ≡ Ok true → Leads self.old (GivesOut into.new.items) self.new }
@@ -97,7 +98,7 @@ impl Framer {
         }
     }
 
-    /// How many octets are missing: up to the end of command_length, then up to the end of the frame; 0 where the frame is
+    /// How many octets are missing: up to the end of command_length, then up to the end of the frame; 0 if the frame is
     /// whole, or its command_length is wrong.
     pub fn wanted(&self) -> usize
         ensures { result ≡ spec.wanted_of self.now }
