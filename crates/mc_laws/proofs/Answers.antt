@@ -3,7 +3,7 @@ use Rattle.std.proofs.Common.{◌≡◌, ℕ, pred, ◌≤◌, List, [], ◌∷�
 use Rattle.mc_model.specs.Chain.{Decree, Final, Deleted, final_in}
 use Rattle.mc_model.specs.Majority.{Majority}
 use Rattle.mc_model.specs.OneSlot.{Vote, vote_at, In}
-use Rattle.mc_model.specs.Packet.{Slot, slot_of, Name, Told}
+use Rattle.mc_model.specs.Packet.{Slot, slot_of, Name, TopVote}
 use Rattle.mc_model.specs.Actor.{Actor, Request, Submit, Query, Cancel, Waiting}
 use Rattle.mc_model.specs.Knowledge.{Knows, HasTold, IsReached, IsSettled, Covers}
 use Rattle.mc_model.specs.Replies.{Answer, Accepted, Shown, Unknown, IsUnknown, FitsRequest, id_in, name_of}
@@ -64,7 +64,7 @@ grows_since first (act ∷ later) earlier run slot vote chosen =
 
 -- ---- what a majority has told covers what was chosen before
 
-is_covered : (known : Option (List Decree)) (told : Option Told) (place : ℕ) → IsReached known told → HasReached told place → Covers known place
+is_covered : (known : Option (List Decree)) (told : Option TopVote) (place : ℕ) → IsReached known told → HasReached told place → Covers known place
 is_covered known None place reached has = absurd has
 is_covered None (Some told) place reached has = absurd reached
 is_covered (Some chain) (Some told) place reached has = omega (arith, reached, has)

@@ -1,7 +1,8 @@
 -- One run behind another, and runs of steps.
 use Rattle.std.proofs.Common.{◌≡◌, ℕ, List, [], ◌∷◌, ◌++◌, refl, sym, ap, subst}
-use Rattle.mc_model.specs.World.{World, Act, May, reached, IsRun, after}
-use Rattle.mc_model.specs.Step.{Step, by_node, acts_in, AreSteps}
+use Rattle.mc_model.specs.World.{Run, start, World, Act, May, reached, IsRun, after}
+use Rattle.mc_model.specs.Setup.{Cluster}
+use Rattle.mc_model.specs.Step.{StepRun, Step, by_node, acts_in, AreSteps}
 
 pub run_on : (w : World) (later earlier : List (ℕ × Act)) → IsRun (reached w earlier) later → IsRun w earlier → IsRun w (later ++ earlier)
 run_on w [] earlier run before = before
@@ -12,6 +13,15 @@ run_on w (act ∷ later) earlier run before = (subst (λ (v : World). May v act.
     reached_on w (act ∷ later) earlier = ap (λ (v : World). after v act.0 act.1) (reached_on w later earlier)
 
 -- a run of steps is a run of their acts
-pub steps_run : (first : World) (steps : List Step) → AreSteps first steps → IsRun first (acts_in steps)
-steps_run first [] are = tt
-steps_run first (newest ∷ older) are = run_on first (by_node newest.node newest.acts) (acts_in older) are.0.run (steps_run first older are.1)
+pub steps_run : (cluster : Cluster) (first : World) (steps : List Step) → AreSteps cluster first steps → IsRun first (acts_in steps)
+steps_run cluster first [] are = tt
+steps_run cluster first (newest ∷ older) are = run_on first (by_node newest.node newest.acts) (acts_in older) are.0.run (steps_run cluster first older are.1)
+
+-- every list of steps is a run
+abbrev pub run_by : StepRun → Run
+run_by run = record {
+  nodes = run.cluster.nodes;
+  serials = run.cluster.serials;
+  acts = acts_in run.steps;
+  may = steps_run run.cluster (start run.cluster.nodes run.cluster.serials) run.steps run.are;
+}

@@ -40,13 +40,13 @@ pub record Deletions (w : World) : Type 0 where
 came_by : (w : World) (node : ℕ) (act : Act) → May w node act → AllCame w.past node (w.actors node) → AllCame (after w node act).past node (actor_by node (w.actors node) act)
 came_by w node (Begins ticket request) may came waiting is_in = elim (in_either waiting (w.actors node).waiting _ is_in) [
   | inl old ↦ inr (came waiting old)
-  | inr new ↦ of_only (λ (x : Waiting). In (deed_by (lived_by node (w.actors node)) (Begins x.ticket x.request)) (after w node (Begins ticket request)).past) _ waiting (inl (ap (λ (t : ℕ). deed_by (lived_by node (w.actors node)) (Begins t request)) (sym may.needs.0))) new
+  | inr new ↦ of_only (λ (x : Waiting). In (deed_by (lived_by node (w.actors node)) (Begins x.ticket x.request)) (after w node (Begins ticket request)).past) _ waiting (inl (ap (λ (t : ℕ). deed_by (lived_by node (w.actors node)) (Begins t request)) (sym may.needs.next))) new
 ]
 came_by w node (Settles ticket) may came waiting is_in =
     let m = in_map (settle ticket) (w.actors node).waiting waiting is_in in
     subst (λ (x : Waiting). In (deed_by (lived_by node (w.actors node)) (Begins x.ticket x.request)) (after w node (Settles ticket)).past) (sym m.made) (inr (came m.from m.member))
 came_by w node (Replies ticket id answer) may came waiting is_in = inr (came waiting (in_filter _ (w.actors node).waiting waiting is_in))
-came_by w node (Restarts serial) may came waiting is_in = absurd is_in
+came_by w node (Restarts lost serial) may came waiting is_in = absurd is_in
 came_by w node act may came waiting is_in = inr (came waiting is_in)
 
 came_after : (w : World) → Deletions w → (node : ℕ) (act : Act) → May w node act → (other : ℕ) → AllCame (after w node act).past other ((after w node act).actors other)

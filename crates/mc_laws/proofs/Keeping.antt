@@ -2,11 +2,11 @@
 use Rattle.std.proofs.Common.{◌≡◌, ◌⊎◌, ℕ, ◌<◌, ◌≤◌, Bool, true, false, List, [], ◌∷◌, Option, Some, None, refl, sym, ◌∙◌, ap, subst, inl, inr, arith}
 use Rattle.std.specs.Prelude.{◌==◌, if◌then◌else◌}
 use Rattle.std.proofs.lemmas.Bool.{eq-eqb, and_from}
-use Rattle.mc_model.specs.Ballot.{proposer_of, incarnation_in}
 use Rattle.mc_model.specs.Chain.{Decree}
-use Rattle.mc_model.specs.OneSlot.{Vote, vote_at, In, Tells as Reaches, IsOfHighest, IsJustified, IsSound}
-use Rattle.mc_model.specs.Packet.{Slot, Packet, Prepare, Promise, Propose, Voted, Refused, Ask, Tell}
-use Rattle.mc_model.specs.Acceptor.{Record, Records, with_record, after_promise, after_vote}
+use Rattle.mc_model.specs.Ballot.{proposer_of, incarnation_in}
+use Rattle.mc_model.specs.OneSlot.{Vote, vote_at, In, IsOfHighest, IsJustified, IsSound, Reaches}
+use Rattle.mc_model.specs.Packet.{Slot, slot_at, TopVote, Packet, Prepare, Promise, Propose, Voted, Refused, Ask, Tell}
+use Rattle.mc_model.specs.Acceptor.{Record, Records, IsTop, with_record, after_promise, after_vote}
 use Rattle.mc_model.specs.Actor.{Actor}
 use Rattle.mc_model.specs.World.{World, Act, Receives, Promises, Votes, Refuses, Tells, Prepares, Proposes, Asks, Restarts, Cast, cast, May, after, records_by, actor_by, votes_by, sent_by, if_sent, start}
 use Rattle.mc_laws.proofs.Membership.{in_either}
@@ -31,7 +31,8 @@ Fits w (Propose sender slot vote) = ProposeFits w sender slot vote
 Fits w (Voted sender slot vote) = In (cast sender slot vote) w.votes
 Fits w (Refused sender slot ballot promised) = Unit {0}
 Fits w (Ask sender id name) = Unit {0}
-Fits w (Tell sender name told) = Unit {0}
+Fits w (Tell sender name None) = Unit {0}
+Fits w (Tell sender name (Some told)) = In (cast sender (slot_at told.id told.place) told.vote) w.votes
 
 -- ---- what holds of a world
 
@@ -95,7 +96,8 @@ fits_still w v grown (Propose sender slot vote) fits = record {
 fits_still w v grown (Voted sender slot vote) fits = grown.votes (cast sender slot vote) fits
 fits_still w v grown (Refused sender slot ballot promised) fits = tt
 fits_still w v grown (Ask sender id name) fits = tt
-fits_still w v grown (Tell sender name told) fits = tt
+fits_still w v grown (Tell sender name None) fits = tt
+fits_still w v grown (Tell sender name (Some told)) fits = grown.votes (cast sender (slot_at told.id told.place) told.vote) fits
 
 -- ---- the record that a node has after its own act
 
@@ -114,7 +116,7 @@ IsSent w node (Promises slot ballot sent) packet = packet ≡ Promise node slot 
 IsSent w node (Votes slot vote sent) packet = packet ≡ Voted node slot vote
 IsSent w node (Refuses slot ballot) packet = packet ≡ Refused node slot ballot (w.records node slot).promised
 IsSent w node (Tells id name told) packet = packet ≡ Tell node name told
-IsSent w node (Prepares slot ballot) packet = packet ≡ Prepare node slot ballot
+IsSent w node (Prepares slot ballot chain) packet = packet ≡ Prepare node slot ballot
 IsSent w node (Proposes slot vote) packet = packet ≡ Propose node slot vote
 IsSent w node (Asks id ticket) packet = packet ≡ Ask node id (record { node = node; incarnation = (w.actors node).incarnation; ticket = ticket })
 IsSent w node act packet = ⊥
@@ -132,7 +134,7 @@ sent_is w node (Promises slot ballot sent) packet is_in = only_if sent packet _ 
 sent_is w node (Votes slot vote sent) packet is_in = only_if sent packet _ is_in
 sent_is w node (Refuses slot ballot) packet is_in = only packet _ is_in
 sent_is w node (Tells id name told) packet is_in = only packet _ is_in
-sent_is w node (Prepares slot ballot) packet is_in = only packet _ is_in
+sent_is w node (Prepares slot ballot chain) packet is_in = only packet _ is_in
 sent_is w node (Proposes slot vote) packet is_in = only packet _ is_in
 sent_is w node (Asks id ticket) packet is_in = only packet _ is_in
 sent_is w node act packet is_in = absurd is_in
@@ -157,16 +159,23 @@ propose_fits w node slot vote may = record {
   justified = justified_more w.nodes (λ acceptor report. In (Promise acceptor slot vote.ballot report) w.packets) (λ acceptor report. In (Promise acceptor slot vote.ballot report) (after w node (Proposes slot vote)).packets) vote.chain (λ acceptor report is_in. inr is_in) may.needs.justified;
 }
 
+-- what an acceptor tells of it voted for
+told_cast : (w : World) → Keeps w → (node id : ℕ) (told : TopVote) → IsTop (w.records node) id told → In (cast node (slot_at told.id told.place) told.vote) w.votes
+told_cast w keeps node id told top =
+    subst (λ (i : ℕ). In (cast node (slot_at i told.place) told.vote) w.votes) (sym top.about) (keeps.held node (slot_at id told.place) told.vote top.voted).voted
+
 fits_new : (w : World) → Keeps w → (node : ℕ) (act : Act) → May w node act → (packet : Packet) → IsSent w node act packet → Fits (after w node act) packet
 fits_new w keeps node (Promises slot ballot sent) may packet is =
-    subst (λ (p : Packet). Fits (after w node (Promises slot ballot sent)) p) (sym is) (promise_fits w keeps node slot ballot sent may.needs)
+    subst (λ (p : Packet). Fits (after w node (Promises slot ballot sent)) p) (sym is) (promise_fits w keeps node slot ballot sent may.needs.may)
 fits_new w keeps node (Votes slot vote sent) may packet is =
     subst (λ (p : Packet). Fits (after w node (Votes slot vote sent)) p) (sym is) (inl refl)
 fits_new w keeps node (Proposes slot vote) may packet is =
     subst (λ (p : Packet). Fits (after w node (Proposes slot vote)) p) (sym is) (propose_fits w node slot vote may)
 fits_new w keeps node (Refuses slot ballot) may packet is = subst (λ (p : Packet). Fits (after w node (Refuses slot ballot)) p) (sym is) tt
-fits_new w keeps node (Tells id name told) may packet is = subst (λ (p : Packet). Fits (after w node (Tells id name told)) p) (sym is) tt
-fits_new w keeps node (Prepares slot ballot) may packet is = subst (λ (p : Packet). Fits (after w node (Prepares slot ballot)) p) (sym is) tt
+fits_new w keeps node (Tells id name None) may packet is = subst (λ (p : Packet). Fits (after w node (Tells id name None)) p) (sym is) tt
+fits_new w keeps node (Tells id name (Some told)) may packet is =
+    subst (λ (p : Packet). Fits (after w node (Tells id name (Some told))) p) (sym is) (told_cast w keeps node id told may.needs.told_is)
+fits_new w keeps node (Prepares slot ballot chain) may packet is = subst (λ (p : Packet). Fits (after w node (Prepares slot ballot chain)) p) (sym is) tt
 fits_new w keeps node (Asks id ticket) may packet is = subst (λ (p : Packet). Fits (after w node (Asks id ticket)) p) (sym is) tt
 fits_new w keeps node act may packet is = absurd is
 
@@ -229,7 +238,7 @@ held_new : (w : World) → Keeps w → (node : ℕ) (act : Act) → May w node a
 held_new w keeps node (Promises slot ballot sent) may other new is vote holds =
     let before : (w.records node other).vote ≡ Some vote = ap (λ (s : Slot). (w.records node s).vote) is.0 ∙ sym (ap (λ (r : Record). r.vote) is.1) ∙ holds in
     let h = keeps.held node other vote before in
-    let below : (w.records node slot).promised < ballot = may.needs in
+    let below : (w.records node slot).promised < ballot = may.needs.may in
     let same : (w.records node other).promised ≡ (w.records node slot).promised = ap (λ (s : Slot). (w.records node s).promised) is.0 in
     let promised : new.promised ≡ ballot = ap (λ (r : Record). r.promised) is.1 in
     (h.voted, omega (arith, h.within, below, same, promised))
@@ -276,7 +285,7 @@ proposing w node (Promises other ballot sent) sender slot vote is = cc
 proposing w node (Votes other voted sent) sender slot vote is = cc
 proposing w node (Refuses other ballot) sender slot vote is = cc
 proposing w node (Tells id name told) sender slot vote is = cc
-proposing w node (Prepares other ballot) sender slot vote is = cc
+proposing w node (Prepares other ballot chain) sender slot vote is = cc
 proposing w node (Asks id ticket) sender slot vote is = cc
 proposing w node act sender slot vote is = absurd is
 
@@ -353,7 +362,7 @@ single_after w keeps node act may slot m n one other in_one in_other same =
 heard : (w : World) → Keeps w → (node : ℕ) (act : Act) → May w node act → (packet : Packet) → In packet (actor_by node (w.actors node) act).received → In packet w.packets
 heard w keeps node (Receives new) may packet (inl same) = subst (λ (p : Packet). In p w.packets) (sym same) may.needs
 heard w keeps node (Receives new) may packet (inr old) = keeps.received node packet old
-heard w keeps node (Restarts serial) may packet is_in = absurd is_in
+heard w keeps node (Restarts lost serial) may packet is_in = absurd is_in
 heard w keeps node act may packet is_in = keeps.received node packet is_in
 
 received_after : (w : World) → Keeps w → (node : ℕ) (act : Act) → May w node act → (other : ℕ) (packet : Packet) → In packet ((after w node act).actors other).received → In packet (after w node act).packets

@@ -7,7 +7,7 @@ use Rattle.mc_model.specs.OneSlot.{Vote, vote_at, In, IsOfHighest}
 use Rattle.mc_model.specs.Packet.{Slot, slot_of, Promise}
 use Rattle.mc_model.specs.Actor.{Actor, Request, Submit, Waiting, Outcome, Unanswered, decree_of}
 use Rattle.mc_model.specs.Proposal.{IsFirst, IsNext, IsOwn, IsFree, IsClosed, IsLost, Allows}
-use Rattle.mc_model.specs.World.{World, Act, Proposes, Begins, Settles, Replies, Answers, Abandons, Restarts, Deed, cast, May, IsChosenIn, StandsIn, MayWait, after, actor_by, settle, start}
+use Rattle.mc_model.specs.World.{World, Act, Proposes, Begins, Settles, Replies, Concludes, Abandons, Restarts, Deed, cast, May, IsChosenIn, StandsIn, IsFitToWait, IsNumbered, after, actor_by, settle, start}
 use Rattle.mc_model.specs.Fate.{deed_by}
 use Rattle.mc_laws.proofs.Membership.{in_either, of_only, in_map, in_filter}
 use Rattle.mc_laws.proofs.Majorities.{both}
@@ -19,7 +19,7 @@ use Rattle.mc_laws.proofs.Keeping.{Keeps, WasProposed, PromiseFits, proposal_cas
 -- an attempt was closed by its author, with this outcome
 abbrev pub ClosedIn : List Deed → Author → Slot → Outcome → Type 0
 ClosedIn past author slot outcome =
-    In (deed_by author (Answers slot outcome)) past ⊎ ((outcome ≡ Unanswered 998) × In (deed_by author (Abandons slot)) past)
+    In (deed_by author (Concludes slot outcome)) past ⊎ ((outcome ≡ Unanswered 998) × In (deed_by author (Abandons slot)) past)
 
 pub record PassedClosed (w : World) (attempted : Author) (slot : Slot) (next : Kind) : Type 0 where
   pub outcome : Outcome
@@ -183,11 +183,11 @@ closed_more w node act author slot outcome (inr abandoned) = inr (abandoned.0, i
 
 -- what an act leaves that an actor has closed
 closed_by : (w : World) → Links w → (node : ℕ) (act : Act) (slot : Slot) (outcome : Outcome) → In (slot, outcome) (actor_by node (w.actors node) act).closed → ClosedIn (after w node act).past (record { node = node; incarnation = (actor_by node (w.actors node) act).incarnation }) slot outcome
-closed_by w links node (Answers other came) slot outcome (inl new) = inl (inl (λ i. record { node = node; incarnation = (w.actors node).incarnation; act = Answers (new i).0 (new i).1 }))
-closed_by w links node (Answers other came) slot outcome (inr old) = closed_more w node (Answers other came) _ slot outcome (links.closed node slot outcome old)
+closed_by w links node (Concludes other came) slot outcome (inl new) = inl (inl (λ i. record { node = node; incarnation = (w.actors node).incarnation; act = Concludes (new i).0 (new i).1 }))
+closed_by w links node (Concludes other came) slot outcome (inr old) = closed_more w node (Concludes other came) _ slot outcome (links.closed node slot outcome old)
 closed_by w links node (Abandons other) slot outcome (inl new) = inr (ap (λ (x : Slot × Outcome). x.1) new, inl (λ i. record { node = node; incarnation = (w.actors node).incarnation; act = Abandons (new i).0 }))
 closed_by w links node (Abandons other) slot outcome (inr old) = closed_more w node (Abandons other) _ slot outcome (links.closed node slot outcome old)
-closed_by w links node (Restarts serial) slot outcome is_in = absurd is_in
+closed_by w links node (Restarts lost serial) slot outcome is_in = absurd is_in
 closed_by w links node act slot outcome is_in = closed_more w node act _ slot outcome (links.closed node slot outcome is_in)
 
 closed_after : (w : World) → Links w → (node : ℕ) (act : Act) (other : ℕ) (slot : Slot) (outcome : Outcome) → In (slot, outcome) ((after w node act).actors other).closed → ClosedIn (after w node act).past (record { node = other; incarnation = ((after w node act).actors other).incarnation }) slot outcome
@@ -211,19 +211,19 @@ lived_after w links node act may deed (inr old) =
 
 -- ---- the messages that wait to be taken
 
-begun_takes : (node : ℕ) (a : Actor) (ticket : ℕ) (request : Request) → MayWait node a request → MayTake node a → MayTake node (actor_by node a (Begins ticket request))
+begun_takes : (node : ℕ) (a : Actor) (ticket : ℕ) (request : Request) → IsFitToWait node a request → MayTake node a → MayTake node (actor_by node a (Begins ticket request))
 begun_takes node a ticket request may takes waiting id message is_in submits = elim (in_either waiting a.waiting _ is_in) [
   | inl old ↦ takes waiting id message old submits
-  | inr new ↦ of_only (λ (x : Waiting). x.request ≡ Submit id message → IsTaken id (record { node = node; incarnation = a.incarnation }) x.since message) _ waiting (λ is. let m : MayWait node a (Submit id message) = subst (MayWait node a) is may in m.2) new submits
+  | inr new ↦ of_only (λ (x : Waiting). x.request ≡ Submit id message → IsTaken id (record { node = node; incarnation = a.incarnation }) x.since message) _ waiting (λ is. let m : IsNumbered node a id message = subst (IsFitToWait node a) is may in m.takes) new submits
 ]
 
 takes_by : (w : World) (node : ℕ) (act : Act) → May w node act → MayTake node (w.actors node) → MayTake node (actor_by node (w.actors node) act)
-takes_by w node (Begins ticket request) may takes waiting id message is_in submits = begun_takes node (w.actors node) ticket request may.needs.1 takes waiting id message is_in submits
+takes_by w node (Begins ticket request) may takes waiting id message is_in submits = begun_takes node (w.actors node) ticket request may.needs.fit takes waiting id message is_in submits
 takes_by w node (Settles ticket) may takes waiting id message is_in submits =
     let m = in_map (settle ticket) (w.actors node).waiting waiting is_in in
     subst (λ (x : Waiting). IsTaken id (record { node = node; incarnation = (w.actors node).incarnation }) x.since message) (sym m.made) (takes m.from id message m.member (ap (λ (x : Waiting). x.request) (sym m.made) ∙ submits))
 takes_by w node (Replies ticket other answer) may takes waiting id message is_in submits = takes waiting id message (in_filter _ (w.actors node).waiting waiting is_in) submits
-takes_by w node (Restarts serial) may takes waiting id message is_in submits = absurd is_in
+takes_by w node (Restarts lost serial) may takes waiting id message is_in submits = absurd is_in
 takes_by w node act may takes waiting id message is_in submits = takes waiting id message is_in submits
 
 takes_after : (w : World) → Links w → (node : ℕ) (act : Act) → May w node act → (other : ℕ) → MayTake other ((after w node act).actors other)
@@ -234,7 +234,7 @@ takes_after w links node act may other = elim (actors_after w node act other) [
 
 -- ---- what an actor closed in this incarnation it remembers
 
-closed_new : (w : World) (node : ℕ) (act : Act) (slot : Slot) (outcome : Outcome) → act ≡ Answers slot outcome → In (slot, outcome) (actor_by node (w.actors node) act).closed
+closed_new : (w : World) (node : ℕ) (act : Act) (slot : Slot) (outcome : Outcome) → act ≡ Concludes slot outcome → In (slot, outcome) (actor_by node (w.actors node) act).closed
 closed_new w node act slot outcome is = subst (λ (x : Act). In (slot, outcome) (actor_by node (w.actors node) x).closed) (sym is) (inl refl)
 
 abandoned_new : (w : World) (node : ℕ) (act : Act) (slot : Slot) → act ≡ Abandons slot → In (slot, Unanswered 998) (actor_by node (w.actors node) act).closed

@@ -4,9 +4,9 @@ use Rattle.std.proofs.lemmas.Bool.{cases_lt}
 use Rattle.mc_model.specs.Chain.{Decree, Attempt, Final, Delivered, IsPermitted, GoesOn, final_in}
 use Rattle.mc_model.specs.OneSlot.{Vote, In}
 use Rattle.mc_model.specs.Packet.{Slot, Propose, slot_of}
-use Rattle.mc_model.specs.World.{World, Act, Deed, cast, May, IsChosenIn, after, start, reached, IsRun}
 use Rattle.mc_model.specs.Actor.{Outcome}
-use Rattle.mc_model.specs.Fate.{States, IsGrant, IsDelivery}
+use Rattle.mc_model.specs.World.{World, Act, Deed, cast, May, IsChosenIn, after, start, reached, IsRun}
+use Rattle.mc_model.specs.Fate.{CameBefore, States, IsGrant, IsDelivery}
 use Rattle.mc_laws.proofs.Fates.{fate_is_last}
 use Rattle.mc_laws.proofs.Membership.{in_right}
 use Rattle.mc_laws.proofs.Keeping.{Keeps, sound, keeps_start, keeps_after}
@@ -76,20 +76,9 @@ timely_at (first ∷ past) (x ∷ newer) deed older timely is =
     let tails : past ≡ newer ++ deed ∷ older = cc in
     timely_at past newer deed older timely.1 tails
 
--- what came after one deed has it among what came before
-no_grant : (past newer : List Deed) (stating granting : Deed) (older : List Deed) (id : ℕ) (final : Final) → AllTimely past → past ≡ newer ++ stating ∷ older → In granting newer → States stating id final → IsGrant granting id → ⊥
-no_grant past [] stating granting older id final timely is later states grant = later
-no_grant [] (x ∷ newer) stating granting older id final timely is later states grant = cc
-no_grant (first ∷ past) (x ∷ newer) stating granting older id final timely is (inl here) states grant =
-    let heads : first ≡ x = cc in
-    let tails : past ≡ newer ++ stating ∷ older = cc in
-    timely.0.grants grant.slot stating final (ap (λ (d : Deed). d.act) (heads ∙ sym here) ∙ grant.grants) (subst (λ (ds : List Deed). In stating ds) (sym tails) (in_right stating newer (stating ∷ older) (inl refl))) (subst (λ (i : ℕ). States stating i final) (sym grant.about) states)
-no_grant (first ∷ past) (x ∷ newer) stating granting older id final timely is (inr later) states grant =
-    let tails : past ≡ newer ++ stating ∷ older = cc in
-    no_grant past newer stating granting older id final timely.1 tails later states grant
-
-pub no_grant_after : (w : World) → Holds w → (newer : List Deed) (stating granting : Deed) (older : List Deed) (id : ℕ) (final : Final) → w.past ≡ newer ++ stating ∷ older → In granting newer → States stating id final → IsGrant granting id → ⊥
-no_grant_after w h newer stating granting older id final = no_grant w.past newer stating granting older id final h.told.timely
+pub no_grant_after : (w : World) → Holds w → (stating granting : Deed) (id : ℕ) (final : Final) → CameBefore stating granting w.past → States stating id final → IsGrant granting id → ⊥
+no_grant_after w h stating granting id final came states grant =
+    (timely_at w.past came.newer granting came.older h.told.timely came.split).grants grant.slot stating final grant.grants came.before (subst (λ (i : ℕ). States stating i final) (sym grant.about) states)
 
 pub stands_on_delivery : (w : World) → Holds w → (newer : List Deed) (stating : Deed) (older : List Deed) (id : ℕ) → w.past ≡ newer ++ stating ∷ older → (states : States stating id Delivered) → IsDelivery id states.chain older
 stands_on_delivery w h newer stating older id is states =

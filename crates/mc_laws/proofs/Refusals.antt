@@ -4,7 +4,7 @@ use Rattle.mc_model.specs.Chain.{Author, Decree}
 use Rattle.mc_model.specs.OneSlot.{In}
 use Rattle.mc_model.specs.Packet.{Slot, slot_of}
 use Rattle.mc_model.specs.World.{World, MayGrant}
-use Rattle.mc_model.specs.Grant.{EndsInAttempt, Refusal, NotChosen, NotMine, OlderIncarnation, AlreadyGranted, Closed, IsRefusedFor}
+use Rattle.mc_model.specs.Grant.{EndsInAttempt, GrantRefusal, NotChosen, NotMine, OlderIncarnation, AlreadyGranted, Closed, IsRefusedFor}
 use Rattle.mc_laws.proofs.Agreement.{known_once}
 use Rattle.mc_laws.proofs.Reached.{Holds}
 
@@ -21,11 +21,11 @@ same_author w h node slot may newest older ends =
 same_slot : (w : World) → Holds w → (node : ℕ) (slot : Slot) → MayGrant w.nodes node (w.actors node) slot → (newest : Decree) (older : List Decree) → EndsInAttempt w.nodes (w.actors node) slot.id newest older → slot_of slot.id (newest ∷ older) ≡ slot
 same_slot w h node slot may newest older ends = ap (slot_of slot.id) (same_chain w h node slot may newest older ends) ∙ sym may.attempting.place
 
-pub not_refused : (w : World) → Holds w → (node : ℕ) (slot : Slot) → MayGrant w.nodes node (w.actors node) slot → (refusal : Refusal) → IsRefusedFor w.nodes node (w.actors node) slot.id refusal → ⊥
+pub not_refused : (w : World) → Holds w → (node : ℕ) (slot : Slot) → MayGrant w.nodes node (w.actors node) slot → (refusal : GrantRefusal) → IsRefusedFor w.nodes node (w.actors node) slot.id refusal → ⊥
 not_refused w h node slot may NotChosen refused = refused may.attempting.newest may.attempting.older (record { number = may.attempting.number; known = may.attempting.known; attempt = may.attempting.attempt })
 not_refused w h node slot may NotMine refused = refused.other (ap (λ (a : Author). a.node) (same_author w h node slot may refused.newest refused.older refused.ends))
 not_refused w h node slot may OlderIncarnation refused =
     let same = ap (λ (a : Author). a.incarnation) (same_author w h node slot may refused.newest refused.older refused.ends) in
-    let before = refused.before in omega (arith, same, before)
+    absurd (refused.other same)
 not_refused w h node slot may AlreadyGranted refused = may.granted (subst (λ (s : Slot). In s (w.actors node).granted) (same_slot w h node slot may refused.newest refused.older refused.own.ends) refused.granted)
 not_refused w h node slot may Closed refused = may.closed refused.outcome (subst (λ (s : Slot). In (s, refused.outcome) (w.actors node).closed) (same_slot w h node slot may refused.newest refused.older refused.own.ends) refused.closed)

@@ -31,11 +31,11 @@ promised_run message tried = (
   (
     record { least = omega arith; most = omega arith; up = refl; needs = inr (inl refl) },
     (
-      record { least = omega arith; most = omega arith; up = refl; needs = omega arith },
+      record { least = omega arith; most = omega arith; up = refl; needs = record { sender = 1; prepared = inl refl; may = omega arith } },
       (
         record { least = omega arith; most = omega arith; up = refl; needs = inr (inl refl) },
         (
-          record { least = omega arith; most = omega arith; up = refl; needs = omega arith },
+          record { least = omega arith; most = omega arith; up = refl; needs = record { sender = 1; prepared = inl refl; may = omega arith } },
           (
             record { least = omega arith; most = omega arith; up = refl; needs = inl refl },
             (
@@ -45,7 +45,7 @@ promised_run message tried = (
                   least = omega arith;
                   most = omega arith;
                   up = refl;
-                  needs = (refl, (omega arith, refl, record { node = refl; incarnation = refl; expiry = tried.valid; schedule = let s = tried.scheduled in let v = tried.valid in omega (arith, s, v) }));
+                  needs = record { next = refl; room = refl; fit = record { serial = record { least = omega arith; most = omega arith }; id_is = refl; takes = record { node = refl; incarnation = refl; expiry = tried.valid; schedule = let s = tried.scheduled in let v = tried.valid in omega (arith, s, v) } } };
                 },
                 tt,
               ),

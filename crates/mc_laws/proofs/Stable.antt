@@ -1,25 +1,25 @@
 -- Once a chain is chosen at a ballot, what is proposed from that ballot on carries it.
 use Rattle.std.proofs.Common.{◌≡◌, ◌⊎◌, ℕ, zero, suc, ◌<◌, ◌≤◌, Option, Some, None, subst, ◌∙◌, arith, inl, inr}
 use Rattle.std.proofs.lemmas.Bool.{cases_lt}
-use Rattle.mc_model.specs.OneSlot.{Vote, vote_at, IsChosen, Tells, IsWithin, IsOfHighest, ReportsWithin, IsSound}
+use Rattle.mc_model.specs.OneSlot.{Vote, vote_at, IsChosen, Reaches, IsWithin, IsOfHighest, ReportsWithin, IsSound}
 use Rattle.mc_laws.proofs.Majorities.{Both, both}
 
 at_or_after : (a b : ℕ) → a ≤ b → (b ≡ a) ⊎ (a < b)
 at_or_after a b le = elim (cases_lt a b) [ inl lt ↦ inr lt | inr ge ↦ inl (omega arith) ]
 
 -- a report of a vote from a ballot on makes the highest report one from that ballot on
-above : (ballot : ℕ) (highest report : Option Vote) → Tells report ballot → IsWithin highest report → Tells highest ballot
+above : (ballot : ℕ) (highest report : Option Vote) → Reaches report ballot → IsWithin highest report → Reaches highest ballot
 above ballot highest None tells within = absurd tells
 above ballot None (Some vote) tells within = absurd within
 above ballot (Some top) (Some vote) tells within = omega arith
 
 -- the node that both majorities share makes the highest report one of a vote from the chosen ballot on
-met : (nodes : ℕ) (Voted : ℕ → Vote → Type 0) (Promised : ℕ → ℕ → Option Vote → Type 0) (Proposed : Vote → Type 0) → IsSound nodes Voted Promised Proposed → (chosen vote : Vote) → chosen.ballot < vote.ballot → (highest : Option Vote) → Both nodes (λ acceptor. Voted acceptor chosen) (ReportsWithin (λ acceptor report. Promised acceptor vote.ballot report) highest) → Tells highest chosen.ballot
+met : (nodes : ℕ) (Voted : ℕ → Vote → Type 0) (Promised : ℕ → ℕ → Option Vote → Type 0) (Proposed : Vote → Type 0) → IsSound nodes Voted Promised Proposed → (chosen vote : Vote) → chosen.ballot < vote.ballot → (highest : Option Vote) → Both nodes (λ acceptor. Voted acceptor chosen) (ReportsWithin (λ acceptor report. Promised acceptor vote.ballot report) highest) → Reaches highest chosen.ballot
 met nodes Voted Promised Proposed sound chosen vote below highest shared =
     above chosen.ballot highest shared.other.report (sound.kept shared.node vote.ballot shared.other.report chosen shared.other.made shared.one below) shared.other.within
 
 -- the highest vote that was reported is one from the chosen ballot on, and below the proposal's
-carried : (nodes : ℕ) (Voted : ℕ → Vote → Type 0) (Promised : ℕ → ℕ → Option Vote → Type 0) (Proposed : Vote → Type 0) → IsSound nodes Voted Promised Proposed → (chosen vote : Vote) → (highest : Option Vote) → Tells highest chosen.ballot → IsOfHighest (λ acceptor report. Promised acceptor vote.ballot report) vote.chain highest → ((top : Vote) → top.ballot < vote.ballot → Proposed top → chosen.ballot ≤ top.ballot → top.chain ≡ chosen.chain) → vote.chain ≡ chosen.chain
+carried : (nodes : ℕ) (Voted : ℕ → Vote → Type 0) (Promised : ℕ → ℕ → Option Vote → Type 0) (Proposed : Vote → Type 0) → IsSound nodes Voted Promised Proposed → (chosen vote : Vote) → (highest : Option Vote) → Reaches highest chosen.ballot → IsOfHighest (λ acceptor report. Promised acceptor vote.ballot report) vote.chain highest → ((top : Vote) → top.ballot < vote.ballot → Proposed top → chosen.ballot ≤ top.ballot → top.chain ≡ chosen.chain) → vote.chain ≡ chosen.chain
 carried nodes Voted Promised Proposed sound chosen vote None tells is_of before = absurd tells
 carried nodes Voted Promised Proposed sound chosen vote (Some top) tells is_of before =
     let made = sound.honest is_of.1.0 vote.ballot top is_of.1.1 in

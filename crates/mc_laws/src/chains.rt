@@ -1,7 +1,7 @@
 //! Chains.
 
 ghost use Rattle.std.specs.Prelude.{◌≡◌, ◌≤◌, ◌∷◌, ◌++◌, [], ℕ, List, Option, Some, length};
-ghost use Rattle.mc_model.specs.Chain.{Decree, Submission, Final, IsPermitted, MayExtend, final_in, final_by, taken_in};
+ghost use Rattle.mc_model.specs.Chain.{Decree, Submission, Final, IsPermitted, MayExtend, final_in, final_by};
 
 /// Nothing follows a fate. So of two chains of a message of which one begins with the other, and which both end in a
 /// fate, both are the same.

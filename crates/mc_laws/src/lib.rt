@@ -1,22 +1,24 @@
 //! The laws over ballots, majorities, chains and whole runs. The functions do nothing: their contracts are the laws.
 #![tactic(auto)]
 
-mod assembly;
+mod replies;
 mod chains;
 mod promises;
 mod runs;
+mod steps;
 mod stories;
 mod synod;
 
-pub use assembly::nodes_make_a_run;
-pub use chains::{a_fate_is_the_end, chains_are_short, newest_decree_says_the_state};
-pub use promises::{answers_are_fresh, headline, replies_are_decided, steps_are_runs};
-pub use runs::{
-    a_grant_is_not_refused, a_query_is_fresh, a_settling_majority_has_seen_every_choice,
-    an_accepted_message_is_known, an_open_attempt_is_not_passed, chosen_chains_agree,
-    deleted_stands_on_a_cancel, delivered_stands_on_a_delivery, no_grant_after_a_fate, one_fate,
-    what_is_chosen_stays,
+pub use replies::{
+    a_settling_majority_has_seen_every_choice, answers_are_fresh, answers_are_fresh_over_steps,
 };
+pub use chains::{a_fate_is_the_end, chains_are_short, newest_decree_says_the_state};
+pub use promises::{headline, headline_over_steps, what_is_stated_is_chosen};
+pub use runs::{
+    a_grant_is_not_refused, an_open_attempt_is_not_passed, chosen_chains_agree,
+    deleted_stands_on_a_cancel, what_is_chosen_stays,
+};
+pub use steps::{nodes_make_a_run, replies_are_decided, steps_are_runs};
 pub use stories::{
     a_message_is_cancelled, a_message_is_delivered, a_node_stops_after_a_save, a_query_is_answered,
     a_submit_starts_a_round,

@@ -2,13 +2,14 @@
 
 ghost use Rattle.mc_model.specs.Chain.{Submission, Deleted, Delivered};
 ghost use Rattle.mc_model.specs.OneSlot.{In};
-ghost use Rattle.mc_model.specs.World.{IsChosenIn, IsRun, reached};
-ghost use Rattle.mc_model.specs.Fate.{States};
 ghost use Rattle.mc_model.specs.Acceptor.{blank};
 ghost use Rattle.mc_model.specs.Actor.{Submit, opened};
 ghost use Rattle.mc_model.specs.Knowledge.{KnowsNothing};
-ghost use Rattle.mc_model.specs.Step.{Arrival, IsExact};
-ghost use Rattle.mc_model.specs.Stories.{MayBeTried, accepting_deed, cancel_story, delivery_story, first_id, first_step, last_deed, one_node, query_story, removing_deed, restart_story, showing_deed, taken_slot, taken_vote, three_nodes, until_anew};
+ghost use Rattle.mc_model.specs.World.{IsChosenIn, IsRun, reached};
+ghost use Rattle.mc_model.specs.Fate.{States};
+ghost use Rattle.mc_model.specs.Stories.{MayBeTried, accepting_deed, cancel_story, delivery_story, first_id, first_setup, first_step, last_deed, one_node, query_story, removing_deed, restart_story, showing_deed, taken_slot, taken_vote, three_nodes, until_anew};
+ghost use Rattle.mc_model.specs.Input.{Arrival};
+ghost use Rattle.mc_model.specs.Step.{IsExact};
 
 /// A cluster of one node takes a message, attempts it, is answered, and states that it is DELIVERED.
 pub fn a_message_is_delivered()
@@ -20,7 +21,7 @@ pub fn a_message_is_delivered()
 /// The first step of a node, to which a submit_sm comes, is exactly this: the request waits, and a round for its message is
 /// started at the first ballot.
 pub fn a_submit_starts_a_round()
-    ensures { (message : Submission) → IsExact 1 1 (opened 1 1) (λ slot. blank) (Arrival (Submit first_id message)) (first_step message) }
+    ensures { (message : Submission) → IsExact first_setup (opened 1 1) (λ slot. blank) (Arrival (Submit first_id message)) (first_step message) }
 {}
 
 /// A node of three stops between the save of its vote and its answer, and starts anew. Its vote counts: with that of one other

@@ -2,9 +2,9 @@
 
 ghost use Rattle.std.specs.Prelude.{◌≡◌, ◌<◌, ◌≤◌, ◌↔◌, ℕ, Bool};
 ghost use Rattle.mc_model.specs.Ids.{IsNode, IsIncarnation};
-ghost use Rattle.mc_model.specs.Ballot.{IsRound, IsBallot, IsBefore, ballot_of, round_in, incarnation_in, proposer_of};
 ghost use Rattle.mc_model.specs.Majority.{IsMajority, PassesBoth};
-ghost use Rattle.mc_model.specs.OneSlot.{Past, Vote, KeepsTheSynod, IsChosen, was_voted, was_proposed};
+ghost use Rattle.mc_model.specs.Ballot.{IsRound, IsBallot, IsBefore, ballot_of, round_in, incarnation_in, proposer_of};
+ghost use Rattle.mc_model.specs.OneSlot.{SlotPast, Vote, KeepsTheSynod, IsChosen, was_voted, was_proposed};
 
 /// A round, an incarnation and a node make a ballot that has them, and each ballot is made of those that it has. The
 /// order of ballots is that of their rounds, then of their incarnations, then of their nodes.
@@ -38,10 +38,10 @@ pub fn majorities_meet()
 /// Once a chain is chosen at a ballot, every vote of the slot from that ballot on carries it, and so does every
 /// proposal.
 pub fn choice_is_stable()
-    ensures votes { (nodes : ℕ) (past : Past) (chosen : Vote) (acceptor : ℕ) (vote : Vote) →
+    ensures votes { (nodes : ℕ) (past : SlotPast) (chosen : Vote) (acceptor : ℕ) (vote : Vote) →
         KeepsTheSynod nodes past → IsChosen nodes (was_voted past) chosen →
         was_voted past acceptor vote → chosen.ballot ≤ vote.ballot → vote.chain ≡ chosen.chain }
-    ensures proposals { (nodes : ℕ) (past : Past) (chosen vote : Vote) →
+    ensures proposals { (nodes : ℕ) (past : SlotPast) (chosen vote : Vote) →
         KeepsTheSynod nodes past → IsChosen nodes (was_voted past) chosen →
         was_proposed past vote → chosen.ballot ≤ vote.ballot → vote.chain ≡ chosen.chain }
 {}

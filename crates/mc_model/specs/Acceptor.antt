@@ -1,7 +1,7 @@
 -- The acceptor of a node: what it keeps for each slot, and what it does with it (Paxos Made Simple, 2.2 and 2.5).
 use Rattle.std.specs.Prelude.{◌≡◌, ℕ, ◌<◌, ◌≤◌, Option, Some, None, if◌then◌else◌}
 use Rattle.mc_model.specs.OneSlot.{Vote}
-use Rattle.mc_model.specs.Packet.{Slot, slot_at, same_slot, Told}
+use Rattle.mc_model.specs.Packet.{Slot, slot_at, same_slot, TopVote}
 
 -- The record of a slot: the ballot promised, 0 where none is, and the vote. It outlives a restart.
 pub record Record : Type 0 where
@@ -32,10 +32,11 @@ abbrev pub after_vote : Vote → Record
 after_vote vote = record { promised = vote.ballot; vote = Some vote }
 
 -- what an acceptor tells of a message: its vote at the highest place at which it has one, or that it has none
-pub record IsTop (records : Records) (id : ℕ) (told : Told) : Type 0 where
+pub record IsTop (records : Records) (id : ℕ) (told : TopVote) : Type 0 where
+  pub about : told.id ≡ id
   pub voted : (records (slot_at id told.place)).vote ≡ Some told.vote
   pub highest : (place : ℕ) (vote : Vote) → (records (slot_at id place)).vote ≡ Some vote → place ≤ told.place
 
-abbrev pub IsTold : Records → ℕ → Option Told → Type 0
+abbrev pub IsTold : Records → ℕ → Option TopVote → Type 0
 IsTold records id None = (place : ℕ) → (records (slot_at id place)).vote ≡ None
 IsTold records id (Some told) = IsTop records id told

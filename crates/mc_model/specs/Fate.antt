@@ -6,7 +6,7 @@ use Rattle.mc_model.specs.Packet.{Slot, slot_of}
 use Rattle.mc_model.specs.Actor.{Request, Concluded}
 use Rattle.mc_model.specs.Proposal.{Cancels}
 use Rattle.mc_model.specs.Replies.{Answer, Shown, Removed}
-use Rattle.mc_model.specs.World.{World, IsChosenIn, Act, Begins, Replies, Reports, Grants, Answers, Deed}
+use Rattle.mc_model.specs.World.{World, IsChosenIn, Act, Begins, Replies, Reports, Grants, Concludes, Deed}
 
 -- the chain of which an answer tells ESME_ROK
 abbrev pub shown_by : Answer → Option (List Decree)
@@ -53,7 +53,7 @@ pub record IsDelivery (id : ℕ) (chain : List Decree) (deeds : List Deed) : Typ
   pub attempted : attempt.kind ≡ Attempt number
   pub delivered : fate.kind ≡ Fate Delivered error
   pub author : fate.author ≡ attempt.author
-  pub granted : CameBefore (deed_by attempt.author (Grants (slot_of id (attempt ∷ older)))) (deed_by attempt.author (Answers (slot_of id (attempt ∷ older)) (Concluded Delivered error))) deeds
+  pub granted : CameBefore (deed_by attempt.author (Grants (slot_of id (attempt ∷ older)))) (deed_by attempt.author (Concludes (slot_of id (attempt ∷ older)) (Concluded Delivered error))) deeds
 
 -- A cancel_sm of the message came, with the account and the addresses of what was taken.
 pub record CameToCancel (deeds : List Deed) (id : ℕ) (taken : Submission) : Type 0 where

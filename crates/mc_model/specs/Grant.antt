@@ -22,12 +22,12 @@ pub record IsAnothers (nodes node : ℕ) (a : Actor) (id : ℕ) : Type 0 where
   pub ends : EndsInAttempt nodes a id newest older
   pub other : newest.author.node ≡ node → ⊥
 
-pub record IsOfOlderLife (nodes node : ℕ) (a : Actor) (id : ℕ) : Type 0 where
+pub record IsOfAnotherLife (nodes node : ℕ) (a : Actor) (id : ℕ) : Type 0 where
   pub newest : Decree
   pub older : List Decree
   pub ends : EndsInAttempt nodes a id newest older
   pub mine : newest.author.node ≡ node
-  pub before : newest.author.incarnation < a.incarnation
+  pub other : newest.author.incarnation ≡ a.incarnation → ⊥
 
 pub record IsGranted (nodes node : ℕ) (a : Actor) (id : ℕ) : Type 0 where
   pub newest : Decree
@@ -43,25 +43,25 @@ pub record IsClosedAlready (nodes node : ℕ) (a : Actor) (id : ℕ) : Type 0 wh
   pub granted : In (slot_of id (newest ∷ older)) a.granted → ⊥
   pub closed : In (slot_of id (newest ∷ older), outcome) a.closed
 
--- The refusals, with their numbers: nothing is known that ends in an attempt; it is another node's; it is of an older
--- incarnation; it is granted already; it is closed.
-pub data Refusal : Type 0 where
-  NotChosen : Refusal
-  NotMine : Refusal
-  OlderIncarnation : Refusal
-  AlreadyGranted : Refusal
-  Closed : Refusal
+-- The refusals, with their numbers: nothing is known that ends in an attempt; it is another node's; it is of another
+-- incarnation, which is an older one; it is granted already; it is closed.
+pub data GrantRefusal : Type 0 where
+  NotChosen : GrantRefusal
+  NotMine : GrantRefusal
+  OlderIncarnation : GrantRefusal
+  AlreadyGranted : GrantRefusal
+  Closed : GrantRefusal
 
-abbrev pub refusal_number : Refusal → ℕ
+abbrev pub refusal_number : GrantRefusal → ℕ
 refusal_number NotChosen = 1
 refusal_number NotMine = 2
 refusal_number OlderIncarnation = 3
 refusal_number AlreadyGranted = 4
 refusal_number Closed = 5
 
-abbrev pub IsRefusedFor : ℕ → ℕ → Actor → ℕ → Refusal → Type 0
+abbrev pub IsRefusedFor : ℕ → ℕ → Actor → ℕ → GrantRefusal → Type 0
 IsRefusedFor nodes node a id NotChosen = (newest : Decree) (older : List Decree) → EndsInAttempt nodes a id newest older → ⊥
 IsRefusedFor nodes node a id NotMine = IsAnothers nodes node a id
-IsRefusedFor nodes node a id OlderIncarnation = IsOfOlderLife nodes node a id
+IsRefusedFor nodes node a id OlderIncarnation = IsOfAnotherLife nodes node a id
 IsRefusedFor nodes node a id AlreadyGranted = IsGranted nodes node a id
 IsRefusedFor nodes node a id Closed = IsClosedAlready nodes node a id

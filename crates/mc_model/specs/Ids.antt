@@ -15,9 +15,12 @@ pub record IsIncarnation (incarnation : ℕ) : Type 0 where
   pub most : incarnation ≤ 9999
 
 -- messages are counted anew in each incarnation
+abbrev pub most_serial : ℕ
+most_serial = 99999
+
 pub record IsSerial (serial : ℕ) : Type 0 where
   pub least : 1 ≤ serial
-  pub most : serial ≤ 99999
+  pub most : serial ≤ most_serial
 
 -- whole seconds since 1970-01-01T00:00:00Z, from the start of 2000 to the end of 2099
 pub record IsMoment (moment : ℕ) : Type 0 where

@@ -3,7 +3,7 @@ use Rattle.std.specs.Prelude.{◌≡◌, ℕ, ◌≤◌, List, ◌++◌, length,
 use Rattle.mc_model.specs.Chain.{Decree}
 use Rattle.mc_model.specs.Majority.{Majority}
 use Rattle.mc_model.specs.OneSlot.{Vote, vote_at, In}
-use Rattle.mc_model.specs.Packet.{Slot, slot_at, slot_of, Packet, Voted, Name, Told, Tell}
+use Rattle.mc_model.specs.Packet.{Slot, slot_at, slot_of, Packet, Voted, Name, Tell, TopVote}
 
 -- a majority told of their votes for one chain at one ballot
 abbrev pub IsLearned : ℕ → List Packet → Slot → Vote → Type 0
@@ -27,19 +27,19 @@ IsKnown nodes received id (Some chain) = Knows nodes received id chain
 -- ---- how far a chain has come by what others tell
 
 -- what is told is not beyond what is known
-abbrev pub IsReached : Option (List Decree) → Option Told → Type 0
+abbrev pub IsReached : Option (List Decree) → Option TopVote → Type 0
 IsReached known None = Unit {0}
 IsReached None (Some told) = ⊥
 IsReached (Some chain) (Some told) = told.place ≤ pred (length chain)
 
 pub record HasTold (received : List Packet) (name : Name) (node : ℕ) : Type 0 where
-  pub told : Option Told
+  pub told : Option TopVote
   pub heard : In (Tell node name told) received
 
 -- A majority has answered the questions of this name, and what is known reaches all that was told.
 pub record IsSettled (nodes : ℕ) (received : List Packet) (name : Name) (known : Option (List Decree)) : Type 0 where
   pub majority : Majority nodes (HasTold received name)
-  pub reached : (node : ℕ) (told : Option Told) → In (Tell node name told) received → IsReached known told
+  pub reached : (node : ℕ) (told : Option TopVote) → In (Tell node name told) received → IsReached known told
 
 -- what is known goes as far as a place
 abbrev pub Covers : Option (List Decree) → ℕ → Type 0

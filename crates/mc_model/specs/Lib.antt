@@ -15,5 +15,11 @@ pub mod Fate
 pub mod Alone
 pub mod Stories
 pub mod Rounds
+pub mod Concerns
+pub mod Setup
+pub mod Input
+pub mod Due
+pub mod Causes
+pub mod Outputs
 pub mod Step
 pub mod Grant

@@ -18,10 +18,10 @@ vote_at ballot chain = record { ballot = ballot; chain = chain }
 abbrev pub IsChosen : ℕ → (ℕ → Vote → Type 0) → Vote → Type 0
 IsChosen nodes Voted vote = Majority nodes (λ acceptor. Voted acceptor vote)
 
--- a report tells of a vote at this ballot or above it
-abbrev pub Tells : Option Vote → ℕ → Type 0
-Tells None ballot = ⊥
-Tells (Some vote) ballot = ballot ≤ vote.ballot
+-- a report reaches a ballot: it is of a vote at this ballot or above it
+abbrev pub Reaches : Option Vote → ℕ → Type 0
+Reaches None ballot = ⊥
+Reaches (Some vote) ballot = ballot ≤ vote.ballot
 
 -- a report tells of no vote above the highest one
 abbrev pub IsWithin : Option Vote → Option Vote → Type 0
@@ -54,7 +54,7 @@ pub record IsSound (nodes : ℕ) (Voted : ℕ → Vote → Type 0) (Promised : �
   -- at a ballot one chain alone is proposed
   pub single : (ballot : ℕ) (one other : List Decree) → Proposed (vote_at ballot one) → Proposed (vote_at ballot other) → one ≡ other
   -- a promise reports the acceptor's highest vote below its ballot, and there is no other later
-  pub kept : (acceptor ballot : ℕ) (report : Option Vote) (vote : Vote) → Promised acceptor ballot report → Voted acceptor vote → vote.ballot < ballot → Tells report vote.ballot
+  pub kept : (acceptor ballot : ℕ) (report : Option Vote) (vote : Vote) → Promised acceptor ballot report → Voted acceptor vote → vote.ballot < ballot → Reaches report vote.ballot
   -- a vote that is reported was made, below the ballot
   pub honest : (acceptor ballot : ℕ) (vote : Vote) → Promised acceptor ballot (Some vote) → Voted acceptor vote × (vote.ballot < ballot)
   -- what is proposed is what the promises of a majority at its ballot allow
@@ -66,24 +66,24 @@ abbrev pub In : {A : Type 0} → A → List A → Type 0
 In x [] = ⊥
 In x (y ∷ ys) = (x ≡ y) ⊎ In x ys
 
-pub record Promise : Type 0 where
+pub record SlotPromise : Type 0 where
   pub acceptor : ℕ
   pub ballot : ℕ
   pub report : Option Vote
 
-pub record Past : Type 0 where
+pub record SlotPast : Type 0 where
   pub votes : List (ℕ × Vote)
-  pub promises : List Promise
+  pub promises : List SlotPromise
   pub proposals : List Vote
 
-abbrev pub was_voted : Past → ℕ → Vote → Type 0
+abbrev pub was_voted : SlotPast → ℕ → Vote → Type 0
 was_voted past acceptor vote = In (acceptor, vote) past.votes
 
-abbrev pub was_promised : Past → ℕ → ℕ → Option Vote → Type 0
+abbrev pub was_promised : SlotPast → ℕ → ℕ → Option Vote → Type 0
 was_promised past acceptor ballot report = In (record { acceptor = acceptor; ballot = ballot; report = report }) past.promises
 
-abbrev pub was_proposed : Past → Vote → Type 0
+abbrev pub was_proposed : SlotPast → Vote → Type 0
 was_proposed past vote = In vote past.proposals
 
-abbrev pub KeepsTheSynod : ℕ → Past → Type 0
+abbrev pub KeepsTheSynod : ℕ → SlotPast → Type 0
 KeepsTheSynod nodes past = IsSound nodes (was_voted past) (was_promised past) (was_proposed past)

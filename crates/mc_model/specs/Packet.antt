@@ -25,9 +25,13 @@ pub record Name : Type 0 where
   pub ticket : ℕ
 
 -- an acceptor's vote at the highest place of a message's chain at which it voted
-pub record Told : Type 0 where
+pub record TopVote : Type 0 where
+  pub id : ℕ
   pub place : ℕ
   pub vote : Vote
+
+abbrev pub top_at : Slot → Vote → TopVote
+top_at slot vote = record { id = slot.id; place = slot.place; vote = vote }
 
 -- Each packet names its sender first.
 pub data Packet : Type 0 where
@@ -43,4 +47,4 @@ pub data Packet : Type 0 where
   Refused : ℕ → Slot → ℕ → ℕ → Packet
   -- asks how far a message's chain has come, and tells it
   Ask : ℕ → ℕ → Name → Packet
-  Tell : ℕ → Name → Option Told → Packet
+  Tell : ℕ → Name → Option TopVote → Packet

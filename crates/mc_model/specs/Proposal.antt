@@ -1,11 +1,11 @@
 -- What a node may propose (Paxos Made Simple, 2.2 and 2.5): where a majority of acceptors has promised, the chain of
 -- the highest vote that they report; and where they report none, a chain that stands already, or one of its own.
 use Rattle.std.specs.Prelude.{◌≡◌, ◌⊎◌, ℕ, ◌<◌, max, true, List, [], ◌∷◌, Option, Some, None}
-use Rattle.mc_model.specs.Chain.{Author, Submission, Decree, Kind, Taken, Attempt, Failed, Fate, Deleted, MayExtend, taken_in}
+use Rattle.mc_model.specs.Chain.{Author, Submission, Decree, Kind, Taken, Attempt, Failed, Fate, Deleted, MayExtend, taken_in, Expired, Undeliverable}
 use Rattle.mc_model.specs.Ballot.{proposer_of, incarnation_in}
 use Rattle.mc_model.specs.OneSlot.{Vote, vote_at, IsJustified, In}
-use Rattle.mc_model.specs.Packet.{Slot, slot_of, Packet, Promise, Propose}
-use Rattle.mc_model.specs.Actor.{Actor, Request, Submit, Query, Cancel, Waiting, Outcome, decree_of}
+use Rattle.mc_model.specs.Packet.{Promise, Slot, slot_of, Packet, Propose}
+use Rattle.mc_model.specs.Actor.{Actor, Request, Submit, Query, Cancel, Waiting, Outcome, decree_of, older_incarnation_error}
 
 -- ---- whose message it is
 
@@ -44,13 +44,21 @@ pub record IsClosed (a : Actor) (slot : Slot) (attempted : Author) (next : Kind)
 
 pub record IsLost (a : Actor) (attempted : Author) (next : Kind) : Type 0 where
   pub incarnation : attempted.incarnation < a.incarnation
-  pub kind : next ≡ Failed 999
+  pub kind : next ≡ Failed older_incarnation_error
 
 -- what the node itself needs for a decree behind this one
 abbrev pub Allows : Actor → Slot → Submission → Author → Kind → Kind → Type 0
 Allows a slot taken attempted (Attempt number) next = IsClosed a slot attempted next ⊎ IsLost a attempted next
 Allows a slot taken attempted before (Fate Deleted error) = IsCancelled a slot.id taken
 Allows a slot taken attempted before next = Unit {0}
+
+-- the error of a decree that a node makes itself (own): of a message that expires or is deleted there is none, and one that
+-- cannot be delivered has the error of its last failure
+abbrev pub HasError : Kind → Kind → Type 0
+HasError (Failed last) (Fate Undeliverable error) = error ≡ last
+HasError before (Fate Expired error) = error ≡ 0
+HasError before (Fate Deleted error) = error ≡ 0
+HasError before next = Unit {0}
 
 -- the message of a submit_sm that waits at the node is taken
 pub record IsFirst (node : ℕ) (a : Actor) (id : ℕ) (chain : List Decree) : Type 0 where
@@ -79,6 +87,7 @@ pub record IsNext (Chosen : Slot → Vote → Type 0) (node : ℕ) (a : Actor) (
   pub message : taken_in (newest ∷ older) ≡ Some taken
   pub may : MayExtend (Some taken) (newest ∷ older) next
   pub allowed : Allows a (slot_of id (newest ∷ older)) taken newest.author newest.kind next.kind
+  pub error : HasError newest.kind next.kind
 
 abbrev pub IsOwn : (Slot → Vote → Type 0) → ℕ → Actor → ℕ → List Decree → Type 0
 IsOwn Chosen node a id chain = IsFirst node a id chain ⊎ IsNext Chosen node a id chain

@@ -16,9 +16,10 @@ pub data Answer : Type 0 where
   Removed : List Decree → Answer
   -- ESME_RCANCELFAIL, by this chain
   Kept : List Decree → Answer
-  -- ESME_RQUERYFAIL: the message is another's; ESME_RCANCELFAIL: the cancel_sm does not match it
+  -- ESME_RQUERYFAIL: the message is another's
   NotOwner : Answer
-  NotMatched : Answer
+  -- ESME_RCANCELFAIL: the cancel_sm does not match the message of this chain
+  NotMatched : List Decree → Answer
   -- ESME_RINVMSGID: there is no such message
   Unknown : Answer
   -- ESME_RSYSERR: it waited too long
@@ -94,8 +95,7 @@ pub record IsKept (nodes : ℕ) (a : Actor) (w : Waiting) (account source destin
   pub chain_is : chain ≡ newest ∷ older
   pub kept : KeepsMessage newest.kind
 
-pub record IsNotMatched (nodes : ℕ) (a : Actor) (w : Waiting) (account source destination : List ℕ) : Type 0 where
-  pub chain : List Decree
+pub record IsNotMatched (nodes : ℕ) (a : Actor) (w : Waiting) (account source destination : List ℕ) (chain : List Decree) : Type 0 where
   pub taken : Submission
   pub known : Knows nodes a.received (id_in w.request) chain
   pub settled : w.settled ≡ true
@@ -115,7 +115,7 @@ FitsQuery nodes node a w account source answer = ⊥
 abbrev pub FitsCancel : ℕ → ℕ → Actor → Waiting → List ℕ → List ℕ → List ℕ → Answer → Type 0
 FitsCancel nodes node a w account source destination (Removed chain) = IsRemoved nodes a w account source destination chain
 FitsCancel nodes node a w account source destination (Kept chain) = IsKept nodes a w account source destination chain
-FitsCancel nodes node a w account source destination NotMatched = IsNotMatched nodes a w account source destination
+FitsCancel nodes node a w account source destination (NotMatched chain) = IsNotMatched nodes a w account source destination chain
 FitsCancel nodes node a w account source destination Unknown = IsUnknown nodes node a w
 FitsCancel nodes node a w account source destination answer = ⊥
 

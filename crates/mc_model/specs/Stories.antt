@@ -3,10 +3,11 @@
 use Rattle.std.specs.Prelude.{ℕ, ◌<◌, ◌≤◌, List, [], ◌∷◌, ◌++◌, length, map, pred, Some, None, true, false}
 use Rattle.mc_model.specs.Chain.{Submission, Decree, Kind, Taken, Attempt, Fate, Delivered, Deleted}
 use Rattle.mc_model.specs.OneSlot.{Vote, vote_at}
-use Rattle.mc_model.specs.Packet.{Slot, slot_at, slot_of, Name, Told, Prepare, Promise, Propose, Voted, Ask, Tell}
+use Rattle.mc_model.specs.Packet.{Promise, Slot, slot_at, slot_of, Name, Prepare, Propose, Voted, Ask, Tell, TopVote}
 use Rattle.mc_model.specs.Actor.{Submit, Query, Cancel, Concluded, opening_clock}
 use Rattle.mc_model.specs.Replies.{Accepted, Shown, Removed}
-use Rattle.mc_model.specs.World.{World, Deed, start, Act, Receives, Promises, Votes, Tells, Prepares, Proposes, Begins, Asks, Settles, Replies, Reports, Grants, Answers, Stops, Restarts}
+use Rattle.mc_model.specs.World.{World, Deed, start, Act, Receives, Promises, Votes, Tells, Prepares, Proposes, Begins, Asks, Settles, Replies, Reports, Grants, Concludes, Stops, Restarts}
+use Rattle.mc_model.specs.Setup.{Setup}
 
 -- the first message of node 1 in its first incarnation
 abbrev pub first_id : ℕ
@@ -39,7 +40,7 @@ round slot vote =
     ∷ Receives (Promise 1 slot vote.ballot None)
     ∷ Promises slot vote.ballot true
     ∷ Receives (Prepare 1 slot vote.ballot)
-    ∷ Prepares slot vote.ballot
+    ∷ Prepares slot vote.ballot vote.chain
     ∷ []
 
 abbrev pub round_for : List Decree → List Act
@@ -58,7 +59,7 @@ abbrev pub delivery_acts : Submission → List Act
 delivery_acts message =
     Reports first_id (delivered_chain message)
     ∷ round_for (delivered_chain message)
-    ++ Answers (slot_of first_id (attempted_chain message)) (Concluded Delivered 0)
+    ++ Concludes (slot_of first_id (attempted_chain message)) (Concluded Delivered 0)
     ∷ Grants (slot_of first_id (attempted_chain message))
     ∷ round_for (attempted_chain message)
     ++ taking_acts message
@@ -77,6 +78,10 @@ last_deed message = record { node = 1; incarnation = 1; act = Reports first_id (
 abbrev pub one_node : World
 one_node = start 1 (λ node. 1)
 
+-- and that node's setup
+abbrev pub first_setup : Setup
+first_setup = record { node = 1; nodes = 1; first_serial = 1; default_validity = 259200 }
+
 -- the message may be taken and tried at once
 pub record MayBeTried (message : Submission) : Type 0 where
   pub scheduled : message.schedule ≤ opening_clock
@@ -84,7 +89,7 @@ pub record MayBeTried (message : Submission) : Type 0 where
 
 -- the first step of a node: a submit_sm comes, and a round for its message is started
 abbrev pub first_step : Submission → List Act
-first_step message = Prepares (slot_of first_id (taken_chain message)) first_ballot ∷ Begins 1 (Submit first_id message) ∷ []
+first_step message = Prepares (slot_of first_id (taken_chain message)) first_ballot (taken_chain message) ∷ Begins 1 (Submit first_id message) ∷ []
 
 -- ---- a node stops between a save and its answer
 
@@ -104,7 +109,7 @@ until_promised message =
     ∷ (2, Receives (Prepare 1 taken_slot first_ballot))
     ∷ (1, Promises taken_slot first_ballot true)
     ∷ (1, Receives (Prepare 1 taken_slot first_ballot))
-    ∷ (1, Prepares taken_slot first_ballot)
+    ∷ (1, Prepares taken_slot first_ballot (taken_chain message))
     ∷ (1, Begins 1 (Submit first_id message))
     ∷ []
 
@@ -123,7 +128,7 @@ until_anew message =
     (1, Receives (Voted 1 taken_slot (taken_vote message)))
     ∷ (1, Votes taken_slot (taken_vote message) true)
     ∷ (1, Receives (Propose 1 taken_slot (taken_vote message)))
-    ∷ (2, Restarts 1)
+    ∷ (2, Restarts 0 1)
     ∷ until_stopped message
 
 -- The Propose comes to node 2 again, which votes again; node 1 hears of it and answers the submit_sm.
@@ -150,8 +155,8 @@ abbrev pub asking : Name
 asking = record { node = 1; incarnation = 1; ticket = 2 }
 
 -- what the node tells where the chain is all that it voted for
-abbrev pub told_of : List Decree → Told
-told_of chain = record { place = pred (length chain); vote = vote_at first_ballot chain }
+abbrev pub told_of : List Decree → TopVote
+told_of chain = record { id = first_id; place = pred (length chain); vote = vote_at first_ballot chain }
 
 -- The node alone asks itself how far the message's chain has come, and hears it.
 abbrev pub question_for : List Decree → List Act

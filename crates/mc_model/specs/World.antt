@@ -2,15 +2,15 @@
 --
 -- What nodes do is told in small acts, of which each changes one node. The network is the list of all packets ever sent, any
 -- of which may come to any node, again and in any order: that is loss, repetition and reordering.
-use Rattle.std.specs.Prelude.{◌≡◌, ◌⊎◌, ℕ, suc, ◌<◌, ◌≤◌, max, Bool, true, false, ◌==◌, not, List, [], ◌∷◌, ◌++◌, length, map, filter, Option, Some, if◌then◌else◌}
-use Rattle.mc_model.specs.Ids.{id_of, node_of}
-use Rattle.mc_model.specs.Chain.{Decree, Attempt, Final, IsTaken, final_in}
+use Rattle.std.specs.Prelude.{◌≡◌, ◌⊎◌, ℕ, suc, ◌+◌, ◌<◌, ◌≤◌, max, Bool, true, false, ◌==◌, not, List, [], ◌∷◌, ◌++◌, length, map, filter, Option, Some, if◌then◌else◌}
+use Rattle.mc_model.specs.Ids.{id_of, node_of, IsSerial}
+use Rattle.mc_model.specs.Chain.{Decree, Attempt, Final, IsTaken, final_in, Submission}
 use Rattle.mc_model.specs.Majority.{Majority}
 use Rattle.mc_model.specs.Ballot.{proposer_of, incarnation_in}
 use Rattle.mc_model.specs.OneSlot.{Vote, In}
-use Rattle.mc_model.specs.Packet.{Slot, slot_of, Packet, Prepare, Promise, Propose, Voted, Refused, Name, Told, Ask, Tell}
+use Rattle.mc_model.specs.Packet.{Promise, Slot, slot_of, Packet, Prepare, Propose, Voted, Refused, Name, Ask, Tell, TopVote}
 use Rattle.mc_model.specs.Acceptor.{Records, blank, with_record, MayPromise, MayVote, after_promise, after_vote, IsTold}
-use Rattle.mc_model.specs.Actor.{Actor, Request, Submit, Query, Cancel, Waiting, Outcome, Unanswered, opened}
+use Rattle.mc_model.specs.Actor.{Actor, Request, Submit, Query, Cancel, Waiting, Outcome, Unanswered, opened, IsOutcome, is_busy, no_session_error}
 use Rattle.mc_model.specs.Knowledge.{Knows, IsKnown, IsSettled}
 use Rattle.mc_model.specs.Proposal.{MayPropose}
 use Rattle.mc_model.specs.Replies.{Answer, IsAnswer, id_in, name_of}
@@ -22,9 +22,9 @@ pub data Act : Type 0 where
   Promises : Slot → ℕ → Bool → Act
   Votes : Slot → Vote → Bool → Act
   Refuses : Slot → ℕ → Act
-  Tells : ℕ → Name → Option Told → Act
-  -- the proposer asks for promises and for votes
-  Prepares : Slot → ℕ → Act
+  Tells : ℕ → Name → Option TopVote → Act
+  -- the proposer asks for promises in a round for a chain, and for votes
+  Prepares : Slot → ℕ → List Decree → Act
   Proposes : Slot → Vote → Act
   -- a request comes and waits under a ticket, its questions are asked, it is settled, and it is answered
   Begins : ℕ → Request → Act
@@ -33,14 +33,15 @@ pub data Act : Type 0 where
   Replies : ℕ → ℕ → Answer → Act
   -- a receipt goes out
   Reports : ℕ → List Decree → Act
-  -- an attempt is granted, its outcome comes, or it is given up before it is granted
+  -- an attempt is granted, it is concluded by its outcome, or it is given up before it is granted
   Grants : Slot → Act
-  Answers : Slot → Outcome → Act
+  Concludes : Slot → Outcome → Act
   Abandons : Slot → Act
-  -- the clock rises, the node stops, and it starts anew with the serial of its first message
+  -- the clock rises, the node stops, and it starts anew: how many incarnations were lost in starts that failed, and the serial of
+  -- its first message
   Ticks : ℕ → Act
   Stops : Act
-  Restarts : ℕ → Act
+  Restarts : ℕ → ℕ → Act
 
 -- an act, with the node that did it and its incarnation then
 pub record Deed : Type 0 where
@@ -98,16 +99,27 @@ pub record MayGrant (nodes node : ℕ) (a : Actor) (slot : Slot) : Type 0 where
   pub closed : (outcome : Outcome) → In (slot, outcome) a.closed → ⊥
 
 -- the outcome of a granted attempt comes once
-pub record MayAnswer (a : Actor) (slot : Slot) : Type 0 where
+pub record MayConclude (a : Actor) (slot : Slot) (outcome : Outcome) : Type 0 where
   pub granted : In slot a.granted
-  pub closed : (outcome : Outcome) → In (slot, outcome) a.closed → ⊥
+  pub closed : (other : Outcome) → In (slot, other) a.closed → ⊥
+  pub possible : IsOutcome outcome
 
 -- a submit_sm gets the next id, and its message may be taken
-abbrev pub MayWait : ℕ → Actor → Request → Type 0
-MayWait node a (Submit id message) =
-    (a.serial ≤ 99999) × (id ≡ id_of node a.incarnation a.serial) × IsTaken id (record { node = node; incarnation = a.incarnation }) a.clock message
-MayWait node a (Query id account source) = Unit {0}
-MayWait node a (Cancel id account source destination) = Unit {0}
+pub record IsNumbered (node : ℕ) (a : Actor) (id : ℕ) (message : Submission) : Type 0 where
+  pub serial : IsSerial a.serial
+  pub id_is : id ≡ id_of node a.incarnation a.serial
+  pub takes : IsTaken id (record { node = node; incarnation = a.incarnation }) a.clock message
+
+abbrev pub IsFitToWait : ℕ → Actor → Request → Type 0
+IsFitToWait node a (Submit id message) = IsNumbered node a id message
+IsFitToWait node a (Query id account source) = Unit {0}
+IsFitToWait node a (Cancel id account source destination) = Unit {0}
+
+-- a request waits under the next ticket where there is room for it
+pub record MayWait (node : ℕ) (a : Actor) (ticket : ℕ) (request : Request) : Type 0 where
+  pub next : ticket ≡ a.ticket
+  pub room : is_busy (length a.waiting) a.ticket ≡ false
+  pub fit : IsFitToWait node a request
 
 -- a request for a message waits under a ticket
 pub record IsWaiting (a : Actor) (id ticket : ℕ) : Type 0 where
@@ -135,10 +147,16 @@ pub record MayReport (nodes node : ℕ) (a : Actor) (id : ℕ) (chain : List Dec
   pub ends : final_in chain ≡ Some final
 
 -- a question of that name came, for that message
-pub record MayTell (a : Actor) (records : Records) (id : ℕ) (name : Name) (told : Option Told) : Type 0 where
+pub record MayTell (a : Actor) (records : Records) (id : ℕ) (name : Name) (told : Option TopVote) : Type 0 where
   pub asker : ℕ
   pub asked : In (Ask asker id name) a.received
   pub told_is : IsTold records id told
+
+-- a promise was asked for, and may be given
+pub record MayPromiseAt (a : Actor) (records : Records) (slot : Slot) (ballot : ℕ) : Type 0 where
+  pub sender : ℕ
+  pub prepared : In (Prepare sender slot ballot) a.received
+  pub may : MayPromise (records slot) ballot
 
 pub record MayVoteFor (a : Actor) (records : Records) (slot : Slot) (vote : Vote) : Type 0 where
   pub sender : ℕ
@@ -152,27 +170,27 @@ OwnBallot node a ballot = (proposer_of ballot ≡ node) × (incarnation_in ballo
 -- are chosen.
 abbrev pub Needs : ℕ → (Packet → Type 0) → (Packet → Type 0) → (Slot → List Decree → Type 0) → (Slot → Vote → Type 0) → ℕ → Actor → Records → Act → Type 0
 Needs nodes Comes Seen Stands Chosen node a records (Receives packet) = Comes packet
-Needs nodes Comes Seen Stands Chosen node a records (Promises slot ballot sent) = MayPromise (records slot) ballot
+Needs nodes Comes Seen Stands Chosen node a records (Promises slot ballot sent) = MayPromiseAt a records slot ballot
 Needs nodes Comes Seen Stands Chosen node a records (Votes slot vote sent) = MayVoteFor a records slot vote
 Needs nodes Comes Seen Stands Chosen node a records (Refuses slot ballot) = Unit {0}
 Needs nodes Comes Seen Stands Chosen node a records (Tells id name told) = MayTell a records id name told
-Needs nodes Comes Seen Stands Chosen node a records (Prepares slot ballot) = OwnBallot node a ballot
+Needs nodes Comes Seen Stands Chosen node a records (Prepares slot ballot chain) = OwnBallot node a ballot
 Needs nodes Comes Seen Stands Chosen node a records (Proposes slot vote) = MayPropose nodes Seen Stands Chosen node a slot vote
-Needs nodes Comes Seen Stands Chosen node a records (Begins ticket request) = (ticket ≡ a.ticket) × MayWait node a request
+Needs nodes Comes Seen Stands Chosen node a records (Begins ticket request) = MayWait node a ticket request
 Needs nodes Comes Seen Stands Chosen node a records (Asks id ticket) = IsWaiting a id ticket
 Needs nodes Comes Seen Stands Chosen node a records (Settles ticket) = MaySettle nodes node a ticket
 Needs nodes Comes Seen Stands Chosen node a records (Replies ticket id answer) = MayReply nodes node a ticket id answer
 Needs nodes Comes Seen Stands Chosen node a records (Reports id chain) = MayReport nodes node a id chain
 Needs nodes Comes Seen Stands Chosen node a records (Grants slot) = MayGrant nodes node a slot
-Needs nodes Comes Seen Stands Chosen node a records (Answers slot outcome) = MayAnswer a slot
+Needs nodes Comes Seen Stands Chosen node a records (Concludes slot outcome) = MayConclude a slot outcome
 Needs nodes Comes Seen Stands Chosen node a records (Abandons slot) = MayGrant nodes node a slot
 Needs nodes Comes Seen Stands Chosen node a records (Ticks moment) = Unit {0}
 Needs nodes Comes Seen Stands Chosen node a records Stops = Unit {0}
-Needs nodes Comes Seen Stands Chosen node a records (Restarts serial) = a.incarnation < 9999
+Needs nodes Comes Seen Stands Chosen node a records (Restarts lost serial) = a.incarnation + lost < 9999
 
 -- a node that is down may only start anew
 abbrev pub IsUpFor : Actor → Act → Type 0
-IsUpFor a (Restarts serial) = Unit {0}
+IsUpFor a (Restarts lost serial) = Unit {0}
 IsUpFor a act = a.up ≡ true
 
 -- In a cluster any packet that was sent may come, and what a node proposes is judged by all that was sent, voted and chosen
@@ -188,15 +206,20 @@ pub record May (w : World) (node : ℕ) (act : Act) : Type 0 where
 abbrev pub if_sent : Bool → Packet → List Packet
 if_sent sent packet = if sent then packet ∷ [] else []
 
+-- the packet that it sends, if any
+abbrev pub packets_by : ℕ → Actor → Records → Act → List Packet
+packets_by node a records (Promises slot ballot sent) = if_sent sent (Promise node slot ballot (records slot).vote)
+packets_by node a records (Votes slot vote sent) = if_sent sent (Voted node slot vote)
+packets_by node a records (Refuses slot ballot) = Refused node slot ballot (records slot).promised ∷ []
+packets_by node a records (Tells id name told) = Tell node name told ∷ []
+packets_by node a records (Prepares slot ballot chain) = Prepare node slot ballot ∷ []
+packets_by node a records (Proposes slot vote) = Propose node slot vote ∷ []
+packets_by node a records (Asks id ticket) =
+    Ask node id (record { node = node; incarnation = a.incarnation; ticket = ticket }) ∷ []
+packets_by node a records act = []
+
 abbrev pub sent_by : World → ℕ → Act → List Packet
-sent_by w node (Promises slot ballot sent) = if_sent sent (Promise node slot ballot (w.records node slot).vote)
-sent_by w node (Votes slot vote sent) = if_sent sent (Voted node slot vote)
-sent_by w node (Refuses slot ballot) = Refused node slot ballot (w.records node slot).promised ∷ []
-sent_by w node (Tells id name told) = Tell node name told ∷ []
-sent_by w node (Prepares slot ballot) = Prepare node slot ballot ∷ []
-sent_by w node (Proposes slot vote) = Propose node slot vote ∷ []
-sent_by w node (Asks id ticket) = Ask node id (record { node = node; incarnation = (w.actors node).incarnation; ticket = ticket }) ∷ []
-sent_by w node act = []
+sent_by w node act = packets_by node (w.actors node) (w.records node) act
 
 abbrev pub votes_by : ℕ → Act → List Cast
 votes_by node (Votes slot vote sent) = cast node slot vote ∷ []
@@ -217,7 +240,10 @@ settle ticket w = record w { settled = if w.ticket == ticket then true else w.se
 
 abbrev pub actor_by : ℕ → Actor → Act → Actor
 actor_by node a (Receives packet) = record a { received = packet ∷ a.received }
-actor_by node a (Prepares slot ballot) = record a { sent = Prepare node slot ballot ∷ a.sent }
+actor_by node a (Prepares slot ballot chain) = record a {
+  sent = Prepare node slot ballot ∷ a.sent;
+  offers = record { slot = slot; ballot = ballot; chain = chain } ∷ a.offers;
+}
 actor_by node a (Proposes slot vote) = record a { sent = Propose node slot vote ∷ a.sent }
 actor_by node a (Begins ticket request) = record a {
   serial = next_serial request a.serial;
@@ -227,12 +253,21 @@ actor_by node a (Begins ticket request) = record a {
 actor_by node a (Settles ticket) = record a { waiting = map (settle ticket) a.waiting }
 actor_by node a (Replies ticket id answer) = record a { waiting = filter (λ w. not (w.ticket == ticket)) a.waiting }
 actor_by node a (Grants slot) = record a { granted = slot ∷ a.granted }
-actor_by node a (Answers slot outcome) = record a { closed = (slot, outcome) ∷ a.closed }
-actor_by node a (Abandons slot) = record a { closed = (slot, Unanswered 998) ∷ a.closed }
+actor_by node a (Concludes slot outcome) = record a { closed = (slot, outcome) ∷ a.closed }
+actor_by node a (Abandons slot) = record a { closed = (slot, Unanswered no_session_error) ∷ a.closed }
 actor_by node a (Ticks moment) = record a { clock = max a.clock moment; before_tick = length a.sent }
 actor_by node a Stops = record a { up = false }
-actor_by node a (Restarts serial) = opened (suc a.incarnation) serial
+actor_by node a (Restarts lost serial) = opened (suc (a.incarnation + lost)) serial
 actor_by node a act = a
+
+-- what an actor and its records become by acts
+abbrev pub did : ℕ → Actor → List Act → Actor
+did node a [] = a
+did node a (newest ∷ older) = actor_by node (did node a older) newest
+
+abbrev pub saved : Records → List Act → Records
+saved records [] = records
+saved records (newest ∷ older) = records_by (saved records older) newest
 
 -- in place of what a node has
 abbrev pub changed : {A : Type 0} → (ℕ → A) → ℕ → A → ℕ → A
@@ -267,3 +302,18 @@ reached first (newest ∷ older) = after (reached first older) newest.0 newest.1
 abbrev pub IsRun : World → List (ℕ × Act) → Type 0
 IsRun first [] = Unit {0}
 IsRun first (newest ∷ older) = May (reached first older) newest.0 newest.1 × IsRun first older
+
+-- ---- a run: a list of acts, each of which may be done where it stands
+
+pub record Run : Type 0 where
+  pub nodes : ℕ
+  pub serials : ℕ → ℕ
+  pub acts : List (ℕ × Act)
+  pub may : IsRun (start nodes serials) acts
+
+-- where it leads, and what was done in it, the newest first
+abbrev pub world_of : Run → World
+world_of run = reached (start run.nodes run.serials) run.acts
+
+abbrev pub past_of : Run → List Deed
+past_of run = (world_of run).past

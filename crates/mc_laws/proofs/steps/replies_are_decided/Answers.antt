@@ -1,5 +1,8 @@
-use Rattle.mc_laws.proofs.Decided.{late_once, replies_once, reports_once}
-use Rattle.mc_laws.proofs.promises.replies_are_decided.Goals as goal
+use Rattle.mc_laws.proofs.Decided.{settles_once, late_once, replies_once, reports_once}
+use Rattle.mc_laws.proofs.steps.replies_are_decided.Goals as goal
+
+pub returns-clause-settles : goal.returns-clause-settles
+returns-clause-settles c = settles_once
 
 pub returns-clause-late : goal.returns-clause-late
 returns-clause-late c = late_once
