@@ -9,7 +9,7 @@ use Rattle.mc_model.specs.Setup.{Setup}
 use Rattle.mc_model.specs.Input.{Input, Delivery, Crash, Arrival, Tick, Grant, Response, Restart, Refusal}
 use Rattle.mc_model.specs.Due.{AreDue}
 use Rattle.mc_model.specs.Due.{key_of, Fall, AreDue}
-use Rattle.mc_model.specs.Step.{DueToSettle, DueToEnd, DueToReply, DueToReport, IsHandled, IsAnswered, IsSaved, IsCore, IsExact}
+use Rattle.mc_model.specs.Step.{DueToSettle, DueToEnd, DueToReply, DueToReport, IsHandled, IsReceived, IsAnswered, IsSaved, IsCore, IsExact}
 
 -- ---- two lists of one order and of the same members are one
 
@@ -95,18 +95,22 @@ saved_once records (Voted sender slot vote) one other a b = a ∙ sym b
 saved_once records (Refused sender slot ballot promised) one other a b = a ∙ sym b
 saved_once records (Tell sender name told) one other a b = a ∙ sym b
 
+received_once : (records : Records) (packet : Packet) (one other : List Act) → IsReceived records packet one → IsReceived records packet other → one ≡ other
+received_once records packet one other a b =
+    a.acts_are ∙ ap (λ (acts : List Act). acts ++ Receives packet ∷ []) (answered_once records packet a.answer b.answer a.answered b.answered) ∙ sym b.acts_are
+
 -- a packet is received, or it is ignored
-handled_once : (Concerned : Type 0) (Does : List Act → Type 0) (packet : Packet) → ((one other : List Act) → Does one → Does other → one ≡ other) → (one other : List Act) → IsHandled Concerned Does packet one → IsHandled Concerned Does packet other → one ≡ other
-handled_once Concerned Does packet once one other (inl a) (inl b) = a.1.acts_are ∙ ap (λ (acts : List Act). acts ++ Receives packet ∷ []) (once a.1.does b.1.does a.1.done b.1.done) ∙ sym b.1.acts_are
-handled_once Concerned Does packet once one other (inl a) (inr b) = absurd (b.0 a.0)
-handled_once Concerned Does packet once one other (inr a) (inl b) = absurd (a.0 b.0)
-handled_once Concerned Does packet once one other (inr a) (inr b) = a.1 ∙ sym b.1
+handled_once : (Concerned : Type 0) (Does : List Act → Type 0) → ((one other : List Act) → Does one → Does other → one ≡ other) → (one other : List Act) → IsHandled Concerned Does one → IsHandled Concerned Does other → one ≡ other
+handled_once Concerned Does once one other (inl a) (inl b) = once one other a.1 b.1
+handled_once Concerned Does once one other (inl a) (inr b) = absurd (b.0 a.0)
+handled_once Concerned Does once one other (inr a) (inl b) = absurd (a.0 b.0)
+handled_once Concerned Does once one other (inr a) (inr b) = a.1 ∙ sym b.1
 
 pub core_once : (setup : Setup) (a : Actor) (records : Records) (input : Input) (one other : List Act) → IsCore setup a records input one → IsCore setup a records input other → one ≡ other
-core_once setup a records (Delivery packet) one other c d = handled_once _ (IsAnswered records packet) packet (answered_once records packet) one other c d
+core_once setup a records (Delivery packet) one other c d = handled_once _ (IsReceived records packet) (received_once records packet) one other c d
 core_once setup a records (Crash packet false) one other c d = c ∙ sym d
 core_once setup a records (Crash packet true) one other c d =
-    c.acts_are ∙ ap (λ (acts : List Act). Stops ∷ acts) (handled_once _ (IsSaved records packet) packet (saved_once records packet) c.before d.before c.handled d.handled) ∙ sym d.acts_are
+    c.acts_are ∙ ap (λ (acts : List Act). Stops ∷ acts) (handled_once _ (IsSaved records packet) (saved_once records packet) c.before d.before c.handled d.handled) ∙ sym d.acts_are
 core_once setup a records (Arrival request) one other c d = c ∙ sym d
 core_once setup a records (Refusal status) one other c d = c.1 ∙ sym d.1
 core_once setup a records (Tick moment up) one other c d = c ∙ sym d

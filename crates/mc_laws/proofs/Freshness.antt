@@ -45,7 +45,7 @@ pub record Asking (w : World) (node : ℕ) (act : Act) (sender id : ℕ) (name :
   pub sender_is : sender ≡ node
   pub name_is : name ≡ record { node = node; incarnation = (w.actors node).incarnation; ticket = name.ticket }
 
-asking : (w : World) (node : ℕ) (act : Act) (sender id : ℕ) (name : Name) → IsSent w node act (Ask sender id name) → Asking w node act sender id name
+pub asking : (w : World) (node : ℕ) (act : Act) (sender id : ℕ) (name : Name) → IsSent w node act (Ask sender id name) → Asking w node act sender id name
 asking w node (Asks other ticket) sender id name is =
     let names : name ≡ record { node = node; incarnation = (w.actors node).incarnation; ticket = ticket } = cc in
     let tickets : name.ticket ≡ ticket = ap (λ (n : Name). n.ticket) names in
@@ -63,7 +63,7 @@ asking w node (Prepares slot ballot chain) sender id name is = cc
 asking w node (Proposes slot vote) sender id name is = cc
 asking w node act sender id name is = absurd is
 
-ask_cases : (w : World) (node : ℕ) (act : Act) (sender id : ℕ) (name : Name) → In (Ask sender id name) (after w node act).packets → Asking w node act sender id name ⊎ In (Ask sender id name) w.packets
+pub ask_cases : (w : World) (node : ℕ) (act : Act) (sender id : ℕ) (name : Name) → In (Ask sender id name) (after w node act).packets → Asking w node act sender id name ⊎ In (Ask sender id name) w.packets
 ask_cases w node act sender id name is_in = elim (in_either (Ask sender id name) (sent_by w node act) w.packets is_in) [
   | inl new ↦ inl (asking w node act sender id name (sent_is w node act _ new))
   | inr old ↦ inr old
@@ -75,7 +75,7 @@ pub record Telling (node : ℕ) (act : Act) (teller : ℕ) (name : Name) (told :
   pub by : act ≡ Tells id name told
   pub teller_is : teller ≡ node
 
-telling : (w : World) (node : ℕ) (act : Act) (teller : ℕ) (name : Name) (told : Option TopVote) → IsSent w node act (Tell teller name told) → Telling node act teller name told
+pub telling : (w : World) (node : ℕ) (act : Act) (teller : ℕ) (name : Name) (told : Option TopVote) → IsSent w node act (Tell teller name told) → Telling node act teller name told
 telling w node (Tells id other answer) teller name told is =
     let names : name ≡ other = cc in
     let tolds : told ≡ answer = cc in
@@ -88,7 +88,7 @@ telling w node (Prepares slot ballot chain) teller name told is = cc
 telling w node (Proposes slot vote) teller name told is = cc
 telling w node act teller name told is = absurd is
 
-tell_cases : (w : World) (node : ℕ) (act : Act) (teller : ℕ) (name : Name) (told : Option TopVote) → In (Tell teller name told) (after w node act).packets → Telling node act teller name told ⊎ In (Tell teller name told) w.packets
+pub tell_cases : (w : World) (node : ℕ) (act : Act) (teller : ℕ) (name : Name) (told : Option TopVote) → In (Tell teller name told) (after w node act).packets → Telling node act teller name told ⊎ In (Tell teller name told) w.packets
 tell_cases w node act teller name told is_in = elim (in_either (Tell teller name told) (sent_by w node act) w.packets is_in) [
   | inl new ↦ inl (telling w node act teller name told (sent_is w node act _ new))
   | inr old ↦ inr old
@@ -171,7 +171,7 @@ pub record Fresh (before : World) (name : Name) (id : ℕ) (w : World) : Type 0 
   pub about : IsAbout name id (w.actors name.node)
   pub named : WasNamed (w.actors name.node) name
 
-about_by : (node : ℕ) (a : Actor) (act : Act) (name : Name) (id : ℕ) → WasNamed a name → IsAbout name id a → IsAbout name id (actor_by node a act)
+pub about_by : (node : ℕ) (a : Actor) (act : Act) (name : Name) (id : ℕ) → WasNamed a name → IsAbout name id a → IsAbout name id (actor_by node a act)
 about_by node a (Begins ticket request) name id named about same waiting is_in is = elim (in_either waiting a.waiting _ is_in) [
   | inl old ↦ about same waiting old is
   | inr new ↦ of_only (λ (x : Waiting). x.ticket ≡ name.ticket → id_in x.request ≡ id) _ waiting (λ t. absurd (given a name named same t)) new is

@@ -9,6 +9,8 @@ pub mod Links
 pub mod Agreement
 pub mod Fated
 pub mod Freshness
+pub mod Proposals
+pub mod Honest
 pub mod Reached
 pub mod Answers
 pub mod Together

@@ -36,26 +36,27 @@ IsAnswered records (Voted sender slot vote) acts = acts ≡ []
 IsAnswered records (Refused sender slot ballot promised) acts = acts ≡ []
 IsAnswered records (Tell sender name told) acts = acts ≡ []
 
--- what it does of that when it stops before it has answered: it saves, where there is anything to save
+-- what it saves of that, where it stops before it has answered
 abbrev pub IsSaved : Records → Packet → List Act → Type 0
 IsSaved records (Prepare sender slot ballot) acts =
-    (((records slot).promised < ballot) × (acts ≡ Promises slot ballot false ∷ []))
+    (((records slot).promised < ballot) × (acts ≡ Promises slot ballot false ∷ Receives (Prepare sender slot ballot) ∷ []))
     ⊎ ((ballot ≤ (records slot).promised) × (acts ≡ []))
 IsSaved records (Propose sender slot vote) acts =
-    (((records slot).promised ≤ vote.ballot) × (acts ≡ Votes slot vote false ∷ []))
+    (((records slot).promised ≤ vote.ballot) × (acts ≡ Votes slot vote false ∷ Receives (Propose sender slot vote) ∷ []))
     ⊎ ((vote.ballot < (records slot).promised) × (acts ≡ []))
 IsSaved records packet acts = acts ≡ []
 
--- A packet that concerns the node is received; one that does not is ignored.
-pub record IsReceived (Does : List Act → Type 0) (packet : Packet) (acts : List Act) : Type 0 where
-  pub does : List Act
-  pub done : Does does
-  pub acts_are : acts ≡ does ++ Receives packet ∷ []
+-- a packet that concerns the node is received and answered
+pub record IsReceived (records : Records) (packet : Packet) (acts : List Act) : Type 0 where
+  pub answer : List Act
+  pub answered : IsAnswered records packet answer
+  pub acts_are : acts ≡ answer ++ Receives packet ∷ []
 
-abbrev pub IsHandled : Type 0 → (List Act → Type 0) → Packet → List Act → Type 0
-IsHandled Concerned Does packet acts = (Concerned × IsReceived Does packet acts) ⊎ ((Concerned → ⊥) × (acts ≡ []))
+-- and one that does not is ignored
+abbrev pub IsHandled : Type 0 → (List Act → Type 0) → List Act → Type 0
+IsHandled Concerned Does acts = (Concerned × Does acts) ⊎ ((Concerned → ⊥) × (acts ≡ []))
 
--- it stops after it has saved, or before
+-- the node stops, after it has saved
 pub record IsStopped (Handled : List Act → Type 0) (acts : List Act) : Type 0 where
   pub before : List Act
   pub handled : Handled before
@@ -67,10 +68,10 @@ pub record IsRefusal (a : Actor) (status : ℕ) : Type 0 where
   pub queue_full : status ≡ queue_full → most_serial < a.serial
 
 abbrev pub IsCore : Setup → Actor → Records → Input → List Act → Type 0
-IsCore setup a records (Delivery packet) acts = IsHandled (Concerns setup.nodes setup.node a packet) (IsAnswered records packet) packet acts
+IsCore setup a records (Delivery packet) acts = IsHandled (Concerns setup.nodes setup.node a packet) (IsReceived records packet) acts
 IsCore setup a records (Crash packet false) acts = acts ≡ Stops ∷ []
 IsCore setup a records (Crash packet true) acts =
-    IsStopped (IsHandled (Concerns setup.nodes setup.node a packet) (IsSaved records packet) packet) acts
+    IsStopped (IsHandled (Concerns setup.nodes setup.node a packet) (IsSaved records packet)) acts
 IsCore setup a records (Arrival request) acts = acts ≡ Begins a.ticket request ∷ []
 IsCore setup a records (Refusal status) acts = IsRefusal a status × (acts ≡ [])
 IsCore setup a records (Tick moment up) acts = acts ≡ Ticks moment ∷ []
