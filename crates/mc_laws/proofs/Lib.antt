@@ -9,8 +9,11 @@ pub mod Links
 pub mod Agreement
 pub mod Fated
 pub mod Freshness
+pub mod Known
 pub mod Proposals
 pub mod Honest
+pub mod Grantings
+pub mod OwnDecrees
 pub mod Reached
 pub mod Answers
 pub mod Together

@@ -15,6 +15,8 @@ use Rattle.mc_laws.proofs.Agreement.{Chosen, standing, begins, agree}
 use Rattle.mc_laws.proofs.Deletions.{Deletions, deletions_start, deletions_after}
 use Rattle.mc_laws.proofs.Freshness.{Names, names_start, names_after}
 use Rattle.mc_laws.proofs.Honest.{Honest, honest_start, honest_after}
+use Rattle.mc_laws.proofs.Grantings.{Grantings, grantings_start, grantings_after}
+use Rattle.mc_laws.proofs.OwnDecrees.{OwnDecrees, own_decrees_start, own_decrees_after}
 use Rattle.mc_laws.proofs.Stable.{stable}
 use Rattle.mc_laws.proofs.Fated.{open_passed, passed_at, Timely, AllTimely, Told, told_start, told_after}
 
@@ -25,6 +27,8 @@ pub record Holds (w : World) : Type 0 where
   pub names : Names w
   pub deletions : Deletions w
   pub honest : Honest w
+  pub grantings : Grantings w
+  pub own : OwnDecrees w
 
 pub holds_after : (w : World) → Holds w → (node : ℕ) (act : Act) → May w node act → Holds (after w node act)
 holds_after w h node act may = record {
@@ -34,10 +38,12 @@ holds_after w h node act may = record {
   names = names_after w h.keeps h.names node act may;
   deletions = deletions_after w h.keeps h.deletions node act may;
   honest = honest_after w h.keeps h.names h.honest node act may;
+  grantings = grantings_after w h.links h.grantings node act may;
+  own = own_decrees_after w h.keeps h.own node act may;
 }
 
 pub holds : (nodes : ℕ) (serials : ℕ → ℕ) (acts : List (ℕ × Act)) → IsRun (start nodes serials) acts → Holds (reached (start nodes serials) acts)
-holds nodes serials [] run = record { keeps = keeps_start nodes serials; links = links_start nodes serials; told = told_start nodes serials; names = names_start nodes serials; deletions = deletions_start nodes serials; honest = honest_start nodes serials }
+holds nodes serials [] run = record { keeps = keeps_start nodes serials; links = links_start nodes serials; told = told_start nodes serials; names = names_start nodes serials; deletions = deletions_start nodes serials; honest = honest_start nodes serials; grantings = grantings_start nodes serials; own = own_decrees_start nodes serials }
 holds nodes serials (newest ∷ older) run = holds_after (reached (start nodes serials) older) (holds nodes serials older run.1) newest.0 newest.1 run.0
 
 -- ---- one fate

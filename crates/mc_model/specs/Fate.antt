@@ -1,12 +1,12 @@
 -- What is said of the fate of a message, and what it stands on.
-use Rattle.std.specs.Prelude.{◌≡◌, ℕ, List, ◌∷◌, ◌++◌, Option, Some, None}
+use Rattle.std.specs.Prelude.{◌≡◌, ◌⊎◌, ℕ, List, [], ◌∷◌, ◌++◌, Option, Some, None}
 use Rattle.mc_model.specs.Chain.{Author, Submission, Decree, Attempt, Fate, Final, Delivered, taken_in, final_in}
 use Rattle.mc_model.specs.OneSlot.{In, vote_at}
 use Rattle.mc_model.specs.Packet.{Slot, slot_of}
-use Rattle.mc_model.specs.Actor.{Request, Concluded}
-use Rattle.mc_model.specs.Proposal.{Cancels}
+use Rattle.mc_model.specs.Actor.{Request, Concluded, opening_clock}
+use Rattle.mc_model.specs.Proposal.{Cancels, HasError}
 use Rattle.mc_model.specs.Replies.{Answer, Shown, Removed}
-use Rattle.mc_model.specs.World.{World, IsChosenIn, Act, Begins, Replies, Reports, Grants, Concludes, Deed}
+use Rattle.mc_model.specs.World.{World, IsChosenIn, Act, Begins, Replies, Reports, Grants, Concludes, Deed, Ticks}
 
 -- the chain of which an answer tells ESME_ROK
 abbrev pub shown_by : Answer → Option (List Decree)
@@ -74,3 +74,21 @@ pub record IsDeletion (id : ℕ) (chain : List Decree) (deeds : List Deed) : Typ
 pub record IsToldChosen (w : World) (id : ℕ) (chain : List Decree) : Type 0 where
   pub ballot : ℕ
   pub chosen : IsChosenIn w (slot_of id chain) (vote_at ballot chain)
+
+-- ---- the decrees of nodes
+
+-- a moment that the clock of an author had: that of its start, or one that came to it in that incarnation
+abbrev pub WasOnClock : List Deed → Author → ℕ → Type 0
+WasOnClock deeds author moment = (moment ≡ opening_clock) ⊎ In (deed_by author (Ticks moment)) deeds
+
+-- the newest decree is not ahead of its author's clock and of the decree before it
+abbrev pub IsTimely : List Deed → List Decree → Type 0
+IsTimely deeds [] = Unit {0}
+IsTimely deeds (first ∷ []) = WasOnClock deeds first.author first.moment
+IsTimely deeds (next ∷ newest ∷ older) = (next.moment ≡ newest.moment) ⊎ WasOnClock deeds next.author next.moment
+
+-- the newest decree has the error that its author may give it
+abbrev pub HasItsError : List Decree → Type 0
+HasItsError [] = Unit {0}
+HasItsError (first ∷ []) = Unit {0}
+HasItsError (next ∷ newest ∷ older) = HasError newest.kind next.kind
