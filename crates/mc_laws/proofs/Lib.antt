@@ -26,3 +26,4 @@ pub mod FirstStep
 pub mod Restarts
 pub mod Questions
 pub mod Refusals
+pub mod Deeds

@@ -3,6 +3,7 @@
 
 mod replies;
 mod chains;
+mod nodes;
 mod promises;
 mod runs;
 mod steps;
@@ -11,12 +12,16 @@ mod synod;
 
 pub use replies::{
     a_settling_majority_has_seen_every_choice, answers_are_fresh, answers_are_fresh_over_steps,
+    tellers_meet_a_choice, tells_follow_their_question,
 };
 pub use chains::{a_fate_is_the_end, chains_are_short, newest_decree_says_the_state};
 pub use promises::{headline, headline_over_steps, what_is_stated_is_chosen};
+pub use nodes::{a_grant_is_given_or_refused_by_one_number, a_node_knows_one_chain};
 pub use runs::{
-    a_grant_is_not_refused, an_open_attempt_is_not_passed, chosen_chains_agree,
-    deleted_stands_on_a_cancel, what_is_chosen_stays,
+    a_cancelled_message_is_deleted, an_open_attempt_is_not_passed, chosen_chains_agree,
+    decrees_have_their_errors, deleted_stands_on_a_cancel, every_packet_concerns_every_node,
+    no_decree_is_ahead_of_the_clock, receipts_are_of_the_node_of_the_id, what_is_chosen_stays,
+    what_is_given_up_was_never_granted,
 };
 pub use steps::{nodes_make_a_run, replies_are_decided, steps_are_runs};
 pub use stories::{

@@ -2,12 +2,13 @@
 
 ghost use Rattle.std.specs.Prelude.{◌≡◌, ◌∷◌, ◌++◌, ℕ, List, Option, Some};
 ghost use Rattle.mc_model.specs.Chain.{Decree, Final, final_in};
+ghost use Rattle.mc_model.specs.Majority.{Majority};
 ghost use Rattle.mc_model.specs.OneSlot.{Vote, In};
-ghost use Rattle.mc_model.specs.Packet.{Slot};
+ghost use Rattle.mc_model.specs.Packet.{Slot, Tell, TopVote};
 ghost use Rattle.mc_model.specs.Actor.{Request};
-ghost use Rattle.mc_model.specs.Knowledge.{IsSettled, Covers};
+ghost use Rattle.mc_model.specs.Knowledge.{HasTold, IsSettled, Covers, MeetsVote};
 ghost use Rattle.mc_model.specs.Replies.{Accepted, Shown, Unknown, id_in};
-ghost use Rattle.mc_model.specs.World.{Act, Begins, Replies, Deed, Run, IsChosenIn, IsRun, past_of, reached, start};
+ghost use Rattle.mc_model.specs.World.{Act, Begins, Replies, Deed, Run, cast, IsChosenIn, IsRun, past_of, reached, start};
 ghost use Rattle.mc_model.specs.Fate.{States};
 ghost use Rattle.mc_model.specs.Step.{StepRun, world_after};
 
@@ -49,4 +50,21 @@ pub fn a_settling_majority_has_seen_every_choice()
         IsChosenIn (reached (start nodes serials) earlier) slot vote → slot.id ≡ id_in request →
         IsSettled nodes ((reached (start nodes serials) (later ++ (node, Begins ticket request) ∷ earlier)).actors node).received (record { node = node; incarnation = ((reached (start nodes serials) earlier).actors node).incarnation; ticket = ticket }) known →
         Covers known slot.place }
+{}
+
+/// No Tell to the questions of a request was made before it came.
+pub fn tells_follow_their_question()
+    ensures { (nodes : ℕ) (serials : ℕ → ℕ) (node ticket : ℕ) (request : Request) (earlier : List (ℕ × Act)) →
+        IsRun (start nodes serials) ((node, Begins ticket request) ∷ earlier) → (teller : ℕ) (told : Option TopVote) →
+        In (Tell teller (record { node = node; incarnation = ((reached (start nodes serials) earlier).actors node).incarnation; ticket = ticket }) told) (reached (start nodes serials) earlier).packets → ⊥ }
+{}
+
+/// A majority that tells of a request meets every choice that was made before it came: one of its nodes had voted for what was
+/// chosen, and tells of that place or of a higher one.
+pub fn tellers_meet_a_choice()
+    ensures { (nodes : ℕ) (serials : ℕ → ℕ) (later : List (ℕ × Act)) (node ticket : ℕ) (request : Request) (earlier : List (ℕ × Act)) (slot : Slot) (vote : Vote) →
+        IsRun (start nodes serials) (later ++ (node, Begins ticket request) ∷ earlier) →
+        IsChosenIn (reached (start nodes serials) earlier) slot vote → slot.id ≡ id_in request →
+        Majority nodes (HasTold ((reached (start nodes serials) (later ++ (node, Begins ticket request) ∷ earlier)).actors node).received (record { node = node; incarnation = ((reached (start nodes serials) earlier).actors node).incarnation; ticket = ticket })) →
+        MeetsVote ((reached (start nodes serials) (later ++ (node, Begins ticket request) ∷ earlier)).actors node).received (λ teller. In (cast teller slot vote) (reached (start nodes serials) earlier).votes) (record { node = node; incarnation = ((reached (start nodes serials) earlier).actors node).incarnation; ticket = ticket }) slot.place }
 {}

@@ -1,13 +1,15 @@
 //! Whole runs: whatever packets are delivered, lost, repeated or reordered, and whatever nodes stop and start anew.
 
-ghost use Rattle.std.specs.Prelude.{◌≡◌, ◌⊎◌, ◌∷◌, ◌++◌, ◌≤◌, ℕ, List};
-ghost use Rattle.mc_model.specs.Chain.{Decree, Attempt, Deleted, GoesOn};
+ghost use Rattle.std.specs.Prelude.{◌≡◌, ◌⊎◌, ◌∷◌, ◌++◌, ◌≤◌, ℕ, List, Some};
+ghost use Rattle.mc_model.specs.Ids.{node_of};
+ghost use Rattle.mc_model.specs.Chain.{Author, Decree, Attempt, Deleted, GoesOn, final_in};
 ghost use Rattle.mc_model.specs.OneSlot.{Vote, In};
-ghost use Rattle.mc_model.specs.Packet.{Slot, Propose, slot_of};
+ghost use Rattle.mc_model.specs.Packet.{Packet, Slot, Propose, slot_of};
 ghost use Rattle.mc_model.specs.Actor.{Outcome};
-ghost use Rattle.mc_model.specs.World.{MayGrant, Deed, cast, IsChosenIn, Run, past_of, world_of};
-ghost use Rattle.mc_model.specs.Fate.{States, IsDeletion};
-ghost use Rattle.mc_model.specs.Grant.{GrantRefusal, IsRefusedFor};
+ghost use Rattle.mc_model.specs.Concerns.{Concerns};
+ghost use Rattle.mc_model.specs.Replies.{Removed};
+ghost use Rattle.mc_model.specs.World.{Abandons, Deed, Grants, Replies, Reports, cast, IsChosenIn, Run, past_of, world_of};
+ghost use Rattle.mc_model.specs.Fate.{States, IsDeletion, HasItsError, IsTimely, deed_by};
 
 /// Once a chain is chosen at a ballot, every vote of its slot at that ballot or above carries it, across all starts anew and
 /// votes of which no packet told.
@@ -46,9 +48,40 @@ pub fn deleted_stands_on_a_cancel()
         (states : States stating id Deleted) → IsDeletion id states.chain older }
 {}
 
-/// An attempt that may be granted at a node is refused there for none of the reasons.
-pub fn a_grant_is_not_refused()
-    ensures { (run : Run) (node : ℕ) (slot : Slot) (refusal : GrantRefusal) →
-        MayGrant run.nodes node ((world_of run).actors node) slot →
-        IsRefusedFor run.nodes node ((world_of run).actors node) slot.id refusal → ⊥ }
+/// In a cluster every packet that was sent concerns every node, so that no node ignores any.
+pub fn every_packet_concerns_every_node()
+    ensures { (run : Run) (node : ℕ) (packet : Packet) →
+        In packet (world_of run).packets →
+        Concerns run.nodes node ((world_of run).actors node) packet }
+{}
+
+/// ESME_ROK to a cancel_sm tells of a chain that ends in DELETED.
+pub fn a_cancelled_message_is_deleted()
+    ensures { (run : Run) (deed : Deed) (ticket id : ℕ) (chain : List Decree) →
+        In deed (past_of run) → deed.act ≡ Replies ticket id (Removed chain) → final_in chain ≡ Some Deleted }
+{}
+
+/// A receipt is written by the node that the id names, and by no other.
+pub fn receipts_are_of_the_node_of_the_id()
+    ensures { (run : Run) (deed : Deed) (id : ℕ) (chain : List Decree) →
+        In deed (past_of run) → deed.act ≡ Reports id chain → node_of id ≡ deed.node }
+{}
+
+/// An attempt that was given up for want of a session was not granted by that node in that incarnation, neither before nor after.
+pub fn what_is_given_up_was_never_granted()
+    ensures { (run : Run) (author : Author) (slot : Slot) →
+        In (deed_by author (Abandons slot)) (past_of run) → In (deed_by author (Grants slot)) (past_of run) → ⊥ }
+{}
+
+/// The newest decree of a chain that is proposed has the moment of the decree before it, or one that its author's clock had in that
+/// incarnation: no decree is ahead of the clock and the chain.
+pub fn no_decree_is_ahead_of_the_clock()
+    ensures { (run : Run) (sender : ℕ) (slot : Slot) (vote : Vote) →
+        In (Propose sender slot vote) (world_of run).packets → IsTimely (past_of run) vote.chain }
+{}
+
+/// A proposal that a message expires or is deleted has no error, and one that it cannot be delivered has that of its last failure.
+pub fn decrees_have_their_errors()
+    ensures { (run : Run) (sender : ℕ) (slot : Slot) (vote : Vote) →
+        In (Propose sender slot vote) (world_of run).packets → HasItsError vote.chain }
 {}

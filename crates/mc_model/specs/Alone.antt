@@ -1,5 +1,5 @@
 -- One node by itself: what it may do by what it received and by its own records.
-use Rattle.std.specs.Prelude.{◌≡◌, ◌⊎◌, ℕ, ◌≤◌, ◌==◌, List, [], ◌∷◌, ◌++◌, Some, if◌then◌else◌}
+use Rattle.std.specs.Prelude.{◌≡◌, ◌⊎◌, ℕ, zero, suc, ◌+◌, ◌<◌, ◌≤◌, Bool, true, false, ◌==◌, List, [], ◌∷◌, ◌++◌, Some, if◌then◌else◌}
 use Rattle.mc_model.specs.Chain.{Decree}
 use Rattle.mc_model.specs.OneSlot.{In, vote_at}
 use Rattle.mc_model.specs.Packet.{Promise, Name, Packet, Propose, Slot, Tell, Voted, top_at}
@@ -110,3 +110,32 @@ steps_of node (newest ∷ older) =
 abbrev pub EachCame : World → List Step → Type 0
 EachCame first [] = Unit {0}
 EachCame first (newest ∷ older) = CameTo (reached first (acts_in older)) newest.input × EachCame first older
+
+-- ---- stores that are not new
+
+-- a cluster whose nodes start over records, each in an incarnation, with the serial of its first message
+abbrev pub start_over : ℕ → (ℕ → Records) → (ℕ → ℕ) → (ℕ → ℕ) → World
+start_over nodes records incarnations serials = record {
+  nodes = nodes;
+  packets = [];
+  votes = [];
+  records = records;
+  actors = λ node. opened (incarnations node) (serials node);
+  past = [];
+}
+
+-- each of the nodes starts anew, but those whose store is new
+abbrev pub openings : ℕ → (ℕ → Bool) → (ℕ → ℕ) → (ℕ → ℕ) → List (ℕ × Act)
+openings zero fresh lost serials = []
+openings (suc node) fresh lost serials =
+    if fresh (suc node) then openings node fresh lost serials
+    else (suc node, Restarts (lost (suc node)) (serials (suc node))) ∷ openings node fresh lost serials
+
+-- the incarnation in which a node is opened
+abbrev pub opened_in : World → (ℕ → Bool) → (ℕ → ℕ) → ℕ → ℕ
+opened_in w fresh lost node = if fresh node then 1 else suc ((w.actors node).incarnation + lost node)
+
+-- The stores that a run left: a new one is of a node that took no step, and the others have an incarnation left.
+pub record AreLeft (w : World) (fresh : ℕ → Bool) (lost serials : ℕ → ℕ) : Type 0 where
+  pub new : (node : ℕ) → fresh node ≡ true → w.actors node ≡ opened 1 (serials node)
+  pub old : (node : ℕ) → fresh node ≡ false → (w.actors node).incarnation + lost node < 9999

@@ -2,9 +2,10 @@
 use Rattle.std.specs.Prelude.{◌≡◌, ℕ, ◌<◌, List, ◌∷◌}
 use Rattle.mc_model.specs.Chain.{Decree, Attempt}
 use Rattle.mc_model.specs.OneSlot.{In}
-use Rattle.mc_model.specs.Packet.{slot_of}
+use Rattle.mc_model.specs.Packet.{slot_of, Slot}
 use Rattle.mc_model.specs.Actor.{Actor, Outcome}
 use Rattle.mc_model.specs.Knowledge.{Knows}
+use Rattle.mc_model.specs.World.{MayGrant}
 
 -- the chain that the node knows ends in an attempt
 pub record EndsInAttempt (nodes : ℕ) (a : Actor) (id : ℕ) (newest : Decree) (older : List Decree) : Type 0 where
@@ -65,3 +66,9 @@ IsRefusedFor nodes node a id NotMine = IsAnothers nodes node a id
 IsRefusedFor nodes node a id OlderIncarnation = IsOfAnotherLife nodes node a id
 IsRefusedFor nodes node a id AlreadyGranted = IsGranted nodes node a id
 IsRefusedFor nodes node a id Closed = IsClosedAlready nodes node a id
+
+-- an attempt of the message may be granted
+pub record IsGiven (nodes node : ℕ) (a : Actor) (id : ℕ) : Type 0 where
+  pub slot : Slot
+  pub about : slot.id ≡ id
+  pub may : MayGrant nodes node a slot

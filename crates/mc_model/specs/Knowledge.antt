@@ -45,3 +45,11 @@ pub record IsSettled (nodes : ℕ) (received : List Packet) (name : Name) (known
 abbrev pub Covers : Option (List Decree) → ℕ → Type 0
 Covers None place = ⊥
 Covers (Some chain) place = place ≤ pred (length chain)
+
+-- One of those who told had voted for a chain, and tells of its place or of a higher one.
+pub record MeetsVote (received : List Packet) (Voted : ℕ → Type 0) (name : Name) (place : ℕ) : Type 0 where
+  pub teller : ℕ
+  pub told : TopVote
+  pub voted : Voted teller
+  pub heard : In (Tell teller name (Some told)) received
+  pub far : place ≤ told.place
