@@ -4,13 +4,18 @@ use Rattle.mc_model.specs.World.{Run, start, World, Act, May, reached, IsRun, af
 use Rattle.mc_model.specs.Setup.{Cluster}
 use Rattle.mc_model.specs.Step.{StepRun, Step, by_node, acts_in, AreSteps}
 
+pub reached_on : (w : World) (later earlier : List (ℕ × Act)) → reached w (later ++ earlier) ≡ reached (reached w earlier) later
+reached_on w [] earlier = refl
+reached_on w (act ∷ later) earlier = ap (λ (v : World). after v act.0 act.1) (reached_on w later earlier)
+
 pub run_on : (w : World) (later earlier : List (ℕ × Act)) → IsRun (reached w earlier) later → IsRun w earlier → IsRun w (later ++ earlier)
 run_on w [] earlier run before = before
 run_on w (act ∷ later) earlier run before = (subst (λ (v : World). May v act.0 act.1) (sym (reached_on w later earlier)) run.0, run_on w later earlier run.1 before)
-  where
-    reached_on : (w : World) (later earlier : List (ℕ × Act)) → reached w (later ++ earlier) ≡ reached (reached w earlier) later
-    reached_on w [] earlier = refl
-    reached_on w (act ∷ later) earlier = ap (λ (v : World). after v act.0 act.1) (reached_on w later earlier)
+
+-- and the later part of a run is one from where the earlier part led
+pub run_behind : (w : World) (later earlier : List (ℕ × Act)) → IsRun w (later ++ earlier) → IsRun (reached w earlier) later
+run_behind w [] earlier run = tt
+run_behind w (act ∷ later) earlier run = (subst (λ (v : World). May v act.0 act.1) (reached_on w later earlier) run.0, run_behind w later earlier run.1)
 
 -- a run of steps is a run of their acts
 pub steps_run : (cluster : Cluster) (first : World) (steps : List Step) → AreSteps cluster first steps → IsRun first (acts_in steps)

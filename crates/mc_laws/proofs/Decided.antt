@@ -4,12 +4,12 @@ use Rattle.mc_model.specs.OneSlot.{Vote, In}
 use Rattle.mc_model.specs.Packet.{slot_at, Packet, Prepare, Promise, Propose, Voted, Refused, TopVote, Ask, Tell}
 use Rattle.mc_model.specs.Acceptor.{Records, IsTold}
 use Rattle.mc_model.specs.Actor.{Actor}
-use Rattle.mc_model.specs.World.{Act, Receives, Tells, Stops, did}
+use Rattle.mc_model.specs.World.{Act, Receives, Tells, Stops, did, saved}
 use Rattle.mc_model.specs.Setup.{Setup}
 use Rattle.mc_model.specs.Input.{Input, Delivery, Crash, Arrival, Tick, Grant, Response, Restart, Refusal}
 use Rattle.mc_model.specs.Due.{AreDue}
 use Rattle.mc_model.specs.Due.{key_of, Fall, AreDue}
-use Rattle.mc_model.specs.Step.{DueToSettle, DueToEnd, DueToReply, DueToReport, IsHandled, IsReceived, IsAnswered, IsSaved, IsCore, IsExact}
+use Rattle.mc_model.specs.Step.{DueToSettle, DueToAsk, DueToAbandon, DueToEnd, DueToReply, DueToReport, IsHandled, IsReceived, IsAnswered, IsSaved, IsCore, IsExact}
 
 -- ---- two lists of one order and of the same members are one
 
@@ -142,8 +142,22 @@ module _ (setup : Setup) (a : Actor) (records : Records) (input : Input) (acts o
   pub late_once : s.late ≡ t.late
   late_once = due_at (DueToEnd input) _ _ s.late t.late (ap (did setup.node a) settled_same) s.ended t.ended
 
+  now_same : (s.late ++ s.settles ++ s.core) ≡ (t.late ++ t.settles ++ t.core)
+  now_same = λ i. late_once i ++ settles_once i ++ core_same i
+
+  pub asks_once : s.asks ≡ t.asks
+  asks_once = due_at (λ b. DueToAsk setup.nodes setup.node a b input) _ _ s.asks t.asks (ap (did setup.node a) now_same) s.asked t.asked
+
+  both_same : ◌≡◌ {A = List Act × List Act} (s.late ++ s.settles ++ s.core, s.core) (t.late ++ t.settles ++ t.core, t.core)
+  both_same = λ i. (now_same i, core_same i)
+
+  pub abandons_once : s.abandons ≡ t.abandons
+  abandons_once = due_once _ _ s.abandons t.abandons
+      (λ act. subst (λ (x : List Act × List Act). DueToAbandon setup.nodes setup.node (did setup.node a x.0) (saved records x.1) input act) both_same)
+      (λ act. subst (λ (x : List Act × List Act). DueToAbandon setup.nodes setup.node (did setup.node a x.0) (saved records x.1) input act) (sym both_same)) s.abandoned t.abandoned
+
   pub replies_once : s.replies ≡ t.replies
-  replies_once = due_at (DueToReply setup.nodes setup.node) _ _ s.replies t.replies (λ i. did setup.node a (late_once i ++ settles_once i ++ core_same i)) s.replied t.replied
+  replies_once = due_at (DueToReply setup.nodes setup.node) _ _ s.replies t.replies (ap (did setup.node a) now_same) s.replied t.replied
 
   pub reports_once : s.reports ≡ t.reports
   reports_once = due_at (DueToReport setup.nodes setup.node a) _ _ s.reports t.reports (ap (did setup.node a) core_same) s.reported t.reported

@@ -27,3 +27,5 @@ pub mod Restarts
 pub mod Questions
 pub mod Refusals
 pub mod Deeds
+pub mod Assembly
+pub mod Openings

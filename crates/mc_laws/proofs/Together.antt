@@ -80,10 +80,10 @@ may_here w keeps node began so act sent may = record { least = may.least; most =
 
 -- ---- a node in the cluster is the node alone
 
-acts_here : (node : ℕ) (newest : ℕ × Act) (older : List (ℕ × Act)) → newest.0 ≡ node → acts_of node (newest ∷ older) ≡ newest.1 ∷ acts_of node older
+pub acts_here : (node : ℕ) (newest : ℕ × Act) (older : List (ℕ × Act)) → newest.0 ≡ node → acts_of node (newest ∷ older) ≡ newest.1 ∷ acts_of node older
 acts_here node newest older is = ap (λ (test : Bool). if test then newest.1 ∷ acts_of node older else acts_of node older) (eq-eqb newest.0 node is)
 
-acts_apart : (node : ℕ) (newest : ℕ × Act) (older : List (ℕ × Act)) → (newest.0 == node) ≡ false → acts_of node (newest ∷ older) ≡ acts_of node older
+pub acts_apart : (node : ℕ) (newest : ℕ × Act) (older : List (ℕ × Act)) → (newest.0 == node) ≡ false → acts_of node (newest ∷ older) ≡ acts_of node older
 acts_apart node newest older is = ap (λ (test : Bool). if test then newest.1 ∷ acts_of node older else acts_of node older) is
 
 -- by what it has

@@ -23,7 +23,10 @@ pub use runs::{
     no_decree_is_ahead_of_the_clock, receipts_are_of_the_node_of_the_id, what_is_chosen_stays,
     what_is_given_up_was_never_granted,
 };
-pub use steps::{nodes_make_a_run, replies_are_decided, steps_are_runs};
+pub use steps::{
+    a_run_of_steps_goes_on, a_run_over_old_stores_goes_on, a_step_alone_is_a_step, nodes_make_a_run,
+    nodes_make_a_run_of_steps, replies_are_decided, steps_are_runs,
+};
 pub use stories::{
     a_message_is_cancelled, a_message_is_delivered, a_node_stops_after_a_save, a_query_is_answered,
     a_submit_starts_a_round,

@@ -1,0 +1,238 @@
+-- A run over stores that an earlier run left goes on from that run.
+use Rattle.std.proofs.Common.{◌≡◌, ◌⊎◌, ℕ, zero, suc, ◌+◌, ◌<◌, ◌≤◌, Bool, true, false, List, [], ◌∷◌, ◌++◌, Option, Some, None, refl, sym, ◌∙◌, ap, subst, inl, inr, arith, append_assoc}
+use Rattle.std.specs.Prelude.{◌==◌, if◌then◌else◌}
+use Rattle.std.proofs.lemmas.Bool.{cases_eq, eqb-true}
+use Rattle.mc_model.specs.Chain.{Decree}
+use Rattle.mc_model.specs.Majority.{Majority}
+use Rattle.mc_model.specs.OneSlot.{Vote, vote_at, In}
+use Rattle.mc_model.specs.Packet.{Slot, slot_of, Packet, Promise}
+use Rattle.mc_model.specs.Acceptor.{Records}
+use Rattle.mc_model.specs.Actor.{Actor, opened}
+use Rattle.mc_model.specs.Proposal.{IsOwn, IsFree, MayPropose}
+use Rattle.mc_model.specs.World.{World, Act, Receives, Proposes, Restarts, Cast, cast, Needs, May, IsUpFor, IsChosenIn, StandsIn, after, actor_by, records_by, sent_by, packets_by, votes_by, changed, reached, start, IsRun, Run, world_of}
+use Rattle.mc_model.specs.Alone.{start_over, openings, opened_in, AreLeft}
+use Rattle.mc_laws.proofs.Membership.{in_right, either}
+use Rattle.mc_laws.proofs.Growth.{changed_here, actor_here, actor_apart, nodes_same}
+use Rattle.mc_laws.proofs.Keeping.{justified_more}
+use Rattle.mc_laws.proofs.Behind.{run_on, reached_on}
+
+in_left : {A : Type 0} (x : A) (front back : List A) → In x front → In x (front ++ back)
+in_left x [] back is_in = absurd is_in
+in_left x (y ∷ front) back (inl same) = inl same
+in_left x (y ∷ front) back (inr later) = inr (in_left x front back later)
+
+-- ---- one world has all that another has, and what was before
+
+pub record GoesBeyond (v u : World) (old : World) : Type 0 where
+  pub nodes : u.nodes ≡ v.nodes
+  pub packets : u.packets ≡ v.packets ++ old.packets
+  pub votes : u.votes ≡ v.votes ++ old.votes
+  pub records : (node : ℕ) → 1 ≤ node → node ≤ v.nodes → u.records node ≡ v.records node
+  pub actors : (node : ℕ) → 1 ≤ node → node ≤ v.nodes → u.actors node ≡ v.actors node
+
+sent_too : (v u old : World) → GoesBeyond v u old → (packet : Packet) → In packet v.packets → In packet u.packets
+sent_too v u old beyond packet is_in = subst (In packet) (sym beyond.packets) (in_left packet v.packets old.packets is_in)
+
+voted_too : (v u old : World) → GoesBeyond v u old → (c : Cast) → In c v.votes → In c u.votes
+voted_too v u old beyond c is_in = subst (In c) (sym beyond.votes) (in_left c v.votes old.votes is_in)
+
+chosen_too : (v u old : World) → GoesBeyond v u old → (slot : Slot) (vote : Vote) → IsChosenIn v slot vote → IsChosenIn u slot vote
+chosen_too v u old beyond slot vote chosen = subst (λ (n : ℕ). Majority n (λ acceptor. In (cast acceptor slot vote) u.votes)) (sym beyond.nodes) (record {
+  test = chosen.test;
+  most = chosen.most;
+  each = λ node least most passes. voted_too v u old beyond (cast node slot vote) (chosen.each node least most passes);
+})
+
+own_too : (v u old : World) → GoesBeyond v u old → (node : ℕ) (a : Actor) (id : ℕ) (chain : List Decree) → IsOwn (IsChosenIn v) node a id chain → IsOwn (IsChosenIn u) node a id chain
+own_too v u old beyond node a id chain (inl first) = inl first
+own_too v u old beyond node a id chain (inr n) = inr (record {
+  next = n.next;
+  newest = n.newest;
+  older = n.older;
+  taken = n.taken;
+  ballot = n.ballot;
+  chain_is = n.chain_is;
+  chosen = chosen_too v u old beyond _ _ n.chosen;
+  author = n.author;
+  moment = n.moment;
+  message = n.message;
+  may = n.may;
+  allowed = n.allowed;
+  error = n.error;
+})
+
+free_too : (v u old : World) → GoesBeyond v u old → (node : ℕ) (a : Actor) (slot : Slot) (chain : List Decree) (highest : Option Vote) → IsFree highest (StandsIn v slot chain) ((slot ≡ slot_of slot.id chain) × IsOwn (IsChosenIn v) node a slot.id chain) → IsFree highest (StandsIn u slot chain) ((slot ≡ slot_of slot.id chain) × IsOwn (IsChosenIn u) node a slot.id chain)
+free_too v u old beyond node a slot chain (Some top) free = tt
+free_too v u old beyond node a slot chain None (inl (inl sent)) = inl (inl (sent.0, sent.1, sent_too v u old beyond _ sent.2))
+free_too v u old beyond node a slot chain None (inl (inr voted)) = inl (inr (voted.0, voted.1, voted_too v u old beyond _ voted.2))
+free_too v u old beyond node a slot chain None (inr mine) = inr (mine.0, own_too v u old beyond node a slot.id chain mine.1)
+
+-- what an act needs in the one it has in the other
+abbrev NeedsIn : World → ℕ → ℕ → Actor → Records → Act → Type 0
+NeedsIn w nodes node a records act = Needs nodes (λ packet. In packet w.packets) (λ packet. In packet w.packets) (StandsIn w) (IsChosenIn w) node a records act
+
+needs_too : (v u old : World) → GoesBeyond v u old → (nodes node : ℕ) (a : Actor) (records : Records) (act : Act) → NeedsIn v nodes node a records act → NeedsIn u nodes node a records act
+needs_too v u old beyond nodes node a records (Receives packet) needs = sent_too v u old beyond packet needs
+needs_too v u old beyond nodes node a records (Proposes slot vote) may = record {
+  proposer = may.proposer;
+  incarnation = may.incarnation;
+  once = may.once;
+  justified = justified_more nodes (λ acceptor report. In (Promise acceptor slot vote.ballot report) v.packets) (λ acceptor report. In (Promise acceptor slot vote.ballot report) u.packets) vote.chain (λ acceptor report. sent_too v u old beyond _) may.justified;
+  free = free_too v u old beyond node a slot vote.chain may.justified.highest may.free;
+}
+needs_too v u old beyond nodes node a records act needs = needs
+
+pub may_too : (v u old : World) → GoesBeyond v u old → (node : ℕ) (act : Act) → May v node act → May u node act
+may_too v u old beyond node act may =
+    let a = sym (beyond.actors node may.least may.most) in
+    let r = sym (beyond.records node may.least may.most) in
+    record {
+      least = may.least;
+      most = subst (λ (n : ℕ). node ≤ n) (sym beyond.nodes) may.most;
+      up = subst (λ (x : Actor). IsUpFor x act) a may.up;
+      needs = subst (λ (n : ℕ). NeedsIn u n node (u.actors node) (u.records node) act) (sym beyond.nodes) (
+          subst (λ (x : Actor). NeedsIn u v.nodes node x (u.records node) act) a (
+          subst (λ (x : Records). NeedsIn u v.nodes node (v.actors node) x act) r (needs_too v u old beyond v.nodes node (v.actors node) (v.records node) act may.needs)));
+    }
+
+changed_too : {A : Type 0} (things others : ℕ → A) (node : ℕ) (one other : A) (at : ℕ) → one ≡ other → things at ≡ others at → changed things node one at ≡ changed others node other at
+changed_too things others node one other at new old = λ i. if at == node then new i else old i
+
+-- and it goes on so
+pub beyond_after : (v u old : World) → GoesBeyond v u old → (node : ℕ) (act : Act) → 1 ≤ node → node ≤ v.nodes → GoesBeyond (after v node act) (after u node act) old
+beyond_after v u old beyond node act least most =
+    let a = beyond.actors node least most in
+    let r = beyond.records node least most in
+    let sent : sent_by u node act ≡ sent_by v node act = λ i. packets_by node (a i) (r i) act in
+    record {
+      nodes = beyond.nodes;
+      packets = (λ i. sent i ++ beyond.packets i) ∙ sym (append_assoc (sent_by v node act) v.packets old.packets);
+      votes = ap (λ (xs : List Cast). votes_by node act ++ xs) beyond.votes ∙ sym (append_assoc (votes_by node act) v.votes old.votes);
+      records = λ other least most. changed_too u.records v.records node _ _ other (ap (λ (x : Records). records_by x act) r) (beyond.records other least most);
+      actors = λ other least most. changed_too u.actors v.actors node _ _ other (ap (λ (x : Actor). actor_by node x act) a) (beyond.actors other least most);
+    }
+
+pub run_beyond : (v u old : World) (acts : List (ℕ × Act)) → GoesBeyond v u old → IsRun v acts → IsRun u acts × GoesBeyond (reached v acts) (reached u acts) old
+run_beyond v u old [] beyond run = (tt, beyond)
+run_beyond v u old (newest ∷ older) beyond run =
+    let before = run_beyond v u old older beyond run.1 in
+    let may = run.0 in
+    ((may_too (reached v older) (reached u older) old before.1 newest.0 newest.1 may, before.0), beyond_after (reached v older) (reached u older) old before.1 newest.0 newest.1 may.least may.most)
+
+-- ---- the nodes start anew
+
+-- what the openings of some nodes leave of a world
+record IsOpened (w v : World) (fresh : ℕ → Bool) (lost serials : ℕ → ℕ) (nodes : ℕ) : Type 0 where
+  same : v.nodes ≡ w.nodes
+  packets : v.packets ≡ w.packets
+  votes : v.votes ≡ w.votes
+  records : (node : ℕ) → v.records node ≡ w.records node
+  opened_now : (node : ℕ) → 1 ≤ node → node ≤ nodes → v.actors node ≡ opened (opened_in w fresh lost node) (serials node)
+  others : (node : ℕ) → nodes < node → v.actors node ≡ w.actors node
+
+abbrev Opens : World → (ℕ → Bool) → (ℕ → ℕ) → (ℕ → ℕ) → ℕ → List (ℕ × Act) → Type 0
+Opens w fresh lost serials nodes acts = IsRun w acts × IsOpened w (reached w acts) fresh lost serials nodes
+
+-- the next node is new
+skips : (w : World) (fresh : ℕ → Bool) (lost serials : ℕ → ℕ) (nodes : ℕ) (acts : List (ℕ × Act)) → AreLeft w fresh lost serials → fresh (suc nodes) ≡ true → Opens w fresh lost serials nodes acts → Opens w fresh lost serials (suc nodes) acts
+skips w fresh lost serials nodes acts left new (run, is) = (run, record {
+  same = is.same;
+  packets = is.packets;
+  votes = is.votes;
+  records = is.records;
+  opened_now = λ node least most. elim (cases_eq node (suc nodes)) [
+    | inl last ↦
+        is.others node (omega (arith, last))
+        ∙ left.new node (ap fresh last ∙ new)
+        ∙ ap (λ (b : Bool). opened (if b then 1 else suc ((w.actors node).incarnation + lost node)) (serials node)) (sym (ap fresh last ∙ new))
+    | inr before ↦ is.opened_now node least (omega (arith, most, before))
+  ];
+  others = λ node above. is.others node (omega (arith, above));
+})
+
+-- or it starts anew
+restarts : (w : World) (fresh : ℕ → Bool) (lost serials : ℕ → ℕ) (nodes : ℕ) (acts : List (ℕ × Act)) → AreLeft w fresh lost serials → suc nodes ≤ w.nodes → fresh (suc nodes) ≡ false → Opens w fresh lost serials nodes acts → Opens w fresh lost serials (suc nodes) ((suc nodes, Restarts (lost (suc nodes)) (serials (suc nodes))) ∷ acts)
+restarts w fresh lost serials nodes acts left within old (run, is) =
+    let v = reached w acts in
+    let act = Restarts (lost (suc nodes)) (serials (suc nodes)) in
+    let same = is.others (suc nodes) (omega arith) in
+    let may : May v (suc nodes) act = record {
+      least = omega arith;
+      most = subst (λ (n : ℕ). suc nodes ≤ n) (sym is.same) within;
+      up = tt;
+      needs = subst (λ (a : Actor). a.incarnation + lost (suc nodes) < 9999) (sym same) (left.old (suc nodes) old);
+    } in
+    let now : (after v (suc nodes) act).actors (suc nodes) ≡ opened (opened_in w fresh lost (suc nodes)) (serials (suc nodes)) =
+        actor_here v (suc nodes) act
+        ∙ ap (λ (a : Actor). opened (suc (a.incarnation + lost (suc nodes))) (serials (suc nodes))) same
+        ∙ ap (λ (b : Bool). opened (if b then 1 else suc ((w.actors (suc nodes)).incarnation + lost (suc nodes))) (serials (suc nodes))) (sym old)
+    in
+    ((may, run), record {
+      same = is.same;
+      packets = is.packets;
+      votes = is.votes;
+      records = λ node. unchanged v node ∙ is.records node;
+      opened_now = λ node least most. elim (cases_eq node (suc nodes)) [
+        | inl last ↦ subst (λ (n : ℕ). (after v (suc nodes) act).actors n ≡ opened (opened_in w fresh lost n) (serials n)) (sym last) now
+        | inr before ↦ actor_apart v (suc nodes) act node before ∙ is.opened_now node least (omega (arith, most, before))
+      ];
+      others = λ node above. actor_apart v (suc nodes) act node (λ last. omega (arith, above, last)) ∙ is.others node (omega (arith, above));
+    })
+  where
+    unchanged : (v : World) (node : ℕ) → changed v.records (suc nodes) (v.records (suc nodes)) node ≡ v.records node
+    unchanged v node = elim (cases_eq node (suc nodes)) [
+      | inl here ↦ subst (λ (n : ℕ). changed v.records (suc nodes) (v.records (suc nodes)) n ≡ v.records n) (sym here) (changed_here v.records (suc nodes) (v.records (suc nodes)))
+      | inr apart ↦ elim (either (node == suc nodes)) [
+        | inl same ↦ absurd (apart (eqb-true node (suc nodes) same))
+        | inr other ↦ ap (λ (b : Bool). if b then v.records (suc nodes) else v.records node) other
+      ]
+    ]
+
+opens : (w : World) (fresh : ℕ → Bool) (lost serials : ℕ → ℕ) → AreLeft w fresh lost serials → (nodes : ℕ) → nodes ≤ w.nodes → Opens w fresh lost serials nodes (openings nodes fresh lost serials)
+opens w fresh lost serials left zero within = (tt, record {
+  same = refl;
+  packets = refl;
+  votes = refl;
+  records = λ node. refl;
+  opened_now = λ node least most. absurd (omega (arith, least, most));
+  others = λ node above. refl;
+})
+opens w fresh lost serials left (suc nodes) within = by_test (fresh (suc nodes)) refl (opens w fresh lost serials left nodes (omega (arith, within)))
+  where
+    by_test : (test : Bool) → fresh (suc nodes) ≡ test → Opens w fresh lost serials nodes (openings nodes fresh lost serials) → Opens w fresh lost serials (suc nodes) (openings (suc nodes) fresh lost serials)
+    by_test true new before =
+        subst (λ (b : Bool). Opens w fresh lost serials (suc nodes) (if b then openings nodes fresh lost serials else (suc nodes, Restarts (lost (suc nodes)) (serials (suc nodes))) ∷ openings nodes fresh lost serials)) (sym new)
+        (skips w fresh lost serials nodes _ left new before)
+    by_test false old before =
+        subst (λ (b : Bool). Opens w fresh lost serials (suc nodes) (if b then openings nodes fresh lost serials else (suc nodes, Restarts (lost (suc nodes)) (serials (suc nodes))) ∷ openings nodes fresh lost serials)) (sym old)
+        (restarts w fresh lost serials nodes _ left within old before)
+
+-- ---- all of it
+
+abbrev pub over : Run → (ℕ → Bool) → (ℕ → ℕ) → (ℕ → ℕ) → World
+over run fresh lost serials = start_over run.nodes (world_of run).records (opened_in (world_of run) fresh lost) serials
+
+pub goes_on_over : (run : Run) (fresh : ℕ → Bool) (lost serials : ℕ → ℕ) (later : List (ℕ × Act)) → AreLeft (world_of run) fresh lost serials → IsRun (over run fresh lost serials) later → IsRun (start run.nodes run.serials) (later ++ (openings run.nodes fresh lost serials ++ run.acts)) × GoesBeyond (reached (over run fresh lost serials) later) (reached (reached (world_of run) (openings run.nodes fresh lost serials)) later) (world_of run)
+goes_on_over run fresh lost serials later left after =
+    let first = start run.nodes run.serials in
+    let w = world_of run in
+    let nodes = nodes_same first run.acts in
+    let o = opens w fresh lost serials left run.nodes (omega (arith, nodes)) in
+    let beyond : GoesBeyond (over run fresh lost serials) (reached w (openings run.nodes fresh lost serials)) w = record {
+      nodes = o.1.same ∙ nodes;
+      packets = o.1.packets;
+      votes = o.1.votes;
+      records = λ node least most. o.1.records node;
+      actors = o.1.opened_now;
+    } in
+    let b = run_beyond (over run fresh lost serials) (reached w (openings run.nodes fresh lost serials)) w later beyond after in
+    let opened_run = run_on first (openings run.nodes fresh lost serials) run.acts o.0 run.may in
+    (run_on first later (openings run.nodes fresh lost serials ++ run.acts) (subst (λ (v : World). IsRun v later) (sym (reached_on first (openings run.nodes fresh lost serials) run.acts)) b.0) opened_run, b.1)
+
+-- its packets are numbered on
+pub numbered_on : (run : Run) (fresh : ℕ → Bool) (lost serials : ℕ → ℕ) (later : List (ℕ × Act)) → AreLeft (world_of run) fresh lost serials → IsRun (over run fresh lost serials) later → (reached (start run.nodes run.serials) (later ++ (openings run.nodes fresh lost serials ++ run.acts))).packets ≡ (reached (over run fresh lost serials) later).packets ++ (world_of run).packets
+numbered_on run fresh lost serials later left after =
+    let first = start run.nodes run.serials in
+    let openers = openings run.nodes fresh lost serials in
+    ap (λ (v : World). v.packets) (reached_on first later (openers ++ run.acts) ∙ ap (λ (v : World). reached v later) (reached_on first openers run.acts))
+    ∙ (goes_on_over run fresh lost serials later left after).1.packets
