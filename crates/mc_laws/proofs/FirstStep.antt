@@ -16,7 +16,7 @@ use Rattle.mc_model.specs.Input.{Arrival}
 use Rattle.mc_model.specs.Due.{AreDue, AreDueOnce, key_of}
 use Rattle.mc_model.specs.Causes.{Causes}
 use Rattle.mc_model.specs.Step.{IsCancelRequest, DueToSettle, DueToEnd, DueToAsk, DueToAbandon, DueToPrepare, DueToPropose, DueToReply, DueToReport, IsExact}
-use Rattle.mc_model.specs.Stories.{first_id, first_ballot, first_setup, taken_chain, first_step}
+use Rattle.mc_laws.specs.Stories.{first_id, first_ballot, first_setup, taken_chain, first_step}
 use Rattle.mc_laws.proofs.Rounds.{one_of_one}
 
 -- ---- nothing is due

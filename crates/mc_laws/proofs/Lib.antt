@@ -29,3 +29,4 @@ pub mod Refusals
 pub mod Deeds
 pub mod Assembly
 pub mod Openings
+pub mod Ticks

@@ -10,7 +10,7 @@ use Rattle.mc_model.specs.Knowledge.{Knows, HasTold, IsReached, IsSettled}
 use Rattle.mc_model.specs.Proposal.{IsMatch}
 use Rattle.mc_model.specs.Replies.{Shown, Removed}
 use Rattle.mc_model.specs.World.{World, Act, Begins, Settles, Replies, IsWaiting, May, reached, IsRun, after}
-use Rattle.mc_model.specs.Stories.{first_id, first_ballot, taken_chain, attempted_chain, delivered_chain, round_for, delivery_story, asking, told_of, question_for, query_story, deleted_chain, cancel_story, decreed, by_node_1, one_node, MayBeTried}
+use Rattle.mc_laws.specs.Stories.{first_id, first_ballot, taken_chain, attempted_chain, delivered_chain, round_for, delivery_story, asking, told_of, question_for, query_story, deleted_chain, cancel_story, decreed, by_node_1, one_node, MayBeTried}
 use Rattle.mc_laws.proofs.Membership.{slots_same}
 use Rattle.mc_laws.proofs.Behind.{run_on}
 use Rattle.mc_laws.proofs.Rounds.{all_of_one, IsReady, round_runs}

@@ -8,7 +8,7 @@ use Rattle.mc_model.specs.Packet.{Slot, Packet, Voted}
 use Rattle.mc_model.specs.Actor.{Submit, opening_clock}
 use Rattle.mc_model.specs.Knowledge.{IsLearned, Knows, KnowsNothing}
 use Rattle.mc_model.specs.World.{IsChosenIn, IsRun, reached}
-use Rattle.mc_model.specs.Stories.{first_id, first_ballot, taken_chain, taken_slot, taken_vote, until_promised, until_stopped, until_anew, restart_story, three_nodes, MayBeTried}
+use Rattle.mc_laws.specs.Stories.{first_id, first_ballot, taken_chain, taken_slot, taken_vote, until_promised, until_stopped, until_anew, restart_story, three_nodes, MayBeTried}
 use Rattle.mc_laws.proofs.Majorities.{both}
 use Rattle.mc_laws.proofs.Membership.{in_right}
 

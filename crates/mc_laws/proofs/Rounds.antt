@@ -10,7 +10,7 @@ use Rattle.mc_model.specs.Acceptor.{Record, blank, after_promise}
 use Rattle.mc_model.specs.Actor.{Actor, Offer}
 use Rattle.mc_model.specs.Proposal.{Allows, IsOwn, MayPropose}
 use Rattle.mc_model.specs.World.{World, Receives, Promises, Prepares, IsChosenIn, StandsIn, IsRun, after}
-use Rattle.mc_model.specs.Stories.{round, by_node_1}
+use Rattle.mc_laws.specs.Stories.{round, by_node_1}
 use Rattle.mc_laws.proofs.Keeping.{with_here}
 
 -- what holds of node 1 holds of the majority of a cluster of one

@@ -7,7 +7,7 @@ ghost use Rattle.mc_model.specs.Actor.{Submit, opened};
 ghost use Rattle.mc_model.specs.Knowledge.{KnowsNothing};
 ghost use Rattle.mc_model.specs.World.{IsChosenIn, IsRun, reached};
 ghost use Rattle.mc_model.specs.Fate.{States};
-ghost use Rattle.mc_model.specs.Stories.{MayBeTried, accepting_deed, cancel_story, delivery_story, first_id, first_setup, first_step, last_deed, one_node, query_story, removing_deed, restart_story, showing_deed, taken_slot, taken_vote, three_nodes, until_anew};
+ghost use Rattle.mc_laws.specs.Stories.{MayBeTried, accepting_deed, cancel_story, delivery_story, first_id, first_setup, first_step, last_deed, one_node, query_story, removing_deed, restart_story, showing_deed, taken_slot, taken_vote, three_nodes, until_anew};
 ghost use Rattle.mc_model.specs.Input.{Arrival};
 ghost use Rattle.mc_model.specs.Step.{IsExact};
 

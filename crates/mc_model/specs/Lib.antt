@@ -13,7 +13,6 @@ pub mod Replies
 pub mod World
 pub mod Fate
 pub mod Alone
-pub mod Stories
 pub mod Rounds
 pub mod Concerns
 pub mod Setup

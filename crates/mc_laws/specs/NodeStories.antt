@@ -1,0 +1,86 @@
+-- Steps of a node by itself, one for each kind of input and each rule of a tick.
+--
+-- In each the node is node 1 in its first incarnation, if nothing else is said, and its setup is `alone`, or `among_three`.
+use Rattle.std.specs.Prelude.{ℕ, zero, suc, ◌+◌, Bool, true, false, List, [], ◌∷◌, Option, Some, None}
+use Rattle.mc_model.specs.Chain.{Author, Submission, Decree, Kind, Taken, Attempt, Failed, Fate, Delivered, Deleted, Expired, Undeliverable}
+use Rattle.mc_model.specs.Ballot.{ballot_of}
+use Rattle.mc_model.specs.OneSlot.{Vote, vote_at}
+use Rattle.mc_model.specs.Packet.{Slot, slot_at, slot_of, top_at, Name, Packet, Prepare, Promise, Propose, Voted, Refused, Ask, Tell}
+use Rattle.mc_model.specs.Acceptor.{Records, blank}
+use Rattle.mc_model.specs.Actor.{Actor, Request, Submit, Query, Cancel, Waiting, Outcome, Concluded, opened, opening_clock}
+use Rattle.mc_model.specs.Replies.{Accepted, Shown}
+use Rattle.mc_model.specs.World.{Act, Receives, Promises, Votes, Tells, Prepares, Proposes, Begins, Asks, Settles, Replies, Grants, Concludes, Abandons, Ticks, Stops, Restarts}
+use Rattle.mc_model.specs.Setup.{Setup}
+use Rattle.mc_model.specs.Input.{Input, Delivery, Crash, Arrival, Refusal, Tick, Grant, Response, Restart}
+use Rattle.mc_model.specs.Alone.{Node, OwnStep, opened_new}
+use Rattle.mc_laws.specs.Stories.{first_id, first_ballot, first_setup, decreed, taken_chain, attempted_chain, delivered_chain}
+
+-- every account has a session that may receive, or none has
+abbrev pub all_up : List ℕ → Bool
+all_up account = true
+
+abbrev pub none_up : List ℕ → Bool
+none_up account = false
+
+abbrev pub no_records : Records
+no_records = λ slot. blank
+
+-- a node that knows a chain of its first message to be chosen, in an incarnation and at a clock, and has granted and closed these
+-- attempts
+abbrev pub knowing : ℕ → ℕ → List Decree → List Slot → List (Slot × Outcome) → Actor
+knowing incarnation clock chain granted closed = record {
+  up = true;
+  incarnation = incarnation;
+  clock = clock;
+  serial = 2;
+  ticket = 1;
+  received = Voted 1 (slot_of first_id chain) (vote_at first_ballot chain) ∷ [];
+  waiting = [];
+  sent = [];
+  before_tick = 0;
+  offers = [];
+  granted = granted;
+  closed = closed;
+}
+
+abbrev pub node_of_actor : Actor → Node
+node_of_actor a = record { actor = a; records = no_records; began = no_records }
+
+-- ---- ticks
+
+-- the ballot of its first round for a slot in an incarnation
+abbrev pub opening_ballot : ℕ → ℕ
+opening_ballot incarnation = ballot_of 1 incarnation 1
+
+-- a tick that starts a round for a chain, and one that gives an attempt up before that
+abbrev pub starting : ℕ → ℕ → List Decree → List Act
+starting incarnation moment chain = Prepares (slot_of first_id chain) (opening_ballot incarnation) chain ∷ Ticks moment ∷ []
+
+abbrev pub giving_up : ℕ → ℕ → Slot → List Decree → List Act
+giving_up incarnation moment slot chain = Prepares (slot_of first_id chain) (opening_ballot incarnation) chain ∷ Abandons slot ∷ Ticks moment ∷ []
+
+-- a decree of the node in an incarnation
+abbrev pub decreed_in : ℕ → ℕ → Kind → Decree
+decreed_in incarnation moment kind = record { author = record { node = 1; incarnation = incarnation }; moment = moment; kind = kind }
+
+-- a message whose attempts failed so often, each by error 100
+abbrev pub failed_chain : ℕ → Submission → List Decree
+failed_chain zero message = taken_chain message
+failed_chain (suc number) message = decreed (Failed 100) ∷ decreed (Attempt (suc number)) ∷ failed_chain number message
+
+-- a minute after the opening clock
+abbrev pub one_minute_later : ℕ
+one_minute_later = 946684860
+
+-- the chains that ticks start rounds for
+abbrev pub expired_chain : Submission → List Decree
+expired_chain message = decreed_in 1 one_minute_later (Fate Expired 0) ∷ taken_chain message
+
+abbrev pub undelivered_chain : Submission → List Decree
+undelivered_chain message = decreed (Fate Undeliverable 100) ∷ failed_chain 8 message
+
+abbrev pub lost_chain : Submission → List Decree
+lost_chain message = decreed_in 2 opening_clock (Failed 999) ∷ attempted_chain message
+
+abbrev pub given_up_chain : Submission → List Decree
+given_up_chain message = decreed (Failed 998) ∷ attempted_chain message
