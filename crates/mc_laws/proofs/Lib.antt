@@ -30,3 +30,4 @@ pub mod Deeds
 pub mod Assembly
 pub mod Openings
 pub mod Ticks
+pub mod Following

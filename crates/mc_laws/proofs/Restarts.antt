@@ -13,7 +13,7 @@ use Rattle.mc_laws.proofs.Majorities.{both}
 use Rattle.mc_laws.proofs.Membership.{in_right}
 
 -- what holds of nodes 1 and 2 holds of a majority of a cluster of three
-two_of_three : (P : ℕ → Type 0) → P 1 → P 2 → Majority 3 P
+pub two_of_three : (P : ℕ → Type 0) → P 1 → P 2 → Majority 3 P
 two_of_three P one two = record { test = λ node. not (node == 3); most = omega arith; each = each }
   where
     each : HoldsOf 3 (λ node. not (node == 3)) P

@@ -84,3 +84,34 @@ lost_chain message = decreed_in 2 opening_clock (Failed 999) ∷ attempted_chain
 
 abbrev pub given_up_chain : Submission → List Decree
 given_up_chain message = decreed (Failed 998) ∷ attempted_chain message
+
+-- ---- a query_sm of another node's message, among three nodes
+
+-- the first message of node 2
+abbrev pub second_id : ℕ
+second_id = 2000100001
+
+abbrev pub among_three : Setup
+among_three = record { node = 1; nodes = 3; first_serial = 1; default_validity = 259200 }
+
+abbrev pub second_slot : Slot
+second_slot = slot_at second_id 0
+
+-- by what the query_sm is asked, and what node 3 tells
+abbrev pub question : Name
+question = record { node = 1; incarnation = 1; ticket = 1 }
+
+abbrev pub told_by_3 : Vote → Packet
+told_by_3 vote = Tell 3 question (Some (top_at second_slot vote))
+
+-- The query_sm comes and is asked; node 2 has nothing to tell, and node 3 tells of a vote. So a round is started for that vote's chain;
+-- nodes 2 and 3 promise and report nothing, since node 3's vote came after its promise, and that chain is proposed. The newest step
+-- stands first.
+abbrev pub following : List ℕ → List ℕ → Vote → List OwnStep
+following account source vote =
+    record { input = Delivery (Promise 3 second_slot first_ballot None); acts = Proposes second_slot (vote_at first_ballot vote.chain) ∷ Receives (Promise 3 second_slot first_ballot None) ∷ [] }
+    ∷ record { input = Delivery (Promise 2 second_slot first_ballot None); acts = Receives (Promise 2 second_slot first_ballot None) ∷ [] }
+    ∷ record { input = Delivery (told_by_3 vote); acts = Prepares second_slot first_ballot vote.chain ∷ Receives (told_by_3 vote) ∷ [] }
+    ∷ record { input = Delivery (Tell 2 question None); acts = Receives (Tell 2 question None) ∷ [] }
+    ∷ record { input = Arrival (Query second_id account source); acts = Asks second_id 1 ∷ Begins 1 (Query second_id account source) ∷ [] }
+    ∷ []
