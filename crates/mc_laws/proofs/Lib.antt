@@ -31,3 +31,4 @@ pub mod Assembly
 pub mod Openings
 pub mod Ticks
 pub mod Following
+pub mod Idle

@@ -35,7 +35,7 @@ told_of chain = Voted 1 (slot_of first_id chain) (vote_at first_ballot chain) �
 pub known_here : (chain : List Decree) → Knows 1 (told_of chain) first_id chain
 known_here chain = knows (told_of chain) chain ((omega arith, λ same. refl), tt) (inl refl)
 
-known_id : (chain : List Decree) (id : ℕ) (other : List Decree) → Knows 1 (told_of chain) id other → id ≡ first_id
+pub known_id : (chain : List Decree) (id : ℕ) (other : List Decree) → Knows 1 (told_of chain) id other → id ≡ first_id
 known_id chain id other known = elim (one_of_one (λ acceptor. In (Voted acceptor (slot_of id other) (vote_at known.ballot other)) (told_of chain)) known.learned) [
   | inl same ↦ let slots : slot_of id other ≡ slot_of first_id chain = cc in ap (λ (s : Slot). s.id) slots
   | inr none ↦ absurd none

@@ -115,3 +115,13 @@ following account source vote =
     ∷ record { input = Delivery (Tell 2 question None); acts = Receives (Tell 2 question None) ∷ [] }
     ∷ record { input = Arrival (Query second_id account source); acts = Asks second_id 1 ∷ Begins 1 (Query second_id account source) ∷ [] }
     ∷ []
+
+-- ---- a node at which nothing waits
+
+-- a node that has given all its serials
+abbrev pub used_up : Actor
+used_up = record (opened 1 1) { serial = 100000 }
+
+-- the attempt of the first message
+abbrev pub first_attempt : Submission → Slot
+first_attempt message = slot_of first_id (attempted_chain message)

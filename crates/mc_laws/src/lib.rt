@@ -28,7 +28,10 @@ pub use steps::{
     a_run_of_steps_goes_on, a_run_over_old_stores_goes_on, a_step_alone_is_a_step, nodes_make_a_run,
     nodes_make_a_run_of_steps, replies_are_decided, steps_are_runs,
 };
-pub use steps_of_nodes::{a_tick_starts_a_round, a_told_vote_is_followed};
+pub use steps_of_nodes::{
+    a_node_starts_anew, a_request_finds_no_serial, a_tick_starts_a_round, a_told_vote_is_followed,
+    an_acceptor_promises_or_stops, an_attempt_is_granted_and_concluded,
+};
 pub use stories::{
     a_message_is_cancelled, a_message_is_delivered, a_node_stops_after_a_save, a_query_is_answered,
     a_submit_starts_a_round,

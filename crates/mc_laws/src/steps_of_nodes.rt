@@ -1,14 +1,15 @@
 //! Steps of a node by itself, so that the laws over steps are not about nothing.
 
-ghost use Rattle.std.specs.Prelude.{◌≤◌, [], ◌∷◌, ℕ, List};
+ghost use Rattle.std.specs.Prelude.{◌+◌, ◌<◌, ◌≤◌, [], ◌∷◌, ℕ, List, true, false};
 ghost use Rattle.mc_model.specs.Chain.{Submission, Delivered};
 ghost use Rattle.mc_model.specs.OneSlot.{Vote};
-ghost use Rattle.mc_model.specs.Packet.{slot_of};
-ghost use Rattle.mc_model.specs.Actor.{Concluded, opening_clock};
-ghost use Rattle.mc_model.specs.Input.{Tick};
-ghost use Rattle.mc_model.specs.Alone.{AreStepsAlone, IsStepAlone, opened_new};
-ghost use Rattle.mc_laws.specs.Stories.{MayBeTried, attempted_chain, delivered_chain, first_id, first_setup, taken_chain};
-ghost use Rattle.mc_laws.specs.NodeStories.{all_up, among_three, following, expired_chain, failed_chain, given_up_chain, giving_up, knowing, lost_chain, node_of_actor, none_up, one_minute_later, starting, undelivered_chain};
+ghost use Rattle.mc_model.specs.Packet.{Prepare, slot_at, slot_of};
+ghost use Rattle.mc_model.specs.Actor.{Concluded, opening_clock, queue_full};
+ghost use Rattle.mc_model.specs.World.{Concludes, Grants, Prepares, Promises, Receives, Restarts, Stops};
+ghost use Rattle.mc_model.specs.Input.{Crash, Delivery, Grant, Refusal, Response, Restart, Tick};
+ghost use Rattle.mc_model.specs.Alone.{AreStepsAlone, IsStepAlone, Node, opened_new};
+ghost use Rattle.mc_laws.specs.Stories.{MayBeTried, attempted_chain, delivered_chain, first_ballot, first_id, first_setup, taken_chain};
+ghost use Rattle.mc_laws.specs.NodeStories.{all_up, among_three, following, expired_chain, failed_chain, first_attempt, given_up_chain, giving_up, knowing, lost_chain, node_of_actor, none_up, one_minute_later, starting, undelivered_chain, used_up};
 
 /// A node knows one chain, and a tick comes. By what the chain ends in, a round is started: for the next attempt, for EXPIRED, for
 /// UNDELIVERABLE after eight failures with the error of the last, for the outcome of an attempt, for the failure of an attempt that
@@ -39,4 +40,35 @@ pub fn a_tick_starts_a_round()
 pub fn a_told_vote_is_followed()
     ensures { (account source : List ℕ) (vote : Vote) →
         AreStepsAlone among_three (opened_new 1) (following account source vote) }
+{}
+
+/// A node of three is asked for a promise and gives it; where it stops after the save, it answers nothing.
+pub fn an_acceptor_promises_or_stops()
+    ensures promises {
+        IsStepAlone among_three (opened_new 1) (Delivery (Prepare 2 (slot_at first_id 0) first_ballot))
+            (Promises (slot_at first_id 0) first_ballot true ∷ Receives (Prepare 2 (slot_at first_id 0) first_ballot) ∷ []) }
+    ensures stops {
+        IsStepAlone among_three (opened_new 1) (Crash (Prepare 2 (slot_at first_id 0) first_ballot) true)
+            (Stops ∷ Promises (slot_at first_id 0) first_ballot false ∷ Receives (Prepare 2 (slot_at first_id 0) first_ballot) ∷ []) }
+{}
+
+/// A node starts anew after two starts that failed, three incarnations later, and counts its messages from its own first serial.
+pub fn a_node_starts_anew()
+    ensures { (s : Node) → s.actor.incarnation + 2 < 9999 → IsStepAlone among_three s (Restart 2) (Restarts 2 1 ∷ []) }
+{}
+
+/// A submit_sm to a node that has given all its serials is answered at once, and nothing else is done.
+pub fn a_request_finds_no_serial()
+    ensures { IsStepAlone among_three (node_of_actor used_up) (Refusal queue_full) [] }
+{}
+
+/// An attempt is granted, and when its outcome comes a round for its decree is started.
+pub fn an_attempt_is_granted_and_concluded()
+    ensures granted { (message : Submission) →
+        IsStepAlone first_setup (node_of_actor (knowing 1 opening_clock (attempted_chain message) [] []))
+            (Grant (first_attempt message)) (Grants (first_attempt message) ∷ []) }
+    ensures concluded { (message : Submission) →
+        IsStepAlone first_setup (node_of_actor (knowing 1 opening_clock (attempted_chain message) (first_attempt message ∷ []) []))
+            (Response (first_attempt message) (Concluded Delivered 0))
+            (Prepares (slot_of first_id (delivered_chain message)) first_ballot (delivered_chain message) ∷ Concludes (first_attempt message) (Concluded Delivered 0) ∷ []) }
 {}
