@@ -32,3 +32,4 @@ pub mod Openings
 pub mod Ticks
 pub mod Following
 pub mod Idle
+pub mod Cancels

@@ -13,7 +13,7 @@ use Rattle.mc_model.specs.World.{Act, Receives, Promises, Votes, Tells, Prepares
 use Rattle.mc_model.specs.Setup.{Setup}
 use Rattle.mc_model.specs.Input.{Input, Delivery, Crash, Arrival, Refusal, Tick, Grant, Response, Restart}
 use Rattle.mc_model.specs.Alone.{Node, OwnStep, opened_new}
-use Rattle.mc_laws.specs.Stories.{first_id, first_ballot, first_setup, decreed, taken_chain, attempted_chain, delivered_chain}
+use Rattle.mc_laws.specs.Stories.{first_id, first_ballot, first_setup, decreed, taken_chain, attempted_chain, delivered_chain, deleted_chain, taken_slot, taken_vote}
 
 -- every account has a session that may receive, or none has
 abbrev pub all_up : List ℕ → Bool
@@ -125,3 +125,49 @@ used_up = record (opened 1 1) { serial = 100000 }
 -- the attempt of the first message
 abbrev pub first_attempt : Submission → Slot
 first_attempt message = slot_of first_id (attempted_chain message)
+
+-- ---- two cancel_sms
+
+-- the slot in which the first message is taken, and the one behind it; the vote for its taking
+abbrev pub behind_slot : Slot
+behind_slot = slot_at first_id 1
+
+-- a ballot of node 2, and the next of node 1 above it
+abbrev pub high_ballot : ℕ
+high_ballot = ballot_of 5 1 2
+
+abbrev pub next_ballot : ℕ
+next_ballot = ballot_of 6 1 1
+
+abbrev pub second_question : Name
+second_question = record { node = 1; incarnation = 1; ticket = 2 }
+
+abbrev pub told_of_taking : Submission → Packet
+told_of_taking message = Tell 1 second_question (Some (top_at taken_slot (taken_vote message)))
+
+abbrev pub cancelling_at : Submission → ℕ → Bool → Waiting
+cancelling_at message ticket settled = record {
+  ticket = ticket;
+  since = opening_clock;
+  request = Cancel first_id message.submitter message.source.digits [];
+  settled = settled;
+}
+
+-- The node knows that the message is taken. The first cancel_sm is settled, and its round was refused; the second is not settled yet.
+abbrev pub cancelled_twice : Submission → Actor
+cancelled_twice message = record (opened 1 1) {
+  serial = 2;
+  ticket = 3;
+  received = Refused 1 behind_slot first_ballot high_ballot ∷ Voted 1 taken_slot (taken_vote message) ∷ [];
+  waiting = cancelling_at message 1 true ∷ cancelling_at message 2 false ∷ [];
+  sent = Prepare 1 behind_slot first_ballot ∷ [];
+  offers = record { slot = behind_slot; ballot = first_ballot; chain = deleted_chain message } ∷ [];
+}
+
+-- The second is settled by the Tell, and starts a round of its own.
+abbrev pub cancelling_again : Submission → List Act
+cancelling_again message =
+    Prepares behind_slot next_ballot (deleted_chain message)
+    ∷ Settles 2
+    ∷ Receives (told_of_taking message)
+    ∷ []

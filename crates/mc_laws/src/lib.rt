@@ -31,6 +31,7 @@ pub use steps::{
 pub use steps_of_nodes::{
     a_node_starts_anew, a_request_finds_no_serial, a_tick_starts_a_round, a_told_vote_is_followed,
     an_acceptor_promises_or_stops, an_attempt_is_granted_and_concluded,
+    each_cancel_starts_a_round,
 };
 pub use stories::{
     a_message_is_cancelled, a_message_is_delivered, a_node_stops_after_a_save, a_query_is_answered,

@@ -9,7 +9,7 @@ ghost use Rattle.mc_model.specs.World.{Concludes, Grants, Prepares, Promises, Re
 ghost use Rattle.mc_model.specs.Input.{Crash, Delivery, Grant, Refusal, Response, Restart, Tick};
 ghost use Rattle.mc_model.specs.Alone.{AreStepsAlone, IsStepAlone, Node, opened_new};
 ghost use Rattle.mc_laws.specs.Stories.{MayBeTried, attempted_chain, delivered_chain, first_ballot, first_id, first_setup, taken_chain};
-ghost use Rattle.mc_laws.specs.NodeStories.{all_up, among_three, following, expired_chain, failed_chain, first_attempt, given_up_chain, giving_up, knowing, lost_chain, node_of_actor, none_up, one_minute_later, starting, undelivered_chain, used_up};
+ghost use Rattle.mc_laws.specs.NodeStories.{all_up, among_three, cancelled_twice, cancelling_again, following, expired_chain, failed_chain, first_attempt, given_up_chain, giving_up, knowing, lost_chain, node_of_actor, none_up, one_minute_later, starting, told_of_taking, undelivered_chain, used_up};
 
 /// A node knows one chain, and a tick comes. By what the chain ends in, a round is started: for the next attempt, for EXPIRED, for
 /// UNDELIVERABLE after eight failures with the error of the last, for the outcome of an attempt, for the failure of an attempt that
@@ -71,4 +71,11 @@ pub fn an_attempt_is_granted_and_concluded()
         IsStepAlone first_setup (node_of_actor (knowing 1 opening_clock (attempted_chain message) (first_attempt message ∷ []) []))
             (Response (first_attempt message) (Concluded Delivered 0))
             (Prepares (slot_of first_id (delivered_chain message)) first_ballot (delivered_chain message) ∷ Concludes (first_attempt message) (Concluded Delivered 0) ∷ []) }
+{}
+
+/// A node knows that a message is taken, and two cancel_sms of it wait. The first is settled, but its round was refused. A Tell settles
+/// the second, and it starts a round of its own for DELETED, above the ballot of the refusal.
+pub fn each_cancel_starts_a_round()
+    ensures { (message : Submission) →
+        IsStepAlone first_setup (node_of_actor (cancelled_twice message)) (Delivery (told_of_taking message)) (cancelling_again message) }
 {}
