@@ -171,10 +171,10 @@ no_votes_5 told_vote acceptor slot vote (inr others) = no_votes_4 told_vote acce
 unsettled_by_3 : (vote : Vote) (received : List Packet) → In (told_by_3 vote) received → IsSettled 3 received question None → ⊥
 unsettled_by_3 vote received is_in settled = settled.reached 3 (Some (top_at second_slot vote)) is_in
 
-few_told : (P : ℕ → Type 0) → ((node : ℕ) → P node → node ≡ 2) → Majority 3 P → ⊥
+pub few_told : (P : ℕ → Type 0) → ((node : ℕ) → P node → node ≡ 2) → Majority 3 P → ⊥
 few_told P only = one_is_few 2 (inl (inl refl)) P only
 
-two_and_three : (P : ℕ → Type 0) → P 2 → P 3 → Majority 3 P
+pub two_and_three : (P : ℕ → Type 0) → P 2 → P 3 → Majority 3 P
 two_and_three P two three = record { test = λ node. not (node == 1); most = omega arith; each = each }
   where
     each : HoldsOf 3 (λ node. not (node == 1)) P

@@ -14,6 +14,7 @@ pub mod Proposals
 pub mod Honest
 pub mod Grantings
 pub mod OwnDecrees
+pub mod Rooms
 pub mod Reached
 pub mod Answers
 pub mod Together
@@ -33,3 +34,4 @@ pub mod Ticks
 pub mod Following
 pub mod Idle
 pub mod Cancels
+pub mod Carrying

@@ -17,6 +17,7 @@ use Rattle.mc_laws.proofs.Freshness.{Names, names_start, names_after}
 use Rattle.mc_laws.proofs.Honest.{Honest, honest_start, honest_after}
 use Rattle.mc_laws.proofs.Grantings.{Grantings, grantings_start, grantings_after}
 use Rattle.mc_laws.proofs.OwnDecrees.{OwnDecrees, own_decrees_start, own_decrees_after}
+use Rattle.mc_laws.proofs.Rooms.{HasRoom, room_after}
 use Rattle.mc_laws.proofs.Stable.{stable}
 use Rattle.mc_laws.proofs.Fated.{open_passed, passed_at, Timely, AllTimely, Told, told_start, told_after}
 
@@ -29,6 +30,7 @@ pub record Holds (w : World) : Type 0 where
   pub honest : Honest w
   pub grantings : Grantings w
   pub own : OwnDecrees w
+  pub rooms : (node : ℕ) → HasRoom (w.actors node)
 
 pub holds_after : (w : World) → Holds w → (node : ℕ) (act : Act) → May w node act → Holds (after w node act)
 holds_after w h node act may = record {
@@ -40,10 +42,11 @@ holds_after w h node act may = record {
   honest = honest_after w h.keeps h.names h.honest node act may;
   grantings = grantings_after w h.links h.grantings node act may;
   own = own_decrees_after w h.keeps h.own node act may;
+  rooms = room_after w node act may h.rooms;
 }
 
 pub holds : (nodes : ℕ) (serials : ℕ → ℕ) (acts : List (ℕ × Act)) → IsRun (start nodes serials) acts → Holds (reached (start nodes serials) acts)
-holds nodes serials [] run = record { keeps = keeps_start nodes serials; links = links_start nodes serials; told = told_start nodes serials; names = names_start nodes serials; deletions = deletions_start nodes serials; honest = honest_start nodes serials; grantings = grantings_start nodes serials; own = own_decrees_start nodes serials }
+holds nodes serials [] run = record { keeps = keeps_start nodes serials; links = links_start nodes serials; told = told_start nodes serials; names = names_start nodes serials; deletions = deletions_start nodes serials; honest = honest_start nodes serials; grantings = grantings_start nodes serials; own = own_decrees_start nodes serials; rooms = λ node. omega arith }
 holds nodes serials (newest ∷ older) run = holds_after (reached (start nodes serials) older) (holds nodes serials older run.1) newest.0 newest.1 run.0
 
 -- ---- one fate

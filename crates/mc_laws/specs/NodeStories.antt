@@ -6,7 +6,7 @@ use Rattle.mc_model.specs.Chain.{Author, Submission, Decree, Kind, Taken, Attemp
 use Rattle.mc_model.specs.Ballot.{ballot_of}
 use Rattle.mc_model.specs.OneSlot.{Vote, vote_at}
 use Rattle.mc_model.specs.Packet.{Slot, slot_at, slot_of, top_at, Name, Packet, Prepare, Promise, Propose, Voted, Refused, Ask, Tell}
-use Rattle.mc_model.specs.Acceptor.{Records, blank}
+use Rattle.mc_model.specs.Acceptor.{Records, blank, after_vote, with_record}
 use Rattle.mc_model.specs.Actor.{Actor, Request, Submit, Query, Cancel, Waiting, Outcome, Concluded, opened, opening_clock}
 use Rattle.mc_model.specs.Replies.{Accepted, Shown}
 use Rattle.mc_model.specs.World.{Act, Receives, Promises, Votes, Tells, Prepares, Proposes, Begins, Asks, Settles, Replies, Grants, Concludes, Abandons, Ticks, Stops, Restarts}
@@ -171,3 +171,29 @@ cancelling_again message =
     ∷ Settles 2
     ∷ Receives (told_of_taking message)
     ∷ []
+
+-- ---- a round that is carried on
+
+-- the ballot of a round in the second incarnation, and one of node 3 above it
+abbrev pub second_ballot : ℕ
+second_ballot = ballot_of 2 2 1
+
+abbrev pub third_ballot : ℕ
+third_ballot = ballot_of 3 1 3
+
+-- The node began its second incarnation with a vote, and started a round for its chain; since then it has voted for another, and node 2
+-- has promised.
+abbrev pub carrying : Vote → List Decree → Node
+carrying vote other = record {
+  actor = record (opened 2 1) {
+    received = Promise 2 second_slot second_ballot None ∷ Propose 3 second_slot (vote_at third_ballot other) ∷ [];
+    sent = Prepare 1 second_slot second_ballot ∷ [];
+    offers = record { slot = second_slot; ballot = second_ballot; chain = vote.chain } ∷ [];
+  };
+  records = with_record no_records second_slot (after_vote (vote_at third_ballot other));
+  began = with_record no_records second_slot (after_vote vote);
+}
+
+-- Node 3 promises too and reports nothing; the chain of the round is proposed.
+abbrev pub carrying_on : Vote → List Act
+carrying_on vote = Proposes second_slot (vote_at second_ballot vote.chain) ∷ Receives (Promise 3 second_slot second_ballot None) ∷ []

@@ -19,7 +19,7 @@ pub use chains::{a_fate_is_the_end, chains_are_short, newest_decree_says_the_sta
 pub use promises::{headline, headline_over_steps, what_is_stated_is_chosen};
 pub use nodes::{a_grant_is_given_or_refused_by_one_number, a_node_knows_one_chain};
 pub use runs::{
-    a_cancelled_message_is_deleted, an_open_attempt_is_not_passed, chosen_chains_agree,
+    a_cancelled_message_is_deleted, a_full_desk_takes_no_request, an_open_attempt_is_not_passed, chosen_chains_agree,
     decrees_have_their_errors, deleted_stands_on_a_cancel, every_packet_concerns_every_node,
     no_decree_is_ahead_of_the_clock, receipts_are_of_the_node_of_the_id, what_is_chosen_stays,
     what_is_given_up_was_never_granted,
@@ -29,7 +29,7 @@ pub use steps::{
     nodes_make_a_run_of_steps, replies_are_decided, steps_are_runs,
 };
 pub use steps_of_nodes::{
-    a_node_starts_anew, a_request_finds_no_serial, a_tick_starts_a_round, a_told_vote_is_followed,
+    a_node_starts_anew, a_request_finds_no_serial, a_tick_starts_a_round, a_told_vote_is_followed, a_voted_chain_is_carried_on,
     an_acceptor_promises_or_stops, an_attempt_is_granted_and_concluded,
     each_cancel_starts_a_round,
 };

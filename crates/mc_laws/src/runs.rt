@@ -1,11 +1,11 @@
 //! Whole runs: whatever packets are delivered, lost, repeated or reordered, and whatever nodes stop and start anew.
 
-ghost use Rattle.std.specs.Prelude.{◌≡◌, ◌⊎◌, ◌∷◌, ◌++◌, ◌≤◌, ℕ, List, Some};
+ghost use Rattle.std.specs.Prelude.{◌≡◌, ◌⊎◌, ◌∷◌, ◌++◌, ◌≤◌, ℕ, List, Some, length};
 ghost use Rattle.mc_model.specs.Ids.{node_of};
 ghost use Rattle.mc_model.specs.Chain.{Author, Decree, Attempt, Deleted, GoesOn, final_in};
 ghost use Rattle.mc_model.specs.OneSlot.{Vote, In};
 ghost use Rattle.mc_model.specs.Packet.{Packet, Slot, Propose, slot_of};
-ghost use Rattle.mc_model.specs.Actor.{Outcome};
+ghost use Rattle.mc_model.specs.Actor.{Outcome, most_waiting};
 ghost use Rattle.mc_model.specs.Concerns.{Concerns};
 ghost use Rattle.mc_model.specs.Replies.{Removed};
 ghost use Rattle.mc_model.specs.World.{Abandons, Deed, Grants, Replies, Reports, cast, IsChosenIn, Run, past_of, world_of};
@@ -84,4 +84,9 @@ pub fn no_decree_is_ahead_of_the_clock()
 pub fn decrees_have_their_errors()
     ensures { (run : Run) (sender : ℕ) (slot : Slot) (vote : Vote) →
         In (Propose sender slot vote) (world_of run).packets → HasItsError vote.chain }
+{}
+
+/// No more than 1,000 requests wait at a node.
+pub fn a_full_desk_takes_no_request()
+    ensures { (run : Run) (node : ℕ) → length ((world_of run).actors node).waiting ≤ most_waiting }
 {}

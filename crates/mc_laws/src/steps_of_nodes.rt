@@ -1,15 +1,15 @@
 //! Steps of a node by itself, so that the laws over steps are not about nothing.
 
-ghost use Rattle.std.specs.Prelude.{◌+◌, ◌<◌, ◌≤◌, [], ◌∷◌, ℕ, List, true, false};
-ghost use Rattle.mc_model.specs.Chain.{Submission, Delivered};
+ghost use Rattle.std.specs.Prelude.{◌+◌, ◌<◌, ◌≤◌, [], ◌∷◌, ℕ, List, None, true, false};
+ghost use Rattle.mc_model.specs.Chain.{Decree, Submission, Delivered};
 ghost use Rattle.mc_model.specs.OneSlot.{Vote};
-ghost use Rattle.mc_model.specs.Packet.{Prepare, slot_at, slot_of};
+ghost use Rattle.mc_model.specs.Packet.{Prepare, Promise, slot_at, slot_of};
 ghost use Rattle.mc_model.specs.Actor.{Concluded, opening_clock, queue_full};
 ghost use Rattle.mc_model.specs.World.{Concludes, Grants, Prepares, Promises, Receives, Restarts, Stops};
 ghost use Rattle.mc_model.specs.Input.{Crash, Delivery, Grant, Refusal, Response, Restart, Tick};
 ghost use Rattle.mc_model.specs.Alone.{AreStepsAlone, IsStepAlone, Node, opened_new};
 ghost use Rattle.mc_laws.specs.Stories.{MayBeTried, attempted_chain, delivered_chain, first_ballot, first_id, first_setup, taken_chain};
-ghost use Rattle.mc_laws.specs.NodeStories.{all_up, among_three, cancelled_twice, cancelling_again, following, expired_chain, failed_chain, first_attempt, given_up_chain, giving_up, knowing, lost_chain, node_of_actor, none_up, one_minute_later, starting, told_of_taking, undelivered_chain, used_up};
+ghost use Rattle.mc_laws.specs.NodeStories.{all_up, among_three, cancelled_twice, cancelling_again, carrying, carrying_on, following, expired_chain, failed_chain, first_attempt, given_up_chain, giving_up, knowing, lost_chain, node_of_actor, none_up, one_minute_later, second_ballot, second_slot, starting, told_of_taking, undelivered_chain, used_up};
 
 /// A node knows one chain, and a tick comes. By what the chain ends in, a round is started: for the next attempt, for EXPIRED, for
 /// UNDELIVERABLE after eight failures with the error of the last, for the outcome of an attempt, for the failure of an attempt that
@@ -78,4 +78,11 @@ pub fn an_attempt_is_granted_and_concluded()
 pub fn each_cancel_starts_a_round()
     ensures { (message : Submission) →
         IsStepAlone first_setup (node_of_actor (cancelled_twice message)) (Delivery (told_of_taking message)) (cancelling_again message) }
+{}
+
+/// A node began its second incarnation with a vote, and started a round for that vote's chain. It has voted for another chain since, but
+/// where a majority has promised and reports no vote, the chain of the round is proposed.
+pub fn a_voted_chain_is_carried_on()
+    ensures { (vote : Vote) (other : List Decree) →
+        IsStepAlone among_three (carrying vote other) (Delivery (Promise 3 second_slot second_ballot None)) (carrying_on vote) }
 {}
