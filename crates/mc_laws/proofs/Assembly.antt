@@ -10,7 +10,7 @@ use Rattle.mc_model.specs.World.{World, Act, Receives, Stops, May, reached, star
 use Rattle.mc_model.specs.Setup.{Setup, Cluster, setup_of}
 use Rattle.mc_model.specs.Input.{Input, Delivery, Crash, Arrival, Refusal, Tick, Grant, Response, Restart}
 use Rattle.mc_model.specs.Due.{AreDue, AreDueOnce}
-use Rattle.mc_model.specs.Step.{DueToEnd, DueToAsk, DueToAbandon, IsAnswered, IsSaved, IsCore, IsExact, IsStep, Step, AreSteps, CameTo, by_node, acts_in}
+use Rattle.mc_model.specs.Step.{DueToEnd, DueToAsk, DueToAbandon, AcceptorReplies, IsSaved, IsCore, IsExact, IsStep, Step, AreSteps, CameTo, by_node, acts_in}
 use Rattle.mc_model.specs.Alone.{Node, after_alone, IsRunAlone, IsStepAlone, AreStepsAlone, OwnStep, EachCame, MayAlone, WasSent, reached_alone, opened_new, acts_of, own_acts, steps_of}
 use Rattle.mc_laws.proofs.Membership.{in_right, in_either}
 use Rattle.mc_laws.proofs.Behind.{run_behind, steps_run}
@@ -30,7 +30,7 @@ none_of_one act acts apart is packet is_in = elim (subst (In (Receives packet)) 
 none_of_none : (acts : List Act) → acts ≡ [] → ReceivesNone acts
 none_of_none acts is packet is_in = subst (In (Receives packet)) is is_in
 
-answer_receives : (records : Records) (packet : Packet) (acts : List Act) → IsAnswered records packet acts → ReceivesNone acts
+answer_receives : (records : Records) (packet : Packet) (acts : List Act) → AcceptorReplies records packet acts → ReceivesNone acts
 answer_receives records (Prepare sender slot ballot) acts (inl a) = none_of_one _ acts (λ packet same. cc) a.1
 answer_receives records (Prepare sender slot ballot) acts (inr a) = none_of_one _ acts (λ packet same. cc) a.1
 answer_receives records (Propose sender slot vote) acts (inl a) = none_of_one _ acts (λ packet same. cc) a.1

@@ -9,7 +9,7 @@ use Rattle.mc_model.specs.Setup.{Setup}
 use Rattle.mc_model.specs.Input.{Input, Delivery, Crash, Arrival, Tick, Grant, Response, Restart, Refusal}
 use Rattle.mc_model.specs.Due.{AreDue}
 use Rattle.mc_model.specs.Due.{key_of, Fall, AreDue}
-use Rattle.mc_model.specs.Step.{DueToSettle, DueToAsk, DueToAbandon, DueToEnd, DueToReply, DueToReport, IsHandled, IsReceived, IsAnswered, IsSaved, IsCore, IsExact}
+use Rattle.mc_model.specs.Step.{DueToSettle, DueToAsk, DueToAbandon, DueToEnd, DueToReply, DueToReport, IsHandled, IsReceived, AcceptorReplies, IsSaved, IsCore, IsExact}
 
 -- ---- two lists of one order and of the same members are one
 
@@ -77,7 +77,7 @@ one_case below above acts first second one other clash (inl a) (inr b) = absurd 
 one_case below above acts first second one other clash (inr a) (inl b) = absurd (clash b.0 a.0)
 one_case below above acts first second one other clash (inr a) (inr b) = a.1 ∙ sym b.1
 
-answered_once : (records : Records) (packet : Packet) (one other : List Act) → IsAnswered records packet one → IsAnswered records packet other → one ≡ other
+answered_once : (records : Records) (packet : Packet) (one other : List Act) → AcceptorReplies records packet one → AcceptorReplies records packet other → one ≡ other
 answered_once records (Prepare sender slot ballot) one other a b = one_case _ _ [] _ _ one other (λ below above. omega (arith, below, above)) a b
 answered_once records (Propose sender slot vote) one other a b = one_case _ _ [] _ _ one other (λ below above. omega (arith, below, above)) a b
 answered_once records (Ask sender id name) one other a b = a.2 ∙ ap (λ (told : Option TopVote). Tells id name told ∷ []) (told_once records id a.0 b.0 a.1 b.1) ∙ sym b.2

@@ -4,7 +4,7 @@ use Rattle.std.specs.Prelude.{◌==◌, if◌then◌else◌}
 use Rattle.std.proofs.lemmas.Bool.{eq-eqb}
 use Rattle.mc_model.specs.OneSlot.{In}
 use Rattle.mc_model.specs.Packet.{Slot, same_slot, Packet}
-use Rattle.mc_model.specs.Acceptor.{Record, Records, with_record, after_promise, after_vote}
+use Rattle.mc_model.specs.Acceptor.{SlotRecord, Records, with_record, after_promise, after_vote}
 use Rattle.mc_model.specs.Actor.{Actor, Outcome, Request, Submit, Query, Cancel}
 use Rattle.mc_model.specs.World.{World, Act, Receives, Promises, Votes, Prepares, Proposes, Begins, Grants, Concludes, Abandons, Restarts, Deed, Cast, cast, May, after, changed, next_serial, records_by, actor_by, votes_by, sent_by, reached}
 use Rattle.mc_laws.proofs.Membership.{in_right, in_either, of_only, same_number, slots_same}
@@ -12,12 +12,12 @@ use Rattle.mc_laws.proofs.Membership.{in_right, in_either, of_only, same_number,
 -- ---- what an act does to a record
 
 -- the record that an act makes new
-abbrev pub IsNew : Records → Act → Slot → Record → Type 0
+abbrev pub IsNew : Records → Act → Slot → SlotRecord → Type 0
 IsNew records (Promises slot ballot sent) other new = (other ≡ slot) × (new ≡ after_promise (records slot) ballot)
 IsNew records (Votes slot vote sent) other new = (other ≡ slot) × (new ≡ after_vote vote)
 IsNew records act other new = ⊥
 
-with_cases : (records : Records) (slot : Slot) (new : Record) (other : Slot) (test : Bool) → same_slot other slot ≡ test → (with_record records slot new other ≡ records other) ⊎ ((other ≡ slot) × (with_record records slot new other ≡ new))
+with_cases : (records : Records) (slot : Slot) (new : SlotRecord) (other : Slot) (test : Bool) → same_slot other slot ≡ test → (with_record records slot new other ≡ records other) ⊎ ((other ≡ slot) × (with_record records slot new other ≡ new))
 with_cases records slot new other true same = inr (slots_same other slot same, ap (λ (test : Bool). if test then new else records other) same)
 with_cases records slot new other false same = inl (ap (λ (test : Bool). if test then new else records other) same)
 
@@ -60,19 +60,19 @@ pub record Grows (w v : World) : Type 0 where
   pub incarnations : (node : ℕ) → (w.actors node).incarnation ≤ (v.actors node).incarnation
   pub past : (deed : Deed) → In deed w.past → In deed v.past
 
-new_promised : (w : World) (node : ℕ) (act : Act) → May w node act → (slot : Slot) (new : Record) → IsNew (w.records node) act slot new → (w.records node slot).promised ≤ new.promised
+new_promised : (w : World) (node : ℕ) (act : Act) → May w node act → (slot : Slot) (new : SlotRecord) → IsNew (w.records node) act slot new → (w.records node slot).promised ≤ new.promised
 new_promised w node (Promises slot ballot sent) may other new is =
     let below : (w.records node slot).promised < ballot = may.needs.may in
-    subst (λ (s : Slot). (w.records node s).promised ≤ new.promised) (sym is.0) (subst (λ (r : Record). (w.records node slot).promised ≤ r.promised) (sym is.1) (omega (arith, below)))
+    subst (λ (s : Slot). (w.records node s).promised ≤ new.promised) (sym is.0) (subst (λ (r : SlotRecord). (w.records node slot).promised ≤ r.promised) (sym is.1) (omega (arith, below)))
 new_promised w node (Votes slot vote sent) may other new is =
     let below : (w.records node slot).promised ≤ vote.ballot = may.needs.may in
-    subst (λ (s : Slot). (w.records node s).promised ≤ new.promised) (sym is.0) (subst (λ (r : Record). (w.records node slot).promised ≤ r.promised) (sym is.1) below)
+    subst (λ (s : Slot). (w.records node s).promised ≤ new.promised) (sym is.0) (subst (λ (r : SlotRecord). (w.records node slot).promised ≤ r.promised) (sym is.1) below)
 new_promised w node act may other new is = absurd is
 
 promised_after : (w : World) (node : ℕ) (act : Act) → May w node act → (other : ℕ) (slot : Slot) → (w.records other slot).promised ≤ ((after w node act).records other slot).promised
 promised_after w node act may other slot =
     elim (records_after w node act other slot) [
-      | inl same ↦ subst (λ (r : Record). (w.records other slot).promised ≤ r.promised) (sym same) (omega arith)
+      | inl same ↦ subst (λ (r : SlotRecord). (w.records other slot).promised ≤ r.promised) (sym same) (omega arith)
       | inr new ↦ subst (λ (n : ℕ). (w.records n slot).promised ≤ ((after w node act).records other slot).promised) (sym new.node_is) (new_promised w node act may slot ((after w node act).records other slot) new.is_new)
     ]
 

@@ -6,7 +6,7 @@ use Rattle.mc_model.specs.Chain.{Decree}
 use Rattle.mc_model.specs.Ballot.{proposer_of, incarnation_in}
 use Rattle.mc_model.specs.OneSlot.{Vote, vote_at, In, IsOfHighest, IsJustified, IsSound, Reaches}
 use Rattle.mc_model.specs.Packet.{Slot, slot_at, TopVote, Packet, Prepare, Promise, Propose, Voted, Refused, Ask, Tell}
-use Rattle.mc_model.specs.Acceptor.{Record, Records, IsTop, with_record, after_promise, after_vote}
+use Rattle.mc_model.specs.Acceptor.{SlotRecord, Records, IsTop, with_record, after_promise, after_vote}
 use Rattle.mc_model.specs.Actor.{Actor}
 use Rattle.mc_model.specs.World.{World, Act, Receives, Promises, Votes, Refuses, Tells, Prepares, Proposes, Asks, Restarts, Cast, cast, May, after, records_by, actor_by, votes_by, sent_by, if_sent, start}
 use Rattle.mc_laws.proofs.Membership.{in_either}
@@ -37,7 +37,7 @@ Fits w (Tell sender name (Some told)) = In (cast sender (slot_at told.id told.pl
 -- ---- what holds of a world
 
 -- a record keeps a vote: it has one that is not below it
-pub record KeepsVote (r : Record) (vote : Vote) : Type 0 where
+pub record KeepsVote (r : SlotRecord) (vote : Vote) : Type 0 where
   pub held : Vote
   pub holds : r.vote ≡ Some held
   pub above : vote.ballot ≤ held.ballot
@@ -101,7 +101,7 @@ fits_still w v grown (Tell sender name (Some told)) fits = grown.votes (cast sen
 
 -- ---- the record that a node has after its own act
 
-pub with_here : (records : Records) (slot : Slot) (new : Record) → with_record records slot new slot ≡ new
+pub with_here : (records : Records) (slot : Slot) (new : SlotRecord) → with_record records slot new slot ≡ new
 with_here records slot new =
     ap (λ (test : Bool). if test then new else records slot) (and_from (slot.id == slot.id) (slot.place == slot.place) (eq-eqb slot.id slot.id refl) (eq-eqb slot.place slot.place refl))
 
@@ -145,7 +145,7 @@ reaches report held ballot is above = subst (λ (r : Option Vote). Reaches r bal
 
 promise_fits : (w : World) → Keeps w → (node : ℕ) (slot : Slot) (ballot : ℕ) (sent : Bool) → (w.records node slot).promised < ballot → PromiseFits (after w node (Promises slot ballot sent)) node slot ballot (w.records node slot).vote
 promise_fits w keeps node slot ballot sent below = record {
-  bound = subst (λ (r : Record). ballot ≤ r.promised) (sym (promise_here w node slot ballot sent)) (omega arith);
+  bound = subst (λ (r : SlotRecord). ballot ≤ r.promised) (sym (promise_here w node slot ballot sent)) (omega arith);
   kept = λ vote is_in lower.
       let k = keeps.records (cast node slot vote) is_in in
       reaches (w.records node slot).vote k.held vote.ballot k.holds k.above;
@@ -188,20 +188,20 @@ fits_after w keeps node act may packet is_in = elim (in_either packet (sent_by w
 -- ---- records and votes
 
 -- what a record keeps it keeps when it is made new
-keeps_new : (w : World) → Keeps w → (node : ℕ) (act : Act) → May w node act → (slot : Slot) (new : Record) → IsNew (w.records node) act slot new → (vote : Vote) → In (cast node slot vote) w.votes → KeepsVote new vote
+keeps_new : (w : World) → Keeps w → (node : ℕ) (act : Act) → May w node act → (slot : Slot) (new : SlotRecord) → IsNew (w.records node) act slot new → (vote : Vote) → In (cast node slot vote) w.votes → KeepsVote new vote
 keeps_new w keeps node (Promises slot ballot sent) may other new is vote is_in =
     let k = keeps.records (cast node other vote) is_in in
-    record { held = k.held; holds = ap (λ (r : Record). r.vote) is.1 ∙ ap (λ (s : Slot). (w.records node s).vote) (sym is.0) ∙ k.holds; above = k.above }
+    record { held = k.held; holds = ap (λ (r : SlotRecord). r.vote) is.1 ∙ ap (λ (s : Slot). (w.records node s).vote) (sym is.0) ∙ k.holds; above = k.above }
 keeps_new w keeps node (Votes slot voted sent) may other new is vote is_in =
     let k = keeps.records (cast node other vote) is_in in
     let h = keeps.held node other k.held k.holds in
     let may_vote : (w.records node slot).promised ≤ voted.ballot = may.needs.may in
     let same : (w.records node other).promised ≡ (w.records node slot).promised = ap (λ (s : Slot). (w.records node s).promised) is.0 in
-    record { held = voted; holds = ap (λ (r : Record). r.vote) is.1; above = omega (arith, k.above, h.within, may_vote, same) }
+    record { held = voted; holds = ap (λ (r : SlotRecord). r.vote) is.1; above = omega (arith, k.above, h.within, may_vote, same) }
 keeps_new w keeps node act may other new is vote is_in = absurd is
 
-same_record : (r s : Record) (vote : Vote) → s ≡ r → KeepsVote r vote → KeepsVote s vote
-same_record r s vote same k = record { held = k.held; holds = ap (λ (x : Record). x.vote) same ∙ k.holds; above = k.above }
+same_record : (r s : SlotRecord) (vote : Vote) → s ≡ r → KeepsVote r vote → KeepsVote s vote
+same_record r s vote same k = record { held = k.held; holds = ap (λ (x : SlotRecord). x.vote) same ∙ k.holds; above = k.above }
 
 old_kept : (w : World) → Keeps w → (node : ℕ) (act : Act) → May w node act → (c : Cast) → In c w.votes → KeepsVote ((after w node act).records c.acceptor c.slot) c.vote
 old_kept w keeps node act may c is_in = elim (records_after w node act c.acceptor c.slot) [
@@ -234,18 +234,18 @@ records_kept w keeps node act may c is_in = elim (in_either c (votes_by node act
 ]
 
 -- a record that an act makes new holds a vote that was saved
-held_new : (w : World) → Keeps w → (node : ℕ) (act : Act) → May w node act → (slot : Slot) (new : Record) → IsNew (w.records node) act slot new → (vote : Vote) → new.vote ≡ Some vote → In (cast node slot vote) (after w node act).votes × (vote.ballot ≤ new.promised)
+held_new : (w : World) → Keeps w → (node : ℕ) (act : Act) → May w node act → (slot : Slot) (new : SlotRecord) → IsNew (w.records node) act slot new → (vote : Vote) → new.vote ≡ Some vote → In (cast node slot vote) (after w node act).votes × (vote.ballot ≤ new.promised)
 held_new w keeps node (Promises slot ballot sent) may other new is vote holds =
-    let before : (w.records node other).vote ≡ Some vote = ap (λ (s : Slot). (w.records node s).vote) is.0 ∙ sym (ap (λ (r : Record). r.vote) is.1) ∙ holds in
+    let before : (w.records node other).vote ≡ Some vote = ap (λ (s : Slot). (w.records node s).vote) is.0 ∙ sym (ap (λ (r : SlotRecord). r.vote) is.1) ∙ holds in
     let h = keeps.held node other vote before in
     let below : (w.records node slot).promised < ballot = may.needs.may in
     let same : (w.records node other).promised ≡ (w.records node slot).promised = ap (λ (s : Slot). (w.records node s).promised) is.0 in
-    let promised : new.promised ≡ ballot = ap (λ (r : Record). r.promised) is.1 in
+    let promised : new.promised ≡ ballot = ap (λ (r : SlotRecord). r.promised) is.1 in
     (h.voted, omega (arith, h.within, below, same, promised))
 held_new w keeps node (Votes slot voted sent) may other new is vote holds =
-    let same : Some voted ≡ Some vote = sym (ap (λ (r : Record). r.vote) is.1) ∙ holds in
+    let same : Some voted ≡ Some vote = sym (ap (λ (r : SlotRecord). r.vote) is.1) ∙ holds in
     let votes : voted ≡ vote = cc in
-    let promised : new.promised ≡ voted.ballot = ap (λ (r : Record). r.promised) is.1 in
+    let promised : new.promised ≡ voted.ballot = ap (λ (r : SlotRecord). r.promised) is.1 in
     (inl (λ i. cast node (is.0 i) (sym votes i)), let ballots : voted.ballot ≡ vote.ballot = ap (λ (v : Vote). v.ballot) votes in omega (arith, promised, ballots))
 held_new w keeps node act may other new is vote holds = absurd is
 
@@ -254,7 +254,7 @@ held_after w keeps node act may other slot vote holds =
     let grown = grows w node act may in
     elim (records_after w node act other slot) [
       | inl same ↦
-          let h = keeps.held other slot vote (sym (ap (λ (r : Record). r.vote) same) ∙ holds) in
+          let h = keeps.held other slot vote (sym (ap (λ (r : SlotRecord). r.vote) same) ∙ holds) in
           let more = grown.promised other slot in
           record { voted = grown.votes (cast other slot vote) h.voted; within = omega (arith, h.within, more) }
       | inr new ↦

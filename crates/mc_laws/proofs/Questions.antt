@@ -4,7 +4,7 @@ use Rattle.std.specs.Prelude.{if◌then◌else◌}
 use Rattle.mc_model.specs.Chain.{Submission, Decree, Taken, Fate, Deleted}
 use Rattle.mc_model.specs.OneSlot.{Vote, vote_at, In}
 use Rattle.mc_model.specs.Packet.{Slot, slot_at, slot_of, same_slot, Packet, Prepare, Promise, Propose, Voted, Refused, TopVote, Ask, Tell}
-use Rattle.mc_model.specs.Acceptor.{Record, Records, blank, with_record, after_promise, after_vote, IsTop}
+use Rattle.mc_model.specs.Acceptor.{SlotRecord, Records, blank, with_record, after_promise, after_vote, IsTop}
 use Rattle.mc_model.specs.Actor.{Query, Cancel, Waiting, opening_clock}
 use Rattle.mc_model.specs.Knowledge.{Knows, HasTold, IsReached, IsSettled}
 use Rattle.mc_model.specs.Proposal.{IsMatch}
@@ -25,7 +25,7 @@ NoneAbove bound records = (place : ℕ) (vote : Vote) → (records (slot_at firs
 none_in_blank : (bound : ℕ) → NoneAbove bound (λ slot. blank)
 none_in_blank bound place vote is = absurd cc
 
-none_with : (bound : ℕ) (records : Records) (slot : Slot) (new : Record) → slot.place ≤ bound → NoneAbove bound records → NoneAbove bound (with_record records slot new)
+none_with : (bound : ℕ) (records : Records) (slot : Slot) (new : SlotRecord) → slot.place ≤ bound → NoneAbove bound records → NoneAbove bound (with_record records slot new)
 none_with bound records slot new below none place vote is = by_test (same_slot (slot_at first_id place) slot) refl
   where
     by_test : (test : Bool) → same_slot (slot_at first_id place) slot ≡ test → place ≤ bound

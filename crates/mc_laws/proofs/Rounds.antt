@@ -6,7 +6,7 @@ use Rattle.mc_model.specs.Majority.{Majority, IsMajority, count}
 use Rattle.mc_model.specs.Ballot.{proposer_of, incarnation_in}
 use Rattle.mc_model.specs.OneSlot.{Vote, vote_at, In, ReportsWithin}
 use Rattle.mc_model.specs.Packet.{Slot, slot_of, Packet, Prepare, Promise, Propose}
-use Rattle.mc_model.specs.Acceptor.{Record, blank, after_promise}
+use Rattle.mc_model.specs.Acceptor.{SlotRecord, blank, after_promise}
 use Rattle.mc_model.specs.Actor.{Actor, Offer}
 use Rattle.mc_model.specs.Proposal.{Allows, IsOwn, MayPropose}
 use Rattle.mc_model.specs.World.{World, Receives, Promises, Prepares, IsChosenIn, StandsIn, IsRun, after}
@@ -94,7 +94,7 @@ own_still Chosen Later a b id chain more is own =
     })
 
 reported : (w : World) (slot : Slot) (vote : Vote) → IsReady w slot vote → Promise 1 slot vote.ballot None ≡ Promise 1 slot vote.ballot (w.records 1 slot).vote
-reported w slot vote ready = ap (λ (r : Record). Promise 1 slot vote.ballot r.vote) (sym ready.unused)
+reported w slot vote ready = ap (λ (r : SlotRecord). Promise 1 slot vote.ballot r.vote) (sym ready.unused)
 
 -- once it has its own promise
 abbrev promised : World → Slot → Vote → World
@@ -119,7 +119,7 @@ round_runs w slot vote ready =
     let nodes = ready.nodes in (
       record { least = omega arith; most = omega (arith, nodes); up = ready.up; needs = inl refl },
       (
-        record { least = omega arith; most = omega (arith, nodes); up = ready.up; needs = record { sender = 1; proposed = inl refl; may = subst (λ (r : Record). r.promised ≤ vote.ballot) (sym (with_here (w.records 1) slot (after_promise (w.records 1 slot) vote.ballot))) (omega arith) } },
+        record { least = omega arith; most = omega (arith, nodes); up = ready.up; needs = record { sender = 1; proposed = inl refl; may = subst (λ (r : SlotRecord). r.promised ≤ vote.ballot) (sym (with_here (w.records 1) slot (after_promise (w.records 1 slot) vote.ballot))) (omega arith) } },
         (
           record { least = omega arith; most = omega (arith, nodes); up = ready.up; needs = inl refl },
           (
@@ -127,7 +127,7 @@ round_runs w slot vote ready =
             (
               record { least = omega arith; most = omega (arith, nodes); up = ready.up; needs = inl (reported w slot vote ready) },
               (
-                record { least = omega arith; most = omega (arith, nodes); up = ready.up; needs = record { sender = 1; prepared = inl refl; may = subst (λ (r : Record). r.promised < vote.ballot) (sym ready.unused) ready.above } },
+                record { least = omega arith; most = omega (arith, nodes); up = ready.up; needs = record { sender = 1; prepared = inl refl; may = subst (λ (r : SlotRecord). r.promised < vote.ballot) (sym ready.unused) ready.above } },
                 (
                   record { least = omega arith; most = omega (arith, nodes); up = ready.up; needs = inl refl },
                   (

@@ -4,31 +4,31 @@ use Rattle.mc_model.specs.OneSlot.{Vote}
 use Rattle.mc_model.specs.Packet.{Slot, slot_at, same_slot, TopVote}
 
 -- The record of a slot: the ballot promised, 0 where none is, and the vote. It outlives a restart.
-pub record Record : Type 0 where
+pub record SlotRecord : Type 0 where
   pub promised : ℕ
   pub vote : Option Vote
 
-abbrev pub blank : Record
+abbrev pub blank : SlotRecord
 blank = record { promised = 0; vote = None }
 
 -- the records of a node, by slot
 abbrev pub Records : Type 0
-Records = Slot → Record
+Records = Slot → SlotRecord
 
-abbrev pub with_record : Records → Slot → Record → Records
+abbrev pub with_record : Records → Slot → SlotRecord → Records
 with_record records slot new = λ other. if same_slot other slot then new else records other
 
 -- a promise is given at a ballot above the one promised, and a vote at one that is not below it
-abbrev pub MayPromise : Record → ℕ → Type 0
+abbrev pub MayPromise : SlotRecord → ℕ → Type 0
 MayPromise r ballot = r.promised < ballot
 
-abbrev pub MayVote : Record → ℕ → Type 0
+abbrev pub MayVote : SlotRecord → ℕ → Type 0
 MayVote r ballot = r.promised ≤ ballot
 
-abbrev pub after_promise : Record → ℕ → Record
+abbrev pub after_promise : SlotRecord → ℕ → SlotRecord
 after_promise r ballot = record { promised = ballot; vote = r.vote }
 
-abbrev pub after_vote : Vote → Record
+abbrev pub after_vote : Vote → SlotRecord
 after_vote vote = record { promised = vote.ballot; vote = Some vote }
 
 -- what an acceptor tells of a message: its vote at the highest place at which it has one, or that it has none

@@ -79,13 +79,20 @@ pub record IsFirstAttempt (message : Submission) (moment number : ℕ) : Type 0 
   pub scheduled : message.schedule ≤ moment
   pub valid : moment < message.expiry
 
+-- how often a message is attempted at most, and how many seconds after a failure, times the attempts so far, the next attempt comes (own)
+abbrev pub most_attempts : ℕ
+most_attempts = 8
+
+abbrev pub retry_delay : ℕ
+retry_delay = 60
+
 -- attempt a + 1 is made before the expiry and at least 60 * a seconds after the failure of attempt a, of which
 -- there are eight at most
 pub record IsNextAttempt (message : Submission) (attempt failed moment number : ℕ) : Type 0 where
   pub next : number ≡ attempt + 1
-  pub most : attempt < 8
+  pub most : attempt < most_attempts
   pub valid : moment < message.expiry
-  pub delayed : failed + 60 * attempt ≤ moment
+  pub delayed : failed + retry_delay * attempt ≤ moment
 
 -- an attempt is declared failed by its node, in the incarnation that made it or a later one
 pub record IsFailureOf (attempted author : Author) : Type 0 where
@@ -108,7 +115,7 @@ MayFollow message attempt old before (Attempt tried) author moment (Fate Rejecte
 MayFollow message attempt old before (Failed cause) author moment (Attempt number) = IsNextAttempt message attempt before moment number
 MayFollow message attempt old before (Failed cause) author moment (Fate Expired error) = message.expiry ≤ moment
 MayFollow message attempt old before (Failed cause) author moment (Fate Deleted error) = Unit {0}
-MayFollow message attempt old before (Failed cause) author moment (Fate Undeliverable error) = attempt ≡ 8
+MayFollow message attempt old before (Failed cause) author moment (Fate Undeliverable error) = attempt ≡ most_attempts
 -- nothing follows a fate, and no other decree follows
 MayFollow message attempt old before kind author moment next = ⊥
 

@@ -23,18 +23,18 @@ use Rattle.mc_model.specs.Causes.{Causes, IsAsking, IsCompleted, IsUntold}
 -- ---- what the input does by itself; acts stand with the newest first
 
 -- what the acceptor answers
-abbrev pub IsAnswered : Records → Packet → List Act → Type 0
-IsAnswered records (Prepare sender slot ballot) acts =
+abbrev pub AcceptorReplies : Records → Packet → List Act → Type 0
+AcceptorReplies records (Prepare sender slot ballot) acts =
     (((records slot).promised < ballot) × (acts ≡ Promises slot ballot true ∷ []))
     ⊎ ((ballot ≤ (records slot).promised) × (acts ≡ Refuses slot ballot ∷ []))
-IsAnswered records (Propose sender slot vote) acts =
+AcceptorReplies records (Propose sender slot vote) acts =
     (((records slot).promised ≤ vote.ballot) × (acts ≡ Votes slot vote true ∷ []))
     ⊎ ((vote.ballot < (records slot).promised) × (acts ≡ Refuses slot vote.ballot ∷ []))
-IsAnswered records (Ask sender id name) acts = (told : Option TopVote) × IsTold records id told × (acts ≡ Tells id name told ∷ [])
-IsAnswered records (Promise sender slot ballot report) acts = acts ≡ []
-IsAnswered records (Voted sender slot vote) acts = acts ≡ []
-IsAnswered records (Refused sender slot ballot promised) acts = acts ≡ []
-IsAnswered records (Tell sender name told) acts = acts ≡ []
+AcceptorReplies records (Ask sender id name) acts = (told : Option TopVote) × IsTold records id told × (acts ≡ Tells id name told ∷ [])
+AcceptorReplies records (Promise sender slot ballot report) acts = acts ≡ []
+AcceptorReplies records (Voted sender slot vote) acts = acts ≡ []
+AcceptorReplies records (Refused sender slot ballot promised) acts = acts ≡ []
+AcceptorReplies records (Tell sender name told) acts = acts ≡ []
 
 -- what it saves of that, where it stops before it has answered
 abbrev pub IsSaved : Records → Packet → List Act → Type 0
@@ -49,7 +49,7 @@ IsSaved records packet acts = acts ≡ []
 -- a packet that concerns the node is received and answered
 pub record IsReceived (records : Records) (packet : Packet) (acts : List Act) : Type 0 where
   pub answer : List Act
-  pub answered : IsAnswered records packet answer
+  pub answered : AcceptorReplies records packet answer
   pub acts_are : acts ≡ answer ++ Receives packet ∷ []
 
 -- and one that does not is ignored
