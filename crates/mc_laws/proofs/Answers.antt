@@ -1,14 +1,19 @@
 -- What a request is answered that came after others were answered.
 use Rattle.std.proofs.Common.{◌≡◌, ℕ, pred, ◌≤◌, List, [], ◌∷◌, ◌++◌, length, Option, Some, None, inl, inr, sym, ◌∙◌, ap, subst, arith}
-use Rattle.mc_model.specs.Chain.{Decree, Final, Deleted, final_in}
-use Rattle.mc_model.specs.Majority.{Majority}
-use Rattle.mc_model.specs.OneSlot.{Vote, vote_at, In}
-use Rattle.mc_model.specs.Packet.{Slot, slot_at, slot_of, Packet, Name, TopVote, Tell}
-use Rattle.mc_model.specs.Actor.{Actor, Request, Submit, Query, Cancel, Waiting}
-use Rattle.mc_model.specs.Knowledge.{Knows, HasTold, IsReached, IsSettled, Covers, MeetsVote}
-use Rattle.mc_model.specs.Replies.{Answer, Accepted, Shown, Unknown, IsUnknown, FitsRequest, id_in, name_of}
-use Rattle.mc_model.specs.World.{World, Act, Begins, Replies, Deed, cast, May, MayReply, IsChosenIn, start, reached, IsRun}
-use Rattle.mc_model.specs.Fate.{States, IsDeletion}
+use Rattle.mc_model.specs.message.Decree.{Decree, Final, Deleted}
+use Rattle.mc_model.specs.message.Chain.{final_in}
+use Rattle.mc_model.specs.synod.Lists.{In}
+use Rattle.mc_model.specs.synod.Majority.{Majority}
+use Rattle.mc_model.specs.synod.OneSlot.{Vote, vote_at}
+use Rattle.mc_model.specs.synod.Packet.{Slot, slot_at, slot_of, Packet, Name, TopVote, Tell}
+use Rattle.mc_model.specs.node.Actor.{Actor, Request, Submit, Query, Cancel, Waiting, id_in, name_of}
+use Rattle.mc_model.specs.node.Knowledge.{Knows}
+use Rattle.mc_model.specs.node.Settling.{HasTold, IsReached, IsSettled, Covers, MeetsVote}
+use Rattle.mc_model.specs.node.Replies.{Answer, Accepted, Shown, Unknown, IsUnknown, FitsRequest, MayReply}
+use Rattle.mc_model.specs.node.Act.{Act, Begins, Replies}
+use Rattle.mc_model.specs.cluster.World.{World, Deed, cast, May, IsChosenIn, start, reached, IsRun}
+use Rattle.mc_model.specs.cluster.Fate.{States}
+use Rattle.mc_model.specs.cluster.Decrees.{IsDeletion}
 use Rattle.mc_laws.proofs.Majorities.{both}
 use Rattle.mc_laws.proofs.Growth.{grows, nodes_same}
 use Rattle.mc_laws.proofs.Links.{chosen_still, chosen_standing}

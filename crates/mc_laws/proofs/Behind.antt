@@ -1,8 +1,8 @@
 -- One run behind another, and runs of steps.
 use Rattle.std.proofs.Common.{◌≡◌, ℕ, List, [], ◌∷◌, ◌++◌, refl, sym, ap, subst}
-use Rattle.mc_model.specs.World.{Run, start, World, Act, May, reached, IsRun, after}
-use Rattle.mc_model.specs.Setup.{Cluster}
-use Rattle.mc_model.specs.Step.{StepRun, Step, by_node, acts_in, AreSteps}
+use Rattle.mc_model.specs.node.Act.{Act}
+use Rattle.mc_model.specs.cluster.World.{Run, start, World, May, reached, IsRun, after}
+use Rattle.mc_model.specs.cluster.Steps.{Cluster, StepRun, Step, by_node, acts_in, AreSteps}
 
 pub reached_on : (w : World) (later earlier : List (ℕ × Act)) → reached w (later ++ earlier) ≡ reached (reached w earlier) later
 reached_on w [] earlier = refl

@@ -1,20 +1,25 @@
 -- A second cancel_sm that is settled starts a round of its own.
 use Rattle.std.proofs.Common.{◌≡◌, ◌⊎◌, ℕ, suc, ◌+◌, ◌<◌, ◌≤◌, Bool, true, false, List, [], ◌∷◌, ◌++◌, length, Option, Some, None, refl, sym, ◌∙◌, ap, subst, inl, inr, arith}
-use Rattle.mc_model.specs.Chain.{Submission, Decree, Taken, Fate, Deleted, final_in, taken_in}
-use Rattle.mc_model.specs.Ballot.{round_in}
-use Rattle.mc_model.specs.OneSlot.{Vote, vote_at, In}
-use Rattle.mc_model.specs.Packet.{Slot, slot_at, slot_of, top_at, Packet, Prepare, Promise, Propose, Voted, Refused, Ask, Tell, TopVote, Name}
-use Rattle.mc_model.specs.Actor.{Actor, Request, Cancel, Waiting}
-use Rattle.mc_model.specs.Knowledge.{IsLearned, Knows, HasTold, IsReached, IsSettled}
-use Rattle.mc_model.specs.Proposal.{IsMatch}
-use Rattle.mc_model.specs.Replies.{Answer, Removed, Kept, NotMatched, Unknown, TooLate, FitsCancel, FitsRequest, KeepsMessage, id_in}
-use Rattle.mc_model.specs.Rounds.{HasSeen, MayPrepare, IsRefused, IsRunning}
-use Rattle.mc_model.specs.World.{Act, Receives, Settles, Replies, Asks, Prepares, Proposes, Reports, did}
-use Rattle.mc_model.specs.Input.{Delivery}
-use Rattle.mc_model.specs.Due.{AreDue, AreDueOnce, key_of}
-use Rattle.mc_model.specs.Causes.{Causes, WasSettled}
-use Rattle.mc_model.specs.Step.{DueToSettle, DueToEnd, DueToAsk, DueToAbandon, DueToPrepare, DueToPropose, DueToReply, DueToReport, IsExact}
-use Rattle.mc_model.specs.Alone.{IsStepAlone}
+use Rattle.mc_model.specs.message.Submission.{Submission}
+use Rattle.mc_model.specs.message.Decree.{Decree, Taken, Deleted}
+use Rattle.mc_model.specs.message.Chain.{final_in, taken_in}
+use Rattle.mc_model.specs.synod.Lists.{In}
+use Rattle.mc_model.specs.synod.Ballot.{round_in}
+use Rattle.mc_model.specs.synod.OneSlot.{vote_at}
+use Rattle.mc_model.specs.synod.Packet.{Slot, slot_at, slot_of, top_at, Packet, Prepare, Voted, Tell, TopVote}
+use Rattle.mc_model.specs.node.Actor.{Actor, Request, Cancel, Waiting, id_in}
+use Rattle.mc_model.specs.node.Knowledge.{IsLearned, Knows}
+use Rattle.mc_model.specs.node.Settling.{HasTold, IsReached, IsSettled}
+use Rattle.mc_model.specs.node.Proposal.{IsMatch}
+use Rattle.mc_model.specs.node.Replies.{Answer, Removed, Kept, NotMatched, Unknown, FitsCancel, FitsRequest, KeepsMessage}
+use Rattle.mc_model.specs.node.Act.{Act, Receives, Settles, Replies, Asks, Prepares, Proposes, Reports}
+use Rattle.mc_model.specs.node.Effect.{did}
+use Rattle.mc_model.specs.node.Rounds.{HasSeen, MayPrepare, IsRefused, IsRunning}
+use Rattle.mc_model.specs.node.Input.{Delivery}
+use Rattle.mc_model.specs.node.Causes.{Causes, WasSettled}
+use Rattle.mc_model.specs.node.Due.{AreDue, AreDueOnce, key_of}
+use Rattle.mc_model.specs.node.Phases.{DueToSettle, DueToEnd, DueToAsk, DueToAbandon, DueToPrepare, DueToPropose, DueToReply, DueToReport}
+use Rattle.mc_model.specs.node.Alone.{IsStepAlone}
 use Rattle.mc_laws.specs.Stories.{first_id, first_ballot, first_setup, decreed, taken_chain, deleted_chain, taken_slot, taken_vote}
 use Rattle.mc_laws.specs.NodeStories.{no_records, node_of_actor, behind_slot, high_ballot, next_ballot, second_question, told_of_taking, cancelling_at, cancelled_twice, cancelling_again}
 use Rattle.mc_laws.proofs.Rounds.{all_of_one, one_of_one}

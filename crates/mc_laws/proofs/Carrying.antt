@@ -1,17 +1,19 @@
 -- A round for the vote with which an incarnation began is carried on, though the node has voted for another chain since.
 use Rattle.std.proofs.Common.{◌≡◌, ◌⊎◌, ℕ, ◌<◌, ◌≤◌, List, [], ◌∷◌, ◌++◌, Option, Some, None, refl, sym, ◌∙◌, ap, subst, inl, inr, arith}
-use Rattle.mc_model.specs.Chain.{Decree}
-use Rattle.mc_model.specs.OneSlot.{Vote, vote_at, In}
-use Rattle.mc_model.specs.Packet.{Slot, Packet, Prepare, Promise, Propose, Voted, Refused, Tell}
-use Rattle.mc_model.specs.Acceptor.{Records}
-use Rattle.mc_model.specs.Actor.{Actor}
-use Rattle.mc_model.specs.Rounds.{IsRunning, IsPromised}
-use Rattle.mc_model.specs.World.{Act, Receives, Settles, Replies, Asks, Prepares, Proposes, Reports, did}
-use Rattle.mc_model.specs.Input.{Delivery}
-use Rattle.mc_model.specs.Due.{AreDueOnce, key_of}
-use Rattle.mc_model.specs.Causes.{Causes, IsCompleted}
-use Rattle.mc_model.specs.Step.{DueToSettle, DueToEnd, DueToAsk, DueToAbandon, DueToPrepare, DueToPropose, DueToReply, DueToReport, IsExact}
-use Rattle.mc_model.specs.Alone.{IsStepAlone}
+use Rattle.mc_model.specs.message.Decree.{Decree}
+use Rattle.mc_model.specs.synod.Lists.{In}
+use Rattle.mc_model.specs.synod.OneSlot.{Vote, vote_at}
+use Rattle.mc_model.specs.synod.Packet.{Slot, Packet, Prepare, Promise}
+use Rattle.mc_model.specs.synod.Acceptor.{Records}
+use Rattle.mc_model.specs.node.Actor.{Actor}
+use Rattle.mc_model.specs.node.Act.{Act, Receives, Settles, Replies, Asks, Prepares, Proposes, Reports}
+use Rattle.mc_model.specs.node.Effect.{did}
+use Rattle.mc_model.specs.node.Rounds.{IsRunning}
+use Rattle.mc_model.specs.node.Input.{Delivery}
+use Rattle.mc_model.specs.node.Causes.{Causes, IsCompleted}
+use Rattle.mc_model.specs.node.Due.{AreDueOnce, key_of}
+use Rattle.mc_model.specs.node.Phases.{DueToSettle, DueToEnd, DueToAsk, DueToAbandon, DueToPrepare, DueToPropose, DueToReply, DueToReport}
+use Rattle.mc_model.specs.node.Alone.{IsStepAlone}
 use Rattle.mc_laws.specs.NodeStories.{among_three, second_id, second_slot, second_ballot, third_ballot, carrying, carrying_on}
 use Rattle.mc_laws.proofs.FirstStep.{none_due, none_due_once}
 use Rattle.mc_laws.proofs.Following.{NoVotes, none_known, two_and_three, few_told}

@@ -1,15 +1,18 @@
 -- What a node answers in a step is decided by the node and by what comes to it.
 use Rattle.std.proofs.Common.{◌≡◌, ◌⊎◌, ℕ, ◌<◌, ◌≤◌, true, false, List, [], ◌∷◌, ◌++◌, map, Option, Some, None, refl, sym, ◌∙◌, ap, subst, inl, inr, arith}
-use Rattle.mc_model.specs.OneSlot.{Vote, In}
-use Rattle.mc_model.specs.Packet.{slot_at, Packet, Prepare, Promise, Propose, Voted, Refused, TopVote, Ask, Tell}
-use Rattle.mc_model.specs.Acceptor.{Records, IsTold}
-use Rattle.mc_model.specs.Actor.{Actor}
-use Rattle.mc_model.specs.World.{Act, Receives, Tells, Stops, did, saved}
-use Rattle.mc_model.specs.Setup.{Setup}
-use Rattle.mc_model.specs.Input.{Input, Delivery, Crash, Arrival, Tick, Grant, Response, Restart, Refusal}
-use Rattle.mc_model.specs.Due.{AreDue}
-use Rattle.mc_model.specs.Due.{key_of, Fall, AreDue}
-use Rattle.mc_model.specs.Step.{DueToSettle, DueToAsk, DueToAbandon, DueToEnd, DueToReply, DueToReport, IsHandled, IsReceived, AcceptorReplies, IsSaved, IsCore, IsExact}
+use Rattle.mc_model.specs.synod.Lists.{In}
+use Rattle.mc_model.specs.synod.OneSlot.{Vote}
+use Rattle.mc_model.specs.synod.Packet.{slot_at, Packet, Prepare, Promise, Propose, Voted, Refused, TopVote, Ask, Tell}
+use Rattle.mc_model.specs.synod.Acceptor.{Records, IsTold}
+use Rattle.mc_model.specs.node.Setup.{Setup}
+use Rattle.mc_model.specs.node.Actor.{Actor}
+use Rattle.mc_model.specs.node.Act.{Act, Receives, Tells, Stops}
+use Rattle.mc_model.specs.node.Effect.{did, saved}
+use Rattle.mc_model.specs.node.Input.{Input, Delivery, Crash, Arrival, Tick, Grant, Response, Restart, Refusal}
+use Rattle.mc_model.specs.node.Due.{AreDue, key_of, Fall}
+use Rattle.mc_model.specs.node.Core.{IsHandled, IsReceived, AcceptorReplies, IsSaved, IsCore}
+use Rattle.mc_model.specs.node.Phases.{DueToSettle, DueToAsk, DueToAbandon, DueToEnd, DueToReply, DueToReport}
+use Rattle.mc_model.specs.node.Step.{IsExact}
 
 -- ---- two lists of one order and of the same members are one
 

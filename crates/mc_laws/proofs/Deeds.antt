@@ -1,11 +1,13 @@
 -- What is said of one deed of a run.
 use Rattle.std.proofs.Common.{◌≡◌, ◌⊎◌, ℕ, List, [], ◌∷◌, Some, sym, ap, subst, inl, inr}
-use Rattle.mc_model.specs.Ids.{node_of}
-use Rattle.mc_model.specs.Chain.{Decree, Deleted, final_in}
-use Rattle.mc_model.specs.OneSlot.{In}
-use Rattle.mc_model.specs.Actor.{Actor, Request, Submit, Query, Cancel, Waiting}
-use Rattle.mc_model.specs.Replies.{Removed, FitsRequest}
-use Rattle.mc_model.specs.World.{World, Act, Replies, Reports, Deed, May, Run, IsRun, past_of, reached, start}
+use Rattle.mc_model.specs.message.Ids.{node_of}
+use Rattle.mc_model.specs.message.Decree.{Decree, Deleted}
+use Rattle.mc_model.specs.message.Chain.{final_in}
+use Rattle.mc_model.specs.synod.Lists.{In}
+use Rattle.mc_model.specs.node.Actor.{Actor, Request, Submit, Query, Cancel, Waiting}
+use Rattle.mc_model.specs.node.Replies.{Removed, FitsRequest}
+use Rattle.mc_model.specs.node.Act.{Act, Replies, Reports}
+use Rattle.mc_model.specs.cluster.World.{World, Deed, May, Run, IsRun, past_of, reached, start}
 
 -- it might be done where it was done
 pub record WasAllowed (deed : Deed) : Type 0 where

@@ -1,12 +1,19 @@
 -- Behind each deletion stands a cancel_sm.
 use Rattle.std.proofs.Common.{◌≡◌, ◌⊎◌, ℕ, List, [], ◌∷◌, Option, Some, None, refl, sym, ◌∙◌, ap, subst, inl, inr}
-use Rattle.mc_model.specs.Chain.{Author, Submission, Decree, Kind, Taken, Attempt, Failed, Fate, Delivered, Expired, Deleted, Undeliverable, Rejected, MayFollow, taken_in, taken_by, final_in, final_by}
-use Rattle.mc_model.specs.OneSlot.{Vote, vote_at, In, IsOfHighest}
-use Rattle.mc_model.specs.Packet.{Slot, slot_of, Promise}
-use Rattle.mc_model.specs.Actor.{Actor, Waiting}
-use Rattle.mc_model.specs.Proposal.{Cancels, IsCancelled, Allows, IsNext, IsOwn, IsFree}
-use Rattle.mc_model.specs.World.{World, Act, Proposes, Begins, Settles, Replies, Restarts, Deed, cast, May, IsChosenIn, StandsIn, after, actor_by, settle, start}
-use Rattle.mc_model.specs.Fate.{deed_by, CameToCancel, IsDeletion}
+use Rattle.mc_model.specs.message.Submission.{Submission}
+use Rattle.mc_model.specs.message.Decree.{Author, Decree, Kind, Taken, Attempt, Failed, Fate, Delivered, Expired, Deleted, Undeliverable, Rejected}
+use Rattle.mc_model.specs.message.Neighbours.{MayFollow}
+use Rattle.mc_model.specs.message.Chain.{taken_in, taken_by, final_in, final_by}
+use Rattle.mc_model.specs.synod.Lists.{In}
+use Rattle.mc_model.specs.synod.OneSlot.{Vote, vote_at, IsOfHighest}
+use Rattle.mc_model.specs.synod.Packet.{Slot, slot_of, Promise}
+use Rattle.mc_model.specs.node.Actor.{Actor, Waiting}
+use Rattle.mc_model.specs.node.Proposal.{Cancels, IsCancelled, Allows, IsNext, IsOwn, IsFree}
+use Rattle.mc_model.specs.node.Act.{Act, Proposes, Begins, Settles, Replies, Restarts}
+use Rattle.mc_model.specs.node.Effect.{actor_by, settle}
+use Rattle.mc_model.specs.cluster.World.{World, Deed, cast, May, IsChosenIn, StandsIn, after, start}
+use Rattle.mc_model.specs.cluster.Fate.{deed_by}
+use Rattle.mc_model.specs.cluster.Decrees.{CameToCancel, IsDeletion}
 use Rattle.mc_laws.proofs.Membership.{in_either, of_only, in_map, in_filter}
 use Rattle.mc_laws.proofs.Majorities.{both}
 use Rattle.mc_laws.proofs.Growth.{actors_after}

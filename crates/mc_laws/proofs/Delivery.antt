@@ -1,12 +1,16 @@
 -- The story of a delivery is a run.
 use Rattle.std.proofs.Common.{◌≡◌, ℕ, pred, ◌≤◌, false, List, [], ◌∷◌, ◌++◌, length, map, refl, sym, ap, subst, inl, inr, arith}
-use Rattle.mc_model.specs.Chain.{Submission, Decree, Taken, Attempt, Fate, Delivered}
-use Rattle.mc_model.specs.OneSlot.{Vote, vote_at, In}
-use Rattle.mc_model.specs.Packet.{Slot, slot_at, slot_of, Packet, Prepare, Promise, Propose, Voted, Refused, Ask, Tell}
-use Rattle.mc_model.specs.Actor.{Submit, Concluded, opening_clock}
-use Rattle.mc_model.specs.Knowledge.{IsLearned, Knows}
-use Rattle.mc_model.specs.Replies.{Accepted}
-use Rattle.mc_model.specs.World.{World, Act, Begins, Replies, Reports, Grants, Concludes, May, reached, IsRun, after}
+use Rattle.mc_model.specs.message.Submission.{Submission}
+use Rattle.mc_model.specs.message.Decree.{Decree, Taken, Attempt, Fate, Delivered}
+use Rattle.mc_model.specs.synod.Lists.{In}
+use Rattle.mc_model.specs.synod.OneSlot.{Vote, vote_at}
+use Rattle.mc_model.specs.synod.Packet.{Slot, slot_at, slot_of, Packet, Prepare, Promise, Propose, Voted, Refused, Ask, Tell}
+use Rattle.mc_model.specs.node.Outcome.{Concluded}
+use Rattle.mc_model.specs.node.Actor.{Submit, opening_clock}
+use Rattle.mc_model.specs.node.Knowledge.{IsLearned, Knows}
+use Rattle.mc_model.specs.node.Replies.{Accepted}
+use Rattle.mc_model.specs.node.Act.{Act, Begins, Replies, Reports, Grants, Concludes}
+use Rattle.mc_model.specs.cluster.World.{World, May, reached, IsRun, after}
 use Rattle.mc_laws.specs.Stories.{first_id, first_ballot, decreed, taken_chain, attempted_chain, delivered_chain, round_for, by_node_1, delivery_story, one_node, MayBeTried}
 use Rattle.mc_laws.proofs.Membership.{in_right}
 use Rattle.mc_laws.proofs.Behind.{run_on}

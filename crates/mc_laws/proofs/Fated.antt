@@ -1,14 +1,22 @@
 -- What ESMEs are told of a message's fate, and what attempts are granted.
 use Rattle.std.proofs.Common.{◌≡◌, ◌⊎◌, ℕ, ◌<◌, List, [], ◌∷◌, ◌++◌, length, Option, Some, None, refl, sym, ◌∙◌, ap, subst, inl, inr, arith}
 use Rattle.std.proofs.lemmas.Bool.{cases_lt}
-use Rattle.mc_model.specs.Chain.{Author, Submission, Decree, Kind, Taken, Attempt, Failed, Fate, Final, Delivered, Expired, Deleted, Undeliverable, Rejected, IsPermitted, MayBegin, MayFollow, MayExtend, taken_in, final_in, final_by}
-use Rattle.mc_model.specs.OneSlot.{vote_at, In}
-use Rattle.mc_model.specs.Packet.{Slot, slot_of}
-use Rattle.mc_model.specs.Actor.{Actor, Request, Submit, Query, Cancel, Waiting, Outcome, Concluded, Unanswered, decree_of}
-use Rattle.mc_model.specs.Knowledge.{Knows}
-use Rattle.mc_model.specs.Replies.{Answer, Accepted, Shown, Removed, Kept, NotOwner, NotMatched, Unknown, TooLate, IsAccepted, FitsRequest, IsAnswer, id_in}
-use Rattle.mc_model.specs.World.{World, Act, Replies, Reports, Grants, Concludes, Restarts, Deed, May, MayReply, MayGrant, after, actor_by, start}
-use Rattle.mc_model.specs.Fate.{shown_by, TellsOf, States, CameBefore, deed_by, IsDelivery}
+use Rattle.mc_model.specs.message.Submission.{Submission}
+use Rattle.mc_model.specs.message.Decree.{Author, Decree, Kind, Taken, Attempt, Failed, Fate, Final, Delivered, Expired, Deleted, Undeliverable, Rejected}
+use Rattle.mc_model.specs.message.Neighbours.{MayBegin, MayFollow}
+use Rattle.mc_model.specs.message.Chain.{IsPermitted, MayExtend, taken_in, final_in, final_by}
+use Rattle.mc_model.specs.synod.Lists.{In}
+use Rattle.mc_model.specs.synod.OneSlot.{vote_at}
+use Rattle.mc_model.specs.synod.Packet.{Slot, slot_of}
+use Rattle.mc_model.specs.node.Outcome.{Outcome, Concluded, Unanswered, decree_of}
+use Rattle.mc_model.specs.node.Actor.{Actor, Request, Submit, Query, Cancel, Waiting, id_in}
+use Rattle.mc_model.specs.node.Knowledge.{Knows}
+use Rattle.mc_model.specs.node.Replies.{Answer, Accepted, Shown, Removed, Kept, NotOwner, NotMatched, Unknown, TooLate, IsAccepted, FitsRequest, IsAnswer, MayReply}
+use Rattle.mc_model.specs.node.Grant.{MayGrant}
+use Rattle.mc_model.specs.node.Act.{Act, Replies, Reports, Grants, Concludes, Restarts}
+use Rattle.mc_model.specs.node.Effect.{actor_by}
+use Rattle.mc_model.specs.cluster.World.{World, Deed, May, after, start}
+use Rattle.mc_model.specs.cluster.Fate.{shown_by, TellsOf, States, CameBefore, deed_by, IsDelivery}
 use Rattle.mc_laws.proofs.Fates.{fate_is_last}
 use Rattle.mc_laws.proofs.Growth.{grows, later, actors_after}
 use Rattle.mc_laws.proofs.Keeping.{Keeps}

@@ -1,6 +1,9 @@
 -- Nothing follows a fate.
 use Rattle.std.proofs.Common.{◌≡◌, ℕ, List, [], ◌∷◌, ◌++◌, Option, Some, None, refl}
-use Rattle.mc_model.specs.Chain.{Decree, Author, Kind, Submission, Final, Taken, Attempt, Failed, Fate, IsPermitted, MayFollow, MayExtend, final_in, final_by}
+use Rattle.mc_model.specs.message.Submission.{Submission}
+use Rattle.mc_model.specs.message.Decree.{Decree, Author, Kind, Final, Taken, Attempt, Failed, Fate}
+use Rattle.mc_model.specs.message.Neighbours.{MayFollow}
+use Rattle.mc_model.specs.message.Chain.{IsPermitted, MayExtend, final_in, final_by}
 
 ends : (message : Submission) (attempt : ℕ) (old : Author) (before : ℕ) (kind : Kind) (author : Author) (moment : ℕ) (next : Kind) (final : Final) → final_by kind ≡ Some final → MayFollow message attempt old before kind author moment next → ⊥
 ends message attempt old before (Taken taken) author moment next final is may = cc

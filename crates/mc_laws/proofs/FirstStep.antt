@@ -1,21 +1,23 @@
 -- The first step of a node is exact.
 use Rattle.std.proofs.Common.{◌≡◌, ℕ, ◌+◌, false, List, [], ◌∷◌, ◌++◌, refl, sym, ◌∙◌, ap, subst, inl, inr, arith}
-use Rattle.mc_model.specs.Chain.{Submission, Decree, Taken}
-use Rattle.mc_model.specs.Ballot.{ballot_of}
-use Rattle.mc_model.specs.OneSlot.{Vote, vote_at, In}
-use Rattle.mc_model.specs.Packet.{Slot, slot_at, slot_of, Packet, Prepare, Voted}
-use Rattle.mc_model.specs.Acceptor.{Records, blank}
-use Rattle.mc_model.specs.Actor.{Actor, Request, Submit, Waiting, opened, opening_clock}
-use Rattle.mc_model.specs.Knowledge.{IsLearned, Knows}
-use Rattle.mc_model.specs.Proposal.{IsFirst}
-use Rattle.mc_model.specs.Replies.{Answer, Accepted, FitsRequest}
-use Rattle.mc_model.specs.Rounds.{HasSeen, MayPrepare}
-use Rattle.mc_model.specs.World.{Act, Settles, Replies, Asks, Abandons, Prepares, Proposes, Reports, Begins, did}
-use Rattle.mc_model.specs.Setup.{Setup}
-use Rattle.mc_model.specs.Input.{Arrival}
-use Rattle.mc_model.specs.Due.{AreDue, AreDueOnce, key_of}
-use Rattle.mc_model.specs.Causes.{Causes}
-use Rattle.mc_model.specs.Step.{IsCancelRequest, DueToSettle, DueToEnd, DueToAsk, DueToAbandon, DueToPrepare, DueToPropose, DueToReply, DueToReport, IsExact}
+use Rattle.mc_model.specs.message.Submission.{Submission}
+use Rattle.mc_model.specs.message.Decree.{Decree, Taken}
+use Rattle.mc_model.specs.synod.Lists.{In}
+use Rattle.mc_model.specs.synod.OneSlot.{Vote, vote_at}
+use Rattle.mc_model.specs.synod.Packet.{Slot, slot_of, Packet, Prepare, Voted}
+use Rattle.mc_model.specs.synod.Acceptor.{Records, blank}
+use Rattle.mc_model.specs.node.Actor.{Actor, Submit, Waiting, opened, opening_clock}
+use Rattle.mc_model.specs.node.Knowledge.{IsLearned, Knows}
+use Rattle.mc_model.specs.node.Proposal.{IsFirst}
+use Rattle.mc_model.specs.node.Replies.{Answer, Accepted, FitsRequest}
+use Rattle.mc_model.specs.node.Act.{Act, Settles, Replies, Asks, Prepares, Proposes, Reports, Begins}
+use Rattle.mc_model.specs.node.Effect.{did}
+use Rattle.mc_model.specs.node.Rounds.{HasSeen, MayPrepare}
+use Rattle.mc_model.specs.node.Input.{Arrival}
+use Rattle.mc_model.specs.node.Causes.{Causes}
+use Rattle.mc_model.specs.node.Due.{AreDue, AreDueOnce, key_of}
+use Rattle.mc_model.specs.node.Phases.{IsCancelRequest, DueToSettle, DueToEnd, DueToAsk, DueToAbandon, DueToPrepare, DueToPropose, DueToReply, DueToReport}
+use Rattle.mc_model.specs.node.Step.{IsExact}
 use Rattle.mc_laws.specs.Stories.{first_id, first_ballot, first_setup, taken_chain, first_step}
 use Rattle.mc_laws.proofs.Rounds.{one_of_one}
 

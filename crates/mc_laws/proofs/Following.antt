@@ -2,22 +2,25 @@
 use Rattle.std.proofs.Common.{◌≡◌, ◌⊎◌, ℕ, zero, suc, ◌+◌, ◌*◌, ◌<◌, ◌≤◌, Bool, true, false, List, [], ◌∷◌, ◌++◌, Option, Some, None, refl, sym, ◌∙◌, ap, subst, inl, inr, arith}
 use Rattle.std.specs.Prelude.{◌==◌, not}
 use Rattle.std.proofs.lemmas.Bool.{eq-eqb, true≢false}
-use Rattle.mc_model.specs.Chain.{Decree}
-use Rattle.mc_model.specs.Ballot.{ballot_of}
-use Rattle.mc_model.specs.Majority.{Majority, HoldsOf, count}
-use Rattle.mc_model.specs.OneSlot.{Vote, vote_at, In}
-use Rattle.mc_model.specs.Packet.{Slot, slot_at, slot_of, top_at, Packet, Prepare, Promise, Propose, Voted, Refused, Ask, Tell, TopVote, Name}
-use Rattle.mc_model.specs.Actor.{Actor, Offer, Request, Query, Waiting, opened, opening_clock}
-use Rattle.mc_model.specs.Knowledge.{IsLearned, Knows, HasTold, IsSettled}
-use Rattle.mc_model.specs.Replies.{id_in, Answer, Shown, NotOwner, Unknown, TooLate, FitsRequest, name_of}
-use Rattle.mc_model.specs.Rounds.{HasSeen, MayPrepare, IsRunning, IsPromised, ToldBy}
-use Rattle.mc_model.specs.World.{Act, Receives, Settles, Replies, Asks, Abandons, Prepares, Proposes, Reports, Begins, did}
-use Rattle.mc_model.specs.Input.{Input, Delivery, Arrival}
-use Rattle.mc_model.specs.Due.{AreDue, AreDueOnce, key_of}
-use Rattle.mc_model.specs.Concerns.{Concerns}
-use Rattle.mc_model.specs.Causes.{Causes, CausesFollow, IsCompleted}
-use Rattle.mc_model.specs.Step.{IsCancelRequest, DueToSettle, DueToEnd, DueToAsk, DueToAbandon, DueToPrepare, DueToPropose, DueToReply, DueToReport, IsCore, IsExact}
-use Rattle.mc_model.specs.Alone.{IsStepAlone, AreStepsAlone, opened_new}
+use Rattle.mc_model.specs.message.Decree.{Decree}
+use Rattle.mc_model.specs.synod.Lists.{In}
+use Rattle.mc_model.specs.synod.Majority.{Majority, HoldsOf, count}
+use Rattle.mc_model.specs.synod.OneSlot.{Vote, vote_at}
+use Rattle.mc_model.specs.synod.Packet.{Slot, slot_at, top_at, Packet, Prepare, Promise, Voted, Tell, TopVote}
+use Rattle.mc_model.specs.node.Actor.{Actor, Offer, Request, Query, Waiting, opened, opening_clock, id_in, name_of}
+use Rattle.mc_model.specs.node.Knowledge.{Knows}
+use Rattle.mc_model.specs.node.Settling.{HasTold, IsSettled}
+use Rattle.mc_model.specs.node.Replies.{Answer, Shown, NotOwner, Unknown, FitsRequest}
+use Rattle.mc_model.specs.node.Act.{Act, Receives, Settles, Replies, Asks, Prepares, Proposes, Reports, Begins}
+use Rattle.mc_model.specs.node.Rounds.{HasSeen, MayPrepare, IsRunning, IsPromised}
+use Rattle.mc_model.specs.node.Rules.{ToldBy}
+use Rattle.mc_model.specs.node.Input.{Delivery, Arrival}
+use Rattle.mc_model.specs.node.Causes.{Causes, CausesFollow, IsCompleted}
+use Rattle.mc_model.specs.node.Due.{AreDue, AreDueOnce, key_of}
+use Rattle.mc_model.specs.node.Core.{IsCore}
+use Rattle.mc_model.specs.node.Phases.{IsCancelRequest, DueToSettle, DueToEnd, DueToAsk, DueToAbandon, DueToPrepare, DueToPropose, DueToReply, DueToReport}
+use Rattle.mc_model.specs.node.Step.{IsExact}
+use Rattle.mc_model.specs.node.Alone.{AreStepsAlone, opened_new}
 use Rattle.mc_laws.specs.Stories.{first_ballot}
 use Rattle.mc_laws.specs.NodeStories.{no_records, second_id, second_slot, among_three, question, told_by_3, following}
 use Rattle.mc_laws.proofs.Majorities.{both}

@@ -1,11 +1,14 @@
 -- A request whose questions a majority answered knows all that was chosen before it came.
 use Rattle.std.proofs.Common.{◌≡◌, ◌⊎◌, ℕ, suc, ◌<◌, ◌≤◌, Option, Some, None, refl, sym, ◌∙◌, ap, subst, inl, inr, arith}
-use Rattle.mc_model.specs.OneSlot.{Vote, In}
-use Rattle.mc_model.specs.Packet.{slot_at, Name, TopVote, Ask, Tell}
-use Rattle.mc_model.specs.Acceptor.{Records, IsTold}
-use Rattle.mc_model.specs.Actor.{Actor, Request, Waiting}
-use Rattle.mc_model.specs.Replies.{id_in}
-use Rattle.mc_model.specs.World.{World, Act, Promises, Votes, Refuses, Tells, Prepares, Proposes, Begins, Asks, Settles, Replies, Restarts, Cast, cast, May, IsWaiting, MayTell, after, actor_by, settle, sent_by, start}
+use Rattle.mc_model.specs.synod.Lists.{In}
+use Rattle.mc_model.specs.synod.OneSlot.{Vote}
+use Rattle.mc_model.specs.synod.Packet.{slot_at, Name, TopVote, Ask, Tell}
+use Rattle.mc_model.specs.synod.Acceptor.{Records, IsTold}
+use Rattle.mc_model.specs.node.Actor.{Actor, Request, Waiting, id_in}
+use Rattle.mc_model.specs.node.Room.{IsWaiting}
+use Rattle.mc_model.specs.node.Act.{Act, Promises, Votes, Refuses, Tells, Prepares, Proposes, Begins, Asks, Settles, Replies, Restarts, MayTell}
+use Rattle.mc_model.specs.node.Effect.{actor_by, settle}
+use Rattle.mc_model.specs.cluster.World.{World, Cast, cast, May, after, sent_by, start}
 use Rattle.mc_laws.proofs.Membership.{in_either, of_only, in_map, in_filter}
 use Rattle.mc_laws.proofs.Growth.{grows, remembers, actors_after, actor_here}
 use Rattle.mc_laws.proofs.Keeping.{Keeps, IsSent, sent_is}

@@ -1,12 +1,15 @@
 -- An attempt that was given up was never granted.
 use Rattle.std.proofs.Common.{◌≡◌, ◌⊎◌, ℕ, ◌≤◌, List, [], ◌∷◌, refl, sym, ◌∙◌, ap, subst, inl, inr, arith}
 use Rattle.std.proofs.lemmas.Bool.{cases_eq}
-use Rattle.mc_model.specs.Chain.{Author}
-use Rattle.mc_model.specs.OneSlot.{In}
-use Rattle.mc_model.specs.Packet.{Slot}
-use Rattle.mc_model.specs.Actor.{Actor, Unanswered, no_session_error}
-use Rattle.mc_model.specs.World.{World, Act, Grants, Abandons, Deed, May, after, actor_by, start}
-use Rattle.mc_model.specs.Fate.{deed_by}
+use Rattle.mc_model.specs.message.Decree.{Author}
+use Rattle.mc_model.specs.synod.Lists.{In}
+use Rattle.mc_model.specs.synod.Packet.{Slot}
+use Rattle.mc_model.specs.node.Outcome.{Unanswered, no_session_error}
+use Rattle.mc_model.specs.node.Actor.{Actor}
+use Rattle.mc_model.specs.node.Act.{Act, Grants, Abandons}
+use Rattle.mc_model.specs.node.Effect.{actor_by}
+use Rattle.mc_model.specs.cluster.World.{World, Deed, May, after, start}
+use Rattle.mc_model.specs.cluster.Fate.{deed_by}
 use Rattle.mc_laws.proofs.Growth.{later, same_life, actor_here, actor_apart}
 use Rattle.mc_laws.proofs.Links.{Links}
 

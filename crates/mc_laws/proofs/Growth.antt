@@ -2,11 +2,14 @@
 use Rattle.std.proofs.Common.{◌∷◌, [], ◌≡◌, ◌⊎◌, ℕ, suc, ◌+◌, ◌<◌, ◌≤◌, Bool, true, false, List, refl, sym, ◌∙◌, ap, subst, inl, inr, arith}
 use Rattle.std.specs.Prelude.{◌==◌, if◌then◌else◌}
 use Rattle.std.proofs.lemmas.Bool.{eq-eqb}
-use Rattle.mc_model.specs.OneSlot.{In}
-use Rattle.mc_model.specs.Packet.{Slot, same_slot, Packet}
-use Rattle.mc_model.specs.Acceptor.{SlotRecord, Records, with_record, after_promise, after_vote}
-use Rattle.mc_model.specs.Actor.{Actor, Outcome, Request, Submit, Query, Cancel}
-use Rattle.mc_model.specs.World.{World, Act, Receives, Promises, Votes, Prepares, Proposes, Begins, Grants, Concludes, Abandons, Restarts, Deed, Cast, cast, May, after, changed, next_serial, records_by, actor_by, votes_by, sent_by, reached}
+use Rattle.mc_model.specs.synod.Lists.{In}
+use Rattle.mc_model.specs.synod.Packet.{Slot, same_slot, Packet}
+use Rattle.mc_model.specs.synod.Acceptor.{SlotRecord, Records, with_record, after_promise, after_vote}
+use Rattle.mc_model.specs.node.Outcome.{Outcome}
+use Rattle.mc_model.specs.node.Actor.{Actor, Request, Submit, Query, Cancel}
+use Rattle.mc_model.specs.node.Act.{Act, Receives, Promises, Votes, Prepares, Proposes, Begins, Grants, Concludes, Abandons, Restarts}
+use Rattle.mc_model.specs.node.Effect.{next_serial, records_by, actor_by}
+use Rattle.mc_model.specs.cluster.World.{World, Deed, Cast, cast, May, after, changed, votes_by, sent_by, reached}
 use Rattle.mc_laws.proofs.Membership.{in_right, in_either, of_only, same_number, slots_same}
 
 -- ---- what an act does to a record

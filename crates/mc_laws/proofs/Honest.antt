@@ -2,17 +2,20 @@
 use Rattle.std.proofs.Common.{◌≡◌, ◌⊎◌, ℕ, suc, ◌+◌, ◌*◌, ◌<◌, ◌≤◌, Bool, List, [], ◌∷◌, Option, Some, None, refl, sym, ◌∙◌, ap, subst, inl, inr, arith}
 use Rattle.std.specs.Prelude.{◌/◌, ◌%◌}
 use Rattle.std.proofs.lemmas.Bool.{cases_eq}
-use Rattle.mc_model.specs.Ids.{id_of, node_of, incarnation_of, serial_of}
-use Rattle.mc_model.specs.Chain.{Submission, Decree}
-use Rattle.mc_model.specs.Ballot.{proposer_of, incarnation_in}
-use Rattle.mc_model.specs.OneSlot.{Vote, vote_at, In}
-use Rattle.mc_model.specs.Packet.{Slot, slot_of, Packet, Prepare, Promise, Propose, Voted, Refused, Name, TopVote, Ask, Tell}
-use Rattle.mc_model.specs.Acceptor.{Records, IsTold}
-use Rattle.mc_model.specs.Actor.{Actor, Request, Submit, Waiting}
-use Rattle.mc_model.specs.Proposal.{IsOwn}
-use Rattle.mc_model.specs.Replies.{id_in}
-use Rattle.mc_model.specs.World.{World, Act, Promises, Votes, Refuses, Tells, Prepares, Proposes, Begins, Asks, Settles, Replies, Restarts, cast, May, MayTell, IsWaiting, IsNumbered, IsFitToWait, IsChosenIn, after, actor_by, settle, sent_by, start}
-use Rattle.mc_model.specs.Concerns.{IsMember, WasGiven, TellsAbout, IsExpected, Concerns}
+use Rattle.mc_model.specs.message.Ids.{node_of, incarnation_of, serial_of}
+use Rattle.mc_model.specs.message.Submission.{Submission}
+use Rattle.mc_model.specs.message.Decree.{Decree}
+use Rattle.mc_model.specs.synod.Lists.{In}
+use Rattle.mc_model.specs.synod.Ballot.{proposer_of, incarnation_in}
+use Rattle.mc_model.specs.synod.OneSlot.{Vote, vote_at}
+use Rattle.mc_model.specs.synod.Packet.{Slot, slot_of, Packet, Prepare, Promise, Propose, Voted, Refused, Name, TopVote, Ask, Tell}
+use Rattle.mc_model.specs.node.Actor.{Actor, Request, Submit, Waiting, id_in}
+use Rattle.mc_model.specs.node.Room.{IsWaiting, IsNumbered, IsFitToWait}
+use Rattle.mc_model.specs.node.Proposal.{IsOwn}
+use Rattle.mc_model.specs.node.Act.{Act, Promises, Votes, Refuses, Tells, Prepares, Proposes, Begins, Asks, Settles, Replies, Restarts, MayTell}
+use Rattle.mc_model.specs.node.Effect.{actor_by, settle}
+use Rattle.mc_model.specs.node.Concerns.{IsMember, WasGiven, TellsAbout, IsExpected, Concerns}
+use Rattle.mc_model.specs.cluster.World.{World, cast, May, IsChosenIn, after, sent_by, start}
 use Rattle.mc_laws.proofs.Membership.{in_either, of_only, in_map, in_filter}
 use Rattle.mc_laws.proofs.Growth.{grows, later, same_life, remembers, actors_after, actor_here, actor_apart}
 use Rattle.mc_laws.proofs.Keeping.{Keeps, WasProposed, IsSent, sent_is}

@@ -1,19 +1,25 @@
 -- Steps of a node at which no request waits and no round runs.
 use Rattle.std.proofs.Common.{◌≡◌, ◌⊎◌, ℕ, suc, ◌+◌, ◌<◌, ◌≤◌, Bool, true, false, List, [], ◌∷◌, ◌++◌, length, Option, Some, None, refl, sym, ◌∙◌, ap, subst, inl, inr, arith}
-use Rattle.mc_model.specs.Chain.{Submission, Decree, Taken, Attempt, Fate, Delivered, Final, taken_in, final_in}
-use Rattle.mc_model.specs.OneSlot.{Vote, vote_at, In}
-use Rattle.mc_model.specs.Packet.{Slot, slot_at, slot_of, Packet, Prepare, Promise, Propose, Voted, Refused, Ask, Tell}
-use Rattle.mc_model.specs.Acceptor.{Records, blank}
-use Rattle.mc_model.specs.Actor.{queue_full, Actor, Waiting, Outcome, Concluded, opened, opening_clock}
-use Rattle.mc_model.specs.Knowledge.{Knows}
-use Rattle.mc_model.specs.Rounds.{HasSeen, MayPrepare, sent_since_tick, next_decree}
-use Rattle.mc_model.specs.World.{Act, Receives, Promises, Settles, Replies, Asks, Abandons, Prepares, Proposes, Reports, Grants, Concludes, Stops, Restarts, did, saved}
-use Rattle.mc_model.specs.Setup.{Setup}
-use Rattle.mc_model.specs.Input.{Input, Delivery, Crash, Arrival, Tick, Refusal, Grant, Response, Restart}
-use Rattle.mc_model.specs.Due.{AreDue, AreDueOnce, key_of}
-use Rattle.mc_model.specs.Causes.{Causes, CausesClose, CausesFollow, CausesDelete}
-use Rattle.mc_model.specs.Step.{IsStarted, DueToSettle, DueToEnd, DueToAsk, DueToAbandon, DueToPrepare, DueToPropose, DueToReply, DueToReport, IsCore, IsExact}
-use Rattle.mc_model.specs.Alone.{Node, IsStepAlone, opened_new}
+use Rattle.mc_model.specs.message.Submission.{Submission}
+use Rattle.mc_model.specs.message.Decree.{Decree, Attempt, Delivered}
+use Rattle.mc_model.specs.synod.Lists.{In}
+use Rattle.mc_model.specs.synod.Packet.{Slot, slot_at, slot_of, Packet, Prepare, Promise, Propose, Voted, Refused, Ask, Tell}
+use Rattle.mc_model.specs.synod.Acceptor.{Records}
+use Rattle.mc_model.specs.node.Setup.{Setup}
+use Rattle.mc_model.specs.node.Outcome.{Outcome, Concluded}
+use Rattle.mc_model.specs.node.Actor.{Actor, Waiting, opened, opening_clock}
+use Rattle.mc_model.specs.node.Room.{queue_full}
+use Rattle.mc_model.specs.node.Knowledge.{Knows}
+use Rattle.mc_model.specs.node.Act.{Act, Receives, Promises, Settles, Replies, Asks, Prepares, Proposes, Reports, Grants, Concludes, Stops, Restarts}
+use Rattle.mc_model.specs.node.Effect.{did, saved}
+use Rattle.mc_model.specs.node.Rounds.{HasSeen, MayPrepare, sent_since_tick}
+use Rattle.mc_model.specs.node.Input.{Input, Delivery, Crash, Arrival, Tick, Refusal, Grant, Response, Restart}
+use Rattle.mc_model.specs.node.Causes.{Causes, CausesClose, CausesFollow}
+use Rattle.mc_model.specs.node.Due.{AreDueOnce, key_of}
+use Rattle.mc_model.specs.node.Core.{IsCore}
+use Rattle.mc_model.specs.node.Phases.{IsStarted, DueToSettle, DueToEnd, DueToAsk, DueToAbandon, DueToPrepare, DueToPropose, DueToReply, DueToReport}
+use Rattle.mc_model.specs.node.Step.{IsExact}
+use Rattle.mc_model.specs.node.Alone.{Node, IsStepAlone, opened_new}
 use Rattle.mc_laws.specs.Stories.{first_id, first_ballot, first_setup, decreed, taken_chain, attempted_chain, delivered_chain}
 use Rattle.mc_laws.specs.NodeStories.{knowing, no_records, node_of_actor, opening_ballot, among_three, used_up, first_attempt}
 use Rattle.mc_laws.proofs.FirstStep.{none_due, none_due_once}

@@ -2,13 +2,16 @@
 use Rattle.std.proofs.Common.{◌≡◌, ◌⊎◌, ℕ, ◌<◌, ◌≤◌, Bool, true, false, List, [], ◌∷◌, Option, Some, None, refl, sym, ◌∙◌, ap, subst, inl, inr, arith}
 use Rattle.std.specs.Prelude.{◌==◌, if◌then◌else◌}
 use Rattle.std.proofs.lemmas.Bool.{eq-eqb, and_from}
-use Rattle.mc_model.specs.Chain.{Decree}
-use Rattle.mc_model.specs.Ballot.{proposer_of, incarnation_in}
-use Rattle.mc_model.specs.OneSlot.{Vote, vote_at, In, IsOfHighest, IsJustified, IsSound, Reaches}
-use Rattle.mc_model.specs.Packet.{Slot, slot_at, TopVote, Packet, Prepare, Promise, Propose, Voted, Refused, Ask, Tell}
-use Rattle.mc_model.specs.Acceptor.{SlotRecord, Records, IsTop, with_record, after_promise, after_vote}
-use Rattle.mc_model.specs.Actor.{Actor}
-use Rattle.mc_model.specs.World.{World, Act, Receives, Promises, Votes, Refuses, Tells, Prepares, Proposes, Asks, Restarts, Cast, cast, May, after, records_by, actor_by, votes_by, sent_by, if_sent, start}
+use Rattle.mc_model.specs.message.Decree.{Decree}
+use Rattle.mc_model.specs.synod.Lists.{In}
+use Rattle.mc_model.specs.synod.Ballot.{proposer_of, incarnation_in}
+use Rattle.mc_model.specs.synod.OneSlot.{Vote, vote_at, IsOfHighest, IsJustified, IsSound, Reaches}
+use Rattle.mc_model.specs.synod.Packet.{Slot, slot_at, TopVote, Packet, Prepare, Promise, Propose, Voted, Refused, Ask, Tell}
+use Rattle.mc_model.specs.synod.Acceptor.{SlotRecord, Records, IsTop, with_record, after_promise, after_vote}
+use Rattle.mc_model.specs.node.Actor.{Actor}
+use Rattle.mc_model.specs.node.Act.{Act, Receives, Promises, Votes, Refuses, Tells, Prepares, Proposes, Asks, Restarts}
+use Rattle.mc_model.specs.node.Effect.{records_by, actor_by, if_sent}
+use Rattle.mc_model.specs.cluster.World.{World, Cast, cast, May, after, votes_by, sent_by, start}
 use Rattle.mc_laws.proofs.Membership.{in_either}
 use Rattle.mc_laws.proofs.Growth.{Grows, grows, IsNew, records_after, changed_cases, later, same_life, changed_here}
 

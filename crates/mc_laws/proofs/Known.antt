@@ -1,11 +1,12 @@
 -- A node knows one chain of a message, whatever packets came to it.
 use Rattle.std.proofs.Common.{◌≡◌, ◌⊎◌, ℕ, zero, suc, ◌<◌, ◌≤◌, pred, Bool, true, false, List, [], ◌∷◌, ◌++◌, length, refl, sym, ◌∙◌, ap, subst, inl, inr, arith}
 use Rattle.std.proofs.lemmas.Bool.{cases_lt, true≢false}
-use Rattle.mc_model.specs.Chain.{Decree}
-use Rattle.mc_model.specs.Majority.{Majority, HoldsOf}
-use Rattle.mc_model.specs.OneSlot.{Vote, vote_at, In}
-use Rattle.mc_model.specs.Packet.{Slot, slot_of, Packet, Voted}
-use Rattle.mc_model.specs.Knowledge.{IsLearned, Knows}
+use Rattle.mc_model.specs.message.Decree.{Decree}
+use Rattle.mc_model.specs.synod.Lists.{In}
+use Rattle.mc_model.specs.synod.Majority.{HoldsOf}
+use Rattle.mc_model.specs.synod.OneSlot.{Vote, vote_at}
+use Rattle.mc_model.specs.synod.Packet.{Slot, slot_of, Packet, Voted}
+use Rattle.mc_model.specs.node.Knowledge.{IsLearned, Knows}
 use Rattle.mc_laws.proofs.Majorities.{both}
 
 -- ---- what one more packet makes of a majority

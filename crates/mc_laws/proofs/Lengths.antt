@@ -1,6 +1,9 @@
 -- How long a chain may be.
 use Rattle.std.proofs.Common.{ℕ, suc, ◌+◌, ◌*◌, ◌≤◌, List, [], ◌∷◌, length, Option, Some, None, arith}
-use Rattle.mc_model.specs.Chain.{Decree, Author, Kind, Submission, Taken, Attempt, Failed, Fate, Delivered, Expired, Deleted, Undeliverable, Rejected, IsPermitted, MayBegin, MayFollow, MayExtend, attempts_of, attempts_in}
+use Rattle.mc_model.specs.message.Submission.{Submission}
+use Rattle.mc_model.specs.message.Decree.{Decree, Author, Kind, Taken, Attempt, Failed, Fate, Delivered, Expired, Deleted, Undeliverable, Rejected}
+use Rattle.mc_model.specs.message.Neighbours.{MayBegin, MayFollow}
+use Rattle.mc_model.specs.message.Chain.{IsPermitted, MayExtend, attempts_of, attempts_in}
 
 -- the number of attempts, of which there are eight at most, and that of decrees
 pub record AreAtMost (most_attempts most attempts count : ℕ) : Type 0 where

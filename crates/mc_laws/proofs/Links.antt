@@ -1,14 +1,22 @@
 -- Every chain that is proposed is a permitted one, and stands on a chosen one; and an open attempt is not passed.
 use Rattle.std.proofs.Common.{◌≡◌, ◌⊎◌, ℕ, ◌<◌, ◌≤◌, List, [], ◌∷◌, Option, Some, None, refl, sym, ◌∙◌, ap, subst, inl, inr, arith}
 use Rattle.std.proofs.lemmas.Bool.{cases_eq}
-use Rattle.mc_model.specs.Chain.{Author, Submission, Decree, Kind, Taken, Attempt, Failed, Fate, Delivered, Expired, Deleted, Undeliverable, Rejected, IsTaken, IsPermitted, MayFollow, MayExtend}
-use Rattle.mc_model.specs.Majority.{Majority}
-use Rattle.mc_model.specs.OneSlot.{Vote, vote_at, In, IsOfHighest}
-use Rattle.mc_model.specs.Packet.{Slot, slot_of, Promise}
-use Rattle.mc_model.specs.Actor.{Actor, Request, Submit, Waiting, Outcome, Unanswered, decree_of}
-use Rattle.mc_model.specs.Proposal.{IsFirst, IsNext, IsOwn, IsFree, IsClosed, IsLost, Allows}
-use Rattle.mc_model.specs.World.{World, Act, Proposes, Begins, Settles, Replies, Concludes, Abandons, Restarts, Deed, cast, May, IsChosenIn, StandsIn, IsFitToWait, IsNumbered, after, actor_by, settle, start}
-use Rattle.mc_model.specs.Fate.{deed_by}
+use Rattle.mc_model.specs.message.Submission.{Submission}
+use Rattle.mc_model.specs.message.Decree.{Author, Decree, Kind, Taken, Attempt, Failed, Fate, Delivered, Expired, Deleted, Undeliverable, Rejected}
+use Rattle.mc_model.specs.message.Neighbours.{IsTaken, MayFollow}
+use Rattle.mc_model.specs.message.Chain.{IsPermitted, MayExtend}
+use Rattle.mc_model.specs.synod.Lists.{In}
+use Rattle.mc_model.specs.synod.Majority.{Majority}
+use Rattle.mc_model.specs.synod.OneSlot.{Vote, vote_at, IsOfHighest}
+use Rattle.mc_model.specs.synod.Packet.{Slot, slot_of, Promise}
+use Rattle.mc_model.specs.node.Outcome.{Outcome, Unanswered, decree_of}
+use Rattle.mc_model.specs.node.Actor.{Actor, Request, Submit, Waiting}
+use Rattle.mc_model.specs.node.Room.{IsFitToWait, IsNumbered}
+use Rattle.mc_model.specs.node.Proposal.{IsFirst, IsNext, IsOwn, IsFree, IsClosed, IsLost, Allows}
+use Rattle.mc_model.specs.node.Act.{Act, Proposes, Begins, Settles, Replies, Concludes, Abandons, Restarts}
+use Rattle.mc_model.specs.node.Effect.{actor_by, settle}
+use Rattle.mc_model.specs.cluster.World.{World, Deed, cast, May, IsChosenIn, StandsIn, after, start}
+use Rattle.mc_model.specs.cluster.Fate.{deed_by}
 use Rattle.mc_laws.proofs.Membership.{in_either, of_only, in_map, in_filter}
 use Rattle.mc_laws.proofs.Majorities.{both}
 use Rattle.mc_laws.proofs.Growth.{Grows, grows, changed_cases, later, same_life, actors_after, actor_here, actor_apart}

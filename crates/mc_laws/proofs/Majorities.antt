@@ -1,7 +1,7 @@
 -- Two majorities have a node in common.
 use Rattle.std.proofs.Common.{◌≡◌, ℕ, zero, suc, ◌+◌, ◌<◌, ◌≤◌, Bool, true, false, refl, arith}
 use Rattle.std.specs.Prelude.{if◌then◌else◌}
-use Rattle.mc_model.specs.Majority.{count, IsMajority, Majority, PassesBoth}
+use Rattle.mc_model.specs.synod.Majority.{count, IsMajority, Majority, PassesBoth}
 
 -- a node that both pass among the first is one among more
 among_more : (nodes : ℕ) (one other : ℕ → Bool) → PassesBoth nodes one other → PassesBoth (suc nodes) one other

@@ -2,15 +2,18 @@
 use Rattle.std.proofs.Common.{◌≡◌, ◌⊎◌, ℕ, zero, suc, ◌+◌, ◌<◌, ◌≤◌, Bool, true, false, List, [], ◌∷◌, ◌++◌, Option, Some, None, refl, sym, ◌∙◌, ap, subst, inl, inr, arith, append_assoc}
 use Rattle.std.specs.Prelude.{◌==◌, if◌then◌else◌}
 use Rattle.std.proofs.lemmas.Bool.{cases_eq, eqb-true}
-use Rattle.mc_model.specs.Chain.{Decree}
-use Rattle.mc_model.specs.Majority.{Majority}
-use Rattle.mc_model.specs.OneSlot.{Vote, vote_at, In}
-use Rattle.mc_model.specs.Packet.{Slot, slot_of, Packet, Promise}
-use Rattle.mc_model.specs.Acceptor.{Records}
-use Rattle.mc_model.specs.Actor.{Actor, opened}
-use Rattle.mc_model.specs.Proposal.{IsOwn, IsFree, MayPropose}
-use Rattle.mc_model.specs.World.{World, Act, Receives, Proposes, Restarts, Cast, cast, Needs, May, IsUpFor, IsChosenIn, StandsIn, after, actor_by, records_by, sent_by, packets_by, votes_by, changed, reached, start, IsRun, Run, world_of}
-use Rattle.mc_model.specs.Alone.{start_over, openings, opened_in, AreLeft}
+use Rattle.mc_model.specs.message.Decree.{Decree}
+use Rattle.mc_model.specs.synod.Lists.{In}
+use Rattle.mc_model.specs.synod.Majority.{Majority}
+use Rattle.mc_model.specs.synod.OneSlot.{Vote}
+use Rattle.mc_model.specs.synod.Packet.{Slot, slot_of, Packet, Promise}
+use Rattle.mc_model.specs.synod.Acceptor.{Records}
+use Rattle.mc_model.specs.node.Actor.{Actor, opened}
+use Rattle.mc_model.specs.node.Proposal.{IsOwn, IsFree}
+use Rattle.mc_model.specs.node.Act.{Act, Receives, Proposes, Restarts, Needs, IsUpFor}
+use Rattle.mc_model.specs.node.Effect.{actor_by, records_by, packets_by}
+use Rattle.mc_model.specs.cluster.World.{World, Cast, cast, May, IsChosenIn, StandsIn, after, sent_by, votes_by, changed, reached, start, IsRun, Run, world_of}
+use Rattle.mc_model.specs.cluster.Stores.{start_over, openings, opened_in, AreLeft}
 use Rattle.mc_laws.proofs.Membership.{in_right, either}
 use Rattle.mc_laws.proofs.Growth.{changed_here, actor_here, actor_apart, nodes_same}
 use Rattle.mc_laws.proofs.Keeping.{justified_more}

@@ -2,12 +2,15 @@
 use Rattle.std.proofs.Common.{◌≡◌, ◌⊎◌, ℕ, ◌≤◌, List, [], ◌∷◌, refl, sym, ◌∙◌, ap, subst, inl, inr, arith}
 use Rattle.std.specs.Prelude.{max}
 use Rattle.std.proofs.lemmas.Bool.{cases_lt}
-use Rattle.mc_model.specs.Chain.{Author, Decree}
-use Rattle.mc_model.specs.OneSlot.{In}
-use Rattle.mc_model.specs.Actor.{Actor, Waiting, opening_clock}
-use Rattle.mc_model.specs.Proposal.{IsOwn, IsNext}
-use Rattle.mc_model.specs.World.{World, Act, Begins, Settles, Replies, Restarts, Ticks, Deed, May, IsChosenIn, after, actor_by, settle, start}
-use Rattle.mc_model.specs.Fate.{deed_by, WasOnClock, IsTimely, HasItsError}
+use Rattle.mc_model.specs.message.Decree.{Author, Decree}
+use Rattle.mc_model.specs.synod.Lists.{In}
+use Rattle.mc_model.specs.node.Actor.{Actor, Waiting}
+use Rattle.mc_model.specs.node.Proposal.{IsOwn}
+use Rattle.mc_model.specs.node.Act.{Act, Begins, Settles, Replies, Restarts, Ticks}
+use Rattle.mc_model.specs.node.Effect.{actor_by, settle}
+use Rattle.mc_model.specs.cluster.World.{World, Deed, May, IsChosenIn, after, start}
+use Rattle.mc_model.specs.cluster.Fate.{deed_by}
+use Rattle.mc_model.specs.cluster.Decrees.{WasOnClock, IsTimely, HasItsError}
 use Rattle.mc_laws.proofs.Membership.{in_either, of_only, in_map, in_filter}
 use Rattle.mc_laws.proofs.Growth.{actors_after}
 use Rattle.mc_laws.proofs.Keeping.{Keeps}

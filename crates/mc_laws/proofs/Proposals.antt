@@ -1,10 +1,12 @@
 -- What holds of every chain that is proposed, where it holds of those that nodes make themselves.
 use Rattle.std.proofs.Common.{◌≡◌, ◌⊎◌, ℕ, List, Option, Some, None, refl, sym, subst, inl, inr}
-use Rattle.mc_model.specs.Chain.{Decree}
-use Rattle.mc_model.specs.OneSlot.{Vote, vote_at, In, IsOfHighest}
-use Rattle.mc_model.specs.Packet.{Slot, slot_of, Promise}
-use Rattle.mc_model.specs.Proposal.{IsOwn, IsFree}
-use Rattle.mc_model.specs.World.{World, Act, Proposes, cast, May, IsChosenIn, StandsIn, after}
+use Rattle.mc_model.specs.message.Decree.{Decree}
+use Rattle.mc_model.specs.synod.Lists.{In}
+use Rattle.mc_model.specs.synod.OneSlot.{Vote, vote_at, IsOfHighest}
+use Rattle.mc_model.specs.synod.Packet.{Slot, slot_of, Promise}
+use Rattle.mc_model.specs.node.Proposal.{IsOwn, IsFree}
+use Rattle.mc_model.specs.node.Act.{Act, Proposes}
+use Rattle.mc_model.specs.cluster.World.{World, cast, May, IsChosenIn, StandsIn, after}
 use Rattle.mc_laws.proofs.Majorities.{both}
 use Rattle.mc_laws.proofs.Keeping.{Keeps, WasProposed, PromiseFits, proposal_cases}
 

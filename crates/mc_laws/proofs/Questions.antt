@@ -1,15 +1,20 @@
 -- The stories of a query_sm and of a cancel_sm are runs.
 use Rattle.std.proofs.Common.{◌≡◌, ℕ, ◌≤◌, Bool, true, false, List, [], ◌∷◌, ◌++◌, pred, length, map, Some, refl, sym, ap, subst, inl, inr, arith}
 use Rattle.std.specs.Prelude.{if◌then◌else◌}
-use Rattle.mc_model.specs.Chain.{Submission, Decree, Taken, Fate, Deleted}
-use Rattle.mc_model.specs.OneSlot.{Vote, vote_at, In}
-use Rattle.mc_model.specs.Packet.{Slot, slot_at, slot_of, same_slot, Packet, Prepare, Promise, Propose, Voted, Refused, TopVote, Ask, Tell}
-use Rattle.mc_model.specs.Acceptor.{SlotRecord, Records, blank, with_record, after_promise, after_vote, IsTop}
-use Rattle.mc_model.specs.Actor.{Query, Cancel, Waiting, opening_clock}
-use Rattle.mc_model.specs.Knowledge.{Knows, HasTold, IsReached, IsSettled}
-use Rattle.mc_model.specs.Proposal.{IsMatch}
-use Rattle.mc_model.specs.Replies.{Shown, Removed}
-use Rattle.mc_model.specs.World.{World, Act, Begins, Settles, Replies, IsWaiting, May, reached, IsRun, after}
+use Rattle.mc_model.specs.message.Submission.{Submission}
+use Rattle.mc_model.specs.message.Decree.{Decree, Taken, Fate, Deleted}
+use Rattle.mc_model.specs.synod.Lists.{In}
+use Rattle.mc_model.specs.synod.OneSlot.{Vote, vote_at}
+use Rattle.mc_model.specs.synod.Packet.{Slot, slot_at, slot_of, same_slot, Packet, Prepare, Promise, Propose, Voted, Refused, TopVote, Ask, Tell}
+use Rattle.mc_model.specs.synod.Acceptor.{SlotRecord, Records, blank, with_record, after_promise, after_vote, IsTop}
+use Rattle.mc_model.specs.node.Actor.{Query, Cancel, Waiting, opening_clock}
+use Rattle.mc_model.specs.node.Room.{IsWaiting}
+use Rattle.mc_model.specs.node.Knowledge.{Knows}
+use Rattle.mc_model.specs.node.Settling.{HasTold, IsReached, IsSettled}
+use Rattle.mc_model.specs.node.Proposal.{IsMatch}
+use Rattle.mc_model.specs.node.Replies.{Shown, Removed}
+use Rattle.mc_model.specs.node.Act.{Act, Begins, Settles, Replies}
+use Rattle.mc_model.specs.cluster.World.{World, May, reached, IsRun, after}
 use Rattle.mc_laws.specs.Stories.{first_id, first_ballot, taken_chain, attempted_chain, delivered_chain, round_for, delivery_story, asking, told_of, question_for, query_story, deleted_chain, cancel_story, decreed, by_node_1, one_node, MayBeTried}
 use Rattle.mc_laws.proofs.Membership.{slots_same}
 use Rattle.mc_laws.proofs.Behind.{run_on}

@@ -1,12 +1,15 @@
 -- What holds of every world that acts lead to.
 use Rattle.std.proofs.Common.{◌≡◌, ◌⊎◌, ℕ, ◌≤◌, List, [], ◌∷◌, ◌++◌, length, Some, refl, sym, ◌∙◌, ap, subst, inl, inr, arith}
 use Rattle.std.proofs.lemmas.Bool.{cases_lt}
-use Rattle.mc_model.specs.Chain.{Decree, Attempt, Final, Delivered, IsPermitted, GoesOn, final_in}
-use Rattle.mc_model.specs.OneSlot.{Vote, In}
-use Rattle.mc_model.specs.Packet.{Slot, Propose, slot_of}
-use Rattle.mc_model.specs.Actor.{Outcome}
-use Rattle.mc_model.specs.World.{World, Act, Deed, cast, May, IsChosenIn, after, start, reached, IsRun}
-use Rattle.mc_model.specs.Fate.{CameBefore, States, IsGrant, IsDelivery}
+use Rattle.mc_model.specs.message.Decree.{Decree, Attempt, Final, Delivered}
+use Rattle.mc_model.specs.message.Chain.{IsPermitted, GoesOn, final_in}
+use Rattle.mc_model.specs.synod.Lists.{In}
+use Rattle.mc_model.specs.synod.OneSlot.{Vote}
+use Rattle.mc_model.specs.synod.Packet.{Slot, Propose, slot_of}
+use Rattle.mc_model.specs.node.Outcome.{Outcome}
+use Rattle.mc_model.specs.node.Act.{Act}
+use Rattle.mc_model.specs.cluster.World.{World, Deed, cast, May, IsChosenIn, after, start, reached, IsRun}
+use Rattle.mc_model.specs.cluster.Fate.{CameBefore, States, IsGrant, IsDelivery}
 use Rattle.mc_laws.proofs.Fates.{fate_is_last}
 use Rattle.mc_laws.proofs.Membership.{in_right}
 use Rattle.mc_laws.proofs.Keeping.{Keeps, sound, keeps_start, keeps_after}

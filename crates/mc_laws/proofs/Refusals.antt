@@ -2,13 +2,13 @@
 use Rattle.std.proofs.Common.{◌≡◌, ◌⊎◌, ℕ, Bool, true, false, List, [], ◌∷◌, length, Option, Some, None, refl, sym, ◌∙◌, ap, subst, inl, inr}
 use Rattle.std.specs.Prelude.{◌==◌}
 use Rattle.std.proofs.lemmas.Bool.{cases_eq, and_from, eq-eqb, true≢false}
-use Rattle.mc_model.specs.Chain.{Author, Decree, Kind, Taken, Attempt, Failed, Fate}
-use Rattle.mc_model.specs.OneSlot.{In}
-use Rattle.mc_model.specs.Packet.{Slot, slot_of, same_slot}
-use Rattle.mc_model.specs.Actor.{Actor, Outcome}
-use Rattle.mc_model.specs.Knowledge.{Knows, IsKnown}
-use Rattle.mc_model.specs.World.{MayGrant}
-use Rattle.mc_model.specs.Grant.{EndsInAttempt, GrantRefusal, NotChosen, NotMine, OlderIncarnation, AlreadyGranted, Closed, IsRefusedFor, IsGiven}
+use Rattle.mc_model.specs.message.Decree.{Author, Decree, Kind, Taken, Attempt, Failed, Fate}
+use Rattle.mc_model.specs.synod.Lists.{In}
+use Rattle.mc_model.specs.synod.Packet.{Slot, slot_of, same_slot}
+use Rattle.mc_model.specs.node.Outcome.{Outcome}
+use Rattle.mc_model.specs.node.Actor.{Actor}
+use Rattle.mc_model.specs.node.Knowledge.{Knows, IsKnown}
+use Rattle.mc_model.specs.node.Grant.{MayGrant, EndsInAttempt, GrantRefusal, NotChosen, NotMine, OlderIncarnation, AlreadyGranted, Closed, IsRefusedFor, IsGiven}
 use Rattle.mc_laws.proofs.Membership.{either, slots_same}
 use Rattle.mc_laws.proofs.Known.{knows_one}
 

@@ -1,13 +1,14 @@
 -- The story of a node that stops between a save and its answer is a run.
 use Rattle.std.proofs.Common.{◌≡◌, ℕ, zero, suc, Bool, true, false, List, [], ◌∷◌, ◌++◌, None, refl, sym, ap, subst, inl, inr, arith}
 use Rattle.std.specs.Prelude.{◌==◌, not}
-use Rattle.mc_model.specs.Chain.{Submission}
-use Rattle.mc_model.specs.Majority.{Majority, HoldsOf}
-use Rattle.mc_model.specs.OneSlot.{Vote, In}
-use Rattle.mc_model.specs.Packet.{Slot, Packet, Voted}
-use Rattle.mc_model.specs.Actor.{Submit, opening_clock}
-use Rattle.mc_model.specs.Knowledge.{IsLearned, Knows, KnowsNothing}
-use Rattle.mc_model.specs.World.{IsChosenIn, IsRun, reached}
+use Rattle.mc_model.specs.message.Submission.{Submission}
+use Rattle.mc_model.specs.synod.Lists.{In}
+use Rattle.mc_model.specs.synod.Majority.{Majority, HoldsOf}
+use Rattle.mc_model.specs.synod.OneSlot.{Vote}
+use Rattle.mc_model.specs.synod.Packet.{Slot, Packet, Voted}
+use Rattle.mc_model.specs.node.Actor.{Submit, opening_clock}
+use Rattle.mc_model.specs.node.Knowledge.{IsLearned, Knows, KnowsNothing}
+use Rattle.mc_model.specs.cluster.World.{IsChosenIn, IsRun, reached}
 use Rattle.mc_laws.specs.Stories.{first_id, first_ballot, taken_chain, taken_slot, taken_vote, until_promised, until_stopped, until_anew, restart_story, three_nodes, MayBeTried}
 use Rattle.mc_laws.proofs.Majorities.{both}
 use Rattle.mc_laws.proofs.Membership.{in_right}

@@ -2,8 +2,11 @@
 use Rattle.std.proofs.Common.{◌≡◌, ℕ, suc, ◌+◌, ◌<◌, ◌≤◌, Bool, true, false, List, [], ◌∷◌, ◌++◌, length, map, filter, refl, sym, ◌∙◌, ap, subst, inl, inr, arith}
 use Rattle.std.specs.Prelude.{cond, ◌||◌, ◌==◌, not}
 use Rattle.std.proofs.lemmas.Bool.Decides.{nat_tests}
-use Rattle.mc_model.specs.Actor.{Actor, Waiting, most_waiting, is_busy}
-use Rattle.mc_model.specs.World.{World, Act, Begins, Settles, Replies, Restarts, May, after, actor_by, settle, start}
+use Rattle.mc_model.specs.node.Actor.{Actor, Waiting}
+use Rattle.mc_model.specs.node.Room.{most_waiting, is_busy}
+use Rattle.mc_model.specs.node.Act.{Act, Begins, Settles, Replies, Restarts}
+use Rattle.mc_model.specs.node.Effect.{actor_by, settle}
+use Rattle.mc_model.specs.cluster.World.{World, May, after}
 use Rattle.mc_laws.proofs.Growth.{actors_after}
 
 abbrev pub HasRoom : Actor → Type 0

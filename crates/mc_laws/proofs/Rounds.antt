@@ -1,15 +1,18 @@
 -- How one node alone settles a slot.
 use Rattle.std.proofs.Common.{◌≡◌, ℕ, zero, suc, ◌<◌, ◌≤◌, Bool, true, false, List, ◌∷◌, map, None, refl, sym, ap, subst, inl, inr, arith}
 use Rattle.std.specs.Prelude.{if◌then◌else◌}
-use Rattle.mc_model.specs.Chain.{Author, Submission, Decree, Kind, Taken, Attempt, Failed, Fate, Delivered, Expired, Deleted, Undeliverable, Rejected}
-use Rattle.mc_model.specs.Majority.{Majority, IsMajority, count}
-use Rattle.mc_model.specs.Ballot.{proposer_of, incarnation_in}
-use Rattle.mc_model.specs.OneSlot.{Vote, vote_at, In, ReportsWithin}
-use Rattle.mc_model.specs.Packet.{Slot, slot_of, Packet, Prepare, Promise, Propose}
-use Rattle.mc_model.specs.Acceptor.{SlotRecord, blank, after_promise}
-use Rattle.mc_model.specs.Actor.{Actor, Offer}
-use Rattle.mc_model.specs.Proposal.{Allows, IsOwn, MayPropose}
-use Rattle.mc_model.specs.World.{World, Receives, Promises, Prepares, IsChosenIn, StandsIn, IsRun, after}
+use Rattle.mc_model.specs.message.Submission.{Submission}
+use Rattle.mc_model.specs.message.Decree.{Author, Decree, Kind, Taken, Attempt, Failed, Fate, Delivered, Expired, Deleted, Undeliverable, Rejected}
+use Rattle.mc_model.specs.synod.Lists.{In}
+use Rattle.mc_model.specs.synod.Majority.{Majority, IsMajority, count}
+use Rattle.mc_model.specs.synod.Ballot.{proposer_of, incarnation_in}
+use Rattle.mc_model.specs.synod.OneSlot.{Vote, vote_at, ReportsWithin}
+use Rattle.mc_model.specs.synod.Packet.{Slot, slot_of, Packet, Prepare, Promise, Propose}
+use Rattle.mc_model.specs.synod.Acceptor.{SlotRecord, blank, after_promise}
+use Rattle.mc_model.specs.node.Actor.{Actor, Offer}
+use Rattle.mc_model.specs.node.Proposal.{Allows, IsOwn, MayPropose}
+use Rattle.mc_model.specs.node.Act.{Receives, Promises, Prepares}
+use Rattle.mc_model.specs.cluster.World.{World, IsChosenIn, StandsIn, IsRun, after}
 use Rattle.mc_laws.specs.Stories.{round, by_node_1}
 use Rattle.mc_laws.proofs.Keeping.{with_here}
 

@@ -1,7 +1,7 @@
 -- Once a chain is chosen at a ballot, what is proposed from that ballot on carries it.
 use Rattle.std.proofs.Common.{◌≡◌, ◌⊎◌, ℕ, zero, suc, ◌<◌, ◌≤◌, Option, Some, None, subst, ◌∙◌, arith, inl, inr}
 use Rattle.std.proofs.lemmas.Bool.{cases_lt}
-use Rattle.mc_model.specs.OneSlot.{Vote, vote_at, IsChosen, Reaches, IsWithin, IsOfHighest, ReportsWithin, IsSound}
+use Rattle.mc_model.specs.synod.OneSlot.{Vote, vote_at, IsChosen, Reaches, IsWithin, IsOfHighest, ReportsWithin, IsSound}
 use Rattle.mc_laws.proofs.Majorities.{Both, both}
 
 at_or_after : (a b : ℕ) → a ≤ b → (b ≡ a) ⊎ (a < b)

@@ -2,19 +2,27 @@
 use Rattle.std.proofs.Common.{◌≡◌, ◌⊎◌, ℕ, suc, ◌+◌, ◌<◌, ◌≤◌, pred, Bool, true, false, List, [], ◌∷◌, ◌++◌, length, Some, None, refl, sym, ◌∙◌, ap, subst, inl, inr, arith}
 use Rattle.std.specs.Prelude.{max}
 use Rattle.std.proofs.lemmas.Bool.{cases_lt, true≢false}
-use Rattle.mc_model.specs.Chain.{Author, Submission, Decree, Kind, Taken, Attempt, Failed, Fate, Delivered, Deleted, Expired, Undeliverable, MayExtend, taken_in}
-use Rattle.mc_model.specs.Ballot.{proposer_of, incarnation_in}
-use Rattle.mc_model.specs.OneSlot.{Vote, vote_at, In}
-use Rattle.mc_model.specs.Packet.{Slot, slot_at, slot_of, Packet, Prepare, Voted, Refused}
-use Rattle.mc_model.specs.Actor.{opening_clock, Actor, Outcome, Concluded, decree_of, older_incarnation_error, no_session_error}
-use Rattle.mc_model.specs.Knowledge.{IsLearned, Knows}
-use Rattle.mc_model.specs.Replies.{TooLate}
-use Rattle.mc_model.specs.Rounds.{HasSeen, MayPrepare, next_decree, IsDue, Rule, Take, Follow, Close, Lose, GiveUp, Delete, Expire, Undeliver, Try, FitsRule, GoesFurther, FitsGiveUp, IsFirstRule, order_of}
-use Rattle.mc_model.specs.World.{Act, Receives, Settles, Replies, Asks, Abandons, Prepares, Proposes, Reports, Ticks, did}
-use Rattle.mc_model.specs.Input.{Tick}
-use Rattle.mc_model.specs.Due.{AreDue, AreDueOnce, key_of}
-use Rattle.mc_model.specs.Step.{DueToSettle, DueToEnd, DueToAsk, DueToAbandon, DueToPrepare, DueToPropose, DueToReply, DueToReport, IsExact}
-use Rattle.mc_model.specs.Alone.{IsStepAlone}
+use Rattle.mc_model.specs.message.Submission.{Submission}
+use Rattle.mc_model.specs.message.Decree.{Decree, Kind, Taken, Attempt, Failed, Fate, Delivered, Expired, Undeliverable}
+use Rattle.mc_model.specs.message.Chain.{MayExtend, taken_in}
+use Rattle.mc_model.specs.synod.Lists.{In}
+use Rattle.mc_model.specs.synod.Ballot.{proposer_of, incarnation_in}
+use Rattle.mc_model.specs.synod.OneSlot.{vote_at}
+use Rattle.mc_model.specs.synod.Packet.{Slot, slot_at, slot_of, Packet, Voted}
+use Rattle.mc_model.specs.node.Outcome.{Outcome, Concluded, older_incarnation_error, no_session_error}
+use Rattle.mc_model.specs.node.Actor.{opening_clock, Actor}
+use Rattle.mc_model.specs.node.Knowledge.{Knows}
+use Rattle.mc_model.specs.node.Replies.{TooLate}
+use Rattle.mc_model.specs.node.Act.{Act, Settles, Replies, Asks, Abandons, Prepares, Proposes, Reports, Ticks}
+use Rattle.mc_model.specs.node.Effect.{did}
+use Rattle.mc_model.specs.node.Rounds.{HasSeen, MayPrepare}
+use Rattle.mc_model.specs.node.Rules.{next_decree, IsDue, GoesFurther}
+use Rattle.mc_model.specs.node.FirstRule.{Rule, Take, Follow, Close, Lose, GiveUp, Delete, Expire, Undeliver, Try, FitsRule, IsFirstRule, order_of}
+use Rattle.mc_model.specs.node.Input.{Tick}
+use Rattle.mc_model.specs.node.Due.{AreDue, key_of}
+use Rattle.mc_model.specs.node.Phases.{DueToSettle, DueToEnd, DueToAsk, DueToAbandon, DueToPrepare, DueToPropose, DueToReply, DueToReport}
+use Rattle.mc_model.specs.node.Step.{IsExact}
+use Rattle.mc_model.specs.node.Alone.{IsStepAlone}
 use Rattle.mc_laws.specs.Stories.{first_id, first_ballot, first_setup, decreed, taken_chain, attempted_chain, delivered_chain, MayBeTried}
 use Rattle.mc_laws.specs.NodeStories.{one_minute_later, expired_chain, undelivered_chain, lost_chain, given_up_chain, knowing, no_records, node_of_actor, opening_ballot, starting, giving_up, decreed_in, failed_chain, all_up, none_up}
 use Rattle.mc_laws.proofs.Rounds.{one_of_one}

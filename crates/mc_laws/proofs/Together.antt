@@ -2,15 +2,19 @@
 use Rattle.std.proofs.Common.{◌≡◌, ℕ, Bool, true, false, List, [], ◌∷◌, Option, Some, None, refl, sym, ◌∙◌, ap, subst, inl, inr}
 use Rattle.std.specs.Prelude.{◌==◌, if◌then◌else◌}
 use Rattle.std.proofs.lemmas.Bool.{eqb-true, eq-eqb, ne_eqb, true≢false}
-use Rattle.mc_model.specs.Chain.{Decree}
-use Rattle.mc_model.specs.OneSlot.{Vote, vote_at, In}
-use Rattle.mc_model.specs.Packet.{Slot, slot_of, top_at, Promise, Voted, Tell}
-use Rattle.mc_model.specs.Acceptor.{Records}
-use Rattle.mc_model.specs.Actor.{Actor}
-use Rattle.mc_model.specs.Knowledge.{IsLearned}
-use Rattle.mc_model.specs.Proposal.{IsOwn, IsFree, MayPropose}
-use Rattle.mc_model.specs.World.{World, Act, Restarts, cast, votes_by, Receives, Proposes, Needs, May, IsChosenIn, StandsIn, after, changed, records_by, actor_by, start, reached, IsRun}
-use Rattle.mc_model.specs.Alone.{Node, began_by, opened_new, StandsAt, MayAlone, after_alone, reached_alone, IsRunAlone, acts_of, WasSent, EachWasSent}
+use Rattle.mc_model.specs.message.Decree.{Decree}
+use Rattle.mc_model.specs.synod.Lists.{In}
+use Rattle.mc_model.specs.synod.OneSlot.{Vote, vote_at}
+use Rattle.mc_model.specs.synod.Packet.{Slot, slot_of, top_at, Promise, Voted, Tell}
+use Rattle.mc_model.specs.synod.Acceptor.{Records}
+use Rattle.mc_model.specs.node.Actor.{Actor}
+use Rattle.mc_model.specs.node.Knowledge.{IsLearned}
+use Rattle.mc_model.specs.node.Proposal.{IsOwn, IsFree, MayPropose}
+use Rattle.mc_model.specs.node.Act.{Act, Restarts, Receives, Proposes, Needs}
+use Rattle.mc_model.specs.node.Effect.{records_by, actor_by}
+use Rattle.mc_model.specs.node.Alone.{Node, began_by, opened_new, StandsAt, MayAlone, after_alone, reached_alone, IsRunAlone}
+use Rattle.mc_model.specs.cluster.World.{World, cast, votes_by, May, IsChosenIn, StandsIn, after, changed, start, reached, IsRun}
+use Rattle.mc_model.specs.cluster.Assembly.{acts_of, WasSent, EachWasSent}
 use Rattle.mc_laws.proofs.Membership.{in_right}
 use Rattle.mc_laws.proofs.Growth.{changed_here, nodes_same}
 use Rattle.mc_laws.proofs.Keeping.{Keeps, PromiseFits, justified_more}

@@ -2,17 +2,18 @@
 --
 -- In each the node is node 1 in its first incarnation, if nothing else is said, and its setup is `alone`, or `among_three`.
 use Rattle.std.specs.Prelude.{ℕ, zero, suc, ◌+◌, Bool, true, false, List, [], ◌∷◌, Option, Some, None}
-use Rattle.mc_model.specs.Chain.{Author, Submission, Decree, Kind, Taken, Attempt, Failed, Fate, Delivered, Deleted, Expired, Undeliverable}
-use Rattle.mc_model.specs.Ballot.{ballot_of}
-use Rattle.mc_model.specs.OneSlot.{Vote, vote_at}
-use Rattle.mc_model.specs.Packet.{Slot, slot_at, slot_of, top_at, Name, Packet, Prepare, Promise, Propose, Voted, Refused, Ask, Tell}
-use Rattle.mc_model.specs.Acceptor.{Records, blank, after_vote, with_record}
-use Rattle.mc_model.specs.Actor.{Actor, Request, Submit, Query, Cancel, Waiting, Outcome, Concluded, opened, opening_clock}
-use Rattle.mc_model.specs.Replies.{Accepted, Shown}
-use Rattle.mc_model.specs.World.{Act, Receives, Promises, Votes, Tells, Prepares, Proposes, Begins, Asks, Settles, Replies, Grants, Concludes, Abandons, Ticks, Stops, Restarts}
-use Rattle.mc_model.specs.Setup.{Setup}
-use Rattle.mc_model.specs.Input.{Input, Delivery, Crash, Arrival, Refusal, Tick, Grant, Response, Restart}
-use Rattle.mc_model.specs.Alone.{Node, OwnStep, opened_new}
+use Rattle.mc_model.specs.message.Submission.{Submission}
+use Rattle.mc_model.specs.message.Decree.{Decree, Kind, Attempt, Failed, Fate, Expired, Undeliverable}
+use Rattle.mc_model.specs.synod.Ballot.{ballot_of}
+use Rattle.mc_model.specs.synod.OneSlot.{Vote, vote_at}
+use Rattle.mc_model.specs.synod.Packet.{Slot, slot_at, slot_of, top_at, Name, Packet, Prepare, Promise, Propose, Voted, Refused, Tell}
+use Rattle.mc_model.specs.synod.Acceptor.{Records, blank, after_vote, with_record}
+use Rattle.mc_model.specs.node.Setup.{Setup}
+use Rattle.mc_model.specs.node.Outcome.{Outcome}
+use Rattle.mc_model.specs.node.Actor.{Actor, Query, Cancel, Waiting, opened, opening_clock}
+use Rattle.mc_model.specs.node.Act.{Act, Receives, Prepares, Proposes, Begins, Asks, Settles, Abandons, Ticks}
+use Rattle.mc_model.specs.node.Input.{Delivery, Arrival}
+use Rattle.mc_model.specs.node.Alone.{Node, OwnStep}
 use Rattle.mc_laws.specs.Stories.{first_id, first_ballot, first_setup, decreed, taken_chain, attempted_chain, delivered_chain, deleted_chain, taken_slot, taken_vote}
 
 -- every account has a session that may receive, or none has

@@ -1,13 +1,16 @@
 -- What may happen: a cluster of one node takes a message, delivers it and says so, also to a query_sm; or it deletes the
 -- message for a cancel_sm; and a node of three stops between a save and its answer.
 use Rattle.std.specs.Prelude.{ℕ, ◌<◌, ◌≤◌, List, [], ◌∷◌, ◌++◌, length, map, pred, Some, None, true, false}
-use Rattle.mc_model.specs.Chain.{Submission, Decree, Kind, Taken, Attempt, Fate, Delivered, Deleted}
-use Rattle.mc_model.specs.OneSlot.{Vote, vote_at}
-use Rattle.mc_model.specs.Packet.{Promise, Slot, slot_at, slot_of, Name, Prepare, Propose, Voted, Ask, Tell, TopVote}
-use Rattle.mc_model.specs.Actor.{Submit, Query, Cancel, Concluded, opening_clock}
-use Rattle.mc_model.specs.Replies.{Accepted, Shown, Removed}
-use Rattle.mc_model.specs.World.{World, Deed, start, Act, Receives, Promises, Votes, Tells, Prepares, Proposes, Begins, Asks, Settles, Replies, Reports, Grants, Concludes, Stops, Restarts}
-use Rattle.mc_model.specs.Setup.{Setup}
+use Rattle.mc_model.specs.message.Submission.{Submission}
+use Rattle.mc_model.specs.message.Decree.{Decree, Kind, Taken, Attempt, Fate, Delivered, Deleted}
+use Rattle.mc_model.specs.synod.OneSlot.{Vote, vote_at}
+use Rattle.mc_model.specs.synod.Packet.{Promise, Slot, slot_at, slot_of, Name, Prepare, Propose, Voted, Ask, Tell, TopVote}
+use Rattle.mc_model.specs.node.Setup.{Setup}
+use Rattle.mc_model.specs.node.Outcome.{Concluded}
+use Rattle.mc_model.specs.node.Actor.{Submit, Query, Cancel, opening_clock}
+use Rattle.mc_model.specs.node.Replies.{Accepted, Shown, Removed}
+use Rattle.mc_model.specs.node.Act.{Act, Receives, Promises, Votes, Tells, Prepares, Proposes, Begins, Asks, Settles, Replies, Reports, Grants, Concludes, Stops, Restarts}
+use Rattle.mc_model.specs.cluster.World.{World, Deed, start}
 
 -- the first message of node 1 in its first incarnation
 abbrev pub first_id : ℕ

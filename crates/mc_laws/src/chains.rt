@@ -1,7 +1,9 @@
 //! Chains.
 
 ghost use Rattle.std.specs.Prelude.{◌≡◌, ◌≤◌, ◌∷◌, ◌++◌, [], ℕ, List, Option, Some, length};
-ghost use Rattle.mc_model.specs.Chain.{Decree, Submission, Final, IsPermitted, MayExtend, final_in, final_by};
+ghost use Rattle.mc_model.specs.message.Submission.{Submission};
+ghost use Rattle.mc_model.specs.message.Decree.{Decree, Final};
+ghost use Rattle.mc_model.specs.message.Chain.{IsPermitted, MayExtend, final_in, final_by};
 
 /// Nothing follows a fate. So of two chains of a message of which one begins with the other, and which both end in a
 /// fate, both are the same.

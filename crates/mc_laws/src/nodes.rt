@@ -1,12 +1,11 @@
 //! One node, whatever packets came to it.
 
 ghost use Rattle.std.specs.Prelude.{◌≡◌, ◌⊎◌, ℕ, List, Option};
-ghost use Rattle.mc_model.specs.Chain.{Decree};
-ghost use Rattle.mc_model.specs.Packet.{Packet, Slot};
-ghost use Rattle.mc_model.specs.Actor.{Actor};
-ghost use Rattle.mc_model.specs.Knowledge.{IsKnown, Knows};
-ghost use Rattle.mc_model.specs.World.{MayGrant};
-ghost use Rattle.mc_model.specs.Grant.{GrantRefusal, IsGiven, IsRefusedFor};
+ghost use Rattle.mc_model.specs.message.Decree.{Decree};
+ghost use Rattle.mc_model.specs.synod.Packet.{Packet, Slot};
+ghost use Rattle.mc_model.specs.node.Actor.{Actor};
+ghost use Rattle.mc_model.specs.node.Knowledge.{IsKnown, Knows};
+ghost use Rattle.mc_model.specs.node.Grant.{MayGrant, GrantRefusal, IsGiven, IsRefusedFor};
 
 /// A node knows one chain of a message at most.
 pub fn a_node_knows_one_chain()

@@ -1,11 +1,11 @@
 //! The headline, over runs and over every list of steps.
 
 ghost use Rattle.std.specs.Prelude.{◌≡◌, ◌∷◌, ◌++◌, ℕ, List, Some};
-ghost use Rattle.mc_model.specs.Chain.{Final, Delivered};
-ghost use Rattle.mc_model.specs.OneSlot.{In};
-ghost use Rattle.mc_model.specs.World.{Deed, Run, past_of, world_of};
-ghost use Rattle.mc_model.specs.Fate.{CameBefore, States, IsGrant, IsDelivery, IsToldChosen};
-ghost use Rattle.mc_model.specs.Step.{StepRun, world_after};
+ghost use Rattle.mc_model.specs.message.Decree.{Final, Delivered};
+ghost use Rattle.mc_model.specs.synod.Lists.{In};
+ghost use Rattle.mc_model.specs.cluster.World.{Deed, Run, past_of, world_of};
+ghost use Rattle.mc_model.specs.cluster.Steps.{StepRun, world_after};
+ghost use Rattle.mc_model.specs.cluster.Fate.{CameBefore, States, IsGrant, IsDelivery, IsToldChosen};
 
 /// Of one message no two statements of a final state differ; after a statement, as ESME_ROK to its cancel_sm, no attempt of it is
 /// ever granted; and behind each statement of DELIVERED, as a receipt, stands an attempt that was granted and then answered ESME_ROK.

@@ -1,16 +1,19 @@
 //! What a request is answered that comes after others were.
 
 ghost use Rattle.std.specs.Prelude.{◌≡◌, ◌∷◌, ◌++◌, ℕ, List, Option, Some};
-ghost use Rattle.mc_model.specs.Chain.{Decree, Final, final_in};
-ghost use Rattle.mc_model.specs.Majority.{Majority};
-ghost use Rattle.mc_model.specs.OneSlot.{Vote, In};
-ghost use Rattle.mc_model.specs.Packet.{Slot, Tell, TopVote};
-ghost use Rattle.mc_model.specs.Actor.{Request};
-ghost use Rattle.mc_model.specs.Knowledge.{HasTold, IsSettled, Covers, MeetsVote};
-ghost use Rattle.mc_model.specs.Replies.{Accepted, Shown, Unknown, id_in};
-ghost use Rattle.mc_model.specs.World.{Act, Begins, Replies, Deed, Run, cast, IsChosenIn, IsRun, past_of, reached, start};
-ghost use Rattle.mc_model.specs.Fate.{States};
-ghost use Rattle.mc_model.specs.Step.{StepRun, world_after};
+ghost use Rattle.mc_model.specs.message.Decree.{Decree, Final};
+ghost use Rattle.mc_model.specs.message.Chain.{final_in};
+ghost use Rattle.mc_model.specs.synod.Lists.{In};
+ghost use Rattle.mc_model.specs.synod.Majority.{Majority};
+ghost use Rattle.mc_model.specs.synod.OneSlot.{Vote};
+ghost use Rattle.mc_model.specs.synod.Packet.{Slot, Tell, TopVote};
+ghost use Rattle.mc_model.specs.node.Actor.{Request, id_in};
+ghost use Rattle.mc_model.specs.node.Settling.{HasTold, IsSettled, Covers, MeetsVote};
+ghost use Rattle.mc_model.specs.node.Replies.{Accepted, Shown, Unknown};
+ghost use Rattle.mc_model.specs.node.Act.{Act, Begins, Replies};
+ghost use Rattle.mc_model.specs.cluster.World.{Deed, Run, cast, IsChosenIn, IsRun, past_of, reached, start};
+ghost use Rattle.mc_model.specs.cluster.Steps.{StepRun, world_after};
+ghost use Rattle.mc_model.specs.cluster.Fate.{States};
 
 /// A query_sm that comes after a statement of a final state of its message, and is answered ESME_ROK, is told that state; and a
 /// request that comes after ESME_ROK to the submit_sm of its message is never answered that there is no such message. The deeds stand

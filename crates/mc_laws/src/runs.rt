@@ -1,15 +1,20 @@
 //! Whole runs: whatever packets are delivered, lost, repeated or reordered, and whatever nodes stop and start anew.
 
 ghost use Rattle.std.specs.Prelude.{◌≡◌, ◌⊎◌, ◌∷◌, ◌++◌, ◌≤◌, ℕ, List, Some, length};
-ghost use Rattle.mc_model.specs.Ids.{node_of};
-ghost use Rattle.mc_model.specs.Chain.{Author, Decree, Attempt, Deleted, GoesOn, final_in};
-ghost use Rattle.mc_model.specs.OneSlot.{Vote, In};
-ghost use Rattle.mc_model.specs.Packet.{Packet, Slot, Propose, slot_of};
-ghost use Rattle.mc_model.specs.Actor.{Outcome, most_waiting};
-ghost use Rattle.mc_model.specs.Concerns.{Concerns};
-ghost use Rattle.mc_model.specs.Replies.{Removed};
-ghost use Rattle.mc_model.specs.World.{Abandons, Deed, Grants, Replies, Reports, cast, IsChosenIn, Run, past_of, world_of};
-ghost use Rattle.mc_model.specs.Fate.{States, IsDeletion, HasItsError, IsTimely, deed_by};
+ghost use Rattle.mc_model.specs.message.Ids.{node_of};
+ghost use Rattle.mc_model.specs.message.Decree.{Author, Decree, Attempt, Deleted};
+ghost use Rattle.mc_model.specs.message.Chain.{GoesOn, final_in};
+ghost use Rattle.mc_model.specs.synod.Lists.{In};
+ghost use Rattle.mc_model.specs.synod.OneSlot.{Vote};
+ghost use Rattle.mc_model.specs.synod.Packet.{Packet, Slot, Propose, slot_of};
+ghost use Rattle.mc_model.specs.node.Outcome.{Outcome};
+ghost use Rattle.mc_model.specs.node.Room.{most_waiting};
+ghost use Rattle.mc_model.specs.node.Replies.{Removed};
+ghost use Rattle.mc_model.specs.node.Act.{Abandons, Grants, Replies, Reports};
+ghost use Rattle.mc_model.specs.node.Concerns.{Concerns};
+ghost use Rattle.mc_model.specs.cluster.World.{Deed, cast, IsChosenIn, Run, past_of, world_of};
+ghost use Rattle.mc_model.specs.cluster.Fate.{States, deed_by};
+ghost use Rattle.mc_model.specs.cluster.Decrees.{IsDeletion, HasItsError, IsTimely};
 
 /// Once a chain is chosen at a ballot, every vote of its slot at that ballot or above carries it, across all starts anew and
 /// votes of which no packet told.

@@ -1,16 +1,17 @@
 //! Steps of nodes, by themselves and in a cluster.
 
 ghost use Rattle.std.specs.Prelude.{◌≡◌, ◌∷◌, ◌++◌, ℕ, Bool, List};
-ghost use Rattle.mc_model.specs.Acceptor.{Records};
-ghost use Rattle.mc_model.specs.Actor.{Actor};
-ghost use Rattle.mc_model.specs.World.{Act, IsRun, Run, reached, start, world_of};
-ghost use Rattle.mc_model.specs.Alone.{
-    AreLeft, AreStepsAlone, IsRunAlone, IsStepAlone, EachCame, EachWasSent, acts_of, opened_in, opened_new, openings, reached_alone,
-    start_over, steps_of,
-};
-ghost use Rattle.mc_model.specs.Setup.{Setup, Cluster, setup_of};
-ghost use Rattle.mc_model.specs.Input.{Input};
-ghost use Rattle.mc_model.specs.Step.{IsExact, IsStep, Step, AreSteps, CameTo, acts_in};
+ghost use Rattle.mc_model.specs.synod.Acceptor.{Records};
+ghost use Rattle.mc_model.specs.node.Setup.{Setup};
+ghost use Rattle.mc_model.specs.node.Actor.{Actor};
+ghost use Rattle.mc_model.specs.node.Act.{Act};
+ghost use Rattle.mc_model.specs.node.Input.{Input};
+ghost use Rattle.mc_model.specs.node.Step.{IsExact};
+ghost use Rattle.mc_model.specs.node.Alone.{AreStepsAlone, IsRunAlone, IsStepAlone, opened_new, reached_alone};
+ghost use Rattle.mc_model.specs.cluster.World.{IsRun, Run, reached, start, world_of};
+ghost use Rattle.mc_model.specs.cluster.Steps.{Cluster, setup_of, IsStep, Step, AreSteps, CameTo, acts_in};
+ghost use Rattle.mc_model.specs.cluster.Assembly.{EachCame, EachWasSent, acts_of, steps_of};
+ghost use Rattle.mc_model.specs.cluster.Stores.{AreLeft, opened_in, openings, start_over};
 
 /// A run of steps is a run of their acts, so that every law over runs holds of it.
 pub fn steps_are_runs()

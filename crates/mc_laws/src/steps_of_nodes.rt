@@ -1,13 +1,16 @@
 //! Steps of a node by itself, so that the laws over steps are not about nothing.
 
 ghost use Rattle.std.specs.Prelude.{◌+◌, ◌<◌, ◌≤◌, [], ◌∷◌, ℕ, List, None, true, false};
-ghost use Rattle.mc_model.specs.Chain.{Decree, Submission, Delivered};
-ghost use Rattle.mc_model.specs.OneSlot.{Vote};
-ghost use Rattle.mc_model.specs.Packet.{Prepare, Promise, slot_at, slot_of};
-ghost use Rattle.mc_model.specs.Actor.{Concluded, opening_clock, queue_full};
-ghost use Rattle.mc_model.specs.World.{Concludes, Grants, Prepares, Promises, Receives, Restarts, Stops};
-ghost use Rattle.mc_model.specs.Input.{Crash, Delivery, Grant, Refusal, Response, Restart, Tick};
-ghost use Rattle.mc_model.specs.Alone.{AreStepsAlone, IsStepAlone, Node, opened_new};
+ghost use Rattle.mc_model.specs.message.Submission.{Submission};
+ghost use Rattle.mc_model.specs.message.Decree.{Decree, Delivered};
+ghost use Rattle.mc_model.specs.synod.OneSlot.{Vote};
+ghost use Rattle.mc_model.specs.synod.Packet.{Prepare, Promise, slot_at, slot_of};
+ghost use Rattle.mc_model.specs.node.Outcome.{Concluded};
+ghost use Rattle.mc_model.specs.node.Actor.{opening_clock};
+ghost use Rattle.mc_model.specs.node.Room.{queue_full};
+ghost use Rattle.mc_model.specs.node.Act.{Concludes, Grants, Prepares, Promises, Receives, Restarts, Stops};
+ghost use Rattle.mc_model.specs.node.Input.{Crash, Delivery, Grant, Refusal, Response, Restart, Tick};
+ghost use Rattle.mc_model.specs.node.Alone.{AreStepsAlone, IsStepAlone, Node, opened_new};
 ghost use Rattle.mc_laws.specs.Stories.{MayBeTried, attempted_chain, delivered_chain, first_ballot, first_id, first_setup, taken_chain};
 ghost use Rattle.mc_laws.specs.NodeStories.{all_up, among_three, cancelled_twice, cancelling_again, carrying, carrying_on, following, expired_chain, failed_chain, first_attempt, given_up_chain, giving_up, knowing, lost_chain, node_of_actor, none_up, one_minute_later, second_ballot, second_slot, starting, told_of_taking, undelivered_chain, used_up};
 

@@ -1,15 +1,16 @@
 //! What may happen, so that the laws over runs are not about nothing.
 
-ghost use Rattle.mc_model.specs.Chain.{Submission, Deleted, Delivered};
-ghost use Rattle.mc_model.specs.OneSlot.{In};
-ghost use Rattle.mc_model.specs.Acceptor.{blank};
-ghost use Rattle.mc_model.specs.Actor.{Submit, opened};
-ghost use Rattle.mc_model.specs.Knowledge.{KnowsNothing};
-ghost use Rattle.mc_model.specs.World.{IsChosenIn, IsRun, reached};
-ghost use Rattle.mc_model.specs.Fate.{States};
+ghost use Rattle.mc_model.specs.message.Submission.{Submission};
+ghost use Rattle.mc_model.specs.message.Decree.{Deleted, Delivered};
+ghost use Rattle.mc_model.specs.synod.Lists.{In};
+ghost use Rattle.mc_model.specs.synod.Acceptor.{blank};
+ghost use Rattle.mc_model.specs.node.Actor.{Submit, opened};
+ghost use Rattle.mc_model.specs.node.Knowledge.{KnowsNothing};
+ghost use Rattle.mc_model.specs.node.Input.{Arrival};
+ghost use Rattle.mc_model.specs.node.Step.{IsExact};
+ghost use Rattle.mc_model.specs.cluster.World.{IsChosenIn, IsRun, reached};
+ghost use Rattle.mc_model.specs.cluster.Fate.{States};
 ghost use Rattle.mc_laws.specs.Stories.{MayBeTried, accepting_deed, cancel_story, delivery_story, first_id, first_setup, first_step, last_deed, one_node, query_story, removing_deed, restart_story, showing_deed, taken_slot, taken_vote, three_nodes, until_anew};
-ghost use Rattle.mc_model.specs.Input.{Arrival};
-ghost use Rattle.mc_model.specs.Step.{IsExact};
 
 /// A cluster of one node takes a message, attempts it, is answered, and states that it is DELIVERED.
 pub fn a_message_is_delivered()

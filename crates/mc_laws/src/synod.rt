@@ -1,10 +1,10 @@
 //! Ballots, majorities, and what is chosen in one slot (Paxos Made Simple, section 2.2).
 
 ghost use Rattle.std.specs.Prelude.{◌≡◌, ◌<◌, ◌≤◌, ◌↔◌, ℕ, Bool};
-ghost use Rattle.mc_model.specs.Ids.{IsNode, IsIncarnation};
-ghost use Rattle.mc_model.specs.Majority.{IsMajority, PassesBoth};
-ghost use Rattle.mc_model.specs.Ballot.{IsRound, IsBallot, IsBefore, ballot_of, round_in, incarnation_in, proposer_of};
-ghost use Rattle.mc_model.specs.OneSlot.{SlotPast, Vote, KeepsTheSynod, IsChosen, was_voted, was_proposed};
+ghost use Rattle.mc_model.specs.message.Ids.{IsNode, IsIncarnation};
+ghost use Rattle.mc_model.specs.synod.Majority.{IsMajority, PassesBoth};
+ghost use Rattle.mc_model.specs.synod.Ballot.{IsRound, IsBallot, IsBefore, ballot_of, round_in, incarnation_in, proposer_of};
+ghost use Rattle.mc_model.specs.synod.OneSlot.{SlotPast, Vote, KeepsTheSynod, IsChosen, was_voted, was_proposed};
 
 /// A round, an incarnation and a node make a ballot that has them, and each ballot is made of those that it has. The
 /// order of ballots is that of their rounds, then of their incarnations, then of their nodes.

@@ -1,7 +1,8 @@
 -- A chain with a decree of each kind.
 use Rattle.std.specs.Prelude.{ℕ, ◌+◌, List, [], ◌∷◌}
-use Rattle.mc_model.specs.Ids.{node_of, incarnation_of}
-use Rattle.mc_model.specs.Chain.{Submission, Kind, Taken, Attempt, Failed, Fate, Delivered, Decree}
+use Rattle.mc_model.specs.message.Ids.{node_of, incarnation_of}
+use Rattle.mc_model.specs.message.Submission.{Submission}
+use Rattle.mc_model.specs.message.Decree.{Kind, Taken, Attempt, Failed, Fate, Delivered, Decree}
 
 -- a decree by the node and incarnation that the id names
 abbrev pub decree_by : ℕ → ℕ → Kind → Decree

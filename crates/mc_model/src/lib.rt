@@ -3,9 +3,10 @@
 #![tactic(auto)]
 
 ghost use Rattle.std.specs.Prelude.{◌≡◌, ◌+◌, ◌<◌, ◌≤◌, ℕ, Some};
-ghost use Rattle.mc_model.specs.Ids.{IsNode, IsIncarnation, IsSerial, IsId};
-ghost use Rattle.mc_model.specs.Ids.{id_of, node_of, incarnation_of, serial_of};
-ghost use Rattle.mc_model.specs.Chain.{Submission, Delivered, IsPermitted, taken_in, final_in};
+ghost use Rattle.mc_model.specs.message.Ids.{IsNode, IsIncarnation, IsSerial, IsId, id_of, node_of, incarnation_of, serial_of};
+ghost use Rattle.mc_model.specs.message.Submission.{Submission};
+ghost use Rattle.mc_model.specs.message.Decree.{Delivered};
+ghost use Rattle.mc_model.specs.message.Chain.{IsPermitted, taken_in, final_in};
 ghost use Rattle.mc_model.specs.Example.{delivered_at_second};
 
 /// A node, an incarnation and a serial make an id that has them, and each id is made of those that it has.

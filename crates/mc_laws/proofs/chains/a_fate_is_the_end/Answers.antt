@@ -1,5 +1,5 @@
 use Rattle.std.proofs.Common.{ap, ◌++◌, List}
-use Rattle.mc_model.specs.Chain.{Decree}
+use Rattle.mc_model.specs.message.Decree.{Decree}
 use Rattle.mc_laws.proofs.Fates.{fate_ends, fate_is_last}
 use Rattle.mc_laws.proofs.chains.a_fate_is_the_end.Goals as goal
 

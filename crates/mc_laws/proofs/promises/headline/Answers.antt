@@ -1,4 +1,4 @@
-use Rattle.mc_model.specs.World.{world_of}
+use Rattle.mc_model.specs.cluster.World.{world_of}
 use Rattle.mc_laws.proofs.Reached.{holds, one_fate, no_grant_after, stands_on_delivery}
 use Rattle.mc_laws.proofs.promises.headline.Goals as goal
 

@@ -1,4 +1,4 @@
-use Rattle.mc_model.specs.Step.{StepRun, world_after}
+use Rattle.mc_model.specs.cluster.Steps.{StepRun, world_after}
 use Rattle.mc_laws.proofs.Behind.{run_by}
 use Rattle.mc_laws.proofs.Reached.{Holds, holds, one_fate, no_grant_after, stands_on_delivery}
 use Rattle.mc_laws.proofs.promises.headline_over_steps.Goals as goal

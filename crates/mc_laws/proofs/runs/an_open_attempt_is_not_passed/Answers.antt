@@ -1,4 +1,4 @@
-use Rattle.mc_model.specs.World.{world_of}
+use Rattle.mc_model.specs.cluster.World.{world_of}
 use Rattle.mc_laws.proofs.Reached.{holds, attempt_not_passed}
 use Rattle.mc_laws.proofs.runs.an_open_attempt_is_not_passed.Goals as goal
 

@@ -1,4 +1,4 @@
-use Rattle.mc_model.specs.World.{world_of}
+use Rattle.mc_model.specs.cluster.World.{world_of}
 use Rattle.mc_laws.proofs.Reached.{holds, chains_agree}
 use Rattle.mc_laws.proofs.runs.chosen_chains_agree.Goals as goal
 

@@ -1,6 +1,6 @@
 use Rattle.std.proofs.Common.{ℕ, subst}
-use Rattle.mc_model.specs.World.{start, world_of}
-use Rattle.mc_model.specs.Concerns.{Concerns}
+use Rattle.mc_model.specs.node.Concerns.{Concerns}
+use Rattle.mc_model.specs.cluster.World.{start, world_of}
 use Rattle.mc_laws.proofs.Growth.{nodes_same}
 use Rattle.mc_laws.proofs.Honest.{all_concern}
 use Rattle.mc_laws.proofs.Reached.{holds}

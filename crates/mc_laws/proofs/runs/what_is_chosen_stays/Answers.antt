@@ -1,4 +1,4 @@
-use Rattle.mc_model.specs.World.{world_of}
+use Rattle.mc_model.specs.cluster.World.{world_of}
 use Rattle.mc_laws.proofs.Reached.{holds, choice_stays}
 use Rattle.mc_laws.proofs.runs.what_is_chosen_stays.Goals as goal
 

@@ -1,4 +1,4 @@
-use Rattle.mc_model.specs.Step.{acts_in}
+use Rattle.mc_model.specs.cluster.Steps.{acts_in}
 use Rattle.mc_laws.proofs.Behind.{steps_run}
 use Rattle.mc_laws.proofs.Openings.{over, goes_on_over, numbered_on}
 use Rattle.mc_laws.proofs.steps.a_run_over_old_stores_goes_on.Goals as goal

@@ -1,4 +1,4 @@
-use Rattle.mc_model.specs.World.{start}
+use Rattle.mc_model.specs.cluster.World.{start}
 use Rattle.mc_laws.proofs.Behind.{steps_run}
 use Rattle.mc_laws.proofs.steps.steps_are_runs.Goals as goal
 

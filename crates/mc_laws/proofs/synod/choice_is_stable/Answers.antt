@@ -1,4 +1,4 @@
-use Rattle.mc_model.specs.OneSlot.{was_voted, was_promised, was_proposed}
+use Rattle.mc_model.specs.synod.OneSlot.{was_voted, was_promised, was_proposed}
 use Rattle.mc_laws.proofs.Stable.{stable}
 use Rattle.mc_laws.proofs.synod.choice_is_stable.Goals as goal
 

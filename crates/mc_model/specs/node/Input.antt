@@ -1,7 +1,8 @@
 -- What comes to a node.
 use Rattle.std.specs.Prelude.{ℕ, Bool, List}
-use Rattle.mc_model.specs.Packet.{Packet, Slot}
-use Rattle.mc_model.specs.Actor.{Outcome, Request}
+use Rattle.mc_model.specs.synod.Packet.{Packet, Slot}
+use Rattle.mc_model.specs.node.Outcome.{Outcome}
+use Rattle.mc_model.specs.node.Actor.{Request}
 
 pub data Input : Type 0 where
   Delivery : Packet → Input

@@ -1,15 +1,19 @@
 -- What starts a round outside a tick, what is asked, and when a round goes on to propose.
-use Rattle.std.specs.Prelude.{◌≡◌, ◌⊎◌, ℕ, suc, ◌≤◌, true, List, [], ◌∷◌, length, pred, Some}
-use Rattle.mc_model.specs.Chain.{Decree, Submission}
-use Rattle.mc_model.specs.Majority.{Majority}
-use Rattle.mc_model.specs.OneSlot.{In, Vote}
-use Rattle.mc_model.specs.Packet.{Name, Slot, Tell, slot_of}
-use Rattle.mc_model.specs.Actor.{Actor, Cancel, Outcome, Query, Submit, Waiting, decree_of}
-use Rattle.mc_model.specs.Knowledge.{HasTold, Knows}
-use Rattle.mc_model.specs.Proposal.{IsFirst}
-use Rattle.mc_model.specs.Replies.{id_in, name_of}
-use Rattle.mc_model.specs.Rounds.{FitsDelete, GoesFurther, IsAhead, IsHighest, IsPromised, IsRunning, ToldBy}
-use Rattle.mc_model.specs.Input.{Arrival, Delivery, Input, Response}
+use Rattle.std.specs.Prelude.{◌≡◌, ◌⊎◌, ℕ, true, List, ◌∷◌}
+use Rattle.mc_model.specs.message.Submission.{Submission}
+use Rattle.mc_model.specs.message.Decree.{Decree}
+use Rattle.mc_model.specs.synod.Lists.{In}
+use Rattle.mc_model.specs.synod.Majority.{Majority}
+use Rattle.mc_model.specs.synod.OneSlot.{Vote}
+use Rattle.mc_model.specs.synod.Packet.{Name, Slot, Tell, slot_of}
+use Rattle.mc_model.specs.node.Outcome.{Outcome, decree_of}
+use Rattle.mc_model.specs.node.Actor.{Actor, Cancel, Query, Submit, Waiting, id_in, name_of}
+use Rattle.mc_model.specs.node.Knowledge.{Knows}
+use Rattle.mc_model.specs.node.Settling.{HasTold}
+use Rattle.mc_model.specs.node.Proposal.{IsFirst}
+use Rattle.mc_model.specs.node.Rounds.{IsPromised, IsRunning}
+use Rattle.mc_model.specs.node.Rules.{FitsDelete, GoesFurther, IsAhead, IsHighest, ToldBy}
+use Rattle.mc_model.specs.node.Input.{Arrival, Delivery, Input, Response}
 
 -- A submit_sm comes: its message is to be taken.
 abbrev pub CausesTake : Input → ℕ → Actor → ℕ → ℕ → List Decree → Type 0

@@ -1,7 +1,7 @@
 -- What nodes send to one another (Paxos Made Simple, 2.2 and 2.3, and the questions of a read).
-use Rattle.std.specs.Prelude.{ℕ, Bool, ◌==◌, ◌&&◌, pred, List, length, Option}
-use Rattle.mc_model.specs.Chain.{Decree}
-use Rattle.mc_model.specs.OneSlot.{Vote}
+use Rattle.std.specs.Prelude.{ℕ, pred, Bool, ◌==◌, ◌&&◌, List, length, Option}
+use Rattle.mc_model.specs.message.Decree.{Decree}
+use Rattle.mc_model.specs.synod.OneSlot.{Vote}
 
 -- A place in the chain of a message. One synod settles the chain up to it: at place p stand chains of p + 1 decrees.
 pub record Slot : Type 0 where

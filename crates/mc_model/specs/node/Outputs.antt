@@ -1,13 +1,14 @@
 -- What a step gives out: packets, replies and receipts, each in its order.
 use Rattle.std.specs.Prelude.{◌≡◌, ℕ, suc, List, [], ◌∷◌, ◌++◌, length, reverse, Option, Some, None}
-use Rattle.mc_model.specs.Chain.{Decree}
-use Rattle.mc_model.specs.Packet.{Packet, Slot, slot_of}
-use Rattle.mc_model.specs.Acceptor.{Records}
-use Rattle.mc_model.specs.Actor.{Actor}
-use Rattle.mc_model.specs.Knowledge.{Knows}
-use Rattle.mc_model.specs.Replies.{Answer}
-use Rattle.mc_model.specs.World.{did, saved, packets_by, Act, Replies, Reports}
-use Rattle.mc_model.specs.Input.{Arrival, Grant, Input, Refusal}
+use Rattle.mc_model.specs.message.Decree.{Decree}
+use Rattle.mc_model.specs.synod.Packet.{Packet, Slot, slot_of}
+use Rattle.mc_model.specs.synod.Acceptor.{Records}
+use Rattle.mc_model.specs.node.Actor.{Actor}
+use Rattle.mc_model.specs.node.Knowledge.{Knows}
+use Rattle.mc_model.specs.node.Replies.{Answer}
+use Rattle.mc_model.specs.node.Act.{Act, Replies, Reports}
+use Rattle.mc_model.specs.node.Effect.{did, packets_by, saved}
+use Rattle.mc_model.specs.node.Input.{Arrival, Grant, Input, Refusal}
 
 -- an answer to the request of a ticket, and a receipt by a chain
 pub record Reply : Type 0 where

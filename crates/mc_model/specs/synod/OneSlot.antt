@@ -2,9 +2,10 @@
 --
 -- What a synod settles is a chain, given by its decrees with the newest first. A slot's past is what was ever voted,
 -- promised and proposed in it, as relations, so that the same words serve lists, packets and stable records.
-use Rattle.std.specs.Prelude.{◌≡◌, ◌⊎◌, ℕ, ◌<◌, ◌≤◌, List, [], ◌∷◌, Option, Some, None}
-use Rattle.mc_model.specs.Chain.{Decree}
-use Rattle.mc_model.specs.Majority.{Majority}
+use Rattle.std.specs.Prelude.{◌≡◌, ℕ, ◌<◌, ◌≤◌, List, Option, Some, None}
+use Rattle.mc_model.specs.message.Decree.{Decree}
+use Rattle.mc_model.specs.synod.Lists.{In}
+use Rattle.mc_model.specs.synod.Majority.{Majority}
 
 -- a vote's ballot, and its chain
 pub record Vote : Type 0 where
@@ -59,12 +60,6 @@ pub record IsSound (nodes : ℕ) (Voted : ℕ → Vote → Type 0) (Promised : �
   pub honest : (acceptor ballot : ℕ) (vote : Vote) → Promised acceptor ballot (Some vote) → Voted acceptor vote × (vote.ballot < ballot)
   -- what is proposed is what the promises of a majority at its ballot allow
   pub justified : (vote : Vote) → Proposed vote → IsJustified nodes (λ acceptor report. Promised acceptor vote.ballot report) vote.chain
-
--- ---- the past of a slot as three lists
-
-abbrev pub In : {A : Type 0} → A → List A → Type 0
-In x [] = ⊥
-In x (y ∷ ys) = (x ≡ y) ⊎ In x ys
 
 pub record SlotPromise : Type 0 where
   pub acceptor : ℕ

@@ -1,12 +1,11 @@
 -- What concerns a node of the packets that come to it: every packet that a node sent, of which it is told nothing that it did not
 -- ask for. A packet that does not concern a node is ignored (own): the reader of a cluster's run meets none.
 use Rattle.std.specs.Prelude.{◌≡◌, ◌⊎◌, ℕ, ◌<◌, ◌≤◌, Option, Some, None}
-use Rattle.mc_model.specs.Ids.{node_of, incarnation_of, serial_of}
-use Rattle.mc_model.specs.OneSlot.{In}
-use Rattle.mc_model.specs.Packet.{Promise, Ask, Packet, Prepare, Propose, Refused, Slot, Tell, TopVote, Voted, slot_of}
-use Rattle.mc_model.specs.Actor.{Actor, Waiting}
-use Rattle.mc_model.specs.Replies.{id_in}
-use Rattle.mc_model.specs.World.{OwnBallot}
+use Rattle.mc_model.specs.message.Ids.{incarnation_of, node_of, serial_of}
+use Rattle.mc_model.specs.synod.Lists.{In}
+use Rattle.mc_model.specs.synod.Packet.{Ask, Packet, Prepare, Promise, Propose, Refused, Slot, Tell, TopVote, Voted, slot_of}
+use Rattle.mc_model.specs.node.Actor.{Actor, Waiting, id_in}
+use Rattle.mc_model.specs.node.Proposal.{OwnBallot}
 
 -- one of the nodes sent it
 pub record IsMember (nodes sender : ℕ) : Type 0 where

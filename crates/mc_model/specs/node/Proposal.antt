@@ -1,13 +1,15 @@
 -- What a node may propose (Paxos Made Simple, 2.2 and 2.5): where a majority of acceptors has promised, the chain of
 -- the highest vote that they report; and where they report none, a chain that stands already, or one of its own.
 use Rattle.std.specs.Prelude.{◌≡◌, ◌⊎◌, ℕ, ◌<◌, max, true, List, [], ◌∷◌, Option, Some, None}
-use Rattle.mc_model.specs.Chain.{Author, Submission, Decree, Kind, Taken, Attempt, Failed, Fate, Deleted, MayExtend, taken_in, Expired, Undeliverable}
-use Rattle.mc_model.specs.Ballot.{proposer_of, incarnation_in}
-use Rattle.mc_model.specs.OneSlot.{Vote, vote_at, IsJustified, In}
-use Rattle.mc_model.specs.Packet.{Promise, Slot, slot_of, Packet, Propose}
-use Rattle.mc_model.specs.Actor.{Actor, Request, Submit, Query, Cancel, Waiting, Outcome, decree_of, older_incarnation_error}
-
--- ---- whose message it is
+use Rattle.mc_model.specs.message.Submission.{Submission}
+use Rattle.mc_model.specs.message.Decree.{Attempt, Author, Decree, Deleted, Expired, Failed, Fate, Kind, Taken, Undeliverable}
+use Rattle.mc_model.specs.message.Chain.{MayExtend, taken_in}
+use Rattle.mc_model.specs.synod.Lists.{In}
+use Rattle.mc_model.specs.synod.Ballot.{incarnation_in, proposer_of}
+use Rattle.mc_model.specs.synod.OneSlot.{IsJustified, Vote, vote_at}
+use Rattle.mc_model.specs.synod.Packet.{Packet, Promise, Propose, Slot, slot_of}
+use Rattle.mc_model.specs.node.Outcome.{Outcome, decree_of, older_incarnation_error}
+use Rattle.mc_model.specs.node.Actor.{Actor, Cancel, Query, Request, Submit, Waiting}
 
 -- the account and the source address are those of the message
 pub record IsOwner (message : Submission) (account source : List ℕ) : Type 0 where
@@ -24,8 +26,6 @@ abbrev pub Cancels : Request → ℕ → Submission → Type 0
 Cancels (Submit other message) id taken = ⊥
 Cancels (Query other account source) id taken = ⊥
 Cancels (Cancel other account source destination) id taken = (other ≡ id) × IsMatch taken account source destination
-
--- ---- a chain of a node's own
 
 -- a settled cancel_sm of the message waits at the node
 pub record IsCancelled (a : Actor) (id : ℕ) (taken : Submission) : Type 0 where
@@ -92,12 +92,13 @@ pub record IsNext (Chosen : Slot → Vote → Type 0) (node : ℕ) (a : Actor) (
 abbrev pub IsOwn : (Slot → Vote → Type 0) → ℕ → Actor → ℕ → List Decree → Type 0
 IsOwn Chosen node a id chain = IsFirst node a id chain ⊎ IsNext Chosen node a id chain
 
--- ---- the rule
-
 -- what is free to choose is a chain that stands already, or one of the node's own
 abbrev pub IsFree : Option Vote → Type 0 → Type 0 → Type 0
 IsFree (Some top) Stands Own = Unit {0}
 IsFree None Stands Own = Stands ⊎ Own
+
+abbrev pub OwnBallot : ℕ → Actor → ℕ → Type 0
+OwnBallot node a ballot = (proposer_of ballot ≡ node) × (incarnation_in ballot ≡ a.incarnation)
 
 -- By what is seen of packets, which chains stand in a slot, and which are chosen, a node may propose a chain at a ballot.
 pub record MayPropose (nodes : ℕ) (Seen : Packet → Type 0) (Stands : Slot → List Decree → Type 0) (Chosen : Slot → Vote → Type 0) (node : ℕ) (a : Actor) (slot : Slot) (vote : Vote) : Type 0 where

@@ -1,11 +1,33 @@
--- Why an attempt of a message is not granted at a node. `MayGrant` says when it is.
-use Rattle.std.specs.Prelude.{◌≡◌, ℕ, ◌<◌, List, ◌∷◌}
-use Rattle.mc_model.specs.Chain.{Decree, Attempt}
-use Rattle.mc_model.specs.OneSlot.{In}
-use Rattle.mc_model.specs.Packet.{slot_of, Slot}
-use Rattle.mc_model.specs.Actor.{Actor, Outcome}
-use Rattle.mc_model.specs.Knowledge.{Knows}
-use Rattle.mc_model.specs.World.{MayGrant}
+-- When an attempt is granted at a node, and why it is not.
+use Rattle.std.specs.Prelude.{◌≡◌, ℕ, List, ◌∷◌}
+use Rattle.mc_model.specs.message.Decree.{Attempt, Decree}
+use Rattle.mc_model.specs.synod.Lists.{In}
+use Rattle.mc_model.specs.synod.Packet.{Slot, slot_of}
+use Rattle.mc_model.specs.node.Outcome.{IsOutcome, Outcome}
+use Rattle.mc_model.specs.node.Actor.{Actor}
+use Rattle.mc_model.specs.node.Knowledge.{Knows}
+
+-- the newest decree of what the node knows is an attempt of its own in this incarnation
+pub record IsAttempting (nodes node : ℕ) (a : Actor) (slot : Slot) : Type 0 where
+  pub newest : Decree
+  pub older : List Decree
+  pub number : ℕ
+  pub known : Knows nodes a.received slot.id (newest ∷ older)
+  pub place : slot ≡ slot_of slot.id (newest ∷ older)
+  pub attempt : newest.kind ≡ Attempt number
+  pub author : newest.author ≡ record { node = node; incarnation = a.incarnation }
+
+-- it is granted once, and not when it is closed
+pub record MayGrant (nodes node : ℕ) (a : Actor) (slot : Slot) : Type 0 where
+  pub attempting : IsAttempting nodes node a slot
+  pub granted : In slot a.granted → ⊥
+  pub closed : (outcome : Outcome) → In (slot, outcome) a.closed → ⊥
+
+-- the outcome of a granted attempt comes once
+pub record MayConclude (a : Actor) (slot : Slot) (outcome : Outcome) : Type 0 where
+  pub granted : In slot a.granted
+  pub closed : (other : Outcome) → In (slot, other) a.closed → ⊥
+  pub possible : IsOutcome outcome
 
 -- the chain that the node knows ends in an attempt
 pub record EndsInAttempt (nodes : ℕ) (a : Actor) (id : ℕ) (newest : Decree) (older : List Decree) : Type 0 where

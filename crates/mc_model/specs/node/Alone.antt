@@ -1,15 +1,17 @@
 -- One node by itself: what it may do by what it received and by its own records.
-use Rattle.std.specs.Prelude.{◌≡◌, ◌⊎◌, ℕ, zero, suc, ◌+◌, ◌<◌, ◌≤◌, Bool, true, false, ◌==◌, List, [], ◌∷◌, ◌++◌, Some, if◌then◌else◌}
-use Rattle.mc_model.specs.Chain.{Decree}
-use Rattle.mc_model.specs.OneSlot.{In, vote_at}
-use Rattle.mc_model.specs.Packet.{Promise, Name, Packet, Propose, Slot, Tell, Voted, top_at}
-use Rattle.mc_model.specs.Acceptor.{blank, Records}
-use Rattle.mc_model.specs.Actor.{opened, Actor}
-use Rattle.mc_model.specs.Knowledge.{IsLearned}
-use Rattle.mc_model.specs.World.{reached, records_by, actor_by, Act, IsUpFor, Needs, Receives, Restarts, World}
-use Rattle.mc_model.specs.Setup.{Setup}
-use Rattle.mc_model.specs.Input.{Input}
-use Rattle.mc_model.specs.Step.{CameTo, IsExact, Step, acts_in}
+use Rattle.std.specs.Prelude.{◌≡◌, ◌⊎◌, ℕ, ◌≤◌, List, [], ◌∷◌, ◌++◌, Some}
+use Rattle.mc_model.specs.message.Decree.{Decree}
+use Rattle.mc_model.specs.synod.Lists.{In}
+use Rattle.mc_model.specs.synod.OneSlot.{vote_at}
+use Rattle.mc_model.specs.synod.Packet.{Name, Packet, Promise, Propose, Slot, Tell, Voted, top_at}
+use Rattle.mc_model.specs.synod.Acceptor.{Records, blank}
+use Rattle.mc_model.specs.node.Setup.{Setup}
+use Rattle.mc_model.specs.node.Actor.{Actor, opened}
+use Rattle.mc_model.specs.node.Knowledge.{IsLearned}
+use Rattle.mc_model.specs.node.Act.{Act, IsUpFor, Needs, Restarts}
+use Rattle.mc_model.specs.node.Effect.{actor_by, records_by}
+use Rattle.mc_model.specs.node.Input.{Input}
+use Rattle.mc_model.specs.node.Step.{IsExact}
 
 -- what it holds, its records, and the records with which its incarnation began
 pub record Node : Type 0 where
@@ -62,24 +64,6 @@ opened_over records incarnation serial = record { actor = opened incarnation ser
 abbrev pub opened_new : ℕ → Node
 opened_new serial = opened_over (λ slot. blank) 1 serial
 
--- ---- the acts of all nodes
-
--- those of one node
-abbrev pub acts_of : ℕ → List (ℕ × Act) → List Act
-acts_of node [] = []
-acts_of node (newest ∷ older) = if newest.0 == node then newest.1 ∷ acts_of node older else acts_of node older
-
--- a packet that comes was sent before
-abbrev pub WasSent : World → Act → Type 0
-WasSent w (Receives packet) = In packet w.packets
-WasSent w act = Unit {0}
-
-abbrev pub EachWasSent : World → List (ℕ × Act) → Type 0
-EachWasSent first [] = Unit {0}
-EachWasSent first (newest ∷ older) = WasSent (reached first older) newest.1 × EachWasSent first older
-
--- ---- steps of one node
-
 -- each act may be done where it stands, and they are what is due
 pub record IsStepAlone (setup : Setup) (s : Node) (input : Input) (acts : List Act) : Type 0 where
   pub run : IsRunAlone setup.nodes setup.node s acts
@@ -97,45 +81,3 @@ abbrev pub AreStepsAlone : Setup → Node → List OwnStep → Type 0
 AreStepsAlone setup first [] = Unit {0}
 AreStepsAlone setup first (newest ∷ older) =
     IsStepAlone setup (reached_alone setup.node first (own_acts older)) newest.input newest.acts × AreStepsAlone setup first older
-
--- ---- the steps of all nodes
-
--- those of one node
-abbrev pub steps_of : ℕ → List Step → List OwnStep
-steps_of node [] = []
-steps_of node (newest ∷ older) =
-    if newest.node == node then record { input = newest.input; acts = newest.acts } ∷ steps_of node older else steps_of node older
-
--- a packet that comes was sent before
-abbrev pub EachCame : World → List Step → Type 0
-EachCame first [] = Unit {0}
-EachCame first (newest ∷ older) = CameTo (reached first (acts_in older)) newest.input × EachCame first older
-
--- ---- stores that are not new
-
--- a cluster whose nodes start over records, each in an incarnation, with the serial of its first message
-abbrev pub start_over : ℕ → (ℕ → Records) → (ℕ → ℕ) → (ℕ → ℕ) → World
-start_over nodes records incarnations serials = record {
-  nodes = nodes;
-  packets = [];
-  votes = [];
-  records = records;
-  actors = λ node. opened (incarnations node) (serials node);
-  past = [];
-}
-
--- each of the nodes starts anew, but those whose store is new
-abbrev pub openings : ℕ → (ℕ → Bool) → (ℕ → ℕ) → (ℕ → ℕ) → List (ℕ × Act)
-openings zero fresh lost serials = []
-openings (suc node) fresh lost serials =
-    if fresh (suc node) then openings node fresh lost serials
-    else (suc node, Restarts (lost (suc node)) (serials (suc node))) ∷ openings node fresh lost serials
-
--- the incarnation in which a node is opened
-abbrev pub opened_in : World → (ℕ → Bool) → (ℕ → ℕ) → ℕ → ℕ
-opened_in w fresh lost node = if fresh node then 1 else suc ((w.actors node).incarnation + lost node)
-
--- The stores that a run left: a new one is of a node that took no step, and the others have an incarnation left.
-pub record AreLeft (w : World) (fresh : ℕ → Bool) (lost serials : ℕ → ℕ) : Type 0 where
-  pub new : (node : ℕ) → fresh node ≡ true → w.actors node ≡ opened 1 (serials node)
-  pub old : (node : ℕ) → fresh node ≡ false → (w.actors node).incarnation + lost node < 9999

@@ -1,12 +1,14 @@
 -- What is said of the fate of a message, and what it stands on.
-use Rattle.std.specs.Prelude.{◌≡◌, ◌⊎◌, ℕ, List, [], ◌∷◌, ◌++◌, Option, Some, None}
-use Rattle.mc_model.specs.Chain.{Author, Submission, Decree, Attempt, Fate, Final, Delivered, taken_in, final_in}
-use Rattle.mc_model.specs.OneSlot.{In, vote_at}
-use Rattle.mc_model.specs.Packet.{Slot, slot_of}
-use Rattle.mc_model.specs.Actor.{Request, Concluded, opening_clock}
-use Rattle.mc_model.specs.Proposal.{Cancels, HasError}
-use Rattle.mc_model.specs.Replies.{Answer, Shown, Removed}
-use Rattle.mc_model.specs.World.{World, IsChosenIn, Act, Begins, Replies, Reports, Grants, Concludes, Deed, Ticks}
+use Rattle.std.specs.Prelude.{◌≡◌, ℕ, List, ◌∷◌, ◌++◌, Option, Some, None}
+use Rattle.mc_model.specs.message.Decree.{Attempt, Author, Decree, Delivered, Fate, Final}
+use Rattle.mc_model.specs.message.Chain.{final_in}
+use Rattle.mc_model.specs.synod.Lists.{In}
+use Rattle.mc_model.specs.synod.OneSlot.{vote_at}
+use Rattle.mc_model.specs.synod.Packet.{Slot, slot_of}
+use Rattle.mc_model.specs.node.Outcome.{Concluded}
+use Rattle.mc_model.specs.node.Replies.{Answer, Removed, Shown}
+use Rattle.mc_model.specs.node.Act.{Act, Concludes, Grants, Replies, Reports}
+use Rattle.mc_model.specs.cluster.World.{Deed, IsChosenIn, World}
 
 -- the chain of which an answer tells ESME_ROK
 abbrev pub shown_by : Answer → Option (List Decree)
@@ -55,40 +57,7 @@ pub record IsDelivery (id : ℕ) (chain : List Decree) (deeds : List Deed) : Typ
   pub author : fate.author ≡ attempt.author
   pub granted : CameBefore (deed_by attempt.author (Grants (slot_of id (attempt ∷ older)))) (deed_by attempt.author (Concludes (slot_of id (attempt ∷ older)) (Concluded Delivered error))) deeds
 
--- A cancel_sm of the message came, with the account and the addresses of what was taken.
-pub record CameToCancel (deeds : List Deed) (id : ℕ) (taken : Submission) : Type 0 where
-  pub deed : Deed
-  pub ticket : ℕ
-  pub request : Request
-  pub came : In deed deeds
-  pub begins : deed.act ≡ Begins ticket request
-  pub cancels : Cancels request id taken
-
--- behind a chain that ends in a deletion stands a cancel_sm of its message
-pub record IsDeletion (id : ℕ) (chain : List Decree) (deeds : List Deed) : Type 0 where
-  pub taken : Submission
-  pub message : taken_in chain ≡ Some taken
-  pub cancelled : CameToCancel deeds id taken
-
 -- the chain of which a deed tells is chosen, at some ballot
 pub record IsToldChosen (w : World) (id : ℕ) (chain : List Decree) : Type 0 where
   pub ballot : ℕ
   pub chosen : IsChosenIn w (slot_of id chain) (vote_at ballot chain)
-
--- ---- the decrees of nodes
-
--- a moment that the clock of an author had: that of its start, or one that came to it in that incarnation
-abbrev pub WasOnClock : List Deed → Author → ℕ → Type 0
-WasOnClock deeds author moment = (moment ≡ opening_clock) ⊎ In (deed_by author (Ticks moment)) deeds
-
--- the newest decree is not ahead of its author's clock and of the decree before it
-abbrev pub IsTimely : List Deed → List Decree → Type 0
-IsTimely deeds [] = Unit {0}
-IsTimely deeds (first ∷ []) = WasOnClock deeds first.author first.moment
-IsTimely deeds (next ∷ newest ∷ older) = (next.moment ≡ newest.moment) ⊎ WasOnClock deeds next.author next.moment
-
--- the newest decree has the error that its author may give it
-abbrev pub HasItsError : List Decree → Type 0
-HasItsError [] = Unit {0}
-HasItsError (first ∷ []) = Unit {0}
-HasItsError (next ∷ newest ∷ older) = HasError newest.kind next.kind

@@ -3,7 +3,7 @@
 -- A ballot is made of a round, of the incarnation of the node that proposes, and of that node, so that no two
 -- incarnations of any nodes have one in common. Its number orders ballots by round, then incarnation, then node.
 use Rattle.std.specs.Prelude.{◌≡◌, ◌⊎◌, ℕ, ◌+◌, ◌*◌, ◌/◌, ◌%◌, ◌<◌, ◌≤◌}
-use Rattle.mc_model.specs.Ids.{IsNode, IsIncarnation}
+use Rattle.mc_model.specs.message.Ids.{IsIncarnation, IsNode}
 
 abbrev pub ballot_of : ℕ → ℕ → ℕ → ℕ
 ballot_of round incarnation node = 262144 * round + 16 * incarnation + node

@@ -1,11 +1,15 @@
 -- What a request that waited is answered, and what of it states the fate of a message (SMPP 3.4, 4.4.2, 4.8.2, 4.9.2
 -- and appendix B).
 use Rattle.std.specs.Prelude.{◌≡◌, ℕ, ◌+◌, ◌≤◌, true, List, ◌∷◌, Some, None}
-use Rattle.mc_model.specs.Chain.{Submission, Decree, Kind, Taken, Attempt, Failed, Fate, Delivered, Expired, Deleted, Undeliverable, Rejected, taken_in, final_in}
-use Rattle.mc_model.specs.Packet.{Name}
-use Rattle.mc_model.specs.Actor.{Actor, Request, Submit, Query, Cancel, Waiting}
-use Rattle.mc_model.specs.Knowledge.{Knows, KnowsNothing, IsSettled}
-use Rattle.mc_model.specs.Proposal.{IsOwner, IsMatch}
+use Rattle.mc_model.specs.message.Ids.{node_of}
+use Rattle.mc_model.specs.message.Submission.{Submission}
+use Rattle.mc_model.specs.message.Decree.{Attempt, Decree, Deleted, Delivered, Expired, Failed, Fate, Final, Kind, Rejected, Taken, Undeliverable}
+use Rattle.mc_model.specs.message.Chain.{final_in, taken_in}
+use Rattle.mc_model.specs.node.Actor.{Actor, Cancel, Query, Request, Submit, Waiting, id_in, name_of}
+use Rattle.mc_model.specs.node.Room.{IsWaiting}
+use Rattle.mc_model.specs.node.Knowledge.{Knows, KnowsNothing}
+use Rattle.mc_model.specs.node.Settling.{IsSettled}
+use Rattle.mc_model.specs.node.Proposal.{IsMatch, IsOwner}
 
 pub data Answer : Type 0 where
   -- ESME_ROK to a submit_sm
@@ -25,15 +29,6 @@ pub data Answer : Type 0 where
   -- ESME_RSYSERR: it waited too long
   TooLate : Answer
 
--- the message that a request is about
-abbrev pub id_in : Request → ℕ
-id_in (Submit id message) = id
-id_in (Query id account source) = id
-id_in (Cancel id account source destination) = id
-
-abbrev pub name_of : ℕ → Actor → Waiting → Name
-name_of node a waiting = record { node = node; incarnation = a.incarnation; ticket = waiting.ticket }
-
 -- how long a request waits at most, in seconds
 abbrev pub longest_wait : ℕ
 longest_wait = 30
@@ -48,8 +43,6 @@ KeepsMessage (Fate Expired error) = Unit {0}
 KeepsMessage (Fate Deleted error) = ⊥
 KeepsMessage (Fate Undeliverable error) = Unit {0}
 KeepsMessage (Fate Rejected error) = Unit {0}
-
--- ---- when which answer is given
 
 pub record IsUnknown (nodes node : ℕ) (a : Actor) (w : Waiting) : Type 0 where
   pub nothing : KnowsNothing nodes a.received (id_in w.request)
@@ -129,3 +122,14 @@ FitsRequest nodes node a w (Cancel id account source destination) answer = FitsC
 abbrev pub IsAnswer : ℕ → ℕ → Actor → Waiting → Answer → Type 0
 IsAnswer nodes node a w TooLate = w.since + longest_wait ≤ a.clock
 IsAnswer nodes node a w answer = FitsRequest nodes node a w w.request answer
+
+pub record MayReply (nodes node : ℕ) (a : Actor) (ticket id : ℕ) (answer : Answer) : Type 0 where
+  pub asked : IsWaiting a id ticket
+  pub fits : IsAnswer nodes node a asked.waiting answer
+
+-- a receipt is written by the node that the id names
+pub record MayReport (nodes node : ℕ) (a : Actor) (id : ℕ) (chain : List Decree) : Type 0 where
+  pub final : Final
+  pub named : node_of id ≡ node
+  pub known : Knows nodes a.received id chain
+  pub ends : final_in chain ≡ Some final

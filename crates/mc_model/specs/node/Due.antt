@@ -1,7 +1,7 @@
 -- What is due in a step: these acts and no others, in their order.
-use Rattle.std.specs.Prelude.{◌≡◌, ◌↔◌, ℕ, ◌<◌, List, [], ◌∷◌, map}
-use Rattle.mc_model.specs.OneSlot.{In}
-use Rattle.mc_model.specs.World.{Abandons, Act, Asks, Prepares, Proposes, Replies, Reports, Settles}
+use Rattle.std.specs.Prelude.{◌↔◌, ℕ, ◌<◌, List, [], ◌∷◌, map}
+use Rattle.mc_model.specs.synod.Lists.{In}
+use Rattle.mc_model.specs.node.Act.{Abandons, Act, Asks, Prepares, Proposes, Replies, Reports, Settles}
 
 -- the ticket, or the message, by which acts are ordered
 abbrev pub key_of : Act → ℕ

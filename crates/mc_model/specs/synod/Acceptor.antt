@@ -1,7 +1,7 @@
 -- The acceptor of a node: what it keeps for each slot, and what it does with it (Paxos Made Simple, 2.2 and 2.5).
 use Rattle.std.specs.Prelude.{◌≡◌, ℕ, ◌<◌, ◌≤◌, Option, Some, None, if◌then◌else◌}
-use Rattle.mc_model.specs.OneSlot.{Vote}
-use Rattle.mc_model.specs.Packet.{Slot, slot_at, same_slot, TopVote}
+use Rattle.mc_model.specs.synod.OneSlot.{Vote}
+use Rattle.mc_model.specs.synod.Packet.{Slot, TopVote, same_slot, slot_at}
 
 -- The record of a slot: the ballot promised, 0 where none is, and the vote. It outlives a restart.
 pub record SlotRecord : Type 0 where
