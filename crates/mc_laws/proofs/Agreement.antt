@@ -8,8 +8,8 @@ use Rattle.mc_model.specs.synod.Packet.{Slot, slot_of, Voted}
 use Rattle.mc_model.specs.node.Knowledge.{IsLearned, Knows}
 use Rattle.mc_model.specs.cluster.World.{World, cast, IsChosenIn}
 use Rattle.mc_model.specs.cluster.Fate.{IsToldChosen}
-use Rattle.mc_laws.proofs.Majorities.{both}
-use Rattle.mc_laws.proofs.Stable.{stable}
+use Rattle.mc_parts.proofs.Majorities.{both}
+use Rattle.mc_parts.proofs.Stable.{stable}
 use Rattle.mc_laws.proofs.Keeping.{Keeps, WasProposed, sound}
 use Rattle.mc_laws.proofs.Links.{Links, Standing, chosen_standing}
 

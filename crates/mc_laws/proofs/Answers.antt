@@ -14,7 +14,7 @@ use Rattle.mc_model.specs.node.Act.{Act, Begins, Replies}
 use Rattle.mc_model.specs.cluster.World.{World, Deed, cast, May, IsChosenIn, start, reached, IsRun}
 use Rattle.mc_model.specs.cluster.Fate.{States}
 use Rattle.mc_model.specs.cluster.Decrees.{IsDeletion}
-use Rattle.mc_laws.proofs.Majorities.{both}
+use Rattle.mc_parts.proofs.Majorities.{both}
 use Rattle.mc_laws.proofs.Growth.{grows, nodes_same}
 use Rattle.mc_laws.proofs.Links.{chosen_still, chosen_standing}
 use Rattle.mc_laws.proofs.Agreement.{Chosen, known_chosen, not_empty}

@@ -18,7 +18,7 @@ use Rattle.mc_model.specs.node.Alone.{Node, after_alone, IsRunAlone, IsStepAlone
 use Rattle.mc_model.specs.cluster.World.{World, reached, start, IsRun, after, sent_by}
 use Rattle.mc_model.specs.cluster.Steps.{Cluster, setup_of, IsStep, Step, AreSteps, CameTo, by_node, acts_in}
 use Rattle.mc_model.specs.cluster.Assembly.{EachCame, WasSent, acts_of, steps_of}
-use Rattle.mc_laws.proofs.Membership.{in_right, in_either}
+use Rattle.mc_parts.proofs.Membership.{in_right, in_either}
 use Rattle.mc_laws.proofs.Behind.{run_behind, steps_run}
 use Rattle.mc_laws.proofs.Together.{acts_here, acts_apart, alone, may_together, IsAlone}
 

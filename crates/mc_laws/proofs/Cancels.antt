@@ -23,7 +23,7 @@ use Rattle.mc_model.specs.node.Alone.{IsStepAlone}
 use Rattle.mc_laws.specs.Stories.{first_id, first_ballot, first_setup, decreed, taken_chain, deleted_chain, taken_slot, taken_vote}
 use Rattle.mc_laws.specs.NodeStories.{no_records, node_of_actor, behind_slot, high_ballot, next_ballot, second_question, told_of_taking, cancelling_at, cancelled_twice, cancelling_again}
 use Rattle.mc_laws.proofs.Rounds.{all_of_one, one_of_one}
-use Rattle.mc_laws.proofs.Known.{knows_one}
+use Rattle.mc_parts.proofs.Known.{knows_one}
 use Rattle.mc_laws.proofs.Delivery.{knows}
 use Rattle.mc_laws.proofs.FirstStep.{none_due, none_due_once}
 

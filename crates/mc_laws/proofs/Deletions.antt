@@ -14,8 +14,8 @@ use Rattle.mc_model.specs.node.Effect.{actor_by, settle}
 use Rattle.mc_model.specs.cluster.World.{World, Deed, cast, May, IsChosenIn, StandsIn, after, start}
 use Rattle.mc_model.specs.cluster.Fate.{deed_by}
 use Rattle.mc_model.specs.cluster.Decrees.{CameToCancel, IsDeletion}
-use Rattle.mc_laws.proofs.Membership.{in_either, of_only, in_map, in_filter}
-use Rattle.mc_laws.proofs.Majorities.{both}
+use Rattle.mc_parts.proofs.Membership.{in_either, of_only, in_map, in_filter}
+use Rattle.mc_parts.proofs.Majorities.{both}
 use Rattle.mc_laws.proofs.Growth.{actors_after}
 use Rattle.mc_laws.proofs.Keeping.{Keeps, WasProposed, PromiseFits, proposal_cases}
 use Rattle.mc_laws.proofs.Agreement.{Chosen}

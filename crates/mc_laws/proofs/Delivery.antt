@@ -12,7 +12,7 @@ use Rattle.mc_model.specs.node.Replies.{Accepted}
 use Rattle.mc_model.specs.node.Act.{Act, Begins, Replies, Reports, Grants, Concludes}
 use Rattle.mc_model.specs.cluster.World.{World, May, reached, IsRun, after}
 use Rattle.mc_laws.specs.Stories.{first_id, first_ballot, decreed, taken_chain, attempted_chain, delivered_chain, round_for, by_node_1, delivery_story, one_node, MayBeTried}
-use Rattle.mc_laws.proofs.Membership.{in_right}
+use Rattle.mc_parts.proofs.Membership.{in_right}
 use Rattle.mc_laws.proofs.Behind.{run_on}
 use Rattle.mc_laws.proofs.Rounds.{all_of_one, one_of_one, IsReady, round_runs}
 

@@ -17,7 +17,7 @@ use Rattle.mc_model.specs.node.Act.{Act, Replies, Reports, Grants, Concludes, Re
 use Rattle.mc_model.specs.node.Effect.{actor_by}
 use Rattle.mc_model.specs.cluster.World.{World, Deed, May, after, start}
 use Rattle.mc_model.specs.cluster.Fate.{shown_by, TellsOf, States, CameBefore, deed_by, IsDelivery}
-use Rattle.mc_laws.proofs.Fates.{fate_is_last}
+use Rattle.mc_parts.proofs.Fates.{fate_is_last}
 use Rattle.mc_laws.proofs.Growth.{grows, later, actors_after}
 use Rattle.mc_laws.proofs.Keeping.{Keeps}
 use Rattle.mc_laws.proofs.Links.{Links, ClosedIn, Passed, PassedClosed, PassedLost, chosen_still}

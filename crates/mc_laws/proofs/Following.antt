@@ -23,7 +23,7 @@ use Rattle.mc_model.specs.node.Step.{IsExact}
 use Rattle.mc_model.specs.node.Alone.{AreStepsAlone, opened_new}
 use Rattle.mc_laws.specs.Stories.{first_ballot}
 use Rattle.mc_laws.specs.NodeStories.{no_records, second_id, second_slot, among_three, question, told_by_3, following}
-use Rattle.mc_laws.proofs.Majorities.{both}
+use Rattle.mc_parts.proofs.Majorities.{both}
 use Rattle.mc_laws.proofs.FirstStep.{none_due, none_due_once}
 
 -- nothing more behind a list

@@ -9,7 +9,7 @@ use Rattle.mc_model.specs.node.Room.{IsWaiting}
 use Rattle.mc_model.specs.node.Act.{Act, Promises, Votes, Refuses, Tells, Prepares, Proposes, Begins, Asks, Settles, Replies, Restarts, MayTell}
 use Rattle.mc_model.specs.node.Effect.{actor_by, settle}
 use Rattle.mc_model.specs.cluster.World.{World, Cast, cast, May, after, sent_by, start}
-use Rattle.mc_laws.proofs.Membership.{in_either, of_only, in_map, in_filter}
+use Rattle.mc_parts.proofs.Membership.{in_either, of_only, in_map, in_filter}
 use Rattle.mc_laws.proofs.Growth.{grows, remembers, actors_after, actor_here}
 use Rattle.mc_laws.proofs.Keeping.{Keeps, IsSent, sent_is}
 

@@ -10,7 +10,7 @@ use Rattle.mc_model.specs.node.Actor.{Actor, Request, Submit, Query, Cancel}
 use Rattle.mc_model.specs.node.Act.{Act, Receives, Promises, Votes, Prepares, Proposes, Begins, Grants, Concludes, Abandons, Restarts}
 use Rattle.mc_model.specs.node.Effect.{next_serial, records_by, actor_by}
 use Rattle.mc_model.specs.cluster.World.{World, Deed, Cast, cast, May, after, changed, votes_by, sent_by, reached}
-use Rattle.mc_laws.proofs.Membership.{in_right, in_either, of_only, same_number, slots_same}
+use Rattle.mc_parts.proofs.Membership.{in_right, in_either, of_only, same_number, slots_same}
 
 -- ---- what an act does to a record
 

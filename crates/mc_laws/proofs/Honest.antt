@@ -16,7 +16,7 @@ use Rattle.mc_model.specs.node.Act.{Act, Promises, Votes, Refuses, Tells, Prepar
 use Rattle.mc_model.specs.node.Effect.{actor_by, settle}
 use Rattle.mc_model.specs.node.Concerns.{IsMember, WasGiven, TellsAbout, IsExpected, Concerns}
 use Rattle.mc_model.specs.cluster.World.{World, cast, May, IsChosenIn, after, sent_by, start}
-use Rattle.mc_laws.proofs.Membership.{in_either, of_only, in_map, in_filter}
+use Rattle.mc_parts.proofs.Membership.{in_either, of_only, in_map, in_filter}
 use Rattle.mc_laws.proofs.Growth.{grows, later, same_life, remembers, actors_after, actor_here, actor_apart}
 use Rattle.mc_laws.proofs.Keeping.{Keeps, WasProposed, IsSent, sent_is}
 use Rattle.mc_laws.proofs.Links.{Links}

@@ -12,7 +12,7 @@ use Rattle.mc_model.specs.node.Actor.{Actor}
 use Rattle.mc_model.specs.node.Act.{Act, Receives, Promises, Votes, Refuses, Tells, Prepares, Proposes, Asks, Restarts}
 use Rattle.mc_model.specs.node.Effect.{records_by, actor_by, if_sent}
 use Rattle.mc_model.specs.cluster.World.{World, Cast, cast, May, after, votes_by, sent_by, start}
-use Rattle.mc_laws.proofs.Membership.{in_either}
+use Rattle.mc_parts.proofs.Membership.{in_either}
 use Rattle.mc_laws.proofs.Growth.{Grows, grows, IsNew, records_after, changed_cases, later, same_life, changed_here}
 
 -- ---- what holds of each packet

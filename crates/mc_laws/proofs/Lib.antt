@@ -1,15 +1,9 @@
-pub mod Majorities
-pub mod Stable
-pub mod Fates
-pub mod Lengths
-pub mod Membership
 pub mod Growth
 pub mod Keeping
 pub mod Links
 pub mod Agreement
 pub mod Fated
 pub mod Freshness
-pub mod Known
 pub mod Proposals
 pub mod Honest
 pub mod Grantings
@@ -26,7 +20,6 @@ pub mod Decided
 pub mod FirstStep
 pub mod Restarts
 pub mod Questions
-pub mod Refusals
 pub mod Deeds
 pub mod Assembly
 pub mod Openings

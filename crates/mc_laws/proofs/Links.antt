@@ -17,8 +17,8 @@ use Rattle.mc_model.specs.node.Act.{Act, Proposes, Begins, Settles, Replies, Con
 use Rattle.mc_model.specs.node.Effect.{actor_by, settle}
 use Rattle.mc_model.specs.cluster.World.{World, Deed, cast, May, IsChosenIn, StandsIn, after, start}
 use Rattle.mc_model.specs.cluster.Fate.{deed_by}
-use Rattle.mc_laws.proofs.Membership.{in_either, of_only, in_map, in_filter}
-use Rattle.mc_laws.proofs.Majorities.{both}
+use Rattle.mc_parts.proofs.Membership.{in_either, of_only, in_map, in_filter}
+use Rattle.mc_parts.proofs.Majorities.{both}
 use Rattle.mc_laws.proofs.Growth.{Grows, grows, changed_cases, later, same_life, actors_after, actor_here, actor_apart}
 use Rattle.mc_laws.proofs.Keeping.{Keeps, WasProposed, PromiseFits, proposal_cases}
 

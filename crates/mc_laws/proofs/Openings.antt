@@ -14,7 +14,7 @@ use Rattle.mc_model.specs.node.Act.{Act, Receives, Proposes, Restarts, Needs, Is
 use Rattle.mc_model.specs.node.Effect.{actor_by, records_by, packets_by}
 use Rattle.mc_model.specs.cluster.World.{World, Cast, cast, May, IsChosenIn, StandsIn, after, sent_by, votes_by, changed, reached, start, IsRun, Run, world_of}
 use Rattle.mc_model.specs.cluster.Stores.{start_over, openings, opened_in, AreLeft}
-use Rattle.mc_laws.proofs.Membership.{in_right, either}
+use Rattle.mc_parts.proofs.Membership.{in_right, either}
 use Rattle.mc_laws.proofs.Growth.{changed_here, actor_here, actor_apart, nodes_same}
 use Rattle.mc_laws.proofs.Keeping.{justified_more}
 use Rattle.mc_laws.proofs.Behind.{run_on, reached_on}

@@ -11,7 +11,7 @@ use Rattle.mc_model.specs.node.Effect.{actor_by, settle}
 use Rattle.mc_model.specs.cluster.World.{World, Deed, May, IsChosenIn, after, start}
 use Rattle.mc_model.specs.cluster.Fate.{deed_by}
 use Rattle.mc_model.specs.cluster.Decrees.{WasOnClock, IsTimely, HasItsError}
-use Rattle.mc_laws.proofs.Membership.{in_either, of_only, in_map, in_filter}
+use Rattle.mc_parts.proofs.Membership.{in_either, of_only, in_map, in_filter}
 use Rattle.mc_laws.proofs.Growth.{actors_after}
 use Rattle.mc_laws.proofs.Keeping.{Keeps}
 use Rattle.mc_laws.proofs.Proposals.{AllProposed, good_after}

@@ -7,7 +7,7 @@ use Rattle.mc_model.specs.synod.Packet.{Slot, slot_of, Promise}
 use Rattle.mc_model.specs.node.Proposal.{IsOwn, IsFree}
 use Rattle.mc_model.specs.node.Act.{Act, Proposes}
 use Rattle.mc_model.specs.cluster.World.{World, cast, May, IsChosenIn, StandsIn, after}
-use Rattle.mc_laws.proofs.Majorities.{both}
+use Rattle.mc_parts.proofs.Majorities.{both}
 use Rattle.mc_laws.proofs.Keeping.{Keeps, WasProposed, PromiseFits, proposal_cases}
 
 -- a fact about a world, a message and a chain holds of every chain that is proposed for that message

@@ -10,8 +10,8 @@ use Rattle.mc_model.specs.node.Outcome.{Outcome}
 use Rattle.mc_model.specs.node.Act.{Act}
 use Rattle.mc_model.specs.cluster.World.{World, Deed, cast, May, IsChosenIn, after, start, reached, IsRun}
 use Rattle.mc_model.specs.cluster.Fate.{CameBefore, States, IsGrant, IsDelivery}
-use Rattle.mc_laws.proofs.Fates.{fate_is_last}
-use Rattle.mc_laws.proofs.Membership.{in_right}
+use Rattle.mc_parts.proofs.Fates.{fate_is_last}
+use Rattle.mc_parts.proofs.Membership.{in_right}
 use Rattle.mc_laws.proofs.Keeping.{Keeps, sound, keeps_start, keeps_after}
 use Rattle.mc_laws.proofs.Links.{Links, ChainFits, links_start, links_after}
 use Rattle.mc_laws.proofs.Agreement.{Chosen, standing, begins, agree}
@@ -21,7 +21,7 @@ use Rattle.mc_laws.proofs.Honest.{Honest, honest_start, honest_after}
 use Rattle.mc_laws.proofs.Grantings.{Grantings, grantings_start, grantings_after}
 use Rattle.mc_laws.proofs.OwnDecrees.{OwnDecrees, own_decrees_start, own_decrees_after}
 use Rattle.mc_laws.proofs.Rooms.{HasRoom, room_after}
-use Rattle.mc_laws.proofs.Stable.{stable}
+use Rattle.mc_parts.proofs.Stable.{stable}
 use Rattle.mc_laws.proofs.Fated.{open_passed, passed_at, Timely, AllTimely, Told, told_start, told_after}
 
 pub record Holds (w : World) : Type 0 where

@@ -10,8 +10,8 @@ use Rattle.mc_model.specs.node.Actor.{Submit, opening_clock}
 use Rattle.mc_model.specs.node.Knowledge.{IsLearned, Knows, KnowsNothing}
 use Rattle.mc_model.specs.cluster.World.{IsChosenIn, IsRun, reached}
 use Rattle.mc_laws.specs.Stories.{first_id, first_ballot, taken_chain, taken_slot, taken_vote, until_promised, until_stopped, until_anew, restart_story, three_nodes, MayBeTried}
-use Rattle.mc_laws.proofs.Majorities.{both}
-use Rattle.mc_laws.proofs.Membership.{in_right}
+use Rattle.mc_parts.proofs.Majorities.{both}
+use Rattle.mc_parts.proofs.Membership.{in_right}
 
 -- what holds of nodes 1 and 2 holds of a majority of a cluster of three
 pub two_of_three : (P : ℕ → Type 0) → P 1 → P 2 → Majority 3 P

@@ -26,7 +26,7 @@ use Rattle.mc_model.specs.node.Alone.{IsStepAlone}
 use Rattle.mc_laws.specs.Stories.{first_id, first_ballot, first_setup, decreed, taken_chain, attempted_chain, delivered_chain, MayBeTried}
 use Rattle.mc_laws.specs.NodeStories.{one_minute_later, expired_chain, undelivered_chain, lost_chain, given_up_chain, knowing, no_records, node_of_actor, opening_ballot, starting, giving_up, decreed_in, failed_chain, all_up, none_up}
 use Rattle.mc_laws.proofs.Rounds.{one_of_one}
-use Rattle.mc_laws.proofs.Known.{knows_one}
+use Rattle.mc_parts.proofs.Known.{knows_one}
 use Rattle.mc_laws.proofs.Delivery.{knows}
 use Rattle.mc_laws.proofs.FirstStep.{none_due, none_due_once}
 

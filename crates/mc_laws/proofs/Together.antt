@@ -15,7 +15,7 @@ use Rattle.mc_model.specs.node.Effect.{records_by, actor_by}
 use Rattle.mc_model.specs.node.Alone.{Node, began_by, opened_new, StandsAt, MayAlone, after_alone, reached_alone, IsRunAlone}
 use Rattle.mc_model.specs.cluster.World.{World, cast, votes_by, May, IsChosenIn, StandsIn, after, changed, start, reached, IsRun}
 use Rattle.mc_model.specs.cluster.Assembly.{acts_of, WasSent, EachWasSent}
-use Rattle.mc_laws.proofs.Membership.{in_right}
+use Rattle.mc_parts.proofs.Membership.{in_right}
 use Rattle.mc_laws.proofs.Growth.{changed_here, nodes_same}
 use Rattle.mc_laws.proofs.Keeping.{Keeps, PromiseFits, justified_more}
 use Rattle.mc_laws.proofs.Agreement.{learned_chosen}

@@ -1,23 +1,18 @@
-//! The laws over ballots, majorities, chains and whole runs. The functions do nothing: their contracts are the laws.
+//! The laws over whole runs and over steps. The functions do nothing: their contracts are the laws.
 #![tactic(auto)]
 
 mod replies;
-mod chains;
-mod nodes;
 mod promises;
 mod runs;
 mod steps;
 mod steps_of_nodes;
 mod stories;
-mod synod;
 
 pub use replies::{
     a_settling_majority_has_seen_every_choice, answers_are_fresh, answers_are_fresh_over_steps,
     tellers_meet_a_choice, tells_follow_their_question,
 };
-pub use chains::{a_fate_is_the_end, chains_are_short, newest_decree_says_the_state};
 pub use promises::{headline, headline_over_steps, what_is_stated_is_chosen};
-pub use nodes::{a_grant_is_given_or_refused_by_one_number, a_node_knows_one_chain};
 pub use runs::{
     a_cancelled_message_is_deleted, a_full_desk_takes_no_request, an_open_attempt_is_not_passed, chosen_chains_agree,
     decrees_have_their_errors, deleted_stands_on_a_cancel, every_packet_concerns_every_node,
@@ -37,4 +32,3 @@ pub use stories::{
     a_message_is_cancelled, a_message_is_delivered, a_node_stops_after_a_save, a_query_is_answered,
     a_submit_starts_a_round,
 };
-pub use synod::{ballots_have_their_parts, choice_is_stable, majorities_meet};

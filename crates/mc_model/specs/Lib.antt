@@ -2,4 +2,3 @@ pub mod message
 pub mod synod
 pub mod node
 pub mod cluster
-pub mod Example

@@ -1,6 +1,6 @@
 use Rattle.mc_model.specs.synod.OneSlot.{was_voted, was_promised, was_proposed}
-use Rattle.mc_laws.proofs.Stable.{stable}
-use Rattle.mc_laws.proofs.synod.choice_is_stable.Goals as goal
+use Rattle.mc_parts.proofs.Stable.{stable}
+use Rattle.mc_parts.proofs.synod.choice_is_stable.Goals as goal
 
 pub returns-clause-votes : goal.returns-clause-votes
 returns-clause-votes c = λ nodes past chosen acceptor vote keeps is_chosen voted from.

@@ -9,8 +9,8 @@ use Rattle.mc_model.specs.node.Outcome.{Outcome}
 use Rattle.mc_model.specs.node.Actor.{Actor}
 use Rattle.mc_model.specs.node.Knowledge.{Knows, IsKnown}
 use Rattle.mc_model.specs.node.Grant.{MayGrant, EndsInAttempt, GrantRefusal, NotChosen, NotMine, OlderIncarnation, AlreadyGranted, Closed, IsRefusedFor, IsGiven}
-use Rattle.mc_laws.proofs.Membership.{either, slots_same}
-use Rattle.mc_laws.proofs.Known.{knows_one}
+use Rattle.mc_parts.proofs.Membership.{either, slots_same}
+use Rattle.mc_parts.proofs.Known.{knows_one}
 
 -- ---- what a refusal says of the attempt that is known
 

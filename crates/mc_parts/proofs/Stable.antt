@@ -2,7 +2,7 @@
 use Rattle.std.proofs.Common.{◌≡◌, ◌⊎◌, ℕ, zero, suc, ◌<◌, ◌≤◌, Option, Some, None, subst, ◌∙◌, arith, inl, inr}
 use Rattle.std.proofs.lemmas.Bool.{cases_lt}
 use Rattle.mc_model.specs.synod.OneSlot.{Vote, vote_at, IsChosen, Reaches, IsWithin, IsOfHighest, ReportsWithin, IsSound}
-use Rattle.mc_laws.proofs.Majorities.{Both, both}
+use Rattle.mc_parts.proofs.Majorities.{Both, both}
 
 at_or_after : (a b : ℕ) → a ≤ b → (b ≡ a) ⊎ (a < b)
 at_or_after a b le = elim (cases_lt a b) [ inl lt ↦ inr lt | inr ge ↦ inl (omega arith) ]

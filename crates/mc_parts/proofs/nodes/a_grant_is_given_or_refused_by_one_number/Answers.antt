@@ -1,5 +1,5 @@
-use Rattle.mc_laws.proofs.Refusals.{judged, one_refusal, not_refused}
-use Rattle.mc_laws.proofs.nodes.a_grant_is_given_or_refused_by_one_number.Goals as goal
+use Rattle.mc_parts.proofs.Refusals.{judged, one_refusal, not_refused}
+use Rattle.mc_parts.proofs.nodes.a_grant_is_given_or_refused_by_one_number.Goals as goal
 
 pub returns-clause-judged : goal.returns-clause-judged
 returns-clause-judged c = judged

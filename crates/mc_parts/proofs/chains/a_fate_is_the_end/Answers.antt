@@ -1,7 +1,7 @@
 use Rattle.std.proofs.Common.{ap, ◌++◌, List}
 use Rattle.mc_model.specs.message.Decree.{Decree}
-use Rattle.mc_laws.proofs.Fates.{fate_ends, fate_is_last}
-use Rattle.mc_laws.proofs.chains.a_fate_is_the_end.Goals as goal
+use Rattle.mc_parts.proofs.Fates.{fate_ends, fate_is_last}
+use Rattle.mc_parts.proofs.chains.a_fate_is_the_end.Goals as goal
 
 pub returns-clause-end : goal.returns-clause-end
 returns-clause-end c = fate_ends

@@ -7,7 +7,7 @@ use Rattle.mc_model.specs.synod.Majority.{HoldsOf}
 use Rattle.mc_model.specs.synod.OneSlot.{Vote, vote_at}
 use Rattle.mc_model.specs.synod.Packet.{Slot, slot_of, Packet, Voted}
 use Rattle.mc_model.specs.node.Knowledge.{IsLearned, Knows}
-use Rattle.mc_laws.proofs.Majorities.{both}
+use Rattle.mc_parts.proofs.Majorities.{both}
 
 -- ---- what one more packet makes of a majority
 
