@@ -123,9 +123,11 @@ exact_receives setup a records input acts e packet is_in =
     not_ended : (input : Input) (a : Actor) (p : Packet) → DueToEnd input a (Receives p) → ⊥
     not_ended (Tick moment up) a p none = none
     not_ended input a p none = none
+
     not_asked : (input : Input) (nodes node : ℕ) (before a : Actor) (p : Packet) → DueToAsk nodes node before a input (Receives p) → ⊥
     not_asked (Tick moment up) nodes node before a p none = none
     not_asked input nodes node before a p none = none
+
     not_abandoned : (input : Input) (nodes node : ℕ) (a : Actor) (records : Records) (p : Packet) → DueToAbandon nodes node a records input (Receives p) → ⊥
     not_abandoned (Tick moment up) nodes node a records p none = none
     not_abandoned input nodes node a records p none = none

@@ -88,6 +88,7 @@ module _ (message : Submission) where
         settled = second_settled;
       })
       there act (inr none) = absurd none
+
       back : (act : Act) → DueToSettle 1 1 heard act → In act (Settles 2 ∷ [])
       back (Settles ticket) due =
           let is : due.waiting.ticket ≡ 2 = of_both (λ w. w.settled ≡ false → w.ticket ≡ 2) (cancelling_at message 1 true) (cancelling_at message 2 false) (λ clash. absurd cc) (λ same. refl) due.waiting due.waits due.unsettled in
@@ -157,15 +158,19 @@ module _ (message : Submission) where
   prepares_one = record { only = only; all = all; order = tt }
     where
       only : (act : Act) → In act (Prepares behind_slot next_ballot (deleted_chain message) ∷ []) → Due act
-      only act (inl same) = subst Due (sym same) (inr (inr (inr (record {
-        deletes = record {
-          further = record { newest = decreed (Taken message); older = []; taken = message; known = taken_known; behind = refl; message = refl; chain_is = refl };
-          idle = inl (message, refl);
-          cancelled = record { waiting = cancelling_at message 2 true; waits = inr (inl refl); settled = refl; cancels = (refl, matches) };
-        };
-        new = λ was known. not_settled was;
-      }))), prepares_so)
+      only act (inl same) = subst Due (sym same) (
+        inr (inr (inr (record {
+          deletes = record {
+            further = record { newest = decreed (Taken message); older = []; taken = message; known = taken_known; behind = refl; message = refl; chain_is = refl };
+            idle = inl (message, refl);
+            cancelled = record { waiting = cancelling_at message 2 true; waits = inr (inl refl); settled = refl; cancels = (refl, matches) };
+          };
+          new = λ was known. not_settled was;
+        }))),
+        prepares_so,
+      )
       only act (inr none) = absurd none
+
       all : (act : Act) → Due act → In (key_of act) (first_id ∷ [])
       all (Prepares slot ballot chain) due = inl (by_cause due.0)
         where

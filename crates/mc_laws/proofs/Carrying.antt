@@ -99,6 +99,7 @@ module _ (vote : Vote) (other : List Decree) where
       only : (act : Act) → In act (Proposes second_slot (vote_at second_ballot vote.chain) ∷ []) → DueToPropose 3 1 before now act
       only act (inl same) = subst (DueToPropose 3 1 before now) (sym same) (complete, inl (record { offered = inl refl; unreported = no_reports }))
       only act (inr none) = absurd none
+
       all : (act : Act) → DueToPropose 3 1 before now act → In (key_of act) (second_id ∷ [])
       all (Proposes slot voted) due = inl (ap (λ (s : Slot). s.id) (round_slot slot voted.ballot due.0.running.round.newer due.0.running.round.older due.0.running.round.split))
       all act due = absurd due

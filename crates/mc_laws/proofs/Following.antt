@@ -48,6 +48,7 @@ others_of_three k is = record { test = λ node. not (node == k); most = most k i
     most k (inl (inl is)) = subst (λ (n : ℕ). 3 < 2 * count (λ node. not (node == n)) 3) (sym is) (omega arith)
     most k (inl (inr is)) = subst (λ (n : ℕ). 3 < 2 * count (λ node. not (node == n)) 3) (sym is) (omega arith)
     most k (inr is) = subst (λ (n : ℕ). 3 < 2 * count (λ node. not (node == n)) 3) (sym is) (omega arith)
+
     differs : (node k : ℕ) → not (node == k) ≡ true → node ≡ k → ⊥
     differs node k passes same =
         let equal : (node == k) ≡ true = eq-eqb node k same in
@@ -211,6 +212,7 @@ module _ (account source : List ℕ) (vote : Vote) where
       there : (act : Act) → In act (Asks second_id 1 ∷ []) → DueToAsk 3 1 (opened 1 1) (at [] [] []) (Arrival (Query second_id account source)) act
       there act (inl same) = subst (DueToAsk 3 1 (opened 1 1) (at [] [] []) (Arrival (Query second_id account source))) (sym same) (refl, refl)
       there act (inr none) = absurd none
+
       back : (act : Act) → DueToAsk 3 1 (opened 1 1) (at [] [] []) (Arrival (Query second_id account source)) act → In act (Asks second_id 1 ∷ [])
       back (Asks id ticket) due = inl (λ i. Asks (sym due.0 i) (due.1 i))
       back act due = absurd due
@@ -320,6 +322,7 @@ module _ (account source : List ℕ) (vote : Vote) where
       only : (act : Act) → In act (Prepares second_slot first_ballot vote.chain ∷ []) → DueToPrepare 3 1 (at (Tell 2 question None ∷ []) [] []) (at (told vote) [] []) no_records (Delivery (told_by_3 vote)) act
       only act (inl same) = subst (DueToPrepare 3 1 (at (Tell 2 question None ∷ []) [] []) (at (told vote) [] []) no_records (Delivery (told_by_3 vote))) (sym same) (inr (inr (inl shows)), prepares_so)
       only act (inr none) = absurd none
+
       all : (act : Act) → DueToPrepare 3 1 (at (Tell 2 question None ∷ []) [] []) (at (told vote) [] []) no_records (Delivery (told_by_3 vote)) act → In (key_of act) (second_id ∷ [])
       all (Prepares slot ballot chain) due = by_cause due.0
         where
@@ -397,6 +400,7 @@ module _ (account source : List ℕ) (vote : Vote) where
       only : (act : Act) → In act (Proposes second_slot (vote_at first_ballot vote.chain) ∷ []) → DueToPropose 3 1 (at (promised vote) prepared_so (offered_so vote)) (at all_promised prepared_so (offered_so vote)) act
       only act (inl same) = subst (DueToPropose 3 1 (at (promised vote) prepared_so (offered_so vote)) (at all_promised prepared_so (offered_so vote))) (sym same) (complete, inl (record { offered = inl refl; unreported = no_reports }))
       only act (inr none) = absurd none
+
       all : (act : Act) → DueToPropose 3 1 (at (promised vote) prepared_so (offered_so vote)) (at all_promised prepared_so (offered_so vote)) act → In (key_of act) (second_id ∷ [])
       all (Proposes slot other) due = inl (ap (λ (s : Slot). s.id) (round_slot slot other.ballot due.0.running.round.newer due.0.running.round.older due.0.running.round.split))
       all act due = absurd due
@@ -433,18 +437,26 @@ module _ (account source : List ℕ) (vote : Vote) where
       );
       exact = promised_3_exact;
     },
-    (record { run = (record { least = omega arith; most = omega arith; up = refl; needs = tt }, tt); exact = promised_2_exact },
-    (record {
-      run = (record { least = omega arith; most = omega arith; up = refl; needs = (refl, refl) }, (record { least = omega arith; most = omega arith; up = refl; needs = tt }, tt));
-      exact = told_3_exact;
-    },
-    (record { run = (record { least = omega arith; most = omega arith; up = refl; needs = tt }, tt); exact = told_2_exact },
-    (record {
-      run = (
-        record { least = omega arith; most = omega arith; up = refl; needs = record { waiting = asked_for account source; waits = inl refl; ticket_is = refl; about = refl } },
-        (record { least = omega arith; most = omega arith; up = refl; needs = record { next = refl; room = refl; fit = tt } }, tt),
-      );
-      exact = arrival_exact;
-    },
-    tt)))),
+    (
+      record { run = (record { least = omega arith; most = omega arith; up = refl; needs = tt }, tt); exact = promised_2_exact },
+      (
+        record {
+          run = (record { least = omega arith; most = omega arith; up = refl; needs = (refl, refl) }, (record { least = omega arith; most = omega arith; up = refl; needs = tt }, tt));
+          exact = told_3_exact;
+        },
+        (
+          record { run = (record { least = omega arith; most = omega arith; up = refl; needs = tt }, tt); exact = told_2_exact },
+          (
+            record {
+              run = (
+                record { least = omega arith; most = omega arith; up = refl; needs = record { waiting = asked_for account source; waits = inl refl; ticket_is = refl; about = refl } },
+                (record { least = omega arith; most = omega arith; up = refl; needs = record { next = refl; room = refl; fit = tt } }, tt),
+              );
+              exact = arrival_exact;
+            },
+            tt,
+          ),
+        ),
+      ),
+    ),
   )

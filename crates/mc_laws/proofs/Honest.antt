@@ -87,6 +87,7 @@ expected w names honest node teller name told is_in nodes incarnations = record 
         let asked = names.told teller name told is_in in
         let named : WasNamed (w.actors node) name = subst (λ (n : ℕ). WasNamed (w.actors n) name) nodes (names.asked asked.sender asked.id name asked.sent) in
         elim named [ inl before ↦ absurd (omega (arith, before, incarnations)) | inr now ↦ now.1 ]
+
     of_told : (told : Option TopVote) → In (Tell teller name told) w.packets → (waiting : Waiting) → In waiting (w.actors node).waiting → waiting.ticket ≡ name.ticket → TellsAbout told (id_in waiting.request)
     of_told None is_in waiting waits is = tt
     of_told (Some top) is_in waiting waits is =
@@ -96,10 +97,13 @@ expected w names honest node teller name told is_in nodes incarnations = record 
 
 pub all_concern : (w : World) → Keeps w → Links w → Names w → Honest w → (node : ℕ) (packet : Packet) → In packet w.packets → Concerns w.nodes node (w.actors node) packet
 all_concern w keeps links names honest node (Prepare sender slot ballot) is_in = honest.members _ is_in
-all_concern w keeps links names honest node (Promise sender slot ballot report) is_in = (honest.members _ is_in, λ own.
-    let p = honest.promised sender slot ballot report is_in in
-    let sender_is : p.sender ≡ node = sym (honest.prepares p.sender slot ballot p.sent).proposer ∙ own.0 in
-    honest.prepared node slot ballot (subst (λ (n : ℕ). In (Prepare n slot ballot) w.packets) sender_is p.sent) own.1)
+all_concern w keeps links names honest node (Promise sender slot ballot report) is_in = (
+  honest.members _ is_in,
+  λ own.
+      let p = honest.promised sender slot ballot report is_in in
+      let sender_is : p.sender ≡ node = sym (honest.prepares p.sender slot ballot p.sent).proposer ∙ own.0 in
+      honest.prepared node slot ballot (subst (λ (n : ℕ). In (Prepare n slot ballot) w.packets) sender_is p.sent) own.1,
+)
 all_concern w keeps links names honest node (Propose sender slot vote) is_in = honest.members _ is_in
 all_concern w keeps links names honest node (Voted sender slot vote) is_in =
     let proposed = keeps.proposed (cast sender slot vote) (keeps.fits (Voted sender slot vote) is_in) in

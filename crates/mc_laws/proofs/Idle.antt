@@ -113,6 +113,7 @@ module _ (setup : Setup) (a : Actor) (records : Records) (input : Input) (core :
       followed (Voted sender other vote) follow = follow
       followed (Refused sender other at promised) follow = follow
       followed (Ask sender other name) follow = follow
+
       no_follow : (input : Input) → CausesFollow setup.nodes setup.node b input slot.id slot.place chain → ⊥
       no_follow (Delivery packet) follow = followed packet follow
       no_follow (Crash packet after) follow = follow
@@ -122,6 +123,7 @@ module _ (setup : Setup) (a : Actor) (records : Records) (input : Input) (core :
       no_follow (Grant other) follow = follow
       no_follow (Response other outcome) follow = follow
       no_follow (Restart lost) follow = follow
+
       by_input : (input : Input) → IsPlain input → IsStarted setup.nodes setup.node a b (saved records core) input slot.id slot.place chain → ((id place : ℕ) (chain : List Decree) → CausesClose setup.nodes setup.node b input id place chain → ⊥) → ⊥
       by_input (Delivery packet) is (inl take) none = take
       by_input (Delivery packet) is (inr (inl close)) none = none slot.id slot.place chain close
@@ -326,12 +328,16 @@ module _ (message : Submission) where
   one_round = record { only = only; all = all; order = tt }
     where
       only : (act : Act) → In act delivering → Due act
-      only act (inl same) = subst Due (sym same) (inr (inl (record {
-        about = refl;
-        further = record { newest = decreed (Attempt 1); older = taken_chain message; taken = message; known = known_here (attempted_chain message); behind = refl; message = refl; chain_is = refl };
-        newest = refl;
-      })), prepares_so)
+      only act (inl same) = subst Due (sym same) (
+        inr (inl (record {
+          about = refl;
+          further = record { newest = decreed (Attempt 1); older = taken_chain message; taken = message; known = known_here (attempted_chain message); behind = refl; message = refl; chain_is = refl };
+          newest = refl;
+        })),
+        prepares_so,
+      )
       only act (inr none) = absurd none
+
       all : (act : Act) → Due act → In (key_of act) (first_id ∷ [])
       all (Prepares slot ballot chain) due = inl (by_cause due.0)
         where

@@ -138,20 +138,23 @@ Opens w fresh lost serials nodes acts = IsRun w acts × IsOpened w (reached w ac
 
 -- the next node is new
 skips : (w : World) (fresh : ℕ → Bool) (lost serials : ℕ → ℕ) (nodes : ℕ) (acts : List (ℕ × Act)) → AreLeft w fresh lost serials → fresh (suc nodes) ≡ true → Opens w fresh lost serials nodes acts → Opens w fresh lost serials (suc nodes) acts
-skips w fresh lost serials nodes acts left new (run, is) = (run, record {
-  same = is.same;
-  packets = is.packets;
-  votes = is.votes;
-  records = is.records;
-  opened_now = λ node least most. elim (cases_eq node (suc nodes)) [
-    | inl last ↦
-        is.others node (omega (arith, last))
-        ∙ left.new node (ap fresh last ∙ new)
-        ∙ ap (λ (b : Bool). opened (if b then 1 else suc ((w.actors node).incarnation + lost node)) (serials node)) (sym (ap fresh last ∙ new))
-    | inr before ↦ is.opened_now node least (omega (arith, most, before))
-  ];
-  others = λ node above. is.others node (omega (arith, above));
-})
+skips w fresh lost serials nodes acts left new (run, is) = (
+  run,
+  record {
+    same = is.same;
+    packets = is.packets;
+    votes = is.votes;
+    records = is.records;
+    opened_now = λ node least most. elim (cases_eq node (suc nodes)) [
+      | inl last ↦
+          is.others node (omega (arith, last))
+          ∙ left.new node (ap fresh last ∙ new)
+          ∙ ap (λ (b : Bool). opened (if b then 1 else suc ((w.actors node).incarnation + lost node)) (serials node)) (sym (ap fresh last ∙ new))
+      | inr before ↦ is.opened_now node least (omega (arith, most, before))
+    ];
+    others = λ node above. is.others node (omega (arith, above));
+  },
+)
 
 -- or it starts anew
 restarts : (w : World) (fresh : ℕ → Bool) (lost serials : ℕ → ℕ) (nodes : ℕ) (acts : List (ℕ × Act)) → AreLeft w fresh lost serials → suc nodes ≤ w.nodes → fresh (suc nodes) ≡ false → Opens w fresh lost serials nodes acts → Opens w fresh lost serials (suc nodes) ((suc nodes, Restarts (lost (suc nodes)) (serials (suc nodes))) ∷ acts)
@@ -166,21 +169,23 @@ restarts w fresh lost serials nodes acts left within old (run, is) =
       needs = subst (λ (a : Actor). a.incarnation + lost (suc nodes) < 9999) (sym same) (left.old (suc nodes) old);
     } in
     let now : (after v (suc nodes) act).actors (suc nodes) ≡ opened (opened_in w fresh lost (suc nodes)) (serials (suc nodes)) =
-        actor_here v (suc nodes) act
-        ∙ ap (λ (a : Actor). opened (suc (a.incarnation + lost (suc nodes))) (serials (suc nodes))) same
-        ∙ ap (λ (b : Bool). opened (if b then 1 else suc ((w.actors (suc nodes)).incarnation + lost (suc nodes))) (serials (suc nodes))) (sym old)
-    in
-    ((may, run), record {
-      same = is.same;
-      packets = is.packets;
-      votes = is.votes;
-      records = λ node. unchanged v node ∙ is.records node;
-      opened_now = λ node least most. elim (cases_eq node (suc nodes)) [
-        | inl last ↦ subst (λ (n : ℕ). (after v (suc nodes) act).actors n ≡ opened (opened_in w fresh lost n) (serials n)) (sym last) now
-        | inr before ↦ actor_apart v (suc nodes) act node before ∙ is.opened_now node least (omega (arith, most, before))
-      ];
-      others = λ node above. actor_apart v (suc nodes) act node (λ last. omega (arith, above, last)) ∙ is.others node (omega (arith, above));
-    })
+    actor_here v (suc nodes) act
+    ∙ ap (λ (a : Actor). opened (suc (a.incarnation + lost (suc nodes))) (serials (suc nodes))) same
+    ∙ ap (λ (b : Bool). opened (if b then 1 else suc ((w.actors (suc nodes)).incarnation + lost (suc nodes))) (serials (suc nodes))) (sym old)
+    in (
+      (may, run),
+      record {
+        same = is.same;
+        packets = is.packets;
+        votes = is.votes;
+        records = λ node. unchanged v node ∙ is.records node;
+        opened_now = λ node least most. elim (cases_eq node (suc nodes)) [
+          | inl last ↦ subst (λ (n : ℕ). (after v (suc nodes) act).actors n ≡ opened (opened_in w fresh lost n) (serials n)) (sym last) now
+          | inr before ↦ actor_apart v (suc nodes) act node before ∙ is.opened_now node least (omega (arith, most, before))
+        ];
+        others = λ node above. actor_apart v (suc nodes) act node (λ last. omega (arith, above, last)) ∙ is.others node (omega (arith, above));
+      },
+    )
   where
     unchanged : (v : World) (node : ℕ) → changed v.records (suc nodes) (v.records (suc nodes)) node ≡ v.records node
     unchanged v node = elim (cases_eq node (suc nodes)) [
@@ -192,14 +197,17 @@ restarts w fresh lost serials nodes acts left within old (run, is) =
     ]
 
 opens : (w : World) (fresh : ℕ → Bool) (lost serials : ℕ → ℕ) → AreLeft w fresh lost serials → (nodes : ℕ) → nodes ≤ w.nodes → Opens w fresh lost serials nodes (openings nodes fresh lost serials)
-opens w fresh lost serials left zero within = (tt, record {
-  same = refl;
-  packets = refl;
-  votes = refl;
-  records = λ node. refl;
-  opened_now = λ node least most. absurd (omega (arith, least, most));
-  others = λ node above. refl;
-})
+opens w fresh lost serials left zero within = (
+  tt,
+  record {
+    same = refl;
+    packets = refl;
+    votes = refl;
+    records = λ node. refl;
+    opened_now = λ node least most. absurd (omega (arith, least, most));
+    others = λ node above. refl;
+  },
+)
 opens w fresh lost serials left (suc nodes) within = by_test (fresh (suc nodes)) refl (opens w fresh lost serials left nodes (omega (arith, within)))
   where
     by_test : (test : Bool) → fresh (suc nodes) ≡ test → Opens w fresh lost serials nodes (openings nodes fresh lost serials) → Opens w fresh lost serials (suc nodes) (openings (suc nodes) fresh lost serials)

@@ -395,6 +395,7 @@ abandoned_one message = record { each = λ act. (there act, back act); order = t
     there : (act : Act) → In act (Abandons (slot_of first_id (attempted_chain message)) ∷ []) → DueToAbandon 1 1 (after_tick 1 opening_clock (decreed (Attempt 1)) (taken_chain message) [] [] opening_clock none_up) no_records (Tick opening_clock none_up) act
     there act (inl same) = subst (DueToAbandon 1 1 (after_tick 1 opening_clock (decreed (Attempt 1)) (taken_chain message) [] [] opening_clock none_up) no_records (Tick opening_clock none_up)) (sym same) (given_up_chain message, give_up_first message)
     there act (inr none) = absurd none
+
     back : (act : Act) → DueToAbandon 1 1 (after_tick 1 opening_clock (decreed (Attempt 1)) (taken_chain message) [] [] opening_clock none_up) no_records (Tick opening_clock none_up) act → In act (Abandons (slot_of first_id (attempted_chain message)) ∷ [])
     back (Abandons slot) due =
         let ids : slot.id ≡ first_id = rule_id 1 opening_clock (decreed (Attempt 1)) (taken_chain message) [] [] opening_clock none_up slot.id (suc slot.place) due.0 GiveUp due.1.fits in

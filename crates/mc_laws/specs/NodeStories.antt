@@ -6,7 +6,20 @@ use Rattle.mc_model.specs.message.Submission.{Submission}
 use Rattle.mc_model.specs.message.Decree.{Decree, Kind, Attempt, Failed, Fate, Expired, Undeliverable}
 use Rattle.mc_model.specs.synod.Ballot.{ballot_of}
 use Rattle.mc_model.specs.synod.OneSlot.{Vote, vote_at}
-use Rattle.mc_model.specs.synod.Packet.{Slot, slot_at, slot_of, top_at, Name, Packet, Prepare, Promise, Propose, Voted, Refused, Tell}
+use Rattle.mc_model.specs.synod.Packet.{
+  Slot,
+  slot_at,
+  slot_of,
+  top_at,
+  Name,
+  Packet,
+  Prepare,
+  Promise,
+  Propose,
+  Voted,
+  Refused,
+  Tell,
+}
 use Rattle.mc_model.specs.synod.Acceptor.{Records, blank, after_vote, with_record}
 use Rattle.mc_model.specs.node.Setup.{Setup}
 use Rattle.mc_model.specs.node.Outcome.{Outcome}
@@ -14,7 +27,18 @@ use Rattle.mc_model.specs.node.Actor.{Actor, Query, Cancel, Waiting, opened, ope
 use Rattle.mc_model.specs.node.Act.{Act, Receives, Prepares, Proposes, Begins, Asks, Settles, Abandons, Ticks}
 use Rattle.mc_model.specs.node.Input.{Delivery, Arrival}
 use Rattle.mc_model.specs.node.Alone.{Node, OwnStep}
-use Rattle.mc_laws.specs.Stories.{first_id, first_ballot, first_setup, decreed, taken_chain, attempted_chain, delivered_chain, deleted_chain, taken_slot, taken_vote}
+use Rattle.mc_laws.specs.Stories.{
+  first_id,
+  first_ballot,
+  first_setup,
+  decreed,
+  taken_chain,
+  attempted_chain,
+  delivered_chain,
+  deleted_chain,
+  taken_slot,
+  taken_vote,
+}
 
 -- every account has a session that may receive, or none has
 abbrev pub all_up : List ℕ → Bool
@@ -58,11 +82,13 @@ abbrev pub starting : ℕ → ℕ → List Decree → List Act
 starting incarnation moment chain = Prepares (slot_of first_id chain) (opening_ballot incarnation) chain ∷ Ticks moment ∷ []
 
 abbrev pub giving_up : ℕ → ℕ → Slot → List Decree → List Act
-giving_up incarnation moment slot chain = Prepares (slot_of first_id chain) (opening_ballot incarnation) chain ∷ Abandons slot ∷ Ticks moment ∷ []
+giving_up incarnation moment slot chain =
+    Prepares (slot_of first_id chain) (opening_ballot incarnation) chain ∷ Abandons slot ∷ Ticks moment ∷ []
 
 -- a decree of the node in an incarnation
 abbrev pub decreed_in : ℕ → ℕ → Kind → Decree
-decreed_in incarnation moment kind = record { author = record { node = 1; incarnation = incarnation }; moment = moment; kind = kind }
+decreed_in incarnation moment kind =
+    record { author = record { node = 1; incarnation = incarnation }; moment = moment; kind = kind }
 
 -- a message whose attempts failed so often, each by error 100
 abbrev pub failed_chain : ℕ → Submission → List Decree
@@ -105,16 +131,34 @@ question = record { node = 1; incarnation = 1; ticket = 1 }
 abbrev pub told_by_3 : Vote → Packet
 told_by_3 vote = Tell 3 question (Some (top_at second_slot vote))
 
--- The query_sm comes and is asked; node 2 has nothing to tell, and node 3 tells of a vote. So a round is started for that vote's chain;
--- nodes 2 and 3 promise and report nothing, since node 3's vote came after its promise, and that chain is proposed. The newest step
+-- The query_sm comes and is asked; node 2 has nothing to tell, and node 3 tells of a vote. So a round is started for that vote's
+-- chain;
+-- nodes 2 and 3 promise and report nothing, since node 3's vote came after its promise, and that chain is proposed. The newest
+-- step
 -- stands first.
 abbrev pub following : List ℕ → List ℕ → Vote → List OwnStep
 following account source vote =
-    record { input = Delivery (Promise 3 second_slot first_ballot None); acts = Proposes second_slot (vote_at first_ballot vote.chain) ∷ Receives (Promise 3 second_slot first_ballot None) ∷ [] }
-    ∷ record { input = Delivery (Promise 2 second_slot first_ballot None); acts = Receives (Promise 2 second_slot first_ballot None) ∷ [] }
-    ∷ record { input = Delivery (told_by_3 vote); acts = Prepares second_slot first_ballot vote.chain ∷ Receives (told_by_3 vote) ∷ [] }
+    record {
+      input = Delivery (Promise 3 second_slot first_ballot None);
+      acts = Proposes second_slot
+          (vote_at first_ballot vote.chain) ∷ Receives (Promise 3 second_slot first_ballot None) ∷ [];
+    }
+    ∷ record {
+      input = Delivery (Promise 2 second_slot first_ballot None);
+      acts = Receives
+          (Promise 2 second_slot first_ballot None) ∷ [];
+    }
+    ∷ record {
+      input = Delivery (told_by_3 vote);
+      acts = Prepares second_slot first_ballot vote.chain ∷ Receives (told_by_3 vote)
+          ∷ [];
+    }
     ∷ record { input = Delivery (Tell 2 question None); acts = Receives (Tell 2 question None) ∷ [] }
-    ∷ record { input = Arrival (Query second_id account source); acts = Asks second_id 1 ∷ Begins 1 (Query second_id account source) ∷ [] }
+    ∷ record {
+      input = Arrival (Query second_id account source);
+      acts = Asks second_id 1 ∷ Begins 1
+          (Query second_id account source) ∷ [];
+    }
     ∷ []
 
 -- ---- a node at which nothing waits
@@ -154,7 +198,8 @@ cancelling_at message ticket settled = record {
   settled = settled;
 }
 
--- The node knows that the message is taken. The first cancel_sm is settled, and its round was refused; the second is not settled yet.
+-- The node knows that the message is taken. The first cancel_sm is settled, and its round was refused; the second is not settled
+-- yet.
 abbrev pub cancelled_twice : Submission → Actor
 cancelled_twice message = record (opened 1 1) {
   serial = 2;
@@ -182,7 +227,8 @@ second_ballot = ballot_of 2 2 1
 abbrev pub third_ballot : ℕ
 third_ballot = ballot_of 3 1 3
 
--- The node began its second incarnation with a vote, and started a round for its chain; since then it has voted for another, and node 2
+-- The node began its second incarnation with a vote, and started a round for its chain; since then it has voted for another, and
+-- node 2
 -- has promised.
 abbrev pub carrying : Vote → List Decree → Node
 carrying vote other = record {
@@ -197,4 +243,5 @@ carrying vote other = record {
 
 -- Node 3 promises too and reports nothing; the chain of the round is proposed.
 abbrev pub carrying_on : Vote → List Act
-carrying_on vote = Proposes second_slot (vote_at second_ballot vote.chain) ∷ Receives (Promise 3 second_slot second_ballot None) ∷ []
+carrying_on vote =
+    Proposes second_slot (vote_at second_ballot vote.chain) ∷ Receives (Promise 3 second_slot second_ballot None) ∷ []

@@ -9,7 +9,24 @@ use Rattle.mc_model.specs.node.Setup.{Setup}
 use Rattle.mc_model.specs.node.Outcome.{Concluded}
 use Rattle.mc_model.specs.node.Actor.{Submit, Query, Cancel, opening_clock}
 use Rattle.mc_model.specs.node.Replies.{Accepted, Shown, Removed}
-use Rattle.mc_model.specs.node.Act.{Act, Receives, Promises, Votes, Tells, Prepares, Proposes, Begins, Asks, Settles, Replies, Reports, Grants, Concludes, Stops, Restarts}
+use Rattle.mc_model.specs.node.Act.{
+  Act,
+  Receives,
+  Promises,
+  Votes,
+  Tells,
+  Prepares,
+  Proposes,
+  Begins,
+  Asks,
+  Settles,
+  Replies,
+  Reports,
+  Grants,
+  Concludes,
+  Stops,
+  Restarts,
+}
 use Rattle.mc_model.specs.cluster.World.{World, Deed, start}
 
 -- the first message of node 1 in its first incarnation
@@ -92,7 +109,8 @@ pub record MayBeTried (message : Submission) : Type 0 where
 
 -- the first step of a node: a submit_sm comes, and a round for its message is started
 abbrev pub first_step : Submission → List Act
-first_step message = Prepares (slot_of first_id (taken_chain message)) first_ballot (taken_chain message) ∷ Begins 1 (Submit first_id message) ∷ []
+first_step message =
+    Prepares (slot_of first_id (taken_chain message)) first_ballot (taken_chain message) ∷ Begins 1 (Submit first_id message) ∷ []
 
 -- ---- a node stops between a save and its answer
 

@@ -7,8 +7,9 @@ ghost use Rattle.mc_model.specs.cluster.World.{Deed, Run, past_of, world_of};
 ghost use Rattle.mc_model.specs.cluster.Steps.{StepRun, world_after};
 ghost use Rattle.mc_model.specs.cluster.Fate.{CameBefore, States, IsGrant, IsDelivery, IsToldChosen};
 
-/// Of one message no two statements of a final state differ; after a statement, as ESME_ROK to its cancel_sm, no attempt of it is
-/// ever granted; and behind each statement of DELIVERED, as a receipt, stands an attempt that was granted and then answered ESME_ROK.
+/// Of one message no two statements of a final state differ; after a statement, as ESME_ROK to its cancel_sm, no attempt of it
+/// is ever granted; and behind each statement of DELIVERED, as a receipt, stands an attempt that was granted and then answered
+/// ESME_ROK.
 pub fn headline()
     ensures one_fate { (run : Run) (one other : Deed) (id : ℕ) (first second : Final) →
         In one (past_of run) → In other (past_of run) →
@@ -21,9 +22,9 @@ pub fn headline()
         (states : States stating id Delivered) → IsDelivery id states.chain older }
 {}
 
-/// For every list of steps in which packets are delivered, lost, repeated or reordered and nodes restart with their stable records,
-/// no two statements of a final state for one message id differ; after ESME_ROK to its cancel_sm no attempt of it is ever granted;
-/// each DELIVRD receipt stands on an attempt that was chosen, granted and answered ESME_ROK.
+/// For every list of steps in which packets are delivered, lost, repeated or reordered and nodes restart with their stable
+/// records, no two statements of a final state for one message id differ; after ESME_ROK to its cancel_sm no attempt of it is
+/// ever granted; each DELIVRD receipt stands on an attempt that was chosen, granted and answered ESME_ROK.
 pub fn headline_over_steps()
     ensures one_fate { (run : StepRun) (one other : Deed) (id : ℕ) (first second : Final) →
         In one (world_after run).past → In other (world_after run).past →

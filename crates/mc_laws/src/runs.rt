@@ -37,7 +37,8 @@ pub fn chosen_chains_agree()
 /// While an attempt of a node in its incarnation is not closed there, no proposal goes on from it: neither a cancel nor the
 /// expiry passes it.
 pub fn an_open_attempt_is_not_passed()
-    ensures { (run : Run) (sender : ℕ) (slot : Slot) (vote : Vote) (node : ℕ) (last : Decree) (more : List Decree) (newest : Decree) (older : List Decree) (number : ℕ) →
+    ensures { (run : Run) (sender : ℕ) (slot : Slot) (vote : Vote) (node : ℕ) (last : Decree) (more : List Decree)
+        (newest : Decree) (older : List Decree) (number : ℕ) →
         In (Propose sender slot vote) (world_of run).packets →
         vote.chain ≡ last ∷ (more ++ newest ∷ older) →
         newest.kind ≡ Attempt number →
@@ -72,20 +73,22 @@ pub fn receipts_are_of_the_node_of_the_id()
         In deed (past_of run) → deed.act ≡ Reports id chain → node_of id ≡ deed.node }
 {}
 
-/// An attempt that was given up for want of a session was not granted by that node in that incarnation, neither before nor after.
+/// An attempt that was given up for want of a session was not granted by that node in that incarnation, neither before nor
+/// after.
 pub fn what_is_given_up_was_never_granted()
     ensures { (run : Run) (author : Author) (slot : Slot) →
         In (deed_by author (Abandons slot)) (past_of run) → In (deed_by author (Grants slot)) (past_of run) → ⊥ }
 {}
 
-/// The newest decree of a chain that is proposed has the moment of the decree before it, or one that its author's clock had in that
-/// incarnation: no decree is ahead of the clock and the chain.
+/// The newest decree of a chain that is proposed has the moment of the decree before it, or one that its author's clock had in
+/// that incarnation: no decree is ahead of the clock and the chain.
 pub fn no_decree_is_ahead_of_the_clock()
     ensures { (run : Run) (sender : ℕ) (slot : Slot) (vote : Vote) →
         In (Propose sender slot vote) (world_of run).packets → IsTimely (past_of run) vote.chain }
 {}
 
-/// A proposal that a message expires or is deleted has no error, and one that it cannot be delivered has that of its last failure.
+/// A proposal that a message expires or is deleted has no error, and one that it cannot be delivered has that of its last
+/// failure.
 pub fn decrees_have_their_errors()
     ensures { (run : Run) (sender : ℕ) (slot : Slot) (vote : Vote) →
         In (Propose sender slot vote) (world_of run).packets → HasItsError vote.chain }

@@ -30,7 +30,8 @@ pub fn replies_are_decided()
     ensures asks { (setup : Setup) (a : Actor) (records : Records) (input : Input) (acts others : List Act) →
         (one : IsExact setup a records input acts) (other : IsExact setup a records input others) → one.asks ≡ other.asks }
     ensures abandons { (setup : Setup) (a : Actor) (records : Records) (input : Input) (acts others : List Act) →
-        (one : IsExact setup a records input acts) (other : IsExact setup a records input others) → one.abandons ≡ other.abandons }
+        (one : IsExact setup a records input acts) (other : IsExact setup a records input others) →
+        one.abandons ≡ other.abandons }
     ensures replies { (setup : Setup) (a : Actor) (records : Records) (input : Input) (acts others : List Act) →
         (one : IsExact setup a records input acts) (other : IsExact setup a records input others) → one.replies ≡ other.replies }
     ensures reports { (setup : Setup) (a : Actor) (records : Records) (input : Input) (acts others : List Act) →
@@ -50,7 +51,8 @@ pub fn nodes_make_a_run()
 pub fn a_step_alone_is_a_step()
     ensures { (cluster : Cluster) (acts : List (ℕ × Act)) (node : ℕ) (input : Input) (more : List Act) →
         IsRun (start cluster.nodes cluster.serials) acts →
-        IsStepAlone (setup_of cluster node) (reached_alone node (opened_new (cluster.serials node)) (acts_of node acts)) input more →
+        IsStepAlone (setup_of cluster node) (reached_alone node (opened_new (cluster.serials node))
+        (acts_of node acts)) input more →
         CameTo (reached (start cluster.nodes cluster.serials) acts) input →
         IsStep (reached (start cluster.nodes cluster.serials) acts) (setup_of cluster node) input more }
 {}
@@ -59,13 +61,14 @@ pub fn a_step_alone_is_a_step()
 pub fn a_run_of_steps_goes_on()
     ensures { (cluster : Cluster) (steps : List Step) (step : Step) →
         AreSteps cluster (start cluster.nodes cluster.serials) steps →
-        IsStepAlone (setup_of cluster step.node) (reached_alone step.node (opened_new (cluster.serials step.node)) (acts_of step.node (acts_in steps))) step.input step.acts →
+        IsStepAlone (setup_of cluster step.node) (reached_alone step.node (opened_new (cluster.serials step.node))
+        (acts_of step.node (acts_in steps))) step.input step.acts →
         CameTo (reached (start cluster.nodes cluster.serials) (acts_in steps)) step.input →
         AreSteps cluster (start cluster.nodes cluster.serials) (step ∷ steps) }
 {}
 
-/// If the steps of each node are a run of steps of that node by itself, and each packet that comes was sent before, then all steps
-/// together are a run of steps of the cluster.
+/// If the steps of each node are a run of steps of that node by itself, and each packet that comes was sent before, then all
+/// steps together are a run of steps of the cluster.
 pub fn nodes_make_a_run_of_steps()
     ensures { (cluster : Cluster) (steps : List Step) →
         ((node : ℕ) → AreStepsAlone (setup_of cluster node) (opened_new (cluster.serials node)) (steps_of node steps)) →
@@ -73,8 +76,8 @@ pub fn nodes_make_a_run_of_steps()
         AreSteps cluster (start cluster.nodes cluster.serials) steps }
 {}
 
-/// A run over stores that were not new: the run that left them, a start anew of each node whose store was not new, and the later
-/// acts are together one run, in which the packets are numbered on; and so it is where the later acts are those of steps.
+/// A run over stores that were not new: the run that left them, a start anew of each node whose store was not new, and the
+/// later acts are together one run, in which the packets are numbered on; and so it is where the later acts are those of steps.
 pub fn a_run_over_old_stores_goes_on()
     ensures run { (run : Run) (fresh : ℕ → Bool) (lost serials : ℕ → ℕ) (later : List (ℕ × Act)) →
         AreLeft (world_of run) fresh lost serials →
@@ -84,9 +87,11 @@ pub fn a_run_over_old_stores_goes_on()
         AreLeft (world_of run) fresh lost serials →
         IsRun (start_over run.nodes (world_of run).records (opened_in (world_of run) fresh lost) serials) later →
         (reached (start run.nodes run.serials) (later ++ (openings run.nodes fresh lost serials ++ run.acts))).packets
-            ≡ (reached (start_over run.nodes (world_of run).records (opened_in (world_of run) fresh lost) serials) later).packets ++ (world_of run).packets }
+        ≡ (reached (start_over run.nodes (world_of run).records (opened_in
+        (world_of run) fresh lost) serials) later).packets ++ (world_of run).packets }
     ensures steps { (run : Run) (fresh : ℕ → Bool) (lost : ℕ → ℕ) (cluster : Cluster) (steps : List Step) →
         AreLeft (world_of run) fresh lost cluster.serials →
-        AreSteps cluster (start_over run.nodes (world_of run).records (opened_in (world_of run) fresh lost) cluster.serials) steps →
+        AreSteps cluster (start_over run.nodes (world_of run).records (opened_in
+        (world_of run) fresh lost) cluster.serials) steps →
         IsRun (start run.nodes run.serials) (acts_in steps ++ (openings run.nodes fresh lost cluster.serials ++ run.acts)) }
 {}

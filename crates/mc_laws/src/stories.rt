@@ -10,7 +10,25 @@ ghost use Rattle.mc_model.specs.node.Input.{Arrival};
 ghost use Rattle.mc_model.specs.node.Step.{IsExact};
 ghost use Rattle.mc_model.specs.cluster.World.{IsChosenIn, IsRun, reached};
 ghost use Rattle.mc_model.specs.cluster.Fate.{States};
-ghost use Rattle.mc_laws.specs.Stories.{MayBeTried, accepting_deed, cancel_story, delivery_story, first_id, first_setup, first_step, last_deed, one_node, query_story, removing_deed, restart_story, showing_deed, taken_slot, taken_vote, three_nodes, until_anew};
+ghost use Rattle.mc_laws.specs.Stories.{
+  MayBeTried,
+  accepting_deed,
+  cancel_story,
+  delivery_story,
+  first_id,
+  first_setup,
+  first_step,
+  last_deed,
+  one_node,
+  query_story,
+  removing_deed,
+  restart_story,
+  showing_deed,
+  taken_slot,
+  taken_vote,
+  three_nodes,
+  until_anew,
+};
 
 /// A cluster of one node takes a message, attempts it, is answered, and states that it is DELIVERED.
 pub fn a_message_is_delivered()
@@ -22,15 +40,18 @@ pub fn a_message_is_delivered()
 /// The first step of a node, to which a submit_sm comes, is exactly this: the request waits, and a round for its message is
 /// started at the first ballot.
 pub fn a_submit_starts_a_round()
-    ensures { (message : Submission) → IsExact first_setup (opened 1 1) (λ slot. blank) (Arrival (Submit first_id message)) (first_step message) }
+    ensures { (message : Submission) → IsExact first_setup (opened 1 1) (λ slot. blank) (Arrival (Submit first_id message))
+        (first_step message) }
 {}
 
 /// A node of three stops between the save of its vote and its answer, and starts anew. Its vote counts: with that of one other
 /// node the chain is chosen, though nobody knows it yet. It is asked again and votes again, and the submit_sm is answered.
 pub fn a_node_stops_after_a_save()
     ensures run { (message : Submission) → MayBeTried message → IsRun three_nodes (restart_story message) }
-    ensures chosen { (message : Submission) → IsChosenIn (reached three_nodes (until_anew message)) taken_slot (taken_vote message) }
-    ensures unknown { (message : Submission) → KnowsNothing 3 ((reached three_nodes (until_anew message)).actors 1).received first_id }
+    ensures chosen { (message : Submission) → IsChosenIn (reached three_nodes (until_anew message)) taken_slot
+        (taken_vote message) }
+    ensures unknown { (message : Submission) → KnowsNothing 3 ((reached three_nodes
+        (until_anew message)).actors 1).received first_id }
     ensures answered { (message : Submission) → In accepting_deed (reached three_nodes (restart_story message)).past }
 {}
 
@@ -42,8 +63,8 @@ pub fn a_query_is_answered()
     ensures stated { (message : Submission) → States (showing_deed message) first_id Delivered }
 {}
 
-/// A cluster of one node has taken a message, and a cancel_sm of its submitter comes. The node asks itself how far the chain has
-/// come and tells it, the request is settled, the message is deleted, and the cancel_sm_resp has ESME_ROK for DELETED.
+/// A cluster of one node has taken a message, and a cancel_sm of its submitter comes. The node asks itself how far the chain
+/// has come and tells it, the request is settled, the message is deleted, and the cancel_sm_resp has ESME_ROK for DELETED.
 pub fn a_message_is_cancelled()
     ensures run { (message : Submission) → MayBeTried message → IsRun one_node (cancel_story message) }
     ensures answered { (message : Submission) → In (removing_deed message) (reached one_node (cancel_story message)).past }

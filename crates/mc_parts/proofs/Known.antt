@@ -31,9 +31,11 @@ told_before packet received slot vote test (suc nodes) each =
           subst (TellsIn slot vote received) (sym same) (last (subst (λ (n : ℕ). test n ≡ true) same passes))
       | inr within ↦ earlier node least within passes
     ]
+
     by_last : ToldNow packet slot vote ⊎ HoldsOf nodes test (TellsIn slot vote received) → (test (suc nodes) ≡ true → TellsIn slot vote received (suc nodes)) → ToldNow packet slot vote ⊎ HoldsOf (suc nodes) test (TellsIn slot vote received)
     by_last (inl now) last = inl now
     by_last (inr earlier) last = inr (joined last earlier)
+
     by_test : (is : Bool) → test (suc nodes) ≡ is → ToldNow packet slot vote ⊎ HoldsOf nodes test (TellsIn slot vote received) → ToldNow packet slot vote ⊎ HoldsOf (suc nodes) test (TellsIn slot vote received)
     by_test false fails rest = by_last rest (λ passes. absurd (true≢false (sym passes ∙ fails)))
     by_test true passes rest = elim (each (suc nodes) (omega arith) (omega arith) passes) [

@@ -143,10 +143,10 @@ own_attempt nodes node a id newest older ends mine = elim (was_granted (slot_of 
   | inr ungranted ↦ elim (was_closed (slot_of id (newest ∷ older)) a.closed) [
     | inl closed ↦ inr (Closed, record { newest = newest; older = older; outcome = closed.0; own = record { ends = ends; mine = mine }; granted = ungranted; closed = closed.1 })
     | inr unclosed ↦ inl (record {
-        slot = slot_of id (newest ∷ older);
-        about = refl;
-        may = record { attempting = record { newest = newest; older = older; number = ends.number; known = ends.known; place = refl; attempt = ends.attempt; author = mine }; granted = ungranted; closed = unclosed };
-      })
+      slot = slot_of id (newest ∷ older);
+      about = refl;
+      may = record { attempting = record { newest = newest; older = older; number = ends.number; known = ends.known; place = refl; attempt = ends.attempt; author = mine }; granted = ungranted; closed = unclosed };
+    })
   ]
 ]
 

@@ -5,8 +5,8 @@ ghost use Rattle.mc_model.specs.message.Submission.{Submission};
 ghost use Rattle.mc_model.specs.message.Decree.{Decree, Final};
 ghost use Rattle.mc_model.specs.message.Chain.{IsPermitted, MayExtend, final_in, final_by};
 
-/// Nothing follows a fate. So of two chains of a message of which one begins with the other, and which both end in a
-/// fate, both are the same.
+/// Nothing follows a fate. So of two chains of a message of which one begins with the other, and which both end in a fate, both
+/// are the same.
 pub fn a_fate_is_the_end()
     ensures end { (taken : Option Submission) (decrees : List Decree) (next : Decree) (final : Final) →
         final_in decrees ≡ Some final → MayExtend taken decrees next → ⊥ }

@@ -25,8 +25,8 @@ pub fn ids_have_their_parts()
         IsId id → id ≡ id_of (node_of id) (incarnation_of id) (serial_of id) }
 {}
 
-/// A message may be taken from its schedule on, attempted, fail, be attempted again a minute later and be delivered
-/// then, each by the node and incarnation that its id names.
+/// A message may be taken from its schedule on, attempted, fail, be attempted again a minute later and be delivered then, each
+/// by the node and incarnation that its id names.
 pub fn a_chain_of_each_kind_is_permitted()
     ensures permitted { (id moment : ℕ) (message : Submission) →
         message.schedule ≤ moment → moment + 60 < message.expiry →

@@ -1,5 +1,5 @@
-//! The laws of single things: ids, ballots, majorities, one slot, chains, and what one node knows. Code may cite them. The functions do
-//! nothing: their contracts are the laws.
+//! The laws of single things: ids, ballots, majorities, one slot, chains, and what one node knows. Code may cite them. The
+//! functions do nothing: their contracts are the laws.
 #![tactic(auto)]
 
 mod chains;

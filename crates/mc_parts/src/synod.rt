@@ -6,8 +6,8 @@ ghost use Rattle.mc_model.specs.synod.Majority.{IsMajority, PassesBoth};
 ghost use Rattle.mc_model.specs.synod.Ballot.{IsRound, IsBallot, IsBefore, ballot_of, round_in, incarnation_in, proposer_of};
 ghost use Rattle.mc_model.specs.synod.OneSlot.{SlotPast, Vote, KeepsTheSynod, IsChosen, was_voted, was_proposed};
 
-/// A round, an incarnation and a node make a ballot that has them, and each ballot is made of those that it has. The
-/// order of ballots is that of their rounds, then of their incarnations, then of their nodes.
+/// A round, an incarnation and a node make a ballot that has them, and each ballot is made of those that it has. The order of
+/// ballots is that of their rounds, then of their incarnations, then of their nodes.
 pub fn ballots_have_their_parts()
     ensures made { (round incarnation node : ℕ) →
         IsRound round → IsIncarnation incarnation → IsNode node →
@@ -35,8 +35,7 @@ pub fn majorities_meet()
         PassesBoth nodes one other }
 {}
 
-/// Once a chain is chosen at a ballot, every vote of the slot from that ballot on carries it, and so does every
-/// proposal.
+/// Once a chain is chosen at a ballot, every vote of the slot from that ballot on carries it, and so does every proposal.
 pub fn choice_is_stable()
     ensures votes { (nodes : ℕ) (past : SlotPast) (chosen : Vote) (acceptor : ℕ) (vote : Vote) →
         KeepsTheSynod nodes past → IsChosen nodes (was_voted past) chosen →

@@ -55,7 +55,8 @@ pub record IsDelivery (id : ℕ) (chain : List Decree) (deeds : List Deed) : Typ
   pub attempted : attempt.kind ≡ Attempt number
   pub delivered : fate.kind ≡ Fate Delivered error
   pub author : fate.author ≡ attempt.author
-  pub granted : CameBefore (deed_by attempt.author (Grants (slot_of id (attempt ∷ older)))) (deed_by attempt.author (Concludes (slot_of id (attempt ∷ older)) (Concluded Delivered error))) deeds
+  pub granted : CameBefore (deed_by attempt.author (Grants (slot_of id (attempt ∷ older)))) (deed_by attempt.author (Concludes
+      (slot_of id (attempt ∷ older)) (Concluded Delivered error))) deeds
 
 -- the chain of which a deed tells is chosen, at some ballot
 pub record IsToldChosen (w : World) (id : ℕ) (chain : List Decree) : Type 0 where

@@ -54,7 +54,8 @@ pub record May (w : World) (node : ℕ) (act : Act) : Type 0 where
   pub least : 1 ≤ node
   pub most : node ≤ w.nodes
   pub up : IsUpFor (w.actors node) act
-  pub needs : Needs w.nodes (λ packet. In packet w.packets) (λ packet. In packet w.packets) (StandsIn w) (IsChosenIn w) node (w.actors node) (w.records node) act
+  pub needs : Needs w.nodes (λ packet. In packet w.packets) (λ packet. In packet w.packets) (StandsIn w) (IsChosenIn w) node
+      (w.actors node) (w.records node) act
 
 abbrev pub sent_by : World → ℕ → Act → List Packet
 sent_by w node act = packets_by node (w.actors node) (w.records node) act

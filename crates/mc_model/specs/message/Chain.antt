@@ -42,7 +42,8 @@ MayExtend (Some message) (newest ∷ older) next =
 abbrev pub IsPermitted : ℕ → List Decree → Type 0
 IsPermitted id [] = ⊥
 IsPermitted id (only ∷ []) = MayBegin id only.author only.moment only.kind
-IsPermitted id (newest ∷ older ∷ oldest) = IsPermitted id (older ∷ oldest) × MayExtend (taken_in (older ∷ oldest)) (older ∷ oldest) newest
+IsPermitted id (newest ∷ older ∷ oldest) =
+    IsPermitted id (older ∷ oldest) × MayExtend (taken_in (older ∷ oldest)) (older ∷ oldest) newest
 
 -- the final state, where there is one: else the message is ENROUTE
 abbrev pub final_by : Kind → Option Final

@@ -2,9 +2,22 @@
 use Rattle.std.specs.Prelude.{◌≡◌, ℕ, ◌+◌, ◌*◌, ◌<◌, ◌≤◌}
 use Rattle.mc_model.specs.message.Ids.{incarnation_of, node_of}
 use Rattle.mc_model.specs.message.Submission.{Submission}
-use Rattle.mc_model.specs.message.Decree.{Attempt, Author, Deleted, Delivered, Expired, Failed, Fate, Kind, Rejected, Taken, Undeliverable}
+use Rattle.mc_model.specs.message.Decree.{
+  Attempt,
+  Author,
+  Deleted,
+  Delivered,
+  Expired,
+  Failed,
+  Fate,
+  Kind,
+  Rejected,
+  Taken,
+  Undeliverable,
+}
 
--- how often a message is attempted at most, and how many seconds after a failure, times the attempts so far, the next attempt comes (own)
+-- how often a message is attempted at most, and how many seconds after a failure, times the attempts so far, the next attempt
+-- comes (own)
 abbrev pub most_attempts : ℕ
 most_attempts = 8
 
@@ -56,7 +69,8 @@ MayFollow message attempt old before (Attempt tried) author moment (Fate Deliver
 MayFollow message attempt old before (Attempt tried) author moment (Fate Undeliverable error) = author ≡ old
 MayFollow message attempt old before (Attempt tried) author moment (Fate Rejected error) = author ≡ old
 -- after a failure there is another attempt, or the message expires, is deleted, or can't be delivered
-MayFollow message attempt old before (Failed cause) author moment (Attempt number) = IsNextAttempt message attempt before moment number
+MayFollow message attempt old before (Failed cause) author moment (Attempt number) =
+    IsNextAttempt message attempt before moment number
 MayFollow message attempt old before (Failed cause) author moment (Fate Expired error) = message.expiry ≤ moment
 MayFollow message attempt old before (Failed cause) author moment (Fate Deleted error) = Unit {0}
 MayFollow message attempt old before (Failed cause) author moment (Fate Undeliverable error) = attempt ≡ most_attempts

@@ -60,7 +60,8 @@ pub record MayTell (a : Actor) (records : Records) (id : ℕ) (name : Name) (tol
 
 -- What an act needs besides that the node is up: by which packets may come, which are seen, which chains stand, and which
 -- are chosen.
-abbrev pub Needs : ℕ → (Packet → Type 0) → (Packet → Type 0) → (Slot → List Decree → Type 0) → (Slot → Vote → Type 0) → ℕ → Actor → Records → Act → Type 0
+abbrev pub Needs : ℕ → (Packet → Type 0) → (Packet → Type 0) → (Slot → List Decree → Type 0) → (Slot → Vote → Type 0) → ℕ →
+    Actor → Records → Act → Type 0
 Needs nodes Comes Seen Stands Chosen node a records (Receives packet) = Comes packet
 Needs nodes Comes Seen Stands Chosen node a records (Promises slot ballot sent) = MayPromiseAt a records slot ballot
 Needs nodes Comes Seen Stands Chosen node a records (Votes slot vote sent) = MayVoteFor a records slot vote

@@ -30,7 +30,8 @@ StandsAt s slot chain =
     ((sender : ℕ) × (ballot : ℕ) × In (Propose sender slot (vote_at ballot chain)) s.actor.received)
     ⊎ (((sender : ℕ) × (ballot : ℕ) × In (Voted sender slot (vote_at ballot chain)) s.actor.received)
     ⊎ (((sender : ℕ) × (asked : ℕ) × (ballot : ℕ) × In (Promise sender slot asked (Some (vote_at ballot chain))) s.actor.received)
-    ⊎ (((sender : ℕ) × (name : Name) × (ballot : ℕ) × In (Tell sender name (Some (top_at slot (vote_at ballot chain)))) s.actor.received)
+    ⊎ (((sender : ℕ) × (name : Name) × (ballot : ℕ)
+    × In (Tell sender name (Some (top_at slot (vote_at ballot chain)))) s.actor.received)
     ⊎ ((ballot : ℕ) × ((s.began slot).vote ≡ Some (vote_at ballot chain))))))
 
 -- any packet may come to it, and what it learned is chosen
@@ -38,7 +39,8 @@ pub record MayAlone (nodes node : ℕ) (s : Node) (act : Act) : Type 0 where
   pub least : 1 ≤ node
   pub most : node ≤ nodes
   pub up : IsUpFor s.actor act
-  pub needs : Needs nodes (λ packet. Unit {0}) (was_received s) (StandsAt s) (IsLearned nodes s.actor.received) node s.actor s.records act
+  pub needs : Needs nodes (λ packet. Unit {0}) (was_received s) (StandsAt s)
+      (IsLearned nodes s.actor.received) node s.actor s.records act
 
 abbrev pub began_by : Node → Act → Records
 began_by s (Restarts lost serial) = s.records

@@ -21,7 +21,8 @@ CausesTake (Arrival (Submit other message)) node a id place chain = (other ≡ i
 CausesTake input node a id place chain = ⊥
 
 -- The outcome of an attempt comes, and the attempt is the newest decree that the node knows: so its decree is due.
-pub record IsConcluded (nodes node : ℕ) (a : Actor) (slot : Slot) (outcome : Outcome) (id place : ℕ) (chain : List Decree) : Type 0 where
+pub record IsConcluded (nodes node : ℕ) (a : Actor) (slot : Slot) (outcome : Outcome) (id place : ℕ)
+    (chain : List Decree) : Type 0 where
   pub about : slot.id ≡ id
   pub further : GoesFurther nodes node a id place chain (decree_of outcome)
   pub newest : slot ≡ slot_of id (further.newest ∷ further.older)

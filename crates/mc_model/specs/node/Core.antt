@@ -6,7 +6,20 @@ use Rattle.mc_model.specs.synod.Acceptor.{IsTold, Records}
 use Rattle.mc_model.specs.node.Setup.{Setup}
 use Rattle.mc_model.specs.node.Actor.{Actor}
 use Rattle.mc_model.specs.node.Room.{is_busy, queue_full, throttled}
-use Rattle.mc_model.specs.node.Act.{Act, Begins, Concludes, Grants, Promises, Receives, Refuses, Restarts, Stops, Tells, Ticks, Votes}
+use Rattle.mc_model.specs.node.Act.{
+  Act,
+  Begins,
+  Concludes,
+  Grants,
+  Promises,
+  Receives,
+  Refuses,
+  Restarts,
+  Stops,
+  Tells,
+  Ticks,
+  Votes,
+}
 use Rattle.mc_model.specs.node.Concerns.{Concerns}
 use Rattle.mc_model.specs.node.Input.{Arrival, Crash, Delivery, Grant, Input, Refusal, Response, Restart, Tick}
 
@@ -18,7 +31,8 @@ AcceptorReplies records (Prepare sender slot ballot) acts =
 AcceptorReplies records (Propose sender slot vote) acts =
     (((records slot).promised ≤ vote.ballot) × (acts ≡ Votes slot vote true ∷ []))
     ⊎ ((vote.ballot < (records slot).promised) × (acts ≡ Refuses slot vote.ballot ∷ []))
-AcceptorReplies records (Ask sender id name) acts = (told : Option TopVote) × IsTold records id told × (acts ≡ Tells id name told ∷ [])
+AcceptorReplies records (Ask sender id name) acts =
+    (told : Option TopVote) × IsTold records id told × (acts ≡ Tells id name told ∷ [])
 AcceptorReplies records (Promise sender slot ballot report) acts = acts ≡ []
 AcceptorReplies records (Voted sender slot vote) acts = acts ≡ []
 AcceptorReplies records (Refused sender slot ballot promised) acts = acts ≡ []
@@ -56,7 +70,8 @@ pub record IsRefusal (a : Actor) (status : ℕ) : Type 0 where
   pub queue_full : status ≡ queue_full → most_serial < a.serial
 
 abbrev pub IsCore : Setup → Actor → Records → Input → List Act → Type 0
-IsCore setup a records (Delivery packet) acts = IsHandled (Concerns setup.nodes setup.node a packet) (IsReceived records packet) acts
+IsCore setup a records (Delivery packet) acts =
+    IsHandled (Concerns setup.nodes setup.node a packet) (IsReceived records packet) acts
 IsCore setup a records (Crash packet false) acts = acts ≡ Stops ∷ []
 IsCore setup a records (Crash packet true) acts =
     IsStopped (IsHandled (Concerns setup.nodes setup.node a packet) (IsSaved records packet)) acts

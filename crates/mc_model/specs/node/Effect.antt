@@ -1,10 +1,47 @@
 -- What acts leave of a node, and what they send.
-use Rattle.std.specs.Prelude.{ℕ, suc, ◌+◌, max, Bool, true, false, ◌==◌, not, List, [], ◌∷◌, ◌++◌, length, map, filter, if◌then◌else◌}
+use Rattle.std.specs.Prelude.{
+  ℕ,
+  suc,
+  ◌+◌,
+  max,
+  Bool,
+  true,
+  false,
+  ◌==◌,
+  not,
+  List,
+  [],
+  ◌∷◌,
+  ◌++◌,
+  length,
+  map,
+  filter,
+  if◌then◌else◌,
+}
 use Rattle.mc_model.specs.synod.Packet.{Ask, Packet, Prepare, Promise, Propose, Refused, Tell, Voted}
 use Rattle.mc_model.specs.synod.Acceptor.{Records, after_promise, after_vote, with_record}
 use Rattle.mc_model.specs.node.Outcome.{Unanswered, no_session_error}
 use Rattle.mc_model.specs.node.Actor.{Actor, Cancel, Query, Request, Submit, Waiting, opened}
-use Rattle.mc_model.specs.node.Act.{Abandons, Act, Asks, Begins, Concludes, Grants, Prepares, Promises, Proposes, Receives, Refuses, Replies, Restarts, Settles, Stops, Tells, Ticks, Votes}
+use Rattle.mc_model.specs.node.Act.{
+  Abandons,
+  Act,
+  Asks,
+  Begins,
+  Concludes,
+  Grants,
+  Prepares,
+  Promises,
+  Proposes,
+  Receives,
+  Refuses,
+  Replies,
+  Restarts,
+  Settles,
+  Stops,
+  Tells,
+  Ticks,
+  Votes,
+}
 
 abbrev pub if_sent : Bool → Packet → List Packet
 if_sent sent packet = if sent then packet ∷ [] else []

@@ -3,7 +3,17 @@ use Rattle.std.specs.Prelude.{ℕ, ◌<◌, Bool, List}
 use Rattle.mc_model.specs.message.Decree.{Decree, Expired, Fate}
 use Rattle.mc_model.specs.synod.Acceptor.{Records}
 use Rattle.mc_model.specs.node.Actor.{Actor}
-use Rattle.mc_model.specs.node.Rules.{FitsClose, FitsDelete, FitsFollow, FitsGiveUp, FitsLose, FitsTake, FitsTry, FitsUndeliver, IsDue}
+use Rattle.mc_model.specs.node.Rules.{
+  FitsClose,
+  FitsDelete,
+  FitsFollow,
+  FitsGiveUp,
+  FitsLose,
+  FitsTake,
+  FitsTry,
+  FitsUndeliver,
+  IsDue,
+}
 
 -- The rules of a tick, in their order: a submit_sm waits; a vote stands beyond what is known; an attempt of the node was closed;
 -- one of an older incarnation is lost; one that was not granted has no target that is up; a cancel_sm waits; the message
@@ -43,6 +53,8 @@ FitsRule nodes node a records up id place chain Undeliver = FitsUndeliver nodes 
 FitsRule nodes node a records up id place chain Try = FitsTry nodes node a up id place chain
 
 -- the first rule that fits
-pub record IsFirstRule (nodes node : ℕ) (a : Actor) (records : Records) (up : List ℕ → Bool) (id place : ℕ) (chain : List Decree) (rule : Rule) : Type 0 where
+pub record IsFirstRule (nodes node : ℕ) (a : Actor) (records : Records) (up : List ℕ → Bool) (id place : ℕ) (chain : List Decree)
+    (rule : Rule) : Type 0 where
   pub fits : FitsRule nodes node a records up id place chain rule
-  pub first : (earlier : Rule) (other : ℕ) (of : List Decree) → order_of earlier < order_of rule → FitsRule nodes node a records up id other of earlier → ⊥
+  pub first : (earlier : Rule) (other : ℕ) (of : List Decree) → order_of earlier < order_of rule →
+      FitsRule nodes node a records up id other of earlier → ⊥

@@ -16,7 +16,8 @@ pub record Knows (nodes : ℕ) (received : List Packet) (id : ℕ) (chain : List
   pub learned : IsLearned nodes received (slot_of id chain) (vote_at ballot chain)
   pub longest : (place : ℕ) (vote : Vote) → IsLearned nodes received (slot_at id place) vote → place ≤ pred (length chain)
   pub first : (newer older : List Packet) (vote : Vote) → received ≡ newer ++ older →
-      IsLearned nodes older (slot_of id chain) vote → (earlier : ℕ) × IsLearned nodes older (slot_of id chain) (vote_at earlier chain)
+      IsLearned nodes older (slot_of id chain) vote → (earlier : ℕ)
+      × IsLearned nodes older (slot_of id chain) (vote_at earlier chain)
 
 abbrev pub KnowsNothing : ℕ → List Packet → ℕ → Type 0
 KnowsNothing nodes received id = (place : ℕ) (vote : Vote) → IsLearned nodes received (slot_at id place) vote → ⊥

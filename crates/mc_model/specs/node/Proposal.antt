@@ -101,10 +101,12 @@ abbrev pub OwnBallot : ℕ → Actor → ℕ → Type 0
 OwnBallot node a ballot = (proposer_of ballot ≡ node) × (incarnation_in ballot ≡ a.incarnation)
 
 -- By what is seen of packets, which chains stand in a slot, and which are chosen, a node may propose a chain at a ballot.
-pub record MayPropose (nodes : ℕ) (Seen : Packet → Type 0) (Stands : Slot → List Decree → Type 0) (Chosen : Slot → Vote → Type 0) (node : ℕ) (a : Actor) (slot : Slot) (vote : Vote) : Type 0 where
+pub record MayPropose (nodes : ℕ) (Seen : Packet → Type 0) (Stands : Slot → List Decree → Type 0) (Chosen : Slot → Vote → Type 0)
+    (node : ℕ) (a : Actor) (slot : Slot) (vote : Vote) : Type 0 where
   pub proposer : proposer_of vote.ballot ≡ node
   pub incarnation : incarnation_in vote.ballot ≡ a.incarnation
   -- once at a ballot
   pub once : (chain : List Decree) → In (Propose node slot (vote_at vote.ballot chain)) a.sent → ⊥
   pub justified : IsJustified nodes (λ acceptor report. Seen (Promise acceptor slot vote.ballot report)) vote.chain
-  pub free : IsFree justified.highest (Stands slot vote.chain) ((slot ≡ slot_of slot.id vote.chain) × IsOwn Chosen node a slot.id vote.chain)
+  pub free : IsFree justified.highest (Stands slot vote.chain) ((slot ≡ slot_of slot.id vote.chain)
+      × IsOwn Chosen node a slot.id vote.chain)

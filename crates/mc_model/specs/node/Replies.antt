@@ -3,7 +3,20 @@
 use Rattle.std.specs.Prelude.{◌≡◌, ℕ, ◌+◌, ◌≤◌, true, List, ◌∷◌, Some, None}
 use Rattle.mc_model.specs.message.Ids.{node_of}
 use Rattle.mc_model.specs.message.Submission.{Submission}
-use Rattle.mc_model.specs.message.Decree.{Attempt, Decree, Deleted, Delivered, Expired, Failed, Fate, Final, Kind, Rejected, Taken, Undeliverable}
+use Rattle.mc_model.specs.message.Decree.{
+  Attempt,
+  Decree,
+  Deleted,
+  Delivered,
+  Expired,
+  Failed,
+  Fate,
+  Final,
+  Kind,
+  Rejected,
+  Taken,
+  Undeliverable,
+}
 use Rattle.mc_model.specs.message.Chain.{final_in, taken_in}
 use Rattle.mc_model.specs.node.Actor.{Actor, Cancel, Query, Request, Submit, Waiting, id_in, name_of}
 use Rattle.mc_model.specs.node.Room.{IsWaiting}
@@ -69,7 +82,8 @@ pub record IsNotOwner (nodes node : ℕ) (a : Actor) (w : Waiting) (account sour
   pub other : IsOwner taken account source → ⊥
 
 -- a cancel_sm is answered once it is settled, and the chain known then or later decides
-pub record IsRemoved (nodes : ℕ) (a : Actor) (w : Waiting) (account source destination : List ℕ) (chain : List Decree) : Type 0 where
+pub record IsRemoved (nodes : ℕ) (a : Actor) (w : Waiting) (account source destination : List ℕ)
+    (chain : List Decree) : Type 0 where
   pub taken : Submission
   pub known : Knows nodes a.received (id_in w.request) chain
   pub settled : w.settled ≡ true
@@ -88,7 +102,8 @@ pub record IsKept (nodes : ℕ) (a : Actor) (w : Waiting) (account source destin
   pub chain_is : chain ≡ newest ∷ older
   pub kept : KeepsMessage newest.kind
 
-pub record IsNotMatched (nodes : ℕ) (a : Actor) (w : Waiting) (account source destination : List ℕ) (chain : List Decree) : Type 0 where
+pub record IsNotMatched (nodes : ℕ) (a : Actor) (w : Waiting) (account source destination : List ℕ)
+    (chain : List Decree) : Type 0 where
   pub taken : Submission
   pub known : Knows nodes a.received (id_in w.request) chain
   pub settled : w.settled ≡ true
@@ -116,7 +131,8 @@ FitsCancel nodes node a w account source destination answer = ⊥
 abbrev pub FitsRequest : ℕ → ℕ → Actor → Waiting → Request → Answer → Type 0
 FitsRequest nodes node a w (Submit id message) answer = FitsSubmit nodes a id answer
 FitsRequest nodes node a w (Query id account source) answer = FitsQuery nodes node a w account source answer
-FitsRequest nodes node a w (Cancel id account source destination) answer = FitsCancel nodes node a w account source destination answer
+FitsRequest nodes node a w (Cancel id account source destination) answer =
+    FitsCancel nodes node a w account source destination answer
 
 -- or because it waited too long
 abbrev pub IsAnswer : ℕ → ℕ → Actor → Waiting → Answer → Type 0

@@ -78,7 +78,8 @@ pub record MayPrepare (nodes node : ℕ) (a : Actor) (records : Records) (slot :
 
 -- a majority has promised at the ballot of a round
 abbrev pub IsPromised : ℕ → Actor → Slot → ℕ → Type 0
-IsPromised nodes a slot ballot = Majority nodes (λ acceptor. (report : Option Vote) × In (Promise acceptor slot ballot report) a.received)
+IsPromised nodes a slot ballot =
+    Majority nodes (λ acceptor. (report : Option Vote) × In (Promise acceptor slot ballot report) a.received)
 
 -- The chain of the highest vote that the promises at a ballot report, or where they report none the one that the round is for.
 pub record CarriesReport (a : Actor) (slot : Slot) (vote : Vote) : Type 0 where

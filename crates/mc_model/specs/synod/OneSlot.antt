@@ -49,17 +49,22 @@ pub record IsJustified (nodes : ℕ) (Reports : ℕ → Option Vote → Type 0) 
   pub carried : IsOfHighest Reports chain highest
 
 -- A slot's past keeps the rules of the synod.
-pub record IsSound (nodes : ℕ) (Voted : ℕ → Vote → Type 0) (Promised : ℕ → ℕ → Option Vote → Type 0) (Proposed : Vote → Type 0) : Type 0 where
+pub record IsSound (nodes : ℕ) (Voted : ℕ → Vote → Type 0) (Promised : ℕ → ℕ → Option Vote → Type 0)
+    (Proposed : Vote → Type 0) : Type 0 where
   -- what is voted for was proposed at that ballot
   pub proposed : (acceptor : ℕ) (vote : Vote) → Voted acceptor vote → Proposed vote
   -- at a ballot one chain alone is proposed
-  pub single : (ballot : ℕ) (one other : List Decree) → Proposed (vote_at ballot one) → Proposed (vote_at ballot other) → one ≡ other
+  pub single : (ballot : ℕ) (one other : List Decree) → Proposed (vote_at ballot one) → Proposed (vote_at ballot other) →
+      one ≡ other
   -- a promise reports the acceptor's highest vote below its ballot, and there is no other later
-  pub kept : (acceptor ballot : ℕ) (report : Option Vote) (vote : Vote) → Promised acceptor ballot report → Voted acceptor vote → vote.ballot < ballot → Reaches report vote.ballot
+  pub kept : (acceptor ballot : ℕ) (report : Option Vote) (vote : Vote) → Promised acceptor ballot report → Voted acceptor vote →
+      vote.ballot < ballot → Reaches report vote.ballot
   -- a vote that is reported was made, below the ballot
-  pub honest : (acceptor ballot : ℕ) (vote : Vote) → Promised acceptor ballot (Some vote) → Voted acceptor vote × (vote.ballot < ballot)
+  pub honest : (acceptor ballot : ℕ) (vote : Vote) → Promised acceptor ballot (Some vote) → Voted acceptor vote
+      × (vote.ballot < ballot)
   -- what is proposed is what the promises of a majority at its ballot allow
-  pub justified : (vote : Vote) → Proposed vote → IsJustified nodes (λ acceptor report. Promised acceptor vote.ballot report) vote.chain
+  pub justified : (vote : Vote) → Proposed vote →
+      IsJustified nodes (λ acceptor report. Promised acceptor vote.ballot report) vote.chain
 
 pub record SlotPromise : Type 0 where
   pub acceptor : ℕ
