@@ -28,3 +28,4 @@ pub mod Following
 pub mod Idle
 pub mod Cancels
 pub mod Carrying
+pub mod Retrying

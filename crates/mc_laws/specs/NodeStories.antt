@@ -6,24 +6,11 @@ use Rattle.mc_model.specs.message.Submission.{Submission}
 use Rattle.mc_model.specs.message.Decree.{Decree, Kind, Attempt, Failed, Fate, Expired, Undeliverable}
 use Rattle.mc_model.specs.synod.Ballot.{ballot_of}
 use Rattle.mc_model.specs.synod.OneSlot.{Vote, vote_at}
-use Rattle.mc_model.specs.synod.Packet.{
-  Slot,
-  slot_at,
-  slot_of,
-  top_at,
-  Name,
-  Packet,
-  Prepare,
-  Promise,
-  Propose,
-  Voted,
-  Refused,
-  Tell,
-}
+use Rattle.mc_model.specs.synod.Packet.{Slot, slot_at, slot_of, top_at, Name, Packet, Prepare, Promise, Propose, Voted, Refused, Tell}
 use Rattle.mc_model.specs.synod.Acceptor.{Records, blank, after_vote, with_record}
 use Rattle.mc_model.specs.node.Setup.{Setup}
 use Rattle.mc_model.specs.node.Outcome.{Outcome}
-use Rattle.mc_model.specs.node.Actor.{Actor, Query, Cancel, Waiting, opened, opening_clock}
+use Rattle.mc_model.specs.node.Actor.{Actor, Query, Cancel, Waiting, opened, opening_clock, Submit}
 use Rattle.mc_model.specs.node.Act.{Act, Receives, Prepares, Proposes, Begins, Asks, Settles, Abandons, Ticks}
 use Rattle.mc_model.specs.node.Input.{Delivery, Arrival}
 use Rattle.mc_model.specs.node.Alone.{Node, OwnStep}
@@ -245,3 +232,41 @@ carrying vote other = record {
 abbrev pub carrying_on : Vote → List Act
 carrying_on vote =
     Proposes second_slot (vote_at second_ballot vote.chain) ∷ Receives (Promise 3 second_slot second_ballot None) ∷ []
+
+-- ---- ticks of a node that has its own vote, a submit_sm or a cancel_sm
+
+-- A node started anew with a vote for a chain of another node's message, of which it knows nothing yet.
+abbrev pub voted_before : List Decree → Node
+voted_before chain = record {
+  actor = opened 2 1;
+  records = with_record no_records second_slot (after_vote (vote_at first_ballot chain));
+  began = with_record no_records second_slot (after_vote (vote_at first_ballot chain));
+}
+
+-- A submit_sm waits, and its round of before is dropped.
+abbrev pub taking_again : Submission → Actor
+taking_again message = record (opened 1 1) {
+  serial = 2;
+  ticket = 2;
+  waiting = record { ticket = 1; since = opening_clock; request = Submit first_id message; settled = false } ∷ [];
+  sent = Prepare 1 taken_slot first_ballot ∷ [];
+  offers = record { slot = taken_slot; ballot = first_ballot; chain = taken_chain message } ∷ [];
+}
+
+-- the ballot of the second round of the first incarnation
+abbrev pub again_ballot : ℕ
+again_ballot = ballot_of 2 1 1
+
+-- A cancel_sm is settled and waits, and no round runs.
+abbrev pub first_question : Name
+first_question = record { node = 1; incarnation = 1; ticket = 1 }
+
+abbrev pub cancelled_once : Submission → Actor
+cancelled_once message = record (opened 1 1) {
+  serial = 2;
+  ticket = 2;
+  received = Tell 1 first_question (Some (top_at taken_slot (taken_vote message)))
+      ∷ Voted 1 taken_slot (taken_vote message)
+      ∷ [];
+  waiting = cancelling_at message 1 true ∷ [];
+}

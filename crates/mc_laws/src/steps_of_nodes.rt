@@ -8,10 +8,10 @@ ghost use Rattle.mc_model.specs.synod.Packet.{Prepare, Promise, slot_at, slot_of
 ghost use Rattle.mc_model.specs.node.Outcome.{Concluded};
 ghost use Rattle.mc_model.specs.node.Actor.{opening_clock};
 ghost use Rattle.mc_model.specs.node.Room.{queue_full};
-ghost use Rattle.mc_model.specs.node.Act.{Concludes, Grants, Prepares, Promises, Receives, Restarts, Stops};
+ghost use Rattle.mc_model.specs.node.Act.{Concludes, Grants, Prepares, Promises, Receives, Restarts, Stops, Ticks};
 ghost use Rattle.mc_model.specs.node.Input.{Crash, Delivery, Grant, Refusal, Response, Restart, Tick};
 ghost use Rattle.mc_model.specs.node.Alone.{AreStepsAlone, IsStepAlone, Node, opened_new};
-ghost use Rattle.mc_laws.specs.Stories.{
+ghost use Rattle.mc_laws.specs.Stories.{deleted_chain, taken_slot, 
   MayBeTried,
   attempted_chain,
   delivered_chain,
@@ -20,35 +20,12 @@ ghost use Rattle.mc_laws.specs.Stories.{
   first_setup,
   taken_chain,
 };
-ghost use Rattle.mc_laws.specs.NodeStories.{
-  all_up,
-  among_three,
-  cancelled_twice,
-  cancelling_again,
-  carrying,
-  carrying_on,
-  following,
-  expired_chain,
-  failed_chain,
-  first_attempt,
-  given_up_chain,
-  giving_up,
-  knowing,
-  lost_chain,
-  node_of_actor,
-  none_up,
-  one_minute_later,
-  second_ballot,
-  second_slot,
-  starting,
-  told_of_taking,
-  undelivered_chain,
-  used_up,
-};
+ghost use Rattle.mc_laws.specs.NodeStories.{again_ballot, all_up, among_three, behind_slot, cancelled_once, cancelled_twice, cancelling_again, carrying, carrying_on, expired_chain, failed_chain, first_attempt, following, given_up_chain, giving_up, knowing, lost_chain, node_of_actor, none_up, one_minute_later, second_ballot, second_slot, starting, taking_again, told_of_taking, undelivered_chain, used_up, voted_before};
 
-/// A node knows one chain, and a tick comes. By what the chain ends in, a round is started: for the next attempt, for EXPIRED,
-/// for UNDELIVERABLE after eight failures with the error of the last, for the outcome of an attempt, for the failure of an
-/// attempt that an older incarnation made, and for that of one which finds no session, which is given up then.
+/// A tick comes, and by the first rule that fits a round is started. By what the chain ends in that a node knows: for the next
+/// attempt, for EXPIRED, for UNDELIVERABLE after eight failures with the error of the last, for the outcome of an attempt, for the
+/// failure of an attempt that an older incarnation made, and for that of one which finds no session, which is given up then. Or for a
+/// submit_sm that waits, for a vote beyond what is known, and for a cancel_sm that waits.
 pub fn a_tick_starts_a_round()
     ensures attempt { (message : Submission) → MayBeTried message →
         IsStepAlone first_setup (node_of_actor (knowing 1 opening_clock (taken_chain message) [] []))
@@ -73,6 +50,15 @@ pub fn a_tick_starts_a_round()
         IsStepAlone first_setup (node_of_actor (knowing 1 opening_clock (attempted_chain message) [] []))
         (Tick opening_clock none_up) (giving_up 1 opening_clock (slot_of first_id (attempted_chain message))
         (given_up_chain message)) }
+    ensures take { (message : Submission) →
+        IsStepAlone first_setup (node_of_actor (taking_again message)) (Tick opening_clock all_up)
+            (Prepares taken_slot again_ballot (taken_chain message) ∷ Ticks opening_clock ∷ []) }
+    ensures follow { (chain : List Decree) →
+        IsStepAlone among_three (voted_before chain) (Tick opening_clock all_up)
+            (Prepares second_slot second_ballot chain ∷ Ticks opening_clock ∷ []) }
+    ensures delete { (message : Submission) →
+        IsStepAlone first_setup (node_of_actor (cancelled_once message)) (Tick opening_clock all_up)
+            (Prepares behind_slot first_ballot (deleted_chain message) ∷ Ticks opening_clock ∷ []) }
 {}
 
 /// Among three nodes a query_sm of another node's message comes and is asked, node 2 has nothing to tell, and node 3 tells of a

@@ -1,4 +1,5 @@
 use Rattle.mc_laws.proofs.Ticks.{try_step, expire_step, undeliver_step, close_step, lose_step, give_up_step}
+use Rattle.mc_laws.proofs.Retrying.{take_step, follow_step, delete_step}
 use Rattle.mc_laws.proofs.steps_of_nodes.a_tick_starts_a_round.Goals as goal
 
 pub returns-clause-attempt : goal.returns-clause-attempt
@@ -18,3 +19,12 @@ returns-clause-lose c = lose_step
 
 pub returns-clause-give_up : goal.returns-clause-give_up
 returns-clause-give_up c = give_up_step
+
+pub returns-clause-take : goal.returns-clause-take
+returns-clause-take c = take_step
+
+pub returns-clause-follow : goal.returns-clause-follow
+returns-clause-follow c = follow_step
+
+pub returns-clause-delete : goal.returns-clause-delete
+returns-clause-delete c = delete_step
