@@ -5,3 +5,4 @@ pub mod Lengths
 pub mod Membership
 pub mod Known
 pub mod Refusals
+pub mod OneAnswer

@@ -3,8 +3,9 @@
 ghost use Rattle.std.specs.Prelude.{◌≡◌, ◌⊎◌, ℕ, List, Option};
 ghost use Rattle.mc_model.specs.message.Decree.{Decree};
 ghost use Rattle.mc_model.specs.synod.Packet.{Packet, Slot};
-ghost use Rattle.mc_model.specs.node.Actor.{Actor};
+ghost use Rattle.mc_model.specs.node.Actor.{Actor, Waiting};
 ghost use Rattle.mc_model.specs.node.Knowledge.{IsKnown, Knows};
+ghost use Rattle.mc_model.specs.node.Replies.{Answer, FitsRequest};
 ghost use Rattle.mc_model.specs.node.Grant.{MayGrant, GrantRefusal, IsGiven, IsRefusedFor};
 
 /// A node knows one chain of a message at most.
@@ -22,4 +23,10 @@ pub fn a_grant_is_given_or_refused_by_one_number()
         IsRefusedFor nodes node a id one → IsRefusedFor nodes node a id other → one ≡ other }
     ensures not_both { (nodes node : ℕ) (a : Actor) (slot : Slot) (refusal : GrantRefusal) →
         MayGrant nodes node a slot → IsRefusedFor nodes node a slot.id refusal → ⊥ }
+{}
+
+/// What a node knows gives a request that waits one answer at most.
+pub fn an_answer_is_one()
+    ensures { (nodes node : ℕ) (a : Actor) (waiting : Waiting) (one other : Answer) →
+        FitsRequest nodes node a waiting waiting.request one → FitsRequest nodes node a waiting waiting.request other → one ≡ other }
 {}
