@@ -1,8 +1,13 @@
 -- One run behind another, and runs of steps.
-use Rattle.std.proofs.Common.{◌≡◌, ℕ, List, [], ◌∷◌, ◌++◌, refl, sym, ap, subst}
+use Rattle.std.proofs.Common.{◌≡◌, ℕ, List, [], ◌∷◌, ◌++◌, refl, sym, ◌∙◌, ap, subst, append_assoc}
+use Rattle.mc_model.specs.synod.Acceptor.{Records}
+use Rattle.mc_model.specs.node.Actor.{Actor}
 use Rattle.mc_model.specs.node.Act.{Act}
-use Rattle.mc_model.specs.cluster.World.{Run, start, World, May, reached, IsRun, after}
-use Rattle.mc_model.specs.cluster.Steps.{Cluster, StepRun, Step, by_node, acts_in, AreSteps}
+use Rattle.mc_model.specs.node.Effect.{actor_by, did, packets_by, records_by, saved}
+use Rattle.mc_model.specs.node.Outputs.{packets_in}
+use Rattle.mc_model.specs.cluster.World.{World, Run, May, after, reached, start, IsRun}
+use Rattle.mc_model.specs.cluster.Steps.{Cluster, Step, StepRun, AreSteps, acts_in, by_node}
+use Rattle.mc_laws.proofs.Growth.{actor_here, changed_here}
 
 pub reached_on : (w : World) (later earlier : List (ℕ × Act)) → reached w (later ++ earlier) ≡ reached (reached w earlier) later
 reached_on w [] earlier = refl
@@ -30,3 +35,24 @@ run_by run = record {
   acts = acts_in run.steps;
   may = steps_run run.cluster (start run.cluster.nodes run.cluster.serials) run.steps run.are;
 }
+
+-- ---- what acts of one node leave of it, and what they send
+
+pub actor_so : (w : World) (node : ℕ) (acts : List Act) → (reached w (by_node node acts)).actors node ≡ did node (w.actors node) acts
+actor_so w node [] = refl
+actor_so w node (newest ∷ older) =
+    actor_here (reached w (by_node node older)) node newest ∙ ap (λ (a : Actor). actor_by node a newest) (actor_so w node older)
+
+pub records_so : (w : World) (node : ℕ) (acts : List Act) → (reached w (by_node node acts)).records node ≡ saved (w.records node) acts
+records_so w node [] = refl
+records_so w node (newest ∷ older) =
+    changed_here (reached w (by_node node older)).records node (records_by ((reached w (by_node node older)).records node) newest)
+    ∙ ap (λ (r : Records). records_by r newest) (records_so w node older)
+
+pub packets_so : (w : World) (node : ℕ) (acts : List Act) → (reached w (by_node node acts)).packets ≡ packets_in node (w.actors node) (w.records node) acts ++ w.packets
+packets_so w node [] = refl
+packets_so w node (newest ∷ older) =
+    let a = actor_so w node older in
+    let r = records_so w node older in
+    (λ i. packets_by node (a i) (r i) newest ++ packets_so w node older i)
+    ∙ sym (append_assoc (packets_by node (did node (w.actors node) older) (saved (w.records node) older) newest) (packets_in node (w.actors node) (w.records node) older) w.packets)

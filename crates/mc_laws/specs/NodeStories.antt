@@ -118,11 +118,9 @@ question = record { node = 1; incarnation = 1; ticket = 1 }
 abbrev pub told_by_3 : Vote → Packet
 told_by_3 vote = Tell 3 question (Some (top_at second_slot vote))
 
--- The query_sm comes and is asked; node 2 has nothing to tell, and node 3 tells of a vote. So a round is started for that vote's
--- chain;
--- nodes 2 and 3 promise and report nothing, since node 3's vote came after its promise, and that chain is proposed. The newest
--- step
--- stands first.
+-- The query_sm comes and is asked; node 2 has nothing to tell, and node 3 tells of a vote. So a round is started for that
+-- vote's chain; nodes 2 and 3 promise and report nothing, since node 3's vote came after its promise, and that chain is
+-- proposed. The newest step stands first.
 abbrev pub following : List ℕ → List ℕ → Vote → List OwnStep
 following account source vote =
     record {
@@ -214,9 +212,8 @@ second_ballot = ballot_of 2 2 1
 abbrev pub third_ballot : ℕ
 third_ballot = ballot_of 3 1 3
 
--- The node began its second incarnation with a vote, and started a round for its chain; since then it has voted for another, and
--- node 2
--- has promised.
+-- The node began its second incarnation with a vote, and started a round for its chain; since then it has voted for another,
+-- and node 2 has promised.
 abbrev pub carrying : Vote → List Decree → Node
 carrying vote other = record {
   actor = record (opened 2 1) {

@@ -5,11 +5,13 @@ ghost use Rattle.mc_model.specs.synod.Acceptor.{Records};
 ghost use Rattle.mc_model.specs.node.Setup.{Setup};
 ghost use Rattle.mc_model.specs.node.Actor.{Actor};
 ghost use Rattle.mc_model.specs.node.Act.{Act};
+ghost use Rattle.mc_model.specs.node.Effect.{did, saved};
 ghost use Rattle.mc_model.specs.node.Input.{Input};
 ghost use Rattle.mc_model.specs.node.Step.{IsExact};
 ghost use Rattle.mc_model.specs.node.Alone.{AreStepsAlone, IsRunAlone, IsStepAlone, opened_new, reached_alone};
-ghost use Rattle.mc_model.specs.cluster.World.{IsRun, Run, reached, start, world_of};
-ghost use Rattle.mc_model.specs.cluster.Steps.{Cluster, setup_of, IsStep, Step, AreSteps, CameTo, acts_in};
+ghost use Rattle.mc_model.specs.node.Outputs.{packets_in};
+ghost use Rattle.mc_model.specs.cluster.World.{IsRun, Run, World, reached, start, world_of};
+ghost use Rattle.mc_model.specs.cluster.Steps.{Cluster, setup_of, IsStep, Step, AreSteps, CameTo, acts_in, by_node};
 ghost use Rattle.mc_model.specs.cluster.Assembly.{EachCame, EachWasSent, acts_of, steps_of};
 ghost use Rattle.mc_model.specs.cluster.Stores.{AreLeft, opened_in, openings, start_over};
 
@@ -94,4 +96,15 @@ pub fn a_run_over_old_stores_goes_on()
         AreSteps cluster (start_over run.nodes (world_of run).records (opened_in
         (world_of run) fresh lost) cluster.serials) steps →
         IsRun (start run.nodes run.serials) (acts_in steps ++ (openings run.nodes fresh lost cluster.serials ++ run.acts)) }
+{}
+
+/// What the acts of one node leave of it, and what they send, is what the node by itself says: its actor, its records, and the
+/// packets that it gives out, ahead of those that were sent before.
+pub fn acts_leave_what_the_node_says()
+    ensures actor { (w : World) (node : ℕ) (acts : List Act) →
+        (reached w (by_node node acts)).actors node ≡ did node (w.actors node) acts }
+    ensures records { (w : World) (node : ℕ) (acts : List Act) →
+        (reached w (by_node node acts)).records node ≡ saved (w.records node) acts }
+    ensures packets { (w : World) (node : ℕ) (acts : List Act) →
+        (reached w (by_node node acts)).packets ≡ packets_in node (w.actors node) (w.records node) acts ++ w.packets }
 {}

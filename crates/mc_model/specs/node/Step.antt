@@ -1,9 +1,8 @@
 -- A step of a node: what comes to it, and all that it does then.
 --
 -- A step is a list of acts, of which each may be done where it stands. Which acts those are is exact: what the input does by
--- itself,
--- what is settled, asked, prepared, proposed, answered and reported. What is due is done in the step in which it becomes due, and
--- nothing else is done.
+-- itself, what is settled, asked, prepared, proposed, answered and reported. What is due is done in the step in which it
+-- becomes due, and nothing else is done.
 use Rattle.std.specs.Prelude.{◌≡◌, List, ◌++◌}
 use Rattle.mc_model.specs.synod.Acceptor.{Records}
 use Rattle.mc_model.specs.node.Setup.{Setup}
