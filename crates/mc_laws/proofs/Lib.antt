@@ -29,3 +29,4 @@ pub mod Idle
 pub mod Cancels
 pub mod Carrying
 pub mod Retrying
+pub mod Settled

@@ -3,7 +3,7 @@
 -- In each the node is node 1 in its first incarnation, if nothing else is said, and its setup is `alone`, or `among_three`.
 use Rattle.std.specs.Prelude.{ℕ, zero, suc, ◌+◌, Bool, true, false, List, [], ◌∷◌, Option, Some, None}
 use Rattle.mc_model.specs.message.Submission.{Submission}
-use Rattle.mc_model.specs.message.Decree.{Decree, Kind, Attempt, Failed, Fate, Expired, Undeliverable}
+use Rattle.mc_model.specs.message.Decree.{Decree, Kind, Attempt, Failed, Fate, Expired, Undeliverable, Taken}
 use Rattle.mc_model.specs.synod.Ballot.{ballot_of}
 use Rattle.mc_model.specs.synod.OneSlot.{Vote, vote_at}
 use Rattle.mc_model.specs.synod.Packet.{Slot, slot_at, slot_of, top_at, Name, Packet, Prepare, Promise, Propose, Voted, Refused, Tell}
@@ -11,7 +11,8 @@ use Rattle.mc_model.specs.synod.Acceptor.{Records, blank, after_vote, with_recor
 use Rattle.mc_model.specs.node.Setup.{Setup}
 use Rattle.mc_model.specs.node.Outcome.{Outcome}
 use Rattle.mc_model.specs.node.Actor.{Actor, Query, Cancel, Waiting, opened, opening_clock, Submit}
-use Rattle.mc_model.specs.node.Act.{Act, Receives, Prepares, Proposes, Begins, Asks, Settles, Abandons, Ticks}
+use Rattle.mc_model.specs.node.Replies.{Shown}
+use Rattle.mc_model.specs.node.Act.{Act, Receives, Prepares, Proposes, Begins, Asks, Settles, Abandons, Ticks, Replies}
 use Rattle.mc_model.specs.node.Input.{Delivery, Arrival}
 use Rattle.mc_model.specs.node.Alone.{Node, OwnStep}
 use Rattle.mc_laws.specs.Stories.{
@@ -267,3 +268,32 @@ cancelled_once message = record (opened 1 1) {
       ∷ [];
   waiting = cancelling_at message 1 true ∷ [];
 }
+
+-- ---- a query_sm that is settled among three nodes
+
+-- the message of node 2 is taken, and so nodes 2 and 3 voted
+abbrev pub second_chain : Submission → List Decree
+second_chain message = record { author = record { node = 2; incarnation = 1 }; moment = opening_clock; kind = Taken message } ∷ []
+
+abbrev pub second_vote : Submission → Vote
+second_vote message = vote_at (ballot_of 1 1 2) (second_chain message)
+
+-- The query_sm of its submitter waits, node 2 has told of its vote, and what is told is known.
+abbrev pub asking_about : Submission → Actor
+asking_about message = record (opened 1 1) {
+  ticket = 2;
+  received = Tell 2 question (Some (top_at second_slot (second_vote message)))
+      ∷ Voted 3 second_slot (second_vote message)
+      ∷ Voted 2 second_slot (second_vote message)
+      ∷ [];
+  waiting = record {
+    ticket = 1;
+    since = opening_clock;
+    request = Query second_id message.submitter message.source.digits;
+    settled = false;
+  } ∷ [];
+}
+
+-- Node 3 tells too: that settles it, and ENROUTE is shown.
+abbrev pub showing : Submission → List Act
+showing message = Replies 1 second_id (Shown (second_chain message)) ∷ Receives (told_by_3 (second_vote message)) ∷ []

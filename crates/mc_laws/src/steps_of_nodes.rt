@@ -20,7 +20,7 @@ ghost use Rattle.mc_laws.specs.Stories.{deleted_chain, taken_slot,
   first_setup,
   taken_chain,
 };
-ghost use Rattle.mc_laws.specs.NodeStories.{again_ballot, all_up, among_three, behind_slot, cancelled_once, cancelled_twice, cancelling_again, carrying, carrying_on, expired_chain, failed_chain, first_attempt, following, given_up_chain, giving_up, knowing, lost_chain, node_of_actor, none_up, one_minute_later, second_ballot, second_slot, starting, taking_again, told_of_taking, undelivered_chain, used_up, voted_before};
+ghost use Rattle.mc_laws.specs.NodeStories.{again_ballot, all_up, among_three, asking_about, behind_slot, cancelled_once, cancelled_twice, cancelling_again, carrying, carrying_on, expired_chain, failed_chain, first_attempt, following, given_up_chain, giving_up, knowing, lost_chain, node_of_actor, none_up, one_minute_later, second_ballot, second_slot, second_vote, showing, starting, taking_again, told_by_3, told_of_taking, undelivered_chain, used_up, voted_before};
 
 /// A tick comes, and by the first rule that fits a round is started. By what the chain ends in that a node knows: for the next
 /// attempt, for EXPIRED, for UNDELIVERABLE after eight failures with the error of the last, for the outcome of an attempt, for the
@@ -115,4 +115,11 @@ pub fn each_cancel_starts_a_round()
 pub fn a_voted_chain_is_carried_on()
     ensures { (vote : Vote) (other : List Decree) →
         IsStepAlone among_three (carrying vote other) (Delivery (Promise 3 second_slot second_ballot None)) (carrying_on vote) }
+{}
+
+/// Among three nodes a query_sm waits for a message of node 2, that is known to be taken, and node 2 has told of its vote. Node 3 tells
+/// too: that settles the query_sm, and its answer is ESME_ROK, with the state of the known chain.
+pub fn a_tell_settles_a_query()
+    ensures { (message : Submission) →
+        IsStepAlone among_three (node_of_actor (asking_about message)) (Delivery (told_by_3 (second_vote message))) (showing message) }
 {}
