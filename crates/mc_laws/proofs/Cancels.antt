@@ -1,5 +1,5 @@
 -- A second cancel_sm that is settled starts a round of its own.
-use Rattle.std.proofs.Common.{◌≡◌, ◌⊎◌, ℕ, suc, ◌+◌, ◌<◌, ◌≤◌, Bool, true, false, List, [], ◌∷◌, ◌++◌, length, Option, Some, None, refl, sym, ◌∙◌, ap, subst, inl, inr, arith}
+use Rattle.std.proofs.Common.{◌≡◌, ℕ, ◌≤◌, true, false, List, [], ◌∷◌, ◌++◌, Option, Some, None, refl, sym, ◌∙◌, ap, subst, inl, inr, arith}
 use Rattle.mc_model.specs.message.Submission.{Submission}
 use Rattle.mc_model.specs.message.Decree.{Decree, Taken, Deleted}
 use Rattle.mc_model.specs.message.Chain.{final_in, taken_in}
@@ -21,7 +21,8 @@ use Rattle.mc_model.specs.node.Due.{AreDue, AreDueOnce, key_of}
 use Rattle.mc_model.specs.node.Phases.{DueToSettle, DueToEnd, DueToAsk, DueToAbandon, DueToPrepare, DueToPropose, DueToReply, DueToReport}
 use Rattle.mc_model.specs.node.Alone.{IsStepAlone}
 use Rattle.mc_laws.specs.Stories.{first_id, first_ballot, first_setup, decreed, taken_chain, deleted_chain, taken_slot, taken_vote}
-use Rattle.mc_laws.specs.NodeStories.{no_records, node_of_actor, behind_slot, high_ballot, next_ballot, second_question, told_of_taking, cancelling_at, cancelled_twice, cancelling_again}
+use Rattle.mc_laws.specs.NodeStories.{no_records, node_of_actor}
+use Rattle.mc_laws.specs.CancelStories.{behind_slot, high_ballot, next_ballot, second_question, told_of_taking, cancelling_at, cancelled_twice, cancelling_again}
 use Rattle.mc_laws.proofs.Rounds.{all_of_one, one_of_one}
 use Rattle.mc_parts.proofs.Known.{knows_one}
 use Rattle.mc_laws.proofs.Delivery.{knows}

@@ -1,5 +1,5 @@
 -- A round for the vote with which an incarnation began is carried on, though the node has voted for another chain since.
-use Rattle.std.proofs.Common.{◌≡◌, ◌⊎◌, ℕ, ◌<◌, ◌≤◌, List, [], ◌∷◌, ◌++◌, Option, Some, None, refl, sym, ◌∙◌, ap, subst, inl, inr, arith}
+use Rattle.std.proofs.Common.{◌≡◌, ℕ, List, [], ◌∷◌, ◌++◌, Option, Some, None, refl, sym, ap, subst, inl, inr, arith}
 use Rattle.mc_model.specs.message.Decree.{Decree}
 use Rattle.mc_model.specs.synod.Lists.{In}
 use Rattle.mc_model.specs.synod.OneSlot.{Vote, vote_at}
@@ -14,7 +14,8 @@ use Rattle.mc_model.specs.node.Causes.{Causes, IsCompleted}
 use Rattle.mc_model.specs.node.Due.{AreDueOnce, key_of}
 use Rattle.mc_model.specs.node.Phases.{DueToSettle, DueToEnd, DueToAsk, DueToAbandon, DueToPrepare, DueToPropose, DueToReply, DueToReport}
 use Rattle.mc_model.specs.node.Alone.{IsStepAlone}
-use Rattle.mc_laws.specs.NodeStories.{among_three, second_id, second_slot, second_ballot, third_ballot, carrying, carrying_on}
+use Rattle.mc_laws.specs.NodeStories.{among_three}
+use Rattle.mc_laws.specs.QueryStories.{second_id, second_slot, second_ballot, carrying, carrying_on}
 use Rattle.mc_laws.proofs.FirstStep.{none_due, none_due_once}
 use Rattle.mc_laws.proofs.Following.{NoVotes, none_known, two_and_three, few_told}
 

@@ -1,5 +1,5 @@
 -- A node that is told of a vote starts a round for its chain, and proposes it.
-use Rattle.std.proofs.Common.{◌≡◌, ◌⊎◌, ℕ, zero, suc, ◌+◌, ◌*◌, ◌<◌, ◌≤◌, Bool, true, false, List, [], ◌∷◌, ◌++◌, Option, Some, None, refl, sym, ◌∙◌, ap, subst, inl, inr, arith}
+use Rattle.std.proofs.Common.{◌≡◌, ◌⊎◌, ℕ, zero, suc, ◌*◌, ◌<◌, true, false, List, [], ◌∷◌, ◌++◌, Option, Some, None, refl, sym, ◌∙◌, ap, subst, inl, inr, arith}
 use Rattle.std.specs.Prelude.{◌==◌, not}
 use Rattle.std.proofs.lemmas.Bool.{eq-eqb, true≢false}
 use Rattle.mc_model.specs.message.Decree.{Decree}
@@ -22,7 +22,8 @@ use Rattle.mc_model.specs.node.Phases.{IsCancelRequest, DueToSettle, DueToEnd, D
 use Rattle.mc_model.specs.node.Step.{IsExact}
 use Rattle.mc_model.specs.node.Alone.{AreStepsAlone, opened_new}
 use Rattle.mc_laws.specs.Stories.{first_ballot}
-use Rattle.mc_laws.specs.NodeStories.{no_records, second_id, second_slot, among_three, question, told_by_3, following}
+use Rattle.mc_laws.specs.NodeStories.{no_records, among_three}
+use Rattle.mc_laws.specs.QueryStories.{second_id, second_slot, question, told_by_3, following}
 use Rattle.mc_parts.proofs.Majorities.{both}
 use Rattle.mc_laws.proofs.FirstStep.{none_due, none_due_once}
 

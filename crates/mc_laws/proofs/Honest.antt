@@ -1,6 +1,5 @@
 -- In a cluster every packet concerns every node.
-use Rattle.std.proofs.Common.{◌≡◌, ◌⊎◌, ℕ, suc, ◌+◌, ◌*◌, ◌<◌, ◌≤◌, Bool, List, [], ◌∷◌, Option, Some, None, refl, sym, ◌∙◌, ap, subst, inl, inr, arith}
-use Rattle.std.specs.Prelude.{◌/◌, ◌%◌}
+use Rattle.std.proofs.Common.{◌≡◌, ◌⊎◌, ℕ, suc, ◌+◌, ◌<◌, ◌≤◌, Bool, List, [], ◌∷◌, Option, Some, None, refl, sym, ◌∙◌, ap, subst, inl, inr, arith}
 use Rattle.std.proofs.lemmas.Bool.{cases_eq}
 use Rattle.mc_model.specs.message.Ids.{node_of, incarnation_of, serial_of}
 use Rattle.mc_model.specs.message.Submission.{Submission}
@@ -18,7 +17,7 @@ use Rattle.mc_model.specs.node.Concerns.{IsMember, WasGiven, TellsAbout, IsExpec
 use Rattle.mc_model.specs.cluster.World.{World, cast, May, IsChosenIn, after, sent_by, start}
 use Rattle.mc_parts.proofs.Membership.{in_either, of_only, in_map, in_filter}
 use Rattle.mc_laws.proofs.Growth.{grows, later, same_life, remembers, actors_after, actor_here, actor_apart}
-use Rattle.mc_laws.proofs.Keeping.{Keeps, WasProposed, IsSent, sent_is}
+use Rattle.mc_laws.proofs.Keeping.{Keeps, IsSent, sent_is}
 use Rattle.mc_laws.proofs.Links.{Links}
 use Rattle.mc_laws.proofs.Freshness.{Names, HaveTickets, IsAbout, WasNamed, ask_cases, tell_cases, about_by}
 use Rattle.mc_laws.proofs.Proposals.{AllProposed, chosen_good, good_after}

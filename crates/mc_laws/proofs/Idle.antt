@@ -1,5 +1,5 @@
 -- Steps of a node at which no request waits and no round runs.
-use Rattle.std.proofs.Common.{◌≡◌, ◌⊎◌, ℕ, suc, ◌+◌, ◌<◌, ◌≤◌, Bool, true, false, List, [], ◌∷◌, ◌++◌, length, Option, Some, None, refl, sym, ◌∙◌, ap, subst, inl, inr, arith}
+use Rattle.std.proofs.Common.{◌≡◌, ℕ, suc, ◌+◌, ◌<◌, true, false, List, [], ◌∷◌, ◌++◌, refl, sym, subst, inl, inr, arith}
 use Rattle.mc_model.specs.message.Submission.{Submission}
 use Rattle.mc_model.specs.message.Decree.{Decree, Attempt, Delivered}
 use Rattle.mc_model.specs.synod.Lists.{In}
@@ -21,9 +21,9 @@ use Rattle.mc_model.specs.node.Phases.{IsStarted, DueToSettle, DueToEnd, DueToAs
 use Rattle.mc_model.specs.node.Step.{IsExact}
 use Rattle.mc_model.specs.node.Alone.{Node, IsStepAlone, opened_new}
 use Rattle.mc_laws.specs.Stories.{first_id, first_ballot, first_setup, decreed, taken_chain, attempted_chain, delivered_chain}
-use Rattle.mc_laws.specs.NodeStories.{knowing, no_records, node_of_actor, opening_ballot, among_three, used_up, first_attempt}
+use Rattle.mc_laws.specs.NodeStories.{knowing, no_records, node_of_actor, among_three, used_up, first_attempt}
 use Rattle.mc_laws.proofs.FirstStep.{none_due, none_due_once}
-use Rattle.mc_laws.proofs.Ticks.{known_here, only_known, known_id}
+use Rattle.mc_laws.proofs.Ticks.{known_here}
 use Rattle.mc_laws.proofs.Following.{NoVotes, none_known}
 
 -- ---- what is due at such a node

@@ -1,5 +1,5 @@
 -- A run over stores that an earlier run left goes on from that run.
-use Rattle.std.proofs.Common.{◌≡◌, ◌⊎◌, ℕ, zero, suc, ◌+◌, ◌<◌, ◌≤◌, Bool, true, false, List, [], ◌∷◌, ◌++◌, Option, Some, None, refl, sym, ◌∙◌, ap, subst, inl, inr, arith, append_assoc}
+use Rattle.std.proofs.Common.{◌≡◌, ℕ, zero, suc, ◌+◌, ◌<◌, ◌≤◌, Bool, true, false, List, [], ◌∷◌, ◌++◌, Option, Some, None, refl, sym, ◌∙◌, ap, subst, inl, inr, arith, append_assoc}
 use Rattle.std.specs.Prelude.{◌==◌, if◌then◌else◌}
 use Rattle.std.proofs.lemmas.Bool.{cases_eq, eqb-true}
 use Rattle.mc_model.specs.message.Decree.{Decree}
@@ -14,7 +14,7 @@ use Rattle.mc_model.specs.node.Act.{Act, Receives, Proposes, Restarts, Needs, Is
 use Rattle.mc_model.specs.node.Effect.{actor_by, records_by, packets_by}
 use Rattle.mc_model.specs.cluster.World.{World, Cast, cast, May, IsChosenIn, StandsIn, after, sent_by, votes_by, changed, reached, start, IsRun, Run, world_of}
 use Rattle.mc_model.specs.cluster.Stores.{start_over, openings, opened_in, AreLeft}
-use Rattle.mc_parts.proofs.Membership.{in_right, either}
+use Rattle.mc_parts.proofs.Membership.{either}
 use Rattle.mc_laws.proofs.Growth.{changed_here, actor_here, actor_apart, nodes_same}
 use Rattle.mc_laws.proofs.Keeping.{justified_more}
 use Rattle.mc_laws.proofs.Behind.{run_on, reached_on}

@@ -15,7 +15,8 @@ use Rattle.mc_model.specs.node.Proposal.{IsMatch}
 use Rattle.mc_model.specs.node.Replies.{Shown, Removed}
 use Rattle.mc_model.specs.node.Act.{Act, Begins, Settles, Replies}
 use Rattle.mc_model.specs.cluster.World.{World, May, reached, IsRun, after}
-use Rattle.mc_laws.specs.Stories.{first_id, first_ballot, taken_chain, attempted_chain, delivered_chain, round_for, delivery_story, asking, told_of, question_for, query_story, deleted_chain, cancel_story, decreed, by_node_1, one_node, MayBeTried}
+use Rattle.mc_laws.specs.Stories.{first_id, first_ballot, taken_chain, attempted_chain, delivered_chain, round_for, delivery_story, deleted_chain, decreed, by_node_1, one_node, MayBeTried}
+use Rattle.mc_laws.specs.AnswerStories.{asking, told_of, question_for, query_story, cancel_story}
 use Rattle.mc_parts.proofs.Membership.{slots_same}
 use Rattle.mc_laws.proofs.Behind.{run_on}
 use Rattle.mc_laws.proofs.Rounds.{all_of_one, IsReady, round_runs}

@@ -1,5 +1,5 @@
 -- What holds of every world that acts lead to.
-use Rattle.std.proofs.Common.{◌≡◌, ◌⊎◌, ℕ, ◌≤◌, List, [], ◌∷◌, ◌++◌, length, Some, refl, sym, ◌∙◌, ap, subst, inl, inr, arith}
+use Rattle.std.proofs.Common.{◌≡◌, ◌⊎◌, ℕ, ◌≤◌, List, [], ◌∷◌, ◌++◌, length, Some, sym, ◌∙◌, ap, subst, inl, inr, arith}
 use Rattle.std.proofs.lemmas.Bool.{cases_lt}
 use Rattle.mc_model.specs.message.Decree.{Decree, Attempt, Final, Delivered}
 use Rattle.mc_model.specs.message.Chain.{IsPermitted, GoesOn, final_in}
@@ -11,7 +11,6 @@ use Rattle.mc_model.specs.node.Act.{Act}
 use Rattle.mc_model.specs.cluster.World.{World, Deed, cast, May, IsChosenIn, after, start, reached, IsRun}
 use Rattle.mc_model.specs.cluster.Fate.{CameBefore, States, IsGrant, IsDelivery}
 use Rattle.mc_parts.proofs.Fates.{fate_is_last}
-use Rattle.mc_parts.proofs.Membership.{in_right}
 use Rattle.mc_laws.proofs.Keeping.{Keeps, sound, keeps_start, keeps_after}
 use Rattle.mc_laws.proofs.Links.{Links, ChainFits, links_start, links_after}
 use Rattle.mc_laws.proofs.Agreement.{Chosen, standing, begins, agree}

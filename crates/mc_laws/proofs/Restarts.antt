@@ -9,7 +9,8 @@ use Rattle.mc_model.specs.synod.Packet.{Slot, Packet, Voted}
 use Rattle.mc_model.specs.node.Actor.{Submit, opening_clock}
 use Rattle.mc_model.specs.node.Knowledge.{IsLearned, Knows, KnowsNothing}
 use Rattle.mc_model.specs.cluster.World.{IsChosenIn, IsRun, reached}
-use Rattle.mc_laws.specs.Stories.{first_id, first_ballot, taken_chain, taken_slot, taken_vote, until_promised, until_stopped, until_anew, restart_story, three_nodes, MayBeTried}
+use Rattle.mc_laws.specs.Stories.{first_id, first_ballot, taken_chain, taken_slot, taken_vote, three_nodes, MayBeTried}
+use Rattle.mc_laws.specs.StopStories.{until_promised, until_stopped, until_anew, restart_story}
 use Rattle.mc_parts.proofs.Majorities.{both}
 use Rattle.mc_parts.proofs.Membership.{in_right}
 

@@ -1,19 +1,19 @@
 -- A tick starts a round for a vote beyond what is known, for a submit_sm and for a cancel_sm that wait.
-use Rattle.std.proofs.Common.{◌≡◌, ◌⊎◌, ℕ, suc, ◌+◌, ◌<◌, ◌≤◌, Bool, true, false, List, [], ◌∷◌, ◌++◌, length, Option, Some, None, refl, sym, ◌∙◌, ap, subst, inl, inr, arith}
+use Rattle.std.proofs.Common.{◌≡◌, ℕ, suc, ◌+◌, ◌<◌, ◌≤◌, Bool, true, false, List, [], ◌∷◌, ◌++◌, Some, None, refl, sym, ◌∙◌, ap, subst, inl, inr, arith}
 use Rattle.std.specs.Prelude.{if◌then◌else◌}
 use Rattle.mc_model.specs.message.Submission.{Submission}
-use Rattle.mc_model.specs.message.Decree.{Decree, Kind, Attempt, Taken, Deleted, Fate}
+use Rattle.mc_model.specs.message.Decree.{Decree, Attempt, Taken, Deleted}
 use Rattle.mc_model.specs.message.Chain.{final_in, taken_in}
 use Rattle.mc_model.specs.synod.Ballot.{round_in}
 use Rattle.mc_model.specs.synod.Lists.{In}
 use Rattle.mc_model.specs.synod.Majority.{Majority}
 use Rattle.mc_model.specs.synod.OneSlot.{Vote, vote_at}
-use Rattle.mc_model.specs.synod.Packet.{Slot, slot_at, slot_of, same_slot, top_at, Packet, Prepare, Voted, Refused, Tell, TopVote}
-use Rattle.mc_model.specs.synod.Acceptor.{SlotRecord, Records, with_record, after_vote}
+use Rattle.mc_model.specs.synod.Packet.{Slot, slot_at, slot_of, same_slot, top_at, Packet, Voted, TopVote}
+use Rattle.mc_model.specs.synod.Acceptor.{Records, with_record, after_vote}
 use Rattle.mc_model.specs.node.Actor.{Actor, Request, Submit, Cancel, Waiting, opened, opening_clock, id_in, name_of}
 use Rattle.mc_model.specs.node.Knowledge.{IsLearned, Knows}
 use Rattle.mc_model.specs.node.Settling.{HasTold}
-use Rattle.mc_model.specs.node.Proposal.{IsFirst, IsMatch}
+use Rattle.mc_model.specs.node.Proposal.{IsMatch}
 use Rattle.mc_model.specs.node.Replies.{longest_wait, Answer, Accepted, Removed, Kept, NotMatched, Unknown, TooLate, FitsCancel, FitsRequest, KeepsMessage}
 use Rattle.mc_model.specs.node.Rounds.{HasSeen, MayPrepare, sent_since_tick}
 use Rattle.mc_model.specs.node.Rules.{IsShownAt}
@@ -21,13 +21,16 @@ use Rattle.mc_model.specs.node.FirstRule.{Rule, Take, Follow, Close, Lose, GiveU
 use Rattle.mc_model.specs.node.Act.{Act, Settles, Replies, Asks, Abandons, Prepares, Proposes, Reports, Ticks}
 use Rattle.mc_model.specs.node.Effect.{did}
 use Rattle.mc_model.specs.node.Input.{Tick}
-use Rattle.mc_model.specs.node.Due.{AreDue, AreDueOnce, key_of}
+use Rattle.mc_model.specs.node.Due.{AreDueOnce, key_of}
 use Rattle.mc_model.specs.node.Phases.{IsCancelRequest, DueToSettle, DueToEnd, DueToAsk, DueToAbandon, DueToPrepare, DueToPropose, DueToReply, DueToReport}
 use Rattle.mc_model.specs.node.Setup.{Setup}
 use Rattle.mc_model.specs.node.Step.{IsExact}
 use Rattle.mc_model.specs.node.Alone.{IsStepAlone}
 use Rattle.mc_laws.specs.Stories.{first_id, first_ballot, first_setup, decreed, taken_chain, deleted_chain, taken_slot, taken_vote}
-use Rattle.mc_laws.specs.NodeStories.{all_up, no_records, node_of_actor, among_three, second_id, second_slot, second_ballot, behind_slot, voted_before, taking_again, again_ballot, first_question, cancelling_at, cancelled_once}
+use Rattle.mc_laws.specs.NodeStories.{all_up, no_records, node_of_actor, among_three}
+use Rattle.mc_laws.specs.TickStories.{voted_before, taking_again, again_ballot, first_question, cancelled_once}
+use Rattle.mc_laws.specs.CancelStories.{behind_slot, cancelling_at}
+use Rattle.mc_laws.specs.QueryStories.{second_id, second_slot, second_ballot}
 use Rattle.mc_parts.proofs.Membership.{slots_same}
 use Rattle.mc_parts.proofs.Known.{knows_one}
 use Rattle.mc_laws.proofs.Rounds.{all_of_one, one_of_one}

@@ -1,26 +1,25 @@
 -- A Tell settles a query_sm among three nodes.
-use Rattle.std.proofs.Common.{◌≡◌, ◌⊎◌, ℕ, suc, ◌+◌, ◌<◌, ◌≤◌, Bool, true, false, List, [], ◌∷◌, ◌++◌, length, pred, Option, Some, None, refl, sym, ◌∙◌, ap, subst, inl, inr, arith}
+use Rattle.std.proofs.Common.{◌≡◌, ℕ, false, List, [], ◌∷◌, ◌++◌, Option, Some, None, refl, sym, ◌∙◌, ap, subst, inl, inr, arith}
 use Rattle.mc_model.specs.message.Submission.{Submission}
 use Rattle.mc_model.specs.message.Decree.{Decree}
 use Rattle.mc_model.specs.message.Chain.{final_in}
 use Rattle.mc_model.specs.synod.Lists.{In}
-use Rattle.mc_model.specs.synod.Majority.{Majority}
 use Rattle.mc_model.specs.synod.OneSlot.{Vote, vote_at}
 use Rattle.mc_model.specs.synod.Packet.{Slot, slot_at, slot_of, top_at, Packet, Voted, Tell, TopVote}
-use Rattle.mc_model.specs.node.Actor.{Actor, Request, Query, Waiting, id_in}
+use Rattle.mc_model.specs.node.Actor.{Actor, Query, Waiting, id_in}
 use Rattle.mc_model.specs.node.Knowledge.{IsLearned, Knows}
 use Rattle.mc_model.specs.node.Settling.{HasTold, IsReached, IsSettled}
 use Rattle.mc_model.specs.node.Proposal.{Cancels}
-use Rattle.mc_model.specs.node.Replies.{Answer, Shown, FitsRequest, FitsQuery}
+use Rattle.mc_model.specs.node.Replies.{Shown, FitsRequest}
 use Rattle.mc_model.specs.node.Act.{Act, Receives, Settles, Replies, Asks, Prepares, Proposes, Reports}
 use Rattle.mc_model.specs.node.Effect.{did}
 use Rattle.mc_model.specs.node.Input.{Delivery}
 use Rattle.mc_model.specs.node.Due.{AreDue}
 use Rattle.mc_model.specs.node.Causes.{Causes}
 use Rattle.mc_model.specs.node.Phases.{IsCancelRequest, DueToSettle, DueToEnd, DueToAsk, DueToAbandon, DueToPrepare, DueToPropose, DueToReply, DueToReport}
-use Rattle.mc_model.specs.node.Step.{IsExact}
 use Rattle.mc_model.specs.node.Alone.{IsStepAlone}
-use Rattle.mc_laws.specs.NodeStories.{no_records, node_of_actor, among_three, second_id, second_slot, question, told_by_3, second_chain, second_vote, asking_about, showing}
+use Rattle.mc_laws.specs.NodeStories.{no_records, node_of_actor, among_three}
+use Rattle.mc_laws.specs.QueryStories.{second_id, second_slot, question, told_by_3, second_chain, second_vote, asking_about, showing}
 use Rattle.mc_parts.proofs.Majorities.{both}
 use Rattle.mc_parts.proofs.Membership.{in_right}
 use Rattle.mc_parts.proofs.Known.{knows_one}
@@ -132,6 +131,7 @@ module _ (message : Submission) where
       there : (act : Act) → In act (Replies 1 second_id (Shown (second_chain message)) ∷ []) → DueToReply 3 1 now act
       there act (inl same) = subst (DueToReply 3 1 now) (sym same) (record { asked = record { waiting = asked; waits = inl refl; ticket_is = refl; about = refl }; fits = shown })
       there act (inr none) = absurd none
+
       back : (act : Act) → DueToReply 3 1 now act → In act (Replies 1 second_id (Shown (second_chain message)) ∷ [])
       back (Replies ticket id answer) due =
           let is = only_asked (λ w. w ≡ asked) refl due.asked.waiting due.asked.waits in

@@ -1,7 +1,6 @@
 -- A tick starts a round by the first rule that fits.
-use Rattle.std.proofs.Common.{◌≡◌, ◌⊎◌, ℕ, suc, ◌+◌, ◌<◌, ◌≤◌, pred, Bool, true, false, List, [], ◌∷◌, ◌++◌, length, Some, None, refl, sym, ◌∙◌, ap, subst, inl, inr, arith}
-use Rattle.std.specs.Prelude.{max}
-use Rattle.std.proofs.lemmas.Bool.{cases_lt, true≢false}
+use Rattle.std.proofs.Common.{◌≡◌, ℕ, suc, ◌<◌, ◌≤◌, Bool, List, [], ◌∷◌, ◌++◌, length, Some, refl, sym, ◌∙◌, ap, subst, inl, inr, arith}
+use Rattle.std.proofs.lemmas.Bool.{cases_lt}
 use Rattle.mc_model.specs.message.Submission.{Submission}
 use Rattle.mc_model.specs.message.Decree.{Decree, Kind, Taken, Attempt, Failed, Fate, Delivered, Expired, Undeliverable}
 use Rattle.mc_model.specs.message.Chain.{MayExtend, taken_in}
@@ -24,7 +23,8 @@ use Rattle.mc_model.specs.node.Phases.{DueToSettle, DueToEnd, DueToAsk, DueToAba
 use Rattle.mc_model.specs.node.Step.{IsExact}
 use Rattle.mc_model.specs.node.Alone.{IsStepAlone}
 use Rattle.mc_laws.specs.Stories.{first_id, first_ballot, first_setup, decreed, taken_chain, attempted_chain, delivered_chain, MayBeTried}
-use Rattle.mc_laws.specs.NodeStories.{one_minute_later, expired_chain, undelivered_chain, lost_chain, given_up_chain, knowing, no_records, node_of_actor, opening_ballot, starting, giving_up, decreed_in, failed_chain, all_up, none_up}
+use Rattle.mc_laws.specs.NodeStories.{knowing, no_records, node_of_actor, opening_ballot, all_up, none_up}
+use Rattle.mc_laws.specs.TickStories.{one_minute_later, expired_chain, undelivered_chain, lost_chain, given_up_chain, starting, giving_up, failed_chain}
 use Rattle.mc_laws.proofs.Rounds.{one_of_one}
 use Rattle.mc_parts.proofs.Known.{knows_one}
 use Rattle.mc_laws.proofs.Delivery.{knows}

@@ -24,8 +24,8 @@ pub use steps::{
     nodes_make_a_run, nodes_make_a_run_of_steps, replies_are_decided, steps_are_runs,
 };
 pub use steps_of_nodes::{
-    a_node_starts_anew, a_request_finds_no_serial, a_tell_settles_a_query, a_tick_starts_a_round, a_told_vote_is_followed,
-    a_voted_chain_is_carried_on, an_acceptor_promises_or_stops,
+    a_node_starts_anew, a_request_finds_no_serial, a_tell_settles_a_query, a_tick_starts_a_round,
+    a_told_vote_is_followed, a_voted_chain_is_carried_on, an_acceptor_promises_or_stops,
     an_attempt_is_granted_and_concluded, each_cancel_starts_a_round,
 };
 pub use stories::{

@@ -11,7 +11,9 @@ ghost use Rattle.mc_model.specs.node.Room.{queue_full};
 ghost use Rattle.mc_model.specs.node.Act.{Concludes, Grants, Prepares, Promises, Receives, Restarts, Stops, Ticks};
 ghost use Rattle.mc_model.specs.node.Input.{Crash, Delivery, Grant, Refusal, Response, Restart, Tick};
 ghost use Rattle.mc_model.specs.node.Alone.{AreStepsAlone, IsStepAlone, Node, opened_new};
-ghost use Rattle.mc_laws.specs.Stories.{deleted_chain, taken_slot, 
+ghost use Rattle.mc_laws.specs.Stories.{
+  deleted_chain,
+  taken_slot,
   MayBeTried,
   attempted_chain,
   delivered_chain,
@@ -20,11 +22,39 @@ ghost use Rattle.mc_laws.specs.Stories.{deleted_chain, taken_slot,
   first_setup,
   taken_chain,
 };
-ghost use Rattle.mc_laws.specs.NodeStories.{again_ballot, all_up, among_three, asking_about, behind_slot, cancelled_once, cancelled_twice, cancelling_again, carrying, carrying_on, expired_chain, failed_chain, first_attempt, following, given_up_chain, giving_up, knowing, lost_chain, node_of_actor, none_up, one_minute_later, second_ballot, second_slot, second_vote, showing, starting, taking_again, told_by_3, told_of_taking, undelivered_chain, used_up, voted_before};
+ghost use Rattle.mc_laws.specs.NodeStories.{all_up, among_three, first_attempt, knowing, node_of_actor, none_up, used_up};
+ghost use Rattle.mc_laws.specs.TickStories.{
+  again_ballot,
+  cancelled_once,
+  expired_chain,
+  failed_chain,
+  given_up_chain,
+  giving_up,
+  lost_chain,
+  one_minute_later,
+  starting,
+  taking_again,
+  undelivered_chain,
+  voted_before,
+};
+ghost use Rattle.mc_laws.specs.CancelStories.{behind_slot, cancelled_twice, cancelling_again, told_of_taking};
+ghost use Rattle.mc_laws.specs.QueryStories.{
+  asking_about,
+  carrying,
+  carrying_on,
+  following,
+  second_ballot,
+  second_slot,
+  second_vote,
+  showing,
+  told_by_3,
+};
 
 /// A tick comes, and by the first rule that fits a round is started. By what the chain ends in that a node knows: for the next
-/// attempt, for EXPIRED, for UNDELIVERABLE after eight failures with the error of the last, for the outcome of an attempt, for the
-/// failure of an attempt that an older incarnation made, and for that of one which finds no session, which is given up then. Or for a
+/// attempt, for EXPIRED, for UNDELIVERABLE after eight failures with the error of the last, for the outcome of an attempt, for
+/// the
+/// failure of an attempt that an older incarnation made, and for that of one which finds no session, which is given up then. Or
+/// for a
 /// submit_sm that waits, for a vote beyond what is known, and for a cancel_sm that waits.
 pub fn a_tick_starts_a_round()
     ensures attempt { (message : Submission) → MayBeTried message →
@@ -52,13 +82,13 @@ pub fn a_tick_starts_a_round()
         (given_up_chain message)) }
     ensures take { (message : Submission) →
         IsStepAlone first_setup (node_of_actor (taking_again message)) (Tick opening_clock all_up)
-            (Prepares taken_slot again_ballot (taken_chain message) ∷ Ticks opening_clock ∷ []) }
+        (Prepares taken_slot again_ballot (taken_chain message) ∷ Ticks opening_clock ∷ []) }
     ensures follow { (chain : List Decree) →
         IsStepAlone among_three (voted_before chain) (Tick opening_clock all_up)
-            (Prepares second_slot second_ballot chain ∷ Ticks opening_clock ∷ []) }
+        (Prepares second_slot second_ballot chain ∷ Ticks opening_clock ∷ []) }
     ensures delete { (message : Submission) →
         IsStepAlone first_setup (node_of_actor (cancelled_once message)) (Tick opening_clock all_up)
-            (Prepares behind_slot first_ballot (deleted_chain message) ∷ Ticks opening_clock ∷ []) }
+        (Prepares behind_slot first_ballot (deleted_chain message) ∷ Ticks opening_clock ∷ []) }
 {}
 
 /// Among three nodes a query_sm of another node's message comes and is asked, node 2 has nothing to tell, and node 3 tells of a
@@ -117,9 +147,11 @@ pub fn a_voted_chain_is_carried_on()
         IsStepAlone among_three (carrying vote other) (Delivery (Promise 3 second_slot second_ballot None)) (carrying_on vote) }
 {}
 
-/// Among three nodes a query_sm waits for a message of node 2, that is known to be taken, and node 2 has told of its vote. Node 3 tells
+/// Among three nodes a query_sm waits for a message of node 2, that is known to be taken, and node 2 has told of its vote. Node 3
+/// tells
 /// too: that settles the query_sm, and its answer is ESME_ROK, with the state of the known chain.
 pub fn a_tell_settles_a_query()
     ensures { (message : Submission) →
-        IsStepAlone among_three (node_of_actor (asking_about message)) (Delivery (told_by_3 (second_vote message))) (showing message) }
+        IsStepAlone among_three (node_of_actor (asking_about message)) (Delivery (told_by_3 (second_vote message)))
+        (showing message) }
 {}

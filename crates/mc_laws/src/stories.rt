@@ -12,23 +12,18 @@ ghost use Rattle.mc_model.specs.cluster.World.{IsChosenIn, IsRun, reached};
 ghost use Rattle.mc_model.specs.cluster.Fate.{States};
 ghost use Rattle.mc_laws.specs.Stories.{
   MayBeTried,
-  accepting_deed,
-  cancel_story,
   delivery_story,
   first_id,
   first_setup,
   first_step,
   last_deed,
   one_node,
-  query_story,
-  removing_deed,
-  restart_story,
-  showing_deed,
   taken_slot,
   taken_vote,
   three_nodes,
-  until_anew,
 };
+ghost use Rattle.mc_laws.specs.StopStories.{accepting_deed, restart_story, until_anew};
+ghost use Rattle.mc_laws.specs.AnswerStories.{cancel_story, query_story, removing_deed, showing_deed};
 
 /// A cluster of one node takes a message, attempts it, is answered, and states that it is DELIVERED.
 pub fn a_message_is_delivered()

@@ -1,12 +1,12 @@
 -- What a node knows gives a request one answer at most.
-use Rattle.std.proofs.Common.{◌≡◌, ℕ, List, [], ◌∷◌, Option, Some, None, refl, sym, ◌∙◌, ap, subst}
+use Rattle.std.proofs.Common.{◌≡◌, ℕ, List, Some, refl, sym, ◌∙◌, ap, subst}
 use Rattle.mc_model.specs.message.Submission.{Submission}
-use Rattle.mc_model.specs.message.Decree.{Decree, Kind, Taken, Attempt, Failed, Fate, Final, Delivered, Expired, Deleted, Undeliverable, Rejected}
+use Rattle.mc_model.specs.message.Decree.{Decree, Kind, Taken, Attempt, Failed, Fate, Delivered, Expired, Deleted, Undeliverable, Rejected}
 use Rattle.mc_model.specs.message.Chain.{taken_in, final_in, final_by}
 use Rattle.mc_model.specs.node.Actor.{Actor, Request, Submit, Query, Cancel, Waiting, id_in}
 use Rattle.mc_model.specs.node.Knowledge.{Knows, KnowsNothing}
 use Rattle.mc_model.specs.node.Proposal.{IsOwner, IsMatch}
-use Rattle.mc_model.specs.node.Replies.{Answer, Accepted, Shown, Removed, Kept, NotOwner, NotMatched, Unknown, TooLate, KeepsMessage, FitsSubmit, FitsQuery, FitsCancel, FitsRequest}
+use Rattle.mc_model.specs.node.Replies.{Answer, Accepted, Shown, Removed, Kept, NotOwner, NotMatched, Unknown, KeepsMessage, FitsSubmit, FitsQuery, FitsCancel, FitsRequest}
 use Rattle.mc_parts.proofs.Known.{knows_one}
 
 -- what is known is not unknown

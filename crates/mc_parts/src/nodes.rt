@@ -28,5 +28,6 @@ pub fn a_grant_is_given_or_refused_by_one_number()
 /// What a node knows gives a request that waits one answer at most.
 pub fn an_answer_is_one()
     ensures { (nodes node : ℕ) (a : Actor) (waiting : Waiting) (one other : Answer) →
-        FitsRequest nodes node a waiting waiting.request one → FitsRequest nodes node a waiting waiting.request other → one ≡ other }
+        FitsRequest nodes node a waiting waiting.request one → FitsRequest nodes node a waiting waiting.request other →
+        one ≡ other }
 {}
