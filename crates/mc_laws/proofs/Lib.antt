@@ -30,3 +30,4 @@ pub mod Cancels
 pub mod Carrying
 pub mod Retrying
 pub mod Settled
+pub mod TakingSteps

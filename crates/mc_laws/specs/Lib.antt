@@ -5,3 +5,4 @@ pub mod NodeStories
 pub mod TickStories
 pub mod CancelStories
 pub mod QueryStories
+pub mod ClusterStories

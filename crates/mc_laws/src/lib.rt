@@ -29,6 +29,6 @@ pub use steps_of_nodes::{
     an_attempt_is_granted_and_concluded, each_cancel_starts_a_round,
 };
 pub use stories::{
-    a_message_is_cancelled, a_message_is_delivered, a_node_stops_after_a_save, a_query_is_answered,
-    a_submit_starts_a_round,
+    a_message_is_cancelled, a_message_is_delivered, a_message_is_taken_step_by_step,
+    a_node_stops_after_a_save, a_query_is_answered, a_submit_starts_a_round,
 };

@@ -8,7 +8,8 @@ ghost use Rattle.mc_model.specs.node.Actor.{Submit, opened};
 ghost use Rattle.mc_model.specs.node.Knowledge.{KnowsNothing};
 ghost use Rattle.mc_model.specs.node.Input.{Arrival};
 ghost use Rattle.mc_model.specs.node.Step.{IsExact};
-ghost use Rattle.mc_model.specs.cluster.World.{IsChosenIn, IsRun, reached};
+ghost use Rattle.mc_model.specs.cluster.World.{start, IsChosenIn, IsRun, reached};
+ghost use Rattle.mc_model.specs.cluster.Steps.{AreSteps, acts_in};
 ghost use Rattle.mc_model.specs.cluster.Fate.{States};
 ghost use Rattle.mc_laws.specs.Stories.{
   MayBeTried,
@@ -24,6 +25,7 @@ ghost use Rattle.mc_laws.specs.Stories.{
 };
 ghost use Rattle.mc_laws.specs.StopStories.{accepting_deed, restart_story, until_anew};
 ghost use Rattle.mc_laws.specs.AnswerStories.{cancel_story, query_story, removing_deed, showing_deed};
+ghost use Rattle.mc_laws.specs.ClusterStories.{lone, taking_steps};
 
 /// A cluster of one node takes a message, attempts it, is answered, and states that it is DELIVERED.
 pub fn a_message_is_delivered()
@@ -64,4 +66,13 @@ pub fn a_message_is_cancelled()
     ensures run { (message : Submission) → MayBeTried message → IsRun one_node (cancel_story message) }
     ensures answered { (message : Submission) → In (removing_deed message) (reached one_node (cancel_story message)).past }
     ensures stated { (message : Submission) → States (removing_deed message) first_id Deleted }
+{}
+
+/// A cluster of one node takes a message in five steps, each of them exact: the submit_sm comes and a round is started; the
+/// node promises, proposes and votes; and when it hears of its vote, the submit_sm is answered ESME_ROK.
+pub fn a_message_is_taken_step_by_step()
+    ensures steps { (message : Submission) → MayBeTried message → AreSteps lone (start lone.nodes lone.serials)
+        (taking_steps message) }
+    ensures answered { (message : Submission) →
+        In accepting_deed (reached (start lone.nodes lone.serials) (acts_in (taking_steps message))).past }
 {}
