@@ -13,7 +13,7 @@ ghost use Rattle.mc_model.specs.node.Outputs.{packets_in};
 ghost use Rattle.mc_model.specs.cluster.World.{IsRun, Run, World, reached, start, world_of};
 ghost use Rattle.mc_model.specs.cluster.Steps.{Cluster, setup_of, IsStep, Step, AreSteps, CameTo, acts_in, by_node};
 ghost use Rattle.mc_model.specs.cluster.Assembly.{EachCame, EachWasSent, acts_of, steps_of};
-ghost use Rattle.mc_model.specs.cluster.Stores.{AreLeft, opened_in, openings, start_over};
+ghost use Rattle.mc_model.specs.cluster.Stores.{AreLeft, opened_in, openings, serials_over, start_over};
 
 /// A run of steps is a run of their acts, so that every law over runs holds of it.
 pub fn steps_are_runs()
@@ -82,20 +82,23 @@ pub fn nodes_make_a_run_of_steps()
 /// later acts are together one run, in which the packets are numbered on; and so it is where the later acts are those of steps.
 pub fn a_run_over_old_stores_goes_on()
     ensures run { (run : Run) (fresh : ℕ → Bool) (lost serials : ℕ → ℕ) (later : List (ℕ × Act)) →
-        AreLeft (world_of run) fresh lost serials →
+        AreLeft run fresh lost →
         IsRun (start_over run.nodes (world_of run).records (opened_in (world_of run) fresh lost) serials) later →
-        IsRun (start run.nodes run.serials) (later ++ (openings run.nodes fresh lost serials ++ run.acts)) }
+        IsRun (start run.nodes (serials_over run.serials fresh serials))
+        (later ++ (openings run.nodes fresh lost serials ++ run.acts)) }
     ensures numbered { (run : Run) (fresh : ℕ → Bool) (lost serials : ℕ → ℕ) (later : List (ℕ × Act)) →
-        AreLeft (world_of run) fresh lost serials →
+        AreLeft run fresh lost →
         IsRun (start_over run.nodes (world_of run).records (opened_in (world_of run) fresh lost) serials) later →
-        (reached (start run.nodes run.serials) (later ++ (openings run.nodes fresh lost serials ++ run.acts))).packets
-        ≡ (reached (start_over run.nodes (world_of run).records (opened_in
-        (world_of run) fresh lost) serials) later).packets ++ (world_of run).packets }
+        (reached (start run.nodes (serials_over run.serials fresh serials))
+        (later ++ (openings run.nodes fresh lost serials ++ run.acts))).packets
+        ≡ (reached (start_over run.nodes (world_of run).records (opened_in (world_of run) fresh lost) serials) later).packets
+        ++ (world_of run).packets }
     ensures steps { (run : Run) (fresh : ℕ → Bool) (lost : ℕ → ℕ) (cluster : Cluster) (steps : List Step) →
-        AreLeft (world_of run) fresh lost cluster.serials →
-        AreSteps cluster (start_over run.nodes (world_of run).records (opened_in
-        (world_of run) fresh lost) cluster.serials) steps →
-        IsRun (start run.nodes run.serials) (acts_in steps ++ (openings run.nodes fresh lost cluster.serials ++ run.acts)) }
+        AreLeft run fresh lost →
+        AreSteps cluster
+        (start_over run.nodes (world_of run).records (opened_in (world_of run) fresh lost) cluster.serials) steps →
+        IsRun (start run.nodes (serials_over run.serials fresh cluster.serials))
+        (acts_in steps ++ (openings run.nodes fresh lost cluster.serials ++ run.acts)) }
 {}
 
 /// What the acts of one node leave of it, and what they send, is what the node by itself says: its actor, its records, and the

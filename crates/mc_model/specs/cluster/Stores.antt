@@ -3,7 +3,8 @@ use Rattle.std.specs.Prelude.{◌≡◌, ℕ, zero, suc, ◌+◌, ◌<◌, Bool,
 use Rattle.mc_model.specs.synod.Acceptor.{Records}
 use Rattle.mc_model.specs.node.Actor.{opened}
 use Rattle.mc_model.specs.node.Act.{Act, Restarts}
-use Rattle.mc_model.specs.cluster.World.{World}
+use Rattle.mc_model.specs.cluster.Assembly.{acts_of}
+use Rattle.mc_model.specs.cluster.World.{Run, world_of, World}
 
 -- a cluster whose nodes start over records, each in an incarnation, with the serial of its first message
 abbrev pub start_over : ℕ → (ℕ → Records) → (ℕ → ℕ) → (ℕ → ℕ) → World
@@ -27,7 +28,11 @@ openings (suc node) fresh lost serials =
 abbrev pub opened_in : World → (ℕ → Bool) → (ℕ → ℕ) → ℕ → ℕ
 opened_in w fresh lost node = if fresh node then 1 else suc ((w.actors node).incarnation + lost node)
 
--- The stores that a run left: a new one is of a node that took no step, and the others have an incarnation left.
-pub record AreLeft (w : World) (fresh : ℕ → Bool) (lost serials : ℕ → ℕ) : Type 0 where
-  pub new : (node : ℕ) → fresh node ≡ true → w.actors node ≡ opened 1 (serials node)
-  pub old : (node : ℕ) → fresh node ≡ false → (w.actors node).incarnation + lost node < 9999
+-- The stores that a run left: a new one is of a node that took no step in it, and the others have an incarnation left.
+pub record AreLeft (run : Run) (fresh : ℕ → Bool) (lost : ℕ → ℕ) : Type 0 where
+  pub new : (node : ℕ) → fresh node ≡ true → acts_of node run.acts ≡ []
+  pub old : (node : ℕ) → fresh node ≡ false → ((world_of run).actors node).incarnation + lost node < 9999
+
+-- the first serials of such a run, where each node with a new store has the one that it is opened with
+abbrev pub serials_over : (ℕ → ℕ) → (ℕ → Bool) → (ℕ → ℕ) → ℕ → ℕ
+serials_over before fresh serials node = if fresh node then serials node else before node
