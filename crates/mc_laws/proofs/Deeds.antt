@@ -1,13 +1,18 @@
 -- What is said of one deed of a run.
-use Rattle.std.proofs.Common.{◌≡◌, ℕ, List, [], ◌∷◌, Some, sym, subst, inl, inr}
+use Rattle.std.proofs.Common.{◌≡◌, ℕ, List, [], ◌∷◌, ◌++◌, Some, sym, subst, inl, inr}
 use Rattle.mc_model.specs.message.Ids.{node_of}
 use Rattle.mc_model.specs.message.Decree.{Decree, Deleted}
 use Rattle.mc_model.specs.message.Chain.{final_in}
 use Rattle.mc_model.specs.synod.Lists.{In}
+use Rattle.mc_model.specs.synod.Packet.{Slot}
+use Rattle.mc_model.specs.node.Outcome.{Outcome, IsOutcome}
 use Rattle.mc_model.specs.node.Actor.{Actor, Request, Submit, Query, Cancel, Waiting}
 use Rattle.mc_model.specs.node.Replies.{Removed, FitsRequest}
-use Rattle.mc_model.specs.node.Act.{Act, Replies, Reports}
+use Rattle.mc_model.specs.node.Act.{Act, Concludes, Replies, Reports}
 use Rattle.mc_model.specs.cluster.World.{World, Deed, May, Run, IsRun, past_of, reached, start}
+use Rattle.mc_model.specs.cluster.Fate.{deed_by}
+use Rattle.mc_laws.proofs.Reached.{holds}
+use Rattle.mc_laws.proofs.Answers.{done, runs_to}
 
 -- it might be done where it was done
 pub record WasAllowed (deed : Deed) : Type 0 where
@@ -41,3 +46,25 @@ reports run deed id chain is_in is =
     let allowed = was_allowed run deed is_in in
     let may : May allowed.world deed.node (Reports id chain) = subst (May allowed.world deed.node) is allowed.may in
     may.needs.named
+
+-- an outcome is one that a response can give
+pub possible : (run : Run) (deed : Deed) (slot : Slot) (outcome : Outcome) → In deed (past_of run) → deed.act ≡ Concludes slot outcome → IsOutcome outcome
+possible run deed slot outcome is_in is =
+    let allowed = was_allowed run deed is_in in
+    let may : May allowed.world deed.node (Concludes slot outcome) = subst (May allowed.world deed.node) is allowed.may in
+    may.needs.possible
+
+-- an outcome comes once
+pub concluded_once : (run : Run) (newer : List Deed) (deed : Deed) (older : List Deed) (slot : Slot) (outcome other : Outcome) → past_of run ≡ newer ++ deed ∷ older → deed.act ≡ Concludes slot outcome → In (record deed { act = Concludes slot other }) older → ⊥
+concluded_once run newer deed older slot outcome other is act earlier =
+    let first = start run.nodes run.serials in
+    let d = done run.nodes run.serials run.acts newer deed older is in
+    let from = runs_to first d.later ((deed.node, deed.act) ∷ d.earlier) (subst (IsRun first) d.split run.may) in
+    let w = reached first d.earlier in
+    let h = holds run.nodes run.serials d.earlier from.1 in
+    let may : May w deed.node (Concludes slot outcome) = subst (May w deed.node) act from.0 in
+    let was : In (deed_by (record { node = deed.node; incarnation = (w.actors deed.node).incarnation }) (Concludes slot other)) w.past =
+        subst (λ (ds : List Deed). In (deed_by (record { node = deed.node; incarnation = (w.actors deed.node).incarnation }) (Concludes slot other)) ds) (sym d.past)
+        (subst (λ (i : ℕ). In (deed_by (record { node = deed.node; incarnation = i }) (Concludes slot other)) older) d.incarnation earlier)
+    in
+    may.needs.closed other (h.links.recalls deed.node slot other (inl was))

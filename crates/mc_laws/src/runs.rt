@@ -7,10 +7,10 @@ ghost use Rattle.mc_model.specs.message.Chain.{GoesOn, final_in};
 ghost use Rattle.mc_model.specs.synod.Lists.{In};
 ghost use Rattle.mc_model.specs.synod.OneSlot.{Vote};
 ghost use Rattle.mc_model.specs.synod.Packet.{Packet, Slot, Propose, slot_of};
-ghost use Rattle.mc_model.specs.node.Outcome.{Outcome};
+ghost use Rattle.mc_model.specs.node.Outcome.{Outcome, IsOutcome};
 ghost use Rattle.mc_model.specs.node.Room.{most_waiting};
 ghost use Rattle.mc_model.specs.node.Replies.{Removed};
-ghost use Rattle.mc_model.specs.node.Act.{Abandons, Grants, Replies, Reports};
+ghost use Rattle.mc_model.specs.node.Act.{Concludes, Abandons, Grants, Replies, Reports};
 ghost use Rattle.mc_model.specs.node.Concerns.{Concerns};
 ghost use Rattle.mc_model.specs.cluster.World.{Deed, cast, IsChosenIn, Run, past_of, world_of};
 ghost use Rattle.mc_model.specs.cluster.Fate.{States, deed_by};
@@ -97,4 +97,13 @@ pub fn decrees_have_their_errors()
 /// No more than 1,000 requests wait at a node.
 pub fn a_full_desk_takes_no_request()
     ensures { (run : Run) (node : ℕ) → length ((world_of run).actors node).waiting ≤ most_waiting }
+{}
+
+/// The outcome of an attempt is one that a response can give, or that there was none; and in an incarnation it comes once.
+pub fn an_outcome_is_possible_and_comes_once()
+    ensures possible { (run : Run) (deed : Deed) (slot : Slot) (outcome : Outcome) →
+        In deed (past_of run) → deed.act ≡ Concludes slot outcome → IsOutcome outcome }
+    ensures once { (run : Run) (newer : List Deed) (deed : Deed) (older : List Deed) (slot : Slot) (outcome other : Outcome) →
+        past_of run ≡ newer ++ deed ∷ older → deed.act ≡ Concludes slot outcome →
+        In (record deed { act = Concludes slot other }) older → ⊥ }
 {}

@@ -6,17 +6,18 @@ use Rattle.mc_model.specs.message.Chain.{taken_in}
 use Rattle.mc_model.specs.synod.Lists.{In}
 use Rattle.mc_model.specs.node.Actor.{Request, opening_clock}
 use Rattle.mc_model.specs.node.Proposal.{Cancels, HasError}
-use Rattle.mc_model.specs.node.Act.{Begins, Ticks}
+use Rattle.mc_model.specs.node.Act.{Begins, Ticks, Settles}
 use Rattle.mc_model.specs.cluster.World.{Deed}
 use Rattle.mc_model.specs.cluster.Fate.{deed_by}
 
--- A cancel_sm of the message came, with the account and the addresses of what was taken.
+-- A cancel_sm of the message came, with the account and the addresses of what was taken, and was settled in the same incarnation.
 pub record CameToCancel (deeds : List Deed) (id : ℕ) (taken : Submission) : Type 0 where
   pub deed : Deed
   pub ticket : ℕ
   pub request : Request
   pub came : In deed deeds
   pub begins : deed.act ≡ Begins ticket request
+  pub settled : In (record deed { act = Settles ticket }) deeds
   pub cancels : Cancels request id taken
 
 -- behind a chain that ends in a deletion stands a cancel_sm of its message
