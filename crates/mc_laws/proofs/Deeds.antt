@@ -8,9 +8,11 @@ use Rattle.mc_model.specs.synod.Packet.{Slot}
 use Rattle.mc_model.specs.node.Outcome.{Outcome, IsOutcome}
 use Rattle.mc_model.specs.node.Actor.{Actor, Request, Submit, Query, Cancel, Waiting}
 use Rattle.mc_model.specs.node.Replies.{Removed, FitsRequest}
-use Rattle.mc_model.specs.node.Act.{Act, Concludes, Replies, Reports}
+use Rattle.mc_model.specs.node.Act.{Act, Concludes, Replies, Reports, Stops}
 use Rattle.mc_model.specs.cluster.World.{World, Deed, May, Run, IsRun, past_of, reached, start}
 use Rattle.mc_model.specs.cluster.Fate.{deed_by}
+use Rattle.mc_laws.proofs.Growth.{StartsAnew}
+use Rattle.mc_laws.proofs.Stopping.{only_anew}
 use Rattle.mc_laws.proofs.Reached.{holds}
 use Rattle.mc_laws.proofs.Answers.{done, runs_to}
 
@@ -64,7 +66,19 @@ concluded_once run newer deed older slot outcome other is act earlier =
     let h = holds run.nodes run.serials d.earlier from.1 in
     let may : May w deed.node (Concludes slot outcome) = subst (May w deed.node) act from.0 in
     let was : In (deed_by (record { node = deed.node; incarnation = (w.actors deed.node).incarnation }) (Concludes slot other)) w.past =
-        subst (λ (ds : List Deed). In (deed_by (record { node = deed.node; incarnation = (w.actors deed.node).incarnation }) (Concludes slot other)) ds) (sym d.past)
-        (subst (λ (i : ℕ). In (deed_by (record { node = deed.node; incarnation = i }) (Concludes slot other)) older) d.incarnation earlier)
+    subst (λ (ds : List Deed). In (deed_by (record { node = deed.node; incarnation = (w.actors deed.node).incarnation }) (Concludes slot other)) ds) (sym d.past)
+    (subst (λ (i : ℕ). In (deed_by (record { node = deed.node; incarnation = i }) (Concludes slot other)) older) d.incarnation earlier)
     in
     may.needs.closed other (h.links.recalls deed.node slot other (inl was))
+
+-- a node that has stopped does nothing in that incarnation but start anew
+pub starts_anew : (run : Run) (newer : List Deed) (deed : Deed) (older : List Deed) → past_of run ≡ newer ++ deed ∷ older → In (record deed { act = Stops }) older → StartsAnew deed.act
+starts_anew run newer deed older is earlier =
+    let first = start run.nodes run.serials in
+    let d = done run.nodes run.serials run.acts newer deed older is in
+    let from = runs_to first d.later ((deed.node, deed.act) ∷ d.earlier) (subst (IsRun first) d.split run.may) in
+    let w = reached first d.earlier in
+    let h = holds run.nodes run.serials d.earlier from.1 in
+    only_anew (w.actors deed.node) deed.act from.0.up (h.down deed.node (
+    subst (λ (ds : List Deed). In (deed_by (record { node = deed.node; incarnation = (w.actors deed.node).incarnation }) Stops) ds) (sym d.past)
+    (subst (λ (i : ℕ). In (deed_by (record { node = deed.node; incarnation = i }) Stops) older) d.incarnation earlier)))

@@ -9,6 +9,7 @@ pub mod Honest
 pub mod Grantings
 pub mod OwnDecrees
 pub mod Rooms
+pub mod Stopping
 pub mod Reached
 pub mod Answers
 pub mod Together

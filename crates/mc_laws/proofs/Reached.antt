@@ -20,6 +20,7 @@ use Rattle.mc_laws.proofs.Honest.{Honest, honest_start, honest_after}
 use Rattle.mc_laws.proofs.Grantings.{Grantings, grantings_start, grantings_after}
 use Rattle.mc_laws.proofs.OwnDecrees.{OwnDecrees, own_decrees_start, own_decrees_after}
 use Rattle.mc_laws.proofs.Rooms.{HasRoom, room_after}
+use Rattle.mc_laws.proofs.Stopping.{StaysDown, down_after}
 use Rattle.mc_parts.proofs.Stable.{stable}
 use Rattle.mc_laws.proofs.Fated.{open_passed, passed_at, Timely, AllTimely, Told, told_start, told_after}
 
@@ -33,6 +34,7 @@ pub record Holds (w : World) : Type 0 where
   pub grantings : Grantings w
   pub own : OwnDecrees w
   pub rooms : (node : ℕ) → HasRoom (w.actors node)
+  pub down : (node : ℕ) → StaysDown w.past node (w.actors node)
 
 pub holds_after : (w : World) → Holds w → (node : ℕ) (act : Act) → May w node act → Holds (after w node act)
 holds_after w h node act may = record {
@@ -45,10 +47,11 @@ holds_after w h node act may = record {
   grantings = grantings_after w h.links h.grantings node act may;
   own = own_decrees_after w h.keeps h.own node act may;
   rooms = room_after w node act may h.rooms;
+  down = down_after w h.links h.down node act may;
 }
 
 pub holds : (nodes : ℕ) (serials : ℕ → ℕ) (acts : List (ℕ × Act)) → IsRun (start nodes serials) acts → Holds (reached (start nodes serials) acts)
-holds nodes serials [] run = record { keeps = keeps_start nodes serials; links = links_start nodes serials; told = told_start nodes serials; names = names_start nodes serials; deletions = deletions_start nodes serials; honest = honest_start nodes serials; grantings = grantings_start nodes serials; own = own_decrees_start nodes serials; rooms = λ node. omega arith }
+holds nodes serials [] run = record { keeps = keeps_start nodes serials; links = links_start nodes serials; told = told_start nodes serials; names = names_start nodes serials; deletions = deletions_start nodes serials; honest = honest_start nodes serials; grantings = grantings_start nodes serials; own = own_decrees_start nodes serials; rooms = λ node. omega arith; down = λ node is_in. absurd is_in }
 holds nodes serials (newest ∷ older) run = holds_after (reached (start nodes serials) older) (holds nodes serials older run.1) newest.0 newest.1 run.0
 
 -- ---- one fate

@@ -14,9 +14,9 @@ pub use replies::{
     tellers_meet_a_choice, tells_follow_their_question,
 };
 pub use runs::{
-    a_cancelled_message_is_deleted, a_full_desk_takes_no_request, an_open_attempt_is_not_passed,
-    chosen_chains_agree, decrees_have_their_errors, deleted_stands_on_a_cancel,
-    every_packet_concerns_every_node, no_decree_is_ahead_of_the_clock,
+    a_cancelled_message_is_deleted, a_full_desk_takes_no_request, a_node_that_stopped_starts_anew,
+    an_open_attempt_is_not_passed, chosen_chains_agree, decrees_have_their_errors,
+    deleted_stands_on_a_cancel, every_packet_concerns_every_node, no_decree_is_ahead_of_the_clock,
     receipts_are_of_the_node_of_the_id, what_is_chosen_stays, what_is_given_up_was_never_granted,
 };
 pub use steps::{

@@ -10,7 +10,7 @@ ghost use Rattle.mc_model.specs.synod.Packet.{Packet, Slot, Propose, slot_of};
 ghost use Rattle.mc_model.specs.node.Outcome.{Outcome, IsOutcome};
 ghost use Rattle.mc_model.specs.node.Room.{most_waiting};
 ghost use Rattle.mc_model.specs.node.Replies.{Removed};
-ghost use Rattle.mc_model.specs.node.Act.{Concludes, Abandons, Grants, Replies, Reports};
+ghost use Rattle.mc_model.specs.node.Act.{Concludes, Restarts, Stops, Abandons, Grants, Replies, Reports};
 ghost use Rattle.mc_model.specs.node.Concerns.{Concerns};
 ghost use Rattle.mc_model.specs.cluster.World.{Deed, cast, IsChosenIn, Run, past_of, world_of};
 ghost use Rattle.mc_model.specs.cluster.Fate.{States, deed_by};
@@ -47,7 +47,7 @@ pub fn an_open_attempt_is_not_passed()
 {}
 
 /// Each statement that a message is DELETED, as ESME_ROK to a cancel_sm, stands on a cancel_sm that came before, with the
-/// account and the addresses of what was taken.
+/// account and the addresses of what was taken, and was settled.
 pub fn deleted_stands_on_a_cancel()
     ensures { (run : Run) (newer : List Deed) (stating : Deed) (older : List Deed) (id : ℕ) →
         past_of run ≡ newer ++ stating ∷ older →
@@ -106,4 +106,11 @@ pub fn an_outcome_is_possible_and_comes_once()
     ensures once { (run : Run) (newer : List Deed) (deed : Deed) (older : List Deed) (slot : Slot) (outcome other : Outcome) →
         past_of run ≡ newer ++ deed ∷ older → deed.act ≡ Concludes slot outcome →
         In (record deed { act = Concludes slot other }) older → ⊥ }
+{}
+
+/// A node that has stopped does nothing more in that incarnation but start anew.
+pub fn a_node_that_stopped_starts_anew()
+    ensures { (run : Run) (newer : List Deed) (deed : Deed) (older : List Deed) →
+        past_of run ≡ newer ++ deed ∷ older → In (record deed { act = Stops }) older →
+        (lost : ℕ) × (serial : ℕ) × (deed.act ≡ Restarts lost serial) }
 {}

@@ -1,5 +1,5 @@
--- What concerns a node of the packets that come to it: every packet that a node sent, of which it is told nothing that it did not
--- ask for. A packet that does not concern a node is ignored (own): the reader of a cluster's run meets none.
+-- What concerns a node of the packets that come to it (own): what one of the nodes sent, if it answers nothing that this node did
+-- not ask. A packet that does not concern a node is ignored; in a cluster there is none.
 use Rattle.std.specs.Prelude.{◌≡◌, ◌⊎◌, ℕ, ◌<◌, ◌≤◌, Option, Some, None}
 use Rattle.mc_model.specs.message.Ids.{incarnation_of, node_of, serial_of}
 use Rattle.mc_model.specs.synod.Lists.{In}
