@@ -1,11 +1,11 @@
 -- A node that has stopped does nothing but start anew.
-use Rattle.std.proofs.Common.{◌≡◌, ℕ, suc, ◌≤◌, true, false, List, [], ◌∷◌, refl, sym, ◌∙◌, ap, subst, inl, inr, arith}
+use Rattle.std.proofs.Common.{◌≡◌, ℕ, false, List, refl, sym, ◌∙◌, ap, subst, inl, inr, arith}
 use Rattle.std.proofs.lemmas.Bool.{cases_eq, true≢false}
 use Rattle.mc_model.specs.synod.Lists.{In}
 use Rattle.mc_model.specs.node.Actor.{Actor}
 use Rattle.mc_model.specs.node.Act.{Act, Stops, Restarts, IsUpFor}
 use Rattle.mc_model.specs.node.Effect.{actor_by}
-use Rattle.mc_model.specs.cluster.World.{World, Deed, May, after, start}
+use Rattle.mc_model.specs.cluster.World.{World, Deed, May, after}
 use Rattle.mc_model.specs.cluster.Fate.{deed_by}
 use Rattle.mc_laws.proofs.Growth.{StartsAnew, later, actor_here, actor_apart}
 use Rattle.mc_laws.proofs.Links.{Links}

@@ -1,25 +1,24 @@
 -- A cluster of one node takes a message, step by step.
-use Rattle.std.proofs.Common.{◌≡◌, ◌⊎◌, ℕ, ◌+◌, ◌<◌, ◌≤◌, Bool, true, false, List, [], ◌∷◌, ◌++◌, Option, Some, None, refl, sym, ◌∙◌, ap, subst, inl, inr, arith}
+use Rattle.std.proofs.Common.{◌≡◌, ℕ, true, false, List, [], ◌∷◌, ◌++◌, Some, None, refl, sym, ◌∙◌, ap, subst, inl, inr, arith}
 use Rattle.mc_model.specs.message.Submission.{Submission}
 use Rattle.mc_model.specs.message.Decree.{Decree}
 use Rattle.mc_model.specs.message.Chain.{final_in}
 use Rattle.mc_model.specs.synod.Lists.{In}
 use Rattle.mc_model.specs.synod.OneSlot.{Vote, vote_at}
-use Rattle.mc_model.specs.synod.Packet.{Slot, slot_of, Packet, Prepare, Promise, Propose, Voted, Refused, Ask, Tell}
+use Rattle.mc_model.specs.synod.Packet.{Slot, slot_of, Packet, Prepare, Promise, Propose, Voted}
 use Rattle.mc_model.specs.synod.Acceptor.{Records, blank}
-use Rattle.mc_model.specs.node.Actor.{Actor, Offer, Request, Submit, Waiting, opening_clock, id_in}
+use Rattle.mc_model.specs.node.Actor.{Actor, Submit, Waiting, opening_clock, id_in}
 use Rattle.mc_model.specs.node.Knowledge.{Knows}
 use Rattle.mc_model.specs.node.Proposal.{Cancels}
 use Rattle.mc_model.specs.node.Replies.{Answer, Accepted, FitsRequest}
 use Rattle.mc_model.specs.node.Rounds.{IsPromised, IsRunning}
 use Rattle.mc_model.specs.node.Act.{Act, Receives, Promises, Votes, Settles, Replies, Asks, Prepares, Proposes, Reports}
-use Rattle.mc_model.specs.node.Effect.{did, saved}
+use Rattle.mc_model.specs.node.Effect.{saved}
 use Rattle.mc_model.specs.node.Input.{Delivery}
 use Rattle.mc_model.specs.node.Due.{AreDue, AreDueOnce, key_of}
 use Rattle.mc_model.specs.node.Causes.{Causes, CausesFollow, IsCompleted}
 use Rattle.mc_model.specs.node.Phases.{IsCancelRequest, DueToSettle, DueToEnd, DueToAsk, DueToAbandon, DueToPrepare, DueToPropose, DueToReply, DueToReport}
 use Rattle.mc_model.specs.node.Step.{IsExact}
-use Rattle.mc_model.specs.node.Core.{IsCore}
 use Rattle.mc_model.specs.cluster.World.{start}
 use Rattle.mc_model.specs.cluster.Steps.{AreSteps}
 use Rattle.mc_laws.specs.Stories.{first_ballot, first_id, first_setup, taken_chain, taken_slot, taken_vote, MayBeTried}

@@ -1,7 +1,6 @@
 -- Steps of a cluster: one node alone takes a message, by itself, and the submit_sm is answered.
-use Rattle.std.specs.Prelude.{ℕ, List, [], ◌∷◌, ◌++◌, true, None}
+use Rattle.std.specs.Prelude.{List, [], ◌∷◌, ◌++◌, true, None}
 use Rattle.mc_model.specs.message.Submission.{Submission}
-use Rattle.mc_model.specs.synod.OneSlot.{Vote}
 use Rattle.mc_model.specs.synod.Packet.{Packet, Prepare, Promise, Propose, Voted}
 use Rattle.mc_model.specs.node.Actor.{Submit}
 use Rattle.mc_model.specs.node.Replies.{Accepted}
