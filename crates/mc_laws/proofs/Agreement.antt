@@ -1,14 +1,15 @@
 -- Of two chosen chains of a message one begins with the other.
 use Rattle.std.proofs.Common.{◌≡◌, ◌⊎◌, ℕ, pred, ◌≤◌, List, [], ◌∷◌, ◌++◌, length, sym, ap, subst, inl, inr, arith}
 use Rattle.std.proofs.lemmas.Bool.{cases_lt}
-use Rattle.mc_model.specs.Chain.{Decree, GoesOn}
-use Rattle.mc_model.specs.OneSlot.{Vote, vote_at}
-use Rattle.mc_model.specs.Packet.{Slot, slot_of, Voted}
-use Rattle.mc_model.specs.Knowledge.{IsLearned, Knows}
-use Rattle.mc_model.specs.World.{World, cast, IsChosenIn}
-use Rattle.mc_model.specs.Fate.{IsToldChosen}
-use Rattle.mc_laws.proofs.Majorities.{both}
-use Rattle.mc_laws.proofs.Stable.{stable}
+use Rattle.mc_model.specs.message.Decree.{Decree}
+use Rattle.mc_model.specs.message.Chain.{GoesOn}
+use Rattle.mc_model.specs.synod.OneSlot.{Vote, vote_at}
+use Rattle.mc_model.specs.synod.Packet.{Slot, slot_of, Voted}
+use Rattle.mc_model.specs.node.Knowledge.{IsLearned, Knows}
+use Rattle.mc_model.specs.cluster.World.{World, cast, IsChosenIn}
+use Rattle.mc_model.specs.cluster.Fate.{IsToldChosen}
+use Rattle.mc_parts.proofs.Majorities.{both}
+use Rattle.mc_parts.proofs.Stable.{stable}
 use Rattle.mc_laws.proofs.Keeping.{Keeps, WasProposed, sound}
 use Rattle.mc_laws.proofs.Links.{Links, Standing, chosen_standing}
 

@@ -1,15 +1,20 @@
 -- What a request is answered that came after others were answered.
-use Rattle.std.proofs.Common.{◌≡◌, ℕ, pred, ◌≤◌, List, [], ◌∷◌, ◌++◌, length, Option, Some, None, sym, ◌∙◌, ap, subst, arith}
-use Rattle.mc_model.specs.Chain.{Decree, Final, Deleted, final_in}
-use Rattle.mc_model.specs.Majority.{Majority}
-use Rattle.mc_model.specs.OneSlot.{Vote, vote_at, In}
-use Rattle.mc_model.specs.Packet.{Slot, slot_of, Name, Told}
-use Rattle.mc_model.specs.Actor.{Actor, Request, Submit, Query, Cancel, Waiting}
-use Rattle.mc_model.specs.Knowledge.{Knows, HasTold, IsReached, IsSettled, Covers}
-use Rattle.mc_model.specs.Replies.{Answer, Accepted, Shown, Unknown, IsUnknown, FitsRequest, id_in, name_of}
-use Rattle.mc_model.specs.World.{World, Act, Begins, Replies, Deed, cast, May, MayReply, IsChosenIn, start, reached, IsRun}
-use Rattle.mc_model.specs.Fate.{States, IsDeletion}
-use Rattle.mc_laws.proofs.Majorities.{both}
+use Rattle.std.proofs.Common.{◌≡◌, ℕ, pred, ◌≤◌, List, [], ◌∷◌, ◌++◌, length, Option, Some, None, inl, inr, sym, ◌∙◌, ap, subst, arith}
+use Rattle.mc_model.specs.message.Decree.{Decree, Final, Deleted}
+use Rattle.mc_model.specs.message.Chain.{final_in}
+use Rattle.mc_model.specs.synod.Lists.{In}
+use Rattle.mc_model.specs.synod.Majority.{Majority}
+use Rattle.mc_model.specs.synod.OneSlot.{Vote, vote_at}
+use Rattle.mc_model.specs.synod.Packet.{Slot, slot_at, slot_of, Packet, Name, TopVote, Tell}
+use Rattle.mc_model.specs.node.Actor.{Actor, Request, Submit, Query, Cancel, Waiting, id_in, name_of}
+use Rattle.mc_model.specs.node.Knowledge.{Knows}
+use Rattle.mc_model.specs.node.Settling.{HasTold, IsReached, IsSettled, Covers, MeetsVote}
+use Rattle.mc_model.specs.node.Replies.{Answer, Accepted, Shown, Unknown, IsUnknown, FitsRequest, MayReply}
+use Rattle.mc_model.specs.node.Act.{Act, Begins, Replies}
+use Rattle.mc_model.specs.cluster.World.{World, Deed, cast, May, IsChosenIn, start, reached, IsRun}
+use Rattle.mc_model.specs.cluster.Fate.{States}
+use Rattle.mc_model.specs.cluster.Decrees.{IsDeletion}
+use Rattle.mc_parts.proofs.Majorities.{both}
 use Rattle.mc_laws.proofs.Growth.{grows, nodes_same}
 use Rattle.mc_laws.proofs.Links.{chosen_still, chosen_standing}
 use Rattle.mc_laws.proofs.Agreement.{Chosen, known_chosen, not_empty}
@@ -64,7 +69,7 @@ grows_since first (act ∷ later) earlier run slot vote chosen =
 
 -- ---- what a majority has told covers what was chosen before
 
-is_covered : (known : Option (List Decree)) (told : Option Told) (place : ℕ) → IsReached known told → HasReached told place → Covers known place
+is_covered : (known : Option (List Decree)) (told : Option TopVote) (place : ℕ) → IsReached known told → HasReached told place → Covers known place
 is_covered known None place reached has = absurd has
 is_covered None (Some told) place reached has = absurd reached
 is_covered (Some chain) (Some told) place reached has = omega (arith, reached, has)
@@ -212,3 +217,30 @@ stands_on_cancel nodes serials acts newer stating older id run is states =
     let h = holds nodes serials d.earlier from.1 in
     let known = tells_known w stating.node stating.act from.0 id states.chain states.tells in
     subst (IsDeletion id states.chain) d.past (chosen_deletion w h.keeps h.deletions id states.chain (known_chosen w h.keeps stating.node id states.chain known) states.state)
+
+-- ---- who tells of a request
+
+-- no Tell was made to the questions of a request that is still to come
+pub tells_follow : (nodes : ℕ) (serials : ℕ → ℕ) (node ticket : ℕ) (request : Request) (earlier : List (ℕ × Act)) → IsRun (start nodes serials) ((node, Begins ticket request) ∷ earlier) → (teller : ℕ) (told : Option TopVote) → In (Tell teller (record { node = node; incarnation = ((reached (start nodes serials) earlier).actors node).incarnation; ticket = ticket }) told) (reached (start nodes serials) earlier).packets → ⊥
+tells_follow nodes serials node ticket request earlier run teller told is_in =
+    let w = reached (start nodes serials) earlier in
+    let names = (holds nodes serials earlier run.1).names in
+    let asked = names.told teller _ told is_in in
+    let next : ticket ≡ (w.actors node).ticket = run.0.needs.next in
+    elim (names.asked asked.sender asked.id _ asked.sent) [ inl before ↦ omega (arith, before) | inr now ↦ let below = now.1 in omega (arith, below, next) ]
+
+-- who told and had voted tells of that place
+met_at : (received : List Packet) (Voted : ℕ → Type 0) (name : Name) (place node : ℕ) (told : Option TopVote) → Voted node → In (Tell node name told) received → HasReached told place → MeetsVote received Voted name place
+met_at received Voted name place node None voted heard far = absurd far
+met_at received Voted name place node (Some told) voted heard far = record { teller = node; told = told; voted = voted; heard = heard; far = far }
+
+-- a majority that tells meets every choice that was made before
+pub tellers_meet : (nodes : ℕ) (serials : ℕ → ℕ) (later : List (ℕ × Act)) (node ticket : ℕ) (request : Request) (earlier : List (ℕ × Act)) (slot : Slot) (vote : Vote) → IsRun (start nodes serials) (later ++ (node, Begins ticket request) ∷ earlier) → IsChosenIn (reached (start nodes serials) earlier) slot vote → slot.id ≡ id_in request → Majority nodes (HasTold ((reached (start nodes serials) (later ++ (node, Begins ticket request) ∷ earlier)).actors node).received (record { node = node; incarnation = ((reached (start nodes serials) earlier).actors node).incarnation; ticket = ticket })) → MeetsVote ((reached (start nodes serials) (later ++ (node, Begins ticket request) ∷ earlier)).actors node).received (λ teller. In (cast teller slot vote) (reached (start nodes serials) earlier).votes) (record { node = node; incarnation = ((reached (start nodes serials) earlier).actors node).incarnation; ticket = ticket }) slot.place
+tellers_meet nodes serials later node ticket request earlier slot vote run chosen about majority =
+    let first = start nodes serials in
+    let now = later ++ (node, Begins ticket request) ∷ earlier in
+    let before = reached first earlier in
+    let fresh = since nodes serials later node ticket request earlier run in
+    let b = both nodes (λ acceptor. In (cast acceptor slot vote) before.votes) _ (subst (λ (n : ℕ). Majority n (λ acceptor. In (cast acceptor slot vote) before.votes)) (nodes_same first earlier) chosen) majority in
+    let place : slot ≡ slot_at (id_in request) slot.place = λ i. record { id = about i; place = slot.place } in
+    met_at _ _ _ slot.place b.node b.other.told b.one b.other.heard (fresh.tells b.node b.other.told ((holds nodes serials now run).keeps.received node _ b.other.heard) slot.place vote (subst (λ (s : Slot). In (cast b.node s vote) before.votes) place b.one))

@@ -1,13 +1,18 @@
 -- What a node answers in a step is decided by the node and by what comes to it.
 use Rattle.std.proofs.Common.{◌≡◌, ◌⊎◌, ℕ, ◌<◌, ◌≤◌, true, false, List, [], ◌∷◌, ◌++◌, map, Option, Some, None, refl, sym, ◌∙◌, ap, subst, inl, inr, arith}
-use Rattle.mc_model.specs.Chain.{Decree}
-use Rattle.mc_model.specs.OneSlot.{Vote, In}
-use Rattle.mc_model.specs.Packet.{slot_at, Packet, Prepare, Promise, Propose, Voted, Refused, Told, Ask, Tell}
-use Rattle.mc_model.specs.Acceptor.{Records, IsTold}
-use Rattle.mc_model.specs.Actor.{Actor}
-use Rattle.mc_model.specs.Replies.{Answer, TooLate}
-use Rattle.mc_model.specs.World.{Act, Receives, Tells, Settles, Replies, Reports, Stops}
-use Rattle.mc_model.specs.Step.{Input, Delivery, Crash, Arrival, Tick, Grant, Response, Restart, IsAnswered, IsSaved, IsCore, IsSettling, IsLateReply, IsReply, IsReport, IsToSettle, IsLateIn, IsDueReply, IsDueReport, key_of, Fall, Each, did, IsExact}
+use Rattle.mc_model.specs.synod.Lists.{In}
+use Rattle.mc_model.specs.synod.OneSlot.{Vote}
+use Rattle.mc_model.specs.synod.Packet.{slot_at, Packet, Prepare, Promise, Propose, Voted, Refused, TopVote, Ask, Tell}
+use Rattle.mc_model.specs.synod.Acceptor.{Records, IsTold}
+use Rattle.mc_model.specs.node.Setup.{Setup}
+use Rattle.mc_model.specs.node.Actor.{Actor}
+use Rattle.mc_model.specs.node.Act.{Act, Receives, Tells, Stops}
+use Rattle.mc_model.specs.node.Effect.{did, saved}
+use Rattle.mc_model.specs.node.Input.{Input, Delivery, Crash, Arrival, Tick, Grant, Response, Restart, Refusal}
+use Rattle.mc_model.specs.node.Due.{AreDue, key_of, Fall}
+use Rattle.mc_model.specs.node.Core.{IsHandled, IsReceived, AcceptorReplies, IsSaved, IsCore}
+use Rattle.mc_model.specs.node.Phases.{DueToSettle, DueToAsk, DueToAbandon, DueToEnd, DueToReply, DueToReport}
+use Rattle.mc_model.specs.node.Step.{IsExact}
 
 -- ---- two lists of one order and of the same members are one
 
@@ -55,7 +60,7 @@ same_list (x ∷ xs) (y ∷ ys) fall_x fall_y there back =
 clash : (vote : Option Vote) (held : Vote) → vote ≡ None → vote ≡ Some held → ⊥
 clash vote held none some = cc
 
-told_once : (records : Records) (id : ℕ) (one other : Option Told) → IsTold records id one → IsTold records id other → one ≡ other
+told_once : (records : Records) (id : ℕ) (one other : Option TopVote) → IsTold records id one → IsTold records id other → one ≡ other
 told_once records id None None is_one is_other = refl
 told_once records id None (Some told) is_one is_other = absurd (clash (records (slot_at id told.place)).vote told.vote (is_one told.place) is_other.voted)
 told_once records id (Some told) None is_one is_other = absurd (clash (records (slot_at id told.place)).vote told.vote (is_other told.place) is_one.voted)
@@ -65,7 +70,8 @@ told_once records id (Some one) (Some other) is_one is_other =
     let places : one.place ≡ other.place = omega (arith, up, down) in
     let held : Some one.vote ≡ Some other.vote = sym is_one.voted ∙ ap (λ (p : ℕ). (records (slot_at id p)).vote) places ∙ is_other.voted in
     let votes : one.vote ≡ other.vote = cc in
-    λ i. Some (record { place = places i; vote = votes i })
+    let ids : one.id ≡ other.id = is_one.about ∙ sym is_other.about in
+    λ i. Some (record { id = ids i; place = places i; vote = votes i })
 
 -- one of two cases, of which one alone can be
 one_case : (below above : Type 0) (acts first second one other : List Act) → (below → above → ⊥) → (below × (one ≡ first)) ⊎ (above × (one ≡ second)) → (below × (other ≡ first)) ⊎ (above × (other ≡ second)) → one ≡ other
@@ -74,10 +80,10 @@ one_case below above acts first second one other clash (inl a) (inr b) = absurd 
 one_case below above acts first second one other clash (inr a) (inl b) = absurd (clash b.0 a.0)
 one_case below above acts first second one other clash (inr a) (inr b) = a.1 ∙ sym b.1
 
-answered_once : (records : Records) (packet : Packet) (one other : List Act) → IsAnswered records packet one → IsAnswered records packet other → one ≡ other
+answered_once : (records : Records) (packet : Packet) (one other : List Act) → AcceptorReplies records packet one → AcceptorReplies records packet other → one ≡ other
 answered_once records (Prepare sender slot ballot) one other a b = one_case _ _ [] _ _ one other (λ below above. omega (arith, below, above)) a b
 answered_once records (Propose sender slot vote) one other a b = one_case _ _ [] _ _ one other (λ below above. omega (arith, below, above)) a b
-answered_once records (Ask sender id name) one other a b = a.2 ∙ ap (λ (told : Option Told). Tells id name told ∷ []) (told_once records id a.0 b.0 a.1 b.1) ∙ sym b.2
+answered_once records (Ask sender id name) one other a b = a.2 ∙ ap (λ (told : Option TopVote). Tells id name told ∷ []) (told_once records id a.0 b.0 a.1 b.1) ∙ sym b.2
 answered_once records (Promise sender slot ballot report) one other a b = a ∙ sym b
 answered_once records (Voted sender slot vote) one other a b = a ∙ sym b
 answered_once records (Refused sender slot ballot promised) one other a b = a ∙ sym b
@@ -92,76 +98,69 @@ saved_once records (Voted sender slot vote) one other a b = a ∙ sym b
 saved_once records (Refused sender slot ballot promised) one other a b = a ∙ sym b
 saved_once records (Tell sender name told) one other a b = a ∙ sym b
 
-pub core_once : (a : Actor) (records : Records) (input : Input) (one other : List Act) → IsCore a records input one → IsCore a records input other → one ≡ other
-core_once a records (Delivery packet) one other c d = c.2 ∙ ap (λ (acts : List Act). acts ++ Receives packet ∷ []) (answered_once records packet c.0 d.0 c.1 d.1) ∙ sym d.2
-core_once a records (Crash packet false) one other c d = c ∙ sym d
-core_once a records (Crash packet true) one other c d = c.2 ∙ ap (λ (acts : List Act). Stops ∷ acts) (saved_once records packet c.0 d.0 c.1 d.1) ∙ sym d.2
-core_once a records (Arrival request) one other c d = c ∙ sym d
-core_once a records (Tick moment up) one other c d = c ∙ sym d
-core_once a records (Grant slot) one other c d = c ∙ sym d
-core_once a records (Response slot outcome) one other c d = c ∙ sym d
-core_once a records (Restart serial) one other c d = c ∙ sym d
+received_once : (records : Records) (packet : Packet) (one other : List Act) → IsReceived records packet one → IsReceived records packet other → one ≡ other
+received_once records packet one other a b =
+    a.acts_are ∙ ap (λ (acts : List Act). acts ++ Receives packet ∷ []) (answered_once records packet a.answer b.answer a.answered b.answered) ∙ sym b.acts_are
+
+-- a packet is received, or it is ignored
+handled_once : (Concerned : Type 0) (Does : List Act → Type 0) → ((one other : List Act) → Does one → Does other → one ≡ other) → (one other : List Act) → IsHandled Concerned Does one → IsHandled Concerned Does other → one ≡ other
+handled_once Concerned Does once one other (inl a) (inl b) = once one other a.1 b.1
+handled_once Concerned Does once one other (inl a) (inr b) = absurd (b.0 a.0)
+handled_once Concerned Does once one other (inr a) (inl b) = absurd (a.0 b.0)
+handled_once Concerned Does once one other (inr a) (inr b) = a.1 ∙ sym b.1
+
+pub core_once : (setup : Setup) (a : Actor) (records : Records) (input : Input) (one other : List Act) → IsCore setup a records input one → IsCore setup a records input other → one ≡ other
+core_once setup a records (Delivery packet) one other c d = handled_once _ (IsReceived records packet) (received_once records packet) one other c d
+core_once setup a records (Crash packet false) one other c d = c ∙ sym d
+core_once setup a records (Crash packet true) one other c d =
+    c.acts_are ∙ ap (λ (acts : List Act). Stops ∷ acts) (handled_once _ (IsSaved records packet) (saved_once records packet) c.before d.before c.handled d.handled) ∙ sym d.acts_are
+core_once setup a records (Arrival request) one other c d = c ∙ sym d
+core_once setup a records (Refusal status) one other c d = c.1 ∙ sym d.1
+core_once setup a records (Tick moment up) one other c d = c ∙ sym d
+core_once setup a records (Grant slot) one other c d = c ∙ sym d
+core_once setup a records (Response slot outcome) one other c d = c ∙ sym d
+core_once setup a records (Restart lost) one other c d = c ∙ sym d
 
 -- ---- what is due
 
-settling_in : (xs ys : List Act) → Each IsSettling xs → ((ticket : ℕ) → In (Settles ticket) xs → In (Settles ticket) ys) → (x : Act) → In x xs → In x ys
-settling_in xs ys kinds there x is_in = by_kind x (kinds x is_in) is_in
-  where
-    by_kind : (x : Act) → IsSettling x → In x xs → In x ys
-    by_kind (Settles ticket) kind is_in = there ticket is_in
-    by_kind x kind is_in = absurd kind
+-- of what is due at one moment there is one list
+due_once : (One Other : Act → Type 0) (xs ys : List Act) → ((act : Act) → One act → Other act) → ((act : Act) → Other act → One act) → AreDue One xs → AreDue Other ys → xs ≡ ys
+due_once One Other xs ys there back one other =
+    same_list xs ys one.order other.order (λ x is_in. (other.each x).1 (there x ((one.each x).0 is_in))) (λ x is_in. (one.each x).1 (back x ((other.each x).0 is_in)))
 
-late_in : (xs ys : List Act) → Each IsLateReply xs → ((ticket id : ℕ) → In (Replies ticket id TooLate) xs → In (Replies ticket id TooLate) ys) → (x : Act) → In x xs → In x ys
-late_in xs ys kinds there x is_in = by_kind x (kinds x is_in) is_in
-  where
-    by_kind : (x : Act) → IsLateReply x → In x xs → In x ys
-    by_kind (Replies ticket id TooLate) kind is_in = there ticket id is_in
-    by_kind x kind is_in = absurd kind
+-- so at actors that are the same
+due_at : (Due : Actor → Act → Type 0) (a b : Actor) (xs ys : List Act) → a ≡ b → AreDue (Due a) xs → AreDue (Due b) ys → xs ≡ ys
+due_at Due a b xs ys same = due_once (Due a) (Due b) xs ys (λ act. subst (λ (x : Actor). Due x act) same) (λ act. subst (λ (x : Actor). Due x act) (sym same))
 
-reply_in : (xs ys : List Act) → Each IsReply xs → ((ticket id : ℕ) (answer : Answer) → In (Replies ticket id answer) xs → In (Replies ticket id answer) ys) → (x : Act) → In x xs → In x ys
-reply_in xs ys kinds there x is_in = by_kind x (kinds x is_in) is_in
-  where
-    by_kind : (x : Act) → IsReply x → In x xs → In x ys
-    by_kind (Replies ticket id answer) kind is_in = there ticket id answer is_in
-    by_kind x kind is_in = absurd kind
+module _ (setup : Setup) (a : Actor) (records : Records) (input : Input) (acts others : List Act) (s : IsExact setup a records input acts) (t : IsExact setup a records input others) where
+  core_same : s.core ≡ t.core
+  core_same = core_once setup a records input s.core t.core s.core_is t.core_is
 
-report_in : (xs ys : List Act) → Each IsReport xs → ((id : ℕ) (chain : List Decree) → In (Reports id chain) xs → In (Reports id chain) ys) → (x : Act) → In x xs → In x ys
-report_in xs ys kinds there x is_in = by_kind x (kinds x is_in) is_in
-  where
-    by_kind : (x : Act) → IsReport x → In x xs → In x ys
-    by_kind (Reports id chain) kind is_in = there id chain is_in
-    by_kind x kind is_in = absurd kind
+  pub settles_once : s.settles ≡ t.settles
+  settles_once = due_at (DueToSettle setup.nodes setup.node) _ _ s.settles t.settles (ap (did setup.node a) core_same) s.settled t.settled
 
--- ---- two steps of one node on one input
+  settled_same : (s.settles ++ s.core) ≡ (t.settles ++ t.core)
+  settled_same = λ i. settles_once i ++ core_same i
 
-pub settles_once : (nodes node : ℕ) (a : Actor) (records : Records) (input : Input) (acts others : List Act) → (s : IsExact nodes node a records input acts) (t : IsExact nodes node a records input others) → s.settles ≡ t.settles
-settles_once nodes node a records input acts others s t =
-    let core = core_once a records input s.core t.core s.core_is t.core_is in
-    let there = settling_in s.settles t.settles s.settling (λ ticket is_in. (t.settled ticket).1 (subst (λ (c : List Act). IsToSettle nodes node (did node a c) ticket) core ((s.settled ticket).0 is_in))) in
-    let back = settling_in t.settles s.settles t.settling (λ ticket is_in. (s.settled ticket).1 (subst (λ (c : List Act). IsToSettle nodes node (did node a c) ticket) (sym core) ((t.settled ticket).0 is_in))) in
-    same_list s.settles t.settles s.settle_order t.settle_order there back
+  pub late_once : s.late ≡ t.late
+  late_once = due_at (DueToEnd input) _ _ s.late t.late (ap (did setup.node a) settled_same) s.ended t.ended
 
--- so the node is the same then
-settled_once : (nodes node : ℕ) (a : Actor) (records : Records) (input : Input) (acts others : List Act) → (s : IsExact nodes node a records input acts) (t : IsExact nodes node a records input others) → (s.settles ++ s.core) ≡ (t.settles ++ t.core)
-settled_once nodes node a records input acts others s t = λ i. settles_once nodes node a records input acts others s t i ++ core_once a records input s.core t.core s.core_is t.core_is i
+  now_same : (s.late ++ s.settles ++ s.core) ≡ (t.late ++ t.settles ++ t.core)
+  now_same = λ i. late_once i ++ settles_once i ++ core_same i
 
-pub late_once : (nodes node : ℕ) (a : Actor) (records : Records) (input : Input) (acts others : List Act) → (s : IsExact nodes node a records input acts) (t : IsExact nodes node a records input others) → s.late ≡ t.late
-late_once nodes node a records input acts others s t =
-    let before = settled_once nodes node a records input acts others s t in
-    same_list s.late t.late s.late_order t.late_order
-    (late_in s.late t.late s.lateness (λ ticket id is_in. (t.timely ticket id).1 (subst (λ (c : List Act). IsLateIn input (did node a c) ticket id) before ((s.timely ticket id).0 is_in))))
-    (late_in t.late s.late t.lateness (λ ticket id is_in. (s.timely ticket id).1 (subst (λ (c : List Act). IsLateIn input (did node a c) ticket id) (sym before) ((t.timely ticket id).0 is_in))))
+  pub asks_once : s.asks ≡ t.asks
+  asks_once = due_at (λ b. DueToAsk setup.nodes setup.node a b input) _ _ s.asks t.asks (ap (did setup.node a) now_same) s.asked t.asked
 
-pub replies_once : (nodes node : ℕ) (a : Actor) (records : Records) (input : Input) (acts others : List Act) → (s : IsExact nodes node a records input acts) (t : IsExact nodes node a records input others) → s.replies ≡ t.replies
-replies_once nodes node a records input acts others s t =
-    let before : (s.late ++ s.settles ++ s.core) ≡ (t.late ++ t.settles ++ t.core) = λ i. late_once nodes node a records input acts others s t i ++ settles_once nodes node a records input acts others s t i ++ core_once a records input s.core t.core s.core_is t.core_is i in
-    same_list s.replies t.replies s.reply_order t.reply_order
-    (reply_in s.replies t.replies s.replying (λ ticket id answer is_in. (t.answered ticket id answer).1 (subst (λ (c : List Act). IsDueReply nodes node (did node a c) ticket id answer) before ((s.answered ticket id answer).0 is_in))))
-    (reply_in t.replies s.replies t.replying (λ ticket id answer is_in. (s.answered ticket id answer).1 (subst (λ (c : List Act). IsDueReply nodes node (did node a c) ticket id answer) (sym before) ((t.answered ticket id answer).0 is_in))))
+  both_same : ◌≡◌ {A = List Act × List Act} (s.late ++ s.settles ++ s.core, s.core) (t.late ++ t.settles ++ t.core, t.core)
+  both_same = λ i. (now_same i, core_same i)
 
-pub reports_once : (nodes node : ℕ) (a : Actor) (records : Records) (input : Input) (acts others : List Act) → (s : IsExact nodes node a records input acts) (t : IsExact nodes node a records input others) → s.reports ≡ t.reports
-reports_once nodes node a records input acts others s t =
-    let core = core_once a records input s.core t.core s.core_is t.core_is in
-    same_list s.reports t.reports s.report_order t.report_order
-    (report_in s.reports t.reports s.reporting (λ id chain is_in. (t.reported id chain).1 (subst (λ (c : List Act). IsDueReport nodes node a (did node a c) id chain) core ((s.reported id chain).0 is_in))))
-    (report_in t.reports s.reports t.reporting (λ id chain is_in. (s.reported id chain).1 (subst (λ (c : List Act). IsDueReport nodes node a (did node a c) id chain) (sym core) ((t.reported id chain).0 is_in))))
+  pub abandons_once : s.abandons ≡ t.abandons
+  abandons_once = due_once _ _ s.abandons t.abandons
+      (λ act. subst (λ (x : List Act × List Act). DueToAbandon setup.nodes setup.node (did setup.node a x.0) (saved records x.1) input act) both_same)
+      (λ act. subst (λ (x : List Act × List Act). DueToAbandon setup.nodes setup.node (did setup.node a x.0) (saved records x.1) input act) (sym both_same)) s.abandoned t.abandoned
+
+  pub replies_once : s.replies ≡ t.replies
+  replies_once = due_at (DueToReply setup.nodes setup.node) _ _ s.replies t.replies (ap (did setup.node a) now_same) s.replied t.replied
+
+  pub reports_once : s.reports ≡ t.reports
+  reports_once = due_at (DueToReport setup.nodes setup.node a) _ _ s.reports t.reports (ap (did setup.node a) core_same) s.reported t.reported

@@ -1,14 +1,22 @@
 -- Behind each deletion stands a cancel_sm.
-use Rattle.std.proofs.Common.{◌≡◌, ◌⊎◌, ℕ, List, [], ◌∷◌, Option, Some, None, refl, sym, ◌∙◌, ap, subst, inl, inr}
-use Rattle.mc_model.specs.Chain.{Author, Submission, Decree, Kind, Taken, Attempt, Failed, Fate, Delivered, Expired, Deleted, Undeliverable, Rejected, MayFollow, taken_in, taken_by, final_in, final_by}
-use Rattle.mc_model.specs.OneSlot.{Vote, vote_at, In, IsOfHighest}
-use Rattle.mc_model.specs.Packet.{Slot, slot_of, Promise}
-use Rattle.mc_model.specs.Actor.{Actor, Waiting}
-use Rattle.mc_model.specs.Proposal.{Cancels, IsCancelled, Allows, IsNext, IsOwn, IsFree}
-use Rattle.mc_model.specs.World.{World, Act, Proposes, Begins, Settles, Replies, Restarts, Deed, cast, May, IsChosenIn, StandsIn, after, actor_by, settle, start}
-use Rattle.mc_model.specs.Fate.{deed_by, CameToCancel, IsDeletion}
-use Rattle.mc_laws.proofs.Membership.{in_either, of_only, in_map, in_filter}
-use Rattle.mc_laws.proofs.Majorities.{both}
+use Rattle.std.proofs.Common.{◌≡◌, ◌⊎◌, ℕ, Bool, true, false, List, [], ◌∷◌, Option, Some, None, refl, sym, ◌∙◌, ap, subst, inl, inr}
+use Rattle.std.specs.Prelude.{◌==◌, if◌then◌else◌}
+use Rattle.mc_model.specs.message.Submission.{Submission}
+use Rattle.mc_model.specs.message.Decree.{Author, Decree, Kind, Taken, Attempt, Failed, Fate, Delivered, Expired, Deleted, Undeliverable, Rejected}
+use Rattle.mc_model.specs.message.Neighbours.{MayFollow}
+use Rattle.mc_model.specs.message.Chain.{taken_in, taken_by, final_in, final_by}
+use Rattle.mc_model.specs.synod.Lists.{In}
+use Rattle.mc_model.specs.synod.OneSlot.{Vote, vote_at, IsOfHighest}
+use Rattle.mc_model.specs.synod.Packet.{Slot, slot_of, Promise}
+use Rattle.mc_model.specs.node.Actor.{Actor, Waiting}
+use Rattle.mc_model.specs.node.Proposal.{Cancels, IsCancelled, Allows, IsNext, IsOwn, IsFree}
+use Rattle.mc_model.specs.node.Act.{Act, Proposes, Begins, Settles, Replies, Restarts}
+use Rattle.mc_model.specs.node.Effect.{actor_by, settle}
+use Rattle.mc_model.specs.cluster.World.{World, Deed, cast, May, IsChosenIn, StandsIn, after, start}
+use Rattle.mc_model.specs.cluster.Fate.{deed_by}
+use Rattle.mc_model.specs.cluster.Decrees.{CameToCancel, IsDeletion}
+use Rattle.mc_parts.proofs.Membership.{in_either, of_only, in_map, in_filter, same_number}
+use Rattle.mc_parts.proofs.Majorities.{both}
 use Rattle.mc_laws.proofs.Growth.{actors_after}
 use Rattle.mc_laws.proofs.Keeping.{Keeps, WasProposed, PromiseFits, proposal_cases}
 use Rattle.mc_laws.proofs.Agreement.{Chosen}
@@ -22,6 +30,10 @@ lived_by node a = record { node = node; incarnation = a.incarnation }
 abbrev pub AllCame : List Deed → ℕ → Actor → Type 0
 AllCame past node a = (waiting : Waiting) → In waiting a.waiting → In (deed_by (lived_by node a) (Begins waiting.ticket waiting.request)) past
 
+-- one that is settled was settled
+abbrev pub AllSettled : List Deed → ℕ → Actor → Type 0
+AllSettled past node a = (waiting : Waiting) → In waiting a.waiting → waiting.settled ≡ true → In (deed_by (lived_by node a) (Settles waiting.ticket)) past
+
 abbrev DeletedBy : List Deed → ℕ → Option Submission → Kind → Type 0
 DeletedBy past id None (Fate Deleted error) = ⊥
 DeletedBy past id (Some taken) (Fate Deleted error) = CameToCancel past id taken
@@ -33,6 +45,7 @@ IsAskedFor past id (newest ∷ older) = DeletedBy past id (taken_in older) newes
 
 pub record Deletions (w : World) : Type 0 where
   pub came : (node : ℕ) → AllCame w.past node (w.actors node)
+  pub settled : (node : ℕ) → AllSettled w.past node (w.actors node)
   pub asked : (slot : Slot) (vote : Vote) → WasProposed w slot vote → IsAskedFor w.past slot.id vote.chain
 
 -- ---- requests that wait
@@ -40,13 +53,13 @@ pub record Deletions (w : World) : Type 0 where
 came_by : (w : World) (node : ℕ) (act : Act) → May w node act → AllCame w.past node (w.actors node) → AllCame (after w node act).past node (actor_by node (w.actors node) act)
 came_by w node (Begins ticket request) may came waiting is_in = elim (in_either waiting (w.actors node).waiting _ is_in) [
   | inl old ↦ inr (came waiting old)
-  | inr new ↦ of_only (λ (x : Waiting). In (deed_by (lived_by node (w.actors node)) (Begins x.ticket x.request)) (after w node (Begins ticket request)).past) _ waiting (inl (ap (λ (t : ℕ). deed_by (lived_by node (w.actors node)) (Begins t request)) (sym may.needs.0))) new
+  | inr new ↦ of_only (λ (x : Waiting). In (deed_by (lived_by node (w.actors node)) (Begins x.ticket x.request)) (after w node (Begins ticket request)).past) _ waiting (inl (ap (λ (t : ℕ). deed_by (lived_by node (w.actors node)) (Begins t request)) (sym may.needs.next))) new
 ]
 came_by w node (Settles ticket) may came waiting is_in =
     let m = in_map (settle ticket) (w.actors node).waiting waiting is_in in
     subst (λ (x : Waiting). In (deed_by (lived_by node (w.actors node)) (Begins x.ticket x.request)) (after w node (Settles ticket)).past) (sym m.made) (inr (came m.from m.member))
 came_by w node (Replies ticket id answer) may came waiting is_in = inr (came waiting (in_filter _ (w.actors node).waiting waiting is_in))
-came_by w node (Restarts serial) may came waiting is_in = absurd is_in
+came_by w node (Restarts lost serial) may came waiting is_in = absurd is_in
 came_by w node act may came waiting is_in = inr (came waiting is_in)
 
 came_after : (w : World) → Deletions w → (node : ℕ) (act : Act) → May w node act → (other : ℕ) → AllCame (after w node act).past other ((after w node act).actors other)
@@ -55,10 +68,34 @@ came_after w deletions node act may other = elim (actors_after w node act other)
   | inr elsewhere ↦ subst (AllCame (after w node act).past other) (sym elsewhere) (λ waiting is_in. inr (deletions.came other waiting is_in))
 ]
 
+-- what is settled now was settled by this act, or before
+settled_now : (past : List Deed) (node : ℕ) (a : Actor) (ticket : ℕ) (from : Waiting) (test : Bool) → (from.ticket == ticket) ≡ test → (if test then true else from.settled) ≡ true → (from.settled ≡ true → In (deed_by (lived_by node a) (Settles from.ticket)) past) → In (deed_by (lived_by node a) (Settles from.ticket)) (deed_by (lived_by node a) (Settles ticket) ∷ past)
+settled_now past node a ticket from true same is before = inl (ap (λ (t : ℕ). deed_by (lived_by node a) (Settles t)) (same_number from.ticket ticket same))
+settled_now past node a ticket from false other is before = inr (before is)
+
+settled_by : (w : World) (node : ℕ) (act : Act) → AllSettled w.past node (w.actors node) → AllSettled (after w node act).past node (actor_by node (w.actors node) act)
+settled_by w node (Begins ticket request) settled waiting is_in is = elim (in_either waiting (w.actors node).waiting _ is_in) [
+  | inl old ↦ inr (settled waiting old is)
+  | inr new ↦ of_only (λ (x : Waiting). x.settled ≡ true → In (deed_by (lived_by node (w.actors node)) (Settles x.ticket)) (after w node (Begins ticket request)).past) _ waiting (λ clash. absurd cc) new is
+]
+settled_by w node (Settles ticket) settled waiting is_in is =
+    let m = in_map (settle ticket) (w.actors node).waiting waiting is_in in
+    subst (λ (x : Waiting). In (deed_by (lived_by node (w.actors node)) (Settles x.ticket)) (after w node (Settles ticket)).past) (sym m.made)
+    (settled_now w.past node (w.actors node) ticket m.from (m.from.ticket == ticket) refl (ap (λ (x : Waiting). x.settled) (sym m.made) ∙ is) (settled m.from m.member))
+settled_by w node (Replies ticket id answer) settled waiting is_in is = inr (settled waiting (in_filter _ (w.actors node).waiting waiting is_in) is)
+settled_by w node (Restarts lost serial) settled waiting is_in is = absurd is_in
+settled_by w node act settled waiting is_in is = inr (settled waiting is_in is)
+
+settled_after : (w : World) → Deletions w → (node : ℕ) (act : Act) (other : ℕ) → AllSettled (after w node act).past other ((after w node act).actors other)
+settled_after w deletions node act other = elim (actors_after w node act other) [
+  | inl here ↦ subst (AllSettled (after w node act).past other) (sym here.actor_is) (subst (λ (n : ℕ). AllSettled (after w node act).past n (actor_by node (w.actors node) act)) (sym here.node_is) (settled_by w node act (deletions.settled node)))
+  | inr elsewhere ↦ subst (AllSettled (after w node act).past other) (sym elsewhere) (λ waiting is_in is. inr (deletions.settled other waiting is_in is))
+]
+
 -- ---- proposals
 
 asked_more : (past : List Deed) (deed : Deed) (id : ℕ) (taken : Option Submission) (kind : Kind) → DeletedBy past id taken kind → DeletedBy (deed ∷ past) id taken kind
-asked_more past deed id (Some taken) (Fate Deleted error) c = record { deed = c.deed; ticket = c.ticket; request = c.request; came = inr c.came; begins = c.begins; cancels = c.cancels }
+asked_more past deed id (Some taken) (Fate Deleted error) c = record { deed = c.deed; ticket = c.ticket; request = c.request; came = inr c.came; begins = c.begins; settled = inr c.settled; cancels = c.cancels }
 asked_more past deed id None (Fate Deleted error) c = absurd c
 asked_more past deed id None (Taken message) c = tt
 asked_more past deed id None (Attempt number) c = tt
@@ -86,6 +123,7 @@ cancelled w deletions node id slot taken is c = record {
   request = c.waiting.request;
   came = deletions.came node c.waiting c.waits;
   begins = refl;
+  settled = deletions.settled node c.waiting c.waits c.settled;
   cancels = subst (λ (i : ℕ). Cancels c.waiting.request i taken) is c.cancels;
 }
 
@@ -132,11 +170,12 @@ asked_after w keeps deletions node act may slot vote proposed =
 pub deletions_after : (w : World) → Keeps w → Deletions w → (node : ℕ) (act : Act) → May w node act → Deletions (after w node act)
 deletions_after w keeps deletions node act may = record {
   came = came_after w deletions node act may;
+  settled = settled_after w deletions node act;
   asked = asked_after w keeps deletions node act may;
 }
 
 pub deletions_start : (nodes : ℕ) (serials : ℕ → ℕ) → Deletions (start nodes serials)
-deletions_start nodes serials = record { came = λ node waiting is_in. absurd is_in; asked = λ slot vote proposed. absurd proposed.sent }
+deletions_start nodes serials = record { came = λ node waiting is_in. absurd is_in; settled = λ node waiting is_in is. absurd is_in; asked = λ slot vote proposed. absurd proposed.sent }
 
 -- ---- what is stated
 

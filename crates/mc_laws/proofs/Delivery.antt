@@ -1,14 +1,18 @@
 -- The story of a delivery is a run.
 use Rattle.std.proofs.Common.{◌≡◌, ℕ, pred, ◌≤◌, false, List, [], ◌∷◌, ◌++◌, length, map, refl, sym, ap, subst, inl, inr, arith}
-use Rattle.mc_model.specs.Chain.{Submission, Decree, Taken, Attempt, Fate, Delivered}
-use Rattle.mc_model.specs.OneSlot.{Vote, vote_at, In}
-use Rattle.mc_model.specs.Packet.{Slot, slot_at, slot_of, Packet, Prepare, Promise, Propose, Voted, Refused, Ask, Tell}
-use Rattle.mc_model.specs.Actor.{Submit, Concluded, opening_clock}
-use Rattle.mc_model.specs.Knowledge.{IsLearned, Knows}
-use Rattle.mc_model.specs.Replies.{Accepted}
-use Rattle.mc_model.specs.World.{World, Act, Begins, Replies, Reports, Grants, Answers, May, reached, IsRun, after}
-use Rattle.mc_model.specs.Stories.{first_id, first_ballot, decreed, taken_chain, attempted_chain, delivered_chain, round_for, by_node_1, delivery_story, one_node, MayBeTried}
-use Rattle.mc_laws.proofs.Membership.{in_right}
+use Rattle.mc_model.specs.message.Submission.{Submission}
+use Rattle.mc_model.specs.message.Decree.{Decree, Taken, Attempt, Fate, Delivered}
+use Rattle.mc_model.specs.synod.Lists.{In}
+use Rattle.mc_model.specs.synod.OneSlot.{Vote, vote_at}
+use Rattle.mc_model.specs.synod.Packet.{Slot, slot_at, slot_of, Packet, Prepare, Promise, Propose, Voted, Refused, Ask, Tell}
+use Rattle.mc_model.specs.node.Outcome.{Concluded}
+use Rattle.mc_model.specs.node.Actor.{Submit, opening_clock}
+use Rattle.mc_model.specs.node.Knowledge.{IsLearned, Knows}
+use Rattle.mc_model.specs.node.Replies.{Accepted}
+use Rattle.mc_model.specs.node.Act.{Act, Begins, Replies, Reports, Grants, Concludes}
+use Rattle.mc_model.specs.cluster.World.{World, May, reached, IsRun, after}
+use Rattle.mc_laws.specs.Stories.{first_id, first_ballot, decreed, taken_chain, attempted_chain, delivered_chain, round_for, by_node_1, delivery_story, one_node, MayBeTried}
+use Rattle.mc_parts.proofs.Membership.{in_right}
 use Rattle.mc_laws.proofs.Behind.{run_on}
 use Rattle.mc_laws.proofs.Rounds.{all_of_one, one_of_one, IsReady, round_runs}
 
@@ -70,7 +74,7 @@ abbrev granted : Submission → World
 granted message = after (attempted message) 1 (Grants (slot_of first_id (attempted_chain message)))
 
 abbrev pub answered : Submission → World
-answered message = after (granted message) 1 (Answers (slot_of first_id (attempted_chain message)) (Concluded Delivered 0))
+answered message = after (granted message) 1 (Concludes (slot_of first_id (attempted_chain message)) (Concluded Delivered 0))
 
 abbrev delivered : Submission → World
 delivered message = reached (answered message) (map by_node_1 (round_for (delivered_chain message)))
@@ -80,7 +84,7 @@ may_begin message tried = record {
   least = omega arith;
   most = omega arith;
   up = refl;
-  needs = (refl, (omega arith, refl, record { node = refl; incarnation = refl; expiry = tried.valid; schedule = let s = tried.scheduled in let v = tried.valid in omega (arith, s, v) }));
+  needs = record { next = refl; room = refl; fit = record { serial = record { least = omega arith; most = omega arith }; id_is = refl; takes = record { node = refl; incarnation = refl; expiry = tried.valid; schedule = let s = tried.scheduled in let v = tried.valid in omega (arith, s, v) } } };
 }
 
 ready_to_take : (message : Submission) → IsReady (begun message) (slot_of first_id (taken_chain message)) (vote_at first_ballot (taken_chain message))
@@ -133,6 +137,7 @@ ready_to_attempt message tried = record {
     message = refl;
     may = (omega arith, record { first = refl; scheduled = tried.scheduled; valid = tried.valid });
     allowed = tt;
+    error = tt;
   });
 }
 
@@ -159,8 +164,8 @@ may_grant message = record {
   };
 }
 
-may_answer : (message : Submission) → May (granted message) 1 (Answers (slot_of first_id (attempted_chain message)) (Concluded Delivered 0))
-may_answer message = record { least = omega arith; most = omega arith; up = refl; needs = record { granted = inl refl; closed = λ outcome none. none } }
+may_answer : (message : Submission) → May (granted message) 1 (Concludes (slot_of first_id (attempted_chain message)) (Concluded Delivered 0))
+may_answer message = record { least = omega arith; most = omega arith; up = refl; needs = record { granted = inl refl; closed = λ outcome none. none; possible = refl } }
 
 ready_to_deliver : (message : Submission) → IsReady (answered message) (slot_of first_id (delivered_chain message)) (vote_at first_ballot (delivered_chain message))
 ready_to_deliver message = record {
@@ -193,6 +198,7 @@ ready_to_deliver message = record {
     moment = refl;
     message = refl;
     may = (omega arith, refl);
+    error = tt;
     allowed = inl (record { outcome = Concluded Delivered 0; incarnation = refl; closed = inl refl; kind = refl });
   });
 }
@@ -221,7 +227,7 @@ accepted_run message tried = (may_accept message, taken_run message tried)
 
 abbrev until_answered : Submission → List (ℕ × Act)
 until_answered message =
-    (1, Answers (slot_of first_id (attempted_chain message)) (Concluded Delivered 0))
+    (1, Concludes (slot_of first_id (attempted_chain message)) (Concluded Delivered 0))
     ∷ (1, Grants (slot_of first_id (attempted_chain message)))
     ∷ map by_node_1 (round_for (attempted_chain message)) ++ until_accepted message
 

@@ -1,15 +1,23 @@
 -- What ESMEs are told of a message's fate, and what attempts are granted.
 use Rattle.std.proofs.Common.{◌≡◌, ◌⊎◌, ℕ, ◌<◌, List, [], ◌∷◌, ◌++◌, length, Option, Some, None, refl, sym, ◌∙◌, ap, subst, inl, inr, arith}
 use Rattle.std.proofs.lemmas.Bool.{cases_lt}
-use Rattle.mc_model.specs.Chain.{Author, Submission, Decree, Kind, Taken, Attempt, Failed, Fate, Final, Delivered, Expired, Deleted, Undeliverable, Rejected, IsPermitted, MayBegin, MayFollow, MayExtend, taken_in, final_in, final_by}
-use Rattle.mc_model.specs.OneSlot.{vote_at, In}
-use Rattle.mc_model.specs.Packet.{Slot, slot_of}
-use Rattle.mc_model.specs.Actor.{Actor, Request, Submit, Query, Cancel, Waiting, Outcome, Concluded, Unanswered, decree_of}
-use Rattle.mc_model.specs.Knowledge.{Knows}
-use Rattle.mc_model.specs.Replies.{Answer, Accepted, Shown, Removed, Kept, NotOwner, NotMatched, Unknown, TooLate, IsAccepted, FitsRequest, IsAnswer, id_in}
-use Rattle.mc_model.specs.World.{World, Act, Replies, Reports, Grants, Answers, Restarts, Deed, May, MayReply, MayGrant, after, actor_by, start}
-use Rattle.mc_model.specs.Fate.{shown_by, TellsOf, States, CameBefore, deed_by, IsDelivery}
-use Rattle.mc_laws.proofs.Fates.{fate_is_last}
+use Rattle.mc_model.specs.message.Submission.{Submission}
+use Rattle.mc_model.specs.message.Decree.{Author, Decree, Kind, Taken, Attempt, Failed, Fate, Final, Delivered, Expired, Deleted, Undeliverable, Rejected}
+use Rattle.mc_model.specs.message.Neighbours.{MayBegin, MayFollow}
+use Rattle.mc_model.specs.message.Chain.{IsPermitted, MayExtend, taken_in, final_in, final_by}
+use Rattle.mc_model.specs.synod.Lists.{In}
+use Rattle.mc_model.specs.synod.OneSlot.{vote_at}
+use Rattle.mc_model.specs.synod.Packet.{Slot, slot_of}
+use Rattle.mc_model.specs.node.Outcome.{Outcome, Concluded, Unanswered, decree_of}
+use Rattle.mc_model.specs.node.Actor.{Actor, Request, Submit, Query, Cancel, Waiting, id_in}
+use Rattle.mc_model.specs.node.Knowledge.{Knows}
+use Rattle.mc_model.specs.node.Replies.{Answer, Accepted, Shown, Removed, Kept, NotOwner, NotMatched, Unknown, TooLate, IsAccepted, FitsRequest, IsAnswer, MayReply}
+use Rattle.mc_model.specs.node.Grant.{MayGrant}
+use Rattle.mc_model.specs.node.Act.{Act, Replies, Reports, Grants, Concludes, Restarts}
+use Rattle.mc_model.specs.node.Effect.{actor_by}
+use Rattle.mc_model.specs.cluster.World.{World, Deed, May, after, start}
+use Rattle.mc_model.specs.cluster.Fate.{shown_by, TellsOf, States, CameBefore, deed_by, IsDelivery}
+use Rattle.mc_parts.proofs.Fates.{fate_is_last}
 use Rattle.mc_laws.proofs.Growth.{grows, later, actors_after}
 use Rattle.mc_laws.proofs.Keeping.{Keeps}
 use Rattle.mc_laws.proofs.Links.{Links, ClosedIn, Passed, PassedClosed, PassedLost, chosen_still}
@@ -27,7 +35,7 @@ shown_known nodes node a w (Cancel id account source destination) (Shown shown) 
 shown_known nodes node a w request Accepted chain fits is = cc
 shown_known nodes node a w request (Kept kept) chain fits is = cc
 shown_known nodes node a w request NotOwner chain fits is = cc
-shown_known nodes node a w request NotMatched chain fits is = cc
+shown_known nodes node a w request (NotMatched kept) chain fits is = cc
 shown_known nodes node a w request Unknown chain fits is = cc
 shown_known nodes node a w request TooLate chain fits is = cc
 
@@ -38,7 +46,7 @@ answer_known nodes node a w (Shown shown) chain fits is = shown_known nodes node
 answer_known nodes node a w (Removed shown) chain fits is = shown_known nodes node a w w.request (Removed shown) chain fits is
 answer_known nodes node a w (Kept kept) chain fits is = cc
 answer_known nodes node a w NotOwner chain fits is = cc
-answer_known nodes node a w NotMatched chain fits is = cc
+answer_known nodes node a w (NotMatched kept) chain fits is = cc
 answer_known nodes node a w Unknown chain fits is = cc
 
 pub tells_known : (w : World) (node : ℕ) (act : Act) → May w node act → (id : ℕ) (chain : List Decree) → TellsOf act id chain → Knows w.nodes (w.actors node).received id chain
@@ -54,7 +62,7 @@ tells_known w node act may id chain tells = absurd tells
 -- an answered attempt was granted before; a granted one is of a message of which no final state was stated; and a chain that
 -- ends in the fate DELIVERED, of which an ESME is told, stands on a delivery
 pub record Timely (deed : Deed) (older : List Deed) : Type 0 where
-  pub answers : (slot : Slot) (outcome : Outcome) → deed.act ≡ Answers slot outcome → In (record deed { act = Grants slot }) older
+  pub answers : (slot : Slot) (outcome : Outcome) → deed.act ≡ Concludes slot outcome → In (record deed { act = Grants slot }) older
   pub grants : (slot : Slot) (earlier : Deed) (final : Final) → deed.act ≡ Grants slot → In earlier older → States earlier slot.id final → ⊥
   pub delivers : (id : ℕ) (chain : List Decree) → TellsOf deed.act id chain → final_in chain ≡ Some Delivered → IsDelivery id chain older
 
@@ -183,16 +191,16 @@ delivering : (outcome : Outcome) (error : ℕ) → Fate Delivered error ≡ decr
 delivering (Concluded final other) error is = cc
 delivering (Unanswered other) error is = cc
 
-answered_delivery : (past : List Deed) (author : Author) (slot : Slot) (outcome : Outcome) (error : ℕ) → outcome ≡ Concluded Delivered error → ClosedIn past author slot outcome → In (deed_by author (Answers slot (Concluded Delivered error))) past
-answered_delivery past author slot outcome error is (inl answered) = subst (λ (o : Outcome). In (deed_by author (Answers slot o)) past) is answered
+answered_delivery : (past : List Deed) (author : Author) (slot : Slot) (outcome : Outcome) (error : ℕ) → outcome ≡ Concluded Delivered error → ClosedIn past author slot outcome → In (deed_by author (Concludes slot (Concluded Delivered error))) past
+answered_delivery past author slot outcome error is (inl answered) = subst (λ (o : Outcome). In (deed_by author (Concludes slot o)) past) is answered
 answered_delivery past author slot outcome error is (inr abandoned) = let clash : Unanswered 998 ≡ Concluded Delivered error = sym abandoned.0 ∙ is in cc
 
-passed_delivery : (w : World) (author : Author) (slot : Slot) (error : ℕ) → PassedClosed w author slot (Fate Delivered error) ⊎ PassedLost w author (Fate Delivered error) → In (deed_by author (Answers slot (Concluded Delivered error))) w.past
+passed_delivery : (w : World) (author : Author) (slot : Slot) (error : ℕ) → PassedClosed w author slot (Fate Delivered error) ⊎ PassedLost w author (Fate Delivered error) → In (deed_by author (Concludes slot (Concluded Delivered error))) w.past
 passed_delivery w author slot error (inl closed) = answered_delivery w.past author slot closed.outcome error (delivering closed.outcome error closed.kind) closed.closed
 passed_delivery w author slot error (inr lost) = let clash : Fate Delivered error ≡ Failed 999 = lost.kind in cc
 
 -- an answered attempt was granted before
-granted_before : (past : List Deed) → AllTimely past → (author : Author) (slot : Slot) (outcome : Outcome) → In (deed_by author (Answers slot outcome)) past → CameBefore (deed_by author (Grants slot)) (deed_by author (Answers slot outcome)) past
+granted_before : (past : List Deed) → AllTimely past → (author : Author) (slot : Slot) (outcome : Outcome) → In (deed_by author (Concludes slot outcome)) past → CameBefore (deed_by author (Grants slot)) (deed_by author (Concludes slot outcome)) past
 granted_before [] timely author slot outcome is_in = absurd is_in
 granted_before (deed ∷ older) timely author slot outcome (inl same) = record {
   newer = [];
@@ -230,7 +238,7 @@ delivery w keeps links told id (fate ∷ attempt ∷ older) chosen is =
 granted_by : (w : World) → Told w → (node : ℕ) (act : Act) (slot : Slot) → In slot (actor_by node (w.actors node) act).granted → In (deed_by (record { node = node; incarnation = (actor_by node (w.actors node) act).incarnation }) (Grants slot)) (after w node act).past
 granted_by w told node (Grants other) slot (inl new) = inl (λ i. record { node = node; incarnation = (w.actors node).incarnation; act = Grants (new i) })
 granted_by w told node (Grants other) slot (inr old) = inr (told.granted node slot old)
-granted_by w told node (Restarts serial) slot is_in = absurd is_in
+granted_by w told node (Restarts lost serial) slot is_in = absurd is_in
 granted_by w told node act slot is_in = inr (told.granted node slot is_in)
 
 granted_after : (w : World) → Told w → (node : ℕ) (act : Act) (other : ℕ) (slot : Slot) → In slot ((after w node act).actors other).granted → In (deed_by (record { node = other; incarnation = ((after w node act).actors other).incarnation }) (Grants slot)) (after w node act).past
@@ -246,7 +254,7 @@ granted_after w told node act other slot is_in = elim (actors_after w node act o
 
 timely_new : (w : World) → Keeps w → Links w → Told w → (node : ℕ) (act : Act) → May w node act → Timely (record { node = node; incarnation = (w.actors node).incarnation; act = act }) w.past
 timely_new w keeps links told node act may = record {
-  answers = λ slot outcome is. let m : May w node (Answers slot outcome) = subst (May w node) is may in told.granted node slot m.needs.granted;
+  answers = λ slot outcome is. let m : May w node (Concludes slot outcome) = subst (May w node) is may in told.granted node slot m.needs.granted;
   grants = λ slot earlier final is is_in states. let m : May w node (Grants slot) = subst (May w node) is may in no_fate_at_grant w keeps links told node slot m.needs earlier final is_in states;
   delivers = λ id chain tells is. delivery w keeps links told id chain (known_chosen w keeps node id chain (tells_known w node act may id chain tells)) is;
 }

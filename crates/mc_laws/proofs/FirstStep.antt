@@ -1,18 +1,35 @@
 -- The first step of a node is exact.
-use Rattle.std.proofs.Common.{◌≡◌, ℕ, ◌+◌, false, List, [], ◌∷◌, ◌++◌, refl, sym, ◌∙◌, ap, subst, inl, inr, arith}
-use Rattle.mc_model.specs.Chain.{Submission, Decree}
-use Rattle.mc_model.specs.Ballot.{ballot_of}
-use Rattle.mc_model.specs.OneSlot.{Vote, vote_at, In}
-use Rattle.mc_model.specs.Packet.{Slot, slot_at, slot_of, Packet, Prepare, Voted}
-use Rattle.mc_model.specs.Acceptor.{Records, blank}
-use Rattle.mc_model.specs.Actor.{Actor, Submit, Waiting, opened, opening_clock}
-use Rattle.mc_model.specs.Knowledge.{IsLearned, Knows}
-use Rattle.mc_model.specs.Replies.{Answer, Accepted, FitsRequest}
-use Rattle.mc_model.specs.Rounds.{HasSeen, MayPrepare}
-use Rattle.mc_model.specs.World.{Act, Prepares, Begins}
-use Rattle.mc_model.specs.Step.{Arrival, Causes, IsToSettle, IsDueReply, IsDueReport, IsCancelRequest, IsOfRound, SendsElse, did, IsExact}
-use Rattle.mc_model.specs.Stories.{first_id, first_ballot, taken_chain, first_step}
+use Rattle.std.proofs.Common.{◌≡◌, ℕ, false, List, [], ◌∷◌, ◌++◌, refl, sym, ◌∙◌, ap, subst, inl, inr, arith}
+use Rattle.mc_model.specs.message.Submission.{Submission}
+use Rattle.mc_model.specs.message.Decree.{Decree, Taken}
+use Rattle.mc_model.specs.synod.Lists.{In}
+use Rattle.mc_model.specs.synod.OneSlot.{Vote, vote_at}
+use Rattle.mc_model.specs.synod.Packet.{Slot, slot_of, Packet, Prepare, Voted}
+use Rattle.mc_model.specs.synod.Acceptor.{Records, blank}
+use Rattle.mc_model.specs.node.Actor.{Actor, Submit, Waiting, opened, opening_clock}
+use Rattle.mc_model.specs.node.Knowledge.{IsLearned, Knows}
+use Rattle.mc_model.specs.node.Proposal.{IsFirst}
+use Rattle.mc_model.specs.node.Replies.{Answer, Accepted, FitsRequest}
+use Rattle.mc_model.specs.node.Act.{Act, Settles, Replies, Asks, Prepares, Proposes, Reports, Begins}
+use Rattle.mc_model.specs.node.Effect.{did}
+use Rattle.mc_model.specs.node.Rounds.{HasSeen, MayPrepare}
+use Rattle.mc_model.specs.node.Input.{Arrival}
+use Rattle.mc_model.specs.node.Causes.{Causes}
+use Rattle.mc_model.specs.node.Due.{AreDue, AreDueOnce, key_of}
+use Rattle.mc_model.specs.node.Phases.{IsCancelRequest, DueToSettle, DueToEnd, DueToAsk, DueToAbandon, DueToPrepare, DueToPropose, DueToReply, DueToReport}
+use Rattle.mc_model.specs.node.Step.{IsExact}
+use Rattle.mc_laws.specs.Stories.{first_id, first_ballot, first_setup, taken_chain, first_step}
 use Rattle.mc_laws.proofs.Rounds.{one_of_one}
+
+-- ---- nothing is due
+
+pub none_due : (Due : Act → Type 0) → ((act : Act) → Due act → ⊥) → AreDue Due []
+none_due Due none = record { each = λ act. (λ is_in. absurd is_in, λ due. absurd (none act due)); order = tt }
+
+pub none_due_once : (Due : Act → Type 0) → ((act : Act) → Due act → ⊥) → AreDueOnce Due []
+none_due_once Due none = record { only = λ act is_in. absurd is_in; all = λ act due. absurd (none act due); order = tt }
+
+-- ---- the first step
 
 abbrev new_node : Actor
 new_node = opened 1 1
@@ -35,18 +52,30 @@ only_waiting : (message : Submission) (P : Waiting → Type 0) → P (record { t
 only_waiting message P holds waiting (inl same) = subst P (sym same) holds
 only_waiting message P holds waiting (inr none) = absurd none
 
-nothing_to_settle : (message : Submission) (ticket : ℕ) → IsToSettle 1 1 (asked message) ticket → ⊥
-nothing_to_settle message ticket due = only_waiting message (λ w. IsCancelRequest w.request → ⊥) (λ none. none) due.waiting due.waits due.cancel
+nothing_to_settle : (message : Submission) (act : Act) → DueToSettle 1 1 (asked message) act → ⊥
+nothing_to_settle message (Settles ticket) due = only_waiting message (λ w. IsCancelRequest w.request → ⊥) (λ none. none) due.waiting due.waits due.cancel
+nothing_to_settle message act due = due
+
+nothing_to_ask : (message : Submission) (act : Act) → DueToAsk 1 1 new_node (asked message) (Arrival (Submit first_id message)) act → ⊥
+nothing_to_ask message (Asks id ticket) due = due
+nothing_to_ask message act due = due
+
+nothing_to_propose : (message : Submission) (act : Act) → DueToPropose 1 1 new_node (asked message) act → ⊥
+nothing_to_propose message (Proposes slot vote) due = (one_of_one _ due.0.promised).1
+nothing_to_propose message act due = due
 
 no_answer : (message : Submission) (waiting : Waiting) (answer : Answer) → FitsRequest 1 1 (asked message) waiting (Submit first_id message) answer → ⊥
 no_answer message waiting Accepted fits = none_known _ _ fits.known
 no_answer message waiting answer fits = fits
 
-nothing_due : (message : Submission) (ticket id : ℕ) (answer : Answer) → IsDueReply 1 1 (asked message) ticket id answer → ⊥
-nothing_due message ticket id answer due = only_waiting message (λ w. (other : Waiting) → FitsRequest 1 1 (asked message) other w.request answer → ⊥) (λ other. no_answer message other answer) due.asked.waiting due.asked.waits due.asked.waiting due.fits
+nothing_to_reply : (message : Submission) (act : Act) → DueToReply 1 1 (asked message) act → ⊥
+nothing_to_reply message (Replies ticket id answer) due =
+    only_waiting message (λ w. (other : Waiting) → FitsRequest 1 1 (asked message) other w.request answer → ⊥) (λ other. no_answer message other answer) due.asked.waiting due.asked.waits due.asked.waiting due.fits
+nothing_to_reply message act due = due
 
-no_report : (message : Submission) (id : ℕ) (chain : List Decree) → IsDueReport 1 1 new_node (asked message) id chain → ⊥
-no_report message id chain due = none_known _ _ due.known
+nothing_to_report : (message : Submission) (act : Act) → DueToReport 1 1 new_node (asked message) act → ⊥
+nothing_to_report message (Reports id chain) due = none_known _ _ due.known
+nothing_to_report message act due = due
 
 -- the first round is the first
 no_seen : (message : Submission) (slot : Slot) (round : ℕ) → HasSeen 1 (asked message) no_records slot round → round ≡ 0
@@ -70,59 +99,65 @@ may_prepare message slot = record {
     not_run [] older packet is = cc
     not_run (first ∷ newer) older packet is = cc
 
-only_ballot : (message : Submission) (slot : Slot) (ballot : ℕ) → MayPrepare 1 1 (asked message) no_records slot ballot → ballot ≡ first_ballot
-only_ballot message slot ballot may =
-    let none : may.next.highest ≡ 0 = no_seen message slot may.next.highest may.next.seen in
-    may.next.ballot_is ∙ ap (λ (r : ℕ). ballot_of (r + 1) 1 1) none
+abbrev taken_at : ℕ → Submission → List Decree
+taken_at moment message = record { author = record { node = 1; incarnation = 1 }; moment = moment; kind = Taken message } ∷ []
 
-only_cause : (message : Submission) (id place : ℕ) → Causes 1 1 new_node (asked message) (Arrival (Submit first_id message)) id place → slot_at id place ≡ slot_of first_id (taken_chain message)
-only_cause message id place (inl take) = λ i. slot_at (sym take.0 i) (take.1 i)
-only_cause message id place (inr (inl close)) = absurd close
-only_cause message id place (inr (inr (inl follow))) = absurd follow
-only_cause message id place (inr (inr (inr delete))) = absurd (none_known _ _ delete.known)
+record Cause (message : Submission) (id place : ℕ) (chain : List Decree) : Type 0 where
+  id_is : id ≡ first_id
+  place_is : place ≡ 0
+  chain_is : chain ≡ taken_chain message
 
-prepared_only : (message : Submission) (slot : Slot) (ballot : ℕ) → In (Prepares slot ballot) (Prepares (slot_of first_id (taken_chain message)) first_ballot ∷ []) → Causes 1 1 new_node (asked message) (Arrival (Submit first_id message)) slot.id slot.place × MayPrepare 1 1 (asked message) no_records slot ballot
-prepared_only message slot ballot (inr none) = absurd none
-prepared_only message slot ballot (inl same) =
-    let slots : slot ≡ slot_of first_id (taken_chain message) = cc in
-    let ballots : ballot ≡ first_ballot = cc in
-    subst (λ (s : Slot). Causes 1 1 new_node (asked message) (Arrival (Submit first_id message)) s.id s.place × MayPrepare 1 1 (asked message) no_records s ballot) (sym slots) (subst (λ (b : ℕ). Causes 1 1 new_node (asked message) (Arrival (Submit first_id message)) first_id 0 × MayPrepare 1 1 (asked message) no_records (slot_of first_id (taken_chain message)) b) (sym ballots) (inl (refl, refl), may_prepare message (slot_of first_id (taken_chain message))))
+-- what causes a round
+only_chain : (message : Submission) (id : ℕ) (chain : List Decree) → IsFirst 1 (asked message) id chain → chain ≡ taken_chain message
+only_chain message id chain first =
+    first.chain_is ∙ only_waiting message (λ w. w.request ≡ Submit id first.message → taken_at w.since first.message ≡ taken_chain message) (λ is. ap (taken_at opening_clock) (same_message message id first.message is)) first.waiting first.waits first.submits
+  where
+    same_message : (one : Submission) (id : ℕ) (other : Submission) → Submit first_id one ≡ Submit id other → other ≡ one
+    same_message one id other is = cc
 
-sends : (message : Submission) → SendsElse 1 1 new_node (asked message) no_records (Arrival (Submit first_id message)) [] (Prepares (slot_of first_id (taken_chain message)) first_ballot ∷ [])
-sends message = record {
-  prepares = λ slot ballot. (prepared_only message slot ballot, λ due. inl (λ i. Prepares (only_cause message slot.id slot.place due.0 i) (only_ballot message slot ballot due.1 i)));
-  questions = λ id ticket. (λ is_in. absurd is_in, λ due. absurd due);
-  abandons = λ slot is_in. elim is_in [ inl same ↦ cc | inr none ↦ absurd none ];
-  proposes = λ slot vote is_in. elim is_in [ inl same ↦ cc | inr none ↦ absurd none ];
-  completes = λ slot ballot done. absurd (one_of_one _ done.promised).1;
+only_cause : (message : Submission) (id place : ℕ) (chain : List Decree) → Causes 1 1 new_node (asked message) (Arrival (Submit first_id message)) id place chain → Cause message id place chain
+only_cause message id place chain (inl take) = record { id_is = sym take.0; place_is = take.1; chain_is = only_chain message id chain take.2 }
+only_cause message id place chain (inr (inl close)) = absurd close
+only_cause message id place chain (inr (inr (inl follow))) = absurd follow
+only_cause message id place chain (inr (inr (inr delete))) = absurd (none_known _ _ delete.deletes.further.known)
+
+taken_first : (message : Submission) → IsFirst 1 (asked message) first_id (taken_chain message)
+taken_first message = record {
+  waiting = record { ticket = 1; since = opening_clock; request = Submit first_id message; settled = false };
+  message = message;
+  waits = inl refl;
+  submits = refl;
+  chain_is = refl;
 }
 
-pub first_exact : (message : Submission) → IsExact 1 1 new_node no_records (Arrival (Submit first_id message)) (first_step message)
+prepared_only : (message : Submission) (act : Act) → In act (Prepares (slot_of first_id (taken_chain message)) first_ballot (taken_chain message) ∷ []) → DueToPrepare 1 1 new_node (asked message) no_records (Arrival (Submit first_id message)) act
+prepared_only message act (inr none) = absurd none
+prepared_only message act (inl same) =
+    subst (DueToPrepare 1 1 new_node (asked message) no_records (Arrival (Submit first_id message))) (sym same) (inl (refl, refl, taken_first message), may_prepare message (slot_of first_id (taken_chain message)))
+
+prepared_all : (message : Submission) (act : Act) → DueToPrepare 1 1 new_node (asked message) no_records (Arrival (Submit first_id message)) act → In (key_of act) (first_id ∷ [])
+prepared_all message (Prepares slot ballot chain) due = inl (only_cause message slot.id slot.place chain due.0).id_is
+prepared_all message act due = absurd due
+
+pub first_exact : (message : Submission) → IsExact first_setup new_node no_records (Arrival (Submit first_id message)) (first_step message)
 first_exact message = record {
   core = Begins 1 (Submit first_id message) ∷ [];
   settles = [];
   late = [];
   asks = [];
-  rounds = Prepares (slot_of first_id (taken_chain message)) first_ballot ∷ [];
+  abandons = [];
+  prepares = Prepares (slot_of first_id (taken_chain message)) first_ballot (taken_chain message) ∷ [];
+  proposes = [];
   replies = [];
   reports = [];
   acts_are = refl;
   core_is = refl;
-  settling = λ act is_in. absurd is_in;
-  settled = λ ticket. (λ is_in. absurd is_in, λ due. absurd (nothing_to_settle message ticket due));
-  settle_order = tt;
-  lateness = λ act is_in. absurd is_in;
-  timely = λ ticket id. (λ is_in. absurd is_in, λ due. absurd due);
-  late_order = tt;
-  asking = λ act is_in. absurd is_in;
-  proposing = λ act is_in. elim is_in [ inl same ↦ subst (λ (x : Act). IsOfRound x) (sym same) tt | inr none ↦ absurd none ];
-  sent = sends message;
-  ask_order = tt;
-  round_order = tt;
-  replying = λ act is_in. absurd is_in;
-  answered = λ ticket id answer. (λ is_in. absurd is_in, λ due. absurd (nothing_due message ticket id answer due));
-  reply_order = tt;
-  reporting = λ act is_in. absurd is_in;
-  reported = λ id chain. (λ is_in. absurd is_in, λ due. absurd (no_report message id chain due));
-  report_order = tt;
+  settled = none_due (DueToSettle 1 1 (asked message)) (nothing_to_settle message);
+  ended = none_due (DueToEnd (Arrival (Submit first_id message)) (asked message)) (λ act due. due);
+  asked = none_due (DueToAsk 1 1 new_node (asked message) (Arrival (Submit first_id message))) (nothing_to_ask message);
+  abandoned = none_due (DueToAbandon 1 1 (asked message) no_records (Arrival (Submit first_id message))) (λ act due. due);
+  prepared = record { only = prepared_only message; all = prepared_all message; order = tt };
+  proposed = none_due_once (DueToPropose 1 1 new_node (asked message)) (nothing_to_propose message);
+  replied = none_due (DueToReply 1 1 (asked message)) (nothing_to_reply message);
+  reported = none_due (DueToReport 1 1 new_node (asked message)) (nothing_to_report message);
 }

@@ -1,12 +1,15 @@
 -- A request whose questions a majority answered knows all that was chosen before it came.
 use Rattle.std.proofs.Common.{◌≡◌, ◌⊎◌, ℕ, suc, ◌<◌, ◌≤◌, Option, Some, None, refl, sym, ◌∙◌, ap, subst, inl, inr, arith}
-use Rattle.mc_model.specs.OneSlot.{Vote, In}
-use Rattle.mc_model.specs.Packet.{slot_at, Name, Told, Ask, Tell}
-use Rattle.mc_model.specs.Acceptor.{Records, IsTold}
-use Rattle.mc_model.specs.Actor.{Actor, Request, Waiting}
-use Rattle.mc_model.specs.Replies.{id_in}
-use Rattle.mc_model.specs.World.{World, Act, Promises, Votes, Refuses, Tells, Prepares, Proposes, Begins, Asks, Settles, Replies, Restarts, Cast, cast, May, IsWaiting, MayTell, after, actor_by, settle, sent_by, start}
-use Rattle.mc_laws.proofs.Membership.{in_either, of_only, in_map, in_filter}
+use Rattle.mc_model.specs.synod.Lists.{In}
+use Rattle.mc_model.specs.synod.OneSlot.{Vote}
+use Rattle.mc_model.specs.synod.Packet.{slot_at, Name, TopVote, Ask, Tell}
+use Rattle.mc_model.specs.synod.Acceptor.{Records, IsTold}
+use Rattle.mc_model.specs.node.Actor.{Actor, Request, Waiting, id_in}
+use Rattle.mc_model.specs.node.Room.{IsWaiting}
+use Rattle.mc_model.specs.node.Act.{Act, Promises, Votes, Refuses, Tells, Prepares, Proposes, Begins, Asks, Settles, Replies, Restarts, MayTell}
+use Rattle.mc_model.specs.node.Effect.{actor_by, settle}
+use Rattle.mc_model.specs.cluster.World.{World, Cast, cast, May, after, sent_by, start}
+use Rattle.mc_parts.proofs.Membership.{in_either, of_only, in_map, in_filter}
 use Rattle.mc_laws.proofs.Growth.{grows, remembers, actors_after, actor_here}
 use Rattle.mc_laws.proofs.Keeping.{Keeps, IsSent, sent_is}
 
@@ -23,13 +26,13 @@ pub record WasAsked (w : World) (name : Name) : Type 0 where
 
 pub record Names (w : World) : Type 0 where
   pub asked : (sender id : ℕ) (name : Name) → In (Ask sender id name) w.packets → WasNamed (w.actors name.node) name
-  pub told : (node : ℕ) (name : Name) (told : Option Told) → In (Tell node name told) w.packets → WasAsked w name
+  pub told : (node : ℕ) (name : Name) (told : Option TopVote) → In (Tell node name told) w.packets → WasAsked w name
   pub tickets : (node : ℕ) (waiting : Waiting) → In waiting (w.actors node).waiting → waiting.ticket < (w.actors node).ticket
 
 -- an actor goes on having given it
 named_by : (node : ℕ) (a : Actor) (act : Act) (name : Name) → WasNamed a name → WasNamed (actor_by node a act) name
 named_by node a act name named = elim (remembers node a act) [
-  | inl anew ↦ subst (λ (x : Act). WasNamed (actor_by node a x) name) (sym anew.1) (elim named [ inl before ↦ inl (omega (arith, before)) | inr now ↦ inl (omega (arith, now.0)) ])
+  | inl anew ↦ subst (λ (x : Act). WasNamed (actor_by node a x) name) (sym anew.2) (elim named [ inl before ↦ inl (omega (arith, before)) | inr now ↦ inl (omega (arith, now.0)) ])
   | inr r ↦ elim named [ inl before ↦ inl (let same = r.incarnation in omega (arith, before, same)) | inr now ↦ inr (now.0 ∙ sym r.incarnation, let more = r.ticket in omega (arith, now.1, more)) ]
 ]
 
@@ -45,7 +48,7 @@ pub record Asking (w : World) (node : ℕ) (act : Act) (sender id : ℕ) (name :
   pub sender_is : sender ≡ node
   pub name_is : name ≡ record { node = node; incarnation = (w.actors node).incarnation; ticket = name.ticket }
 
-asking : (w : World) (node : ℕ) (act : Act) (sender id : ℕ) (name : Name) → IsSent w node act (Ask sender id name) → Asking w node act sender id name
+pub asking : (w : World) (node : ℕ) (act : Act) (sender id : ℕ) (name : Name) → IsSent w node act (Ask sender id name) → Asking w node act sender id name
 asking w node (Asks other ticket) sender id name is =
     let names : name ≡ record { node = node; incarnation = (w.actors node).incarnation; ticket = ticket } = cc in
     let tickets : name.ticket ≡ ticket = ap (λ (n : Name). n.ticket) names in
@@ -59,23 +62,23 @@ asking w node (Promises slot ballot sent) sender id name is = cc
 asking w node (Votes slot vote sent) sender id name is = cc
 asking w node (Refuses slot ballot) sender id name is = cc
 asking w node (Tells other tells told) sender id name is = cc
-asking w node (Prepares slot ballot) sender id name is = cc
+asking w node (Prepares slot ballot chain) sender id name is = cc
 asking w node (Proposes slot vote) sender id name is = cc
 asking w node act sender id name is = absurd is
 
-ask_cases : (w : World) (node : ℕ) (act : Act) (sender id : ℕ) (name : Name) → In (Ask sender id name) (after w node act).packets → Asking w node act sender id name ⊎ In (Ask sender id name) w.packets
+pub ask_cases : (w : World) (node : ℕ) (act : Act) (sender id : ℕ) (name : Name) → In (Ask sender id name) (after w node act).packets → Asking w node act sender id name ⊎ In (Ask sender id name) w.packets
 ask_cases w node act sender id name is_in = elim (in_either (Ask sender id name) (sent_by w node act) w.packets is_in) [
   | inl new ↦ inl (asking w node act sender id name (sent_is w node act _ new))
   | inr old ↦ inr old
 ]
 
 -- the act that tells
-pub record Telling (node : ℕ) (act : Act) (teller : ℕ) (name : Name) (told : Option Told) : Type 0 where
+pub record Telling (node : ℕ) (act : Act) (teller : ℕ) (name : Name) (told : Option TopVote) : Type 0 where
   pub id : ℕ
   pub by : act ≡ Tells id name told
   pub teller_is : teller ≡ node
 
-telling : (w : World) (node : ℕ) (act : Act) (teller : ℕ) (name : Name) (told : Option Told) → IsSent w node act (Tell teller name told) → Telling node act teller name told
+pub telling : (w : World) (node : ℕ) (act : Act) (teller : ℕ) (name : Name) (told : Option TopVote) → IsSent w node act (Tell teller name told) → Telling node act teller name told
 telling w node (Tells id other answer) teller name told is =
     let names : name ≡ other = cc in
     let tolds : told ≡ answer = cc in
@@ -84,11 +87,11 @@ telling w node (Promises slot ballot sent) teller name told is = cc
 telling w node (Votes slot vote sent) teller name told is = cc
 telling w node (Refuses slot ballot) teller name told is = cc
 telling w node (Asks other ticket) teller name told is = cc
-telling w node (Prepares slot ballot) teller name told is = cc
+telling w node (Prepares slot ballot chain) teller name told is = cc
 telling w node (Proposes slot vote) teller name told is = cc
 telling w node act teller name told is = absurd is
 
-tell_cases : (w : World) (node : ℕ) (act : Act) (teller : ℕ) (name : Name) (told : Option Told) → In (Tell teller name told) (after w node act).packets → Telling node act teller name told ⊎ In (Tell teller name told) w.packets
+pub tell_cases : (w : World) (node : ℕ) (act : Act) (teller : ℕ) (name : Name) (told : Option TopVote) → In (Tell teller name told) (after w node act).packets → Telling node act teller name told ⊎ In (Tell teller name told) w.packets
 tell_cases w node act teller name told is_in = elim (in_either (Tell teller name told) (sent_by w node act) w.packets is_in) [
   | inl new ↦ inl (telling w node act teller name told (sent_is w node act _ new))
   | inr old ↦ inr old
@@ -105,7 +108,7 @@ asked_after w names node act may sender id name is_in = named_after w node act n
   | inr old ↦ names.asked sender id name old
 ])
 
-told_after : (w : World) → Keeps w → Names w → (node : ℕ) (act : Act) → May w node act → (teller : ℕ) (name : Name) (told : Option Told) → In (Tell teller name told) (after w node act).packets → WasAsked (after w node act) name
+told_after : (w : World) → Keeps w → Names w → (node : ℕ) (act : Act) → May w node act → (teller : ℕ) (name : Name) (told : Option TopVote) → In (Tell teller name told) (after w node act).packets → WasAsked (after w node act) name
 told_after w keeps names node act may teller name told is_in =
     let grown = grows w node act may in
     elim (tell_cases w node act teller name told is_in) [
@@ -129,7 +132,7 @@ tickets_by node a (Settles ticket) have waiting is_in =
     let m = in_map (settle ticket) a.waiting waiting is_in in
     subst (λ (x : Waiting). x.ticket < a.ticket) (sym m.made) (have m.from m.member)
 tickets_by node a (Replies ticket id answer) have waiting is_in = have waiting (in_filter _ a.waiting waiting is_in)
-tickets_by node a (Restarts serial) have waiting is_in = absurd is_in
+tickets_by node a (Restarts lost serial) have waiting is_in = absurd is_in
 tickets_by node a act have waiting is_in = have waiting is_in
 
 tickets_after : (w : World) → Names w → (node : ℕ) (act : Act) (other : ℕ) → HaveTickets ((after w node act).actors other)
@@ -155,7 +158,7 @@ names_start nodes serials = record {
 -- ---- since a request came
 
 -- what is told is not below a place
-abbrev pub HasReached : Option Told → ℕ → Type 0
+abbrev pub HasReached : Option TopVote → ℕ → Type 0
 HasReached None place = ⊥
 HasReached (Some told) place = place ≤ told.place
 
@@ -167,11 +170,11 @@ IsAbout name id a = a.incarnation ≡ name.incarnation → (waiting : Waiting) �
 pub record Fresh (before : World) (name : Name) (id : ℕ) (w : World) : Type 0 where
   pub votes : (c : Cast) → In c before.votes → In c w.votes
   pub asks : (sender other : ℕ) → In (Ask sender other name) w.packets → other ≡ id
-  pub tells : (node : ℕ) (told : Option Told) → In (Tell node name told) w.packets → (place : ℕ) (vote : Vote) → In (cast node (slot_at id place) vote) before.votes → HasReached told place
+  pub tells : (node : ℕ) (told : Option TopVote) → In (Tell node name told) w.packets → (place : ℕ) (vote : Vote) → In (cast node (slot_at id place) vote) before.votes → HasReached told place
   pub about : IsAbout name id (w.actors name.node)
   pub named : WasNamed (w.actors name.node) name
 
-about_by : (node : ℕ) (a : Actor) (act : Act) (name : Name) (id : ℕ) → WasNamed a name → IsAbout name id a → IsAbout name id (actor_by node a act)
+pub about_by : (node : ℕ) (a : Actor) (act : Act) (name : Name) (id : ℕ) → WasNamed a name → IsAbout name id a → IsAbout name id (actor_by node a act)
 about_by node a (Begins ticket request) name id named about same waiting is_in is = elim (in_either waiting a.waiting _ is_in) [
   | inl old ↦ about same waiting old is
   | inr new ↦ of_only (λ (x : Waiting). x.ticket ≡ name.ticket → id_in x.request ≡ id) _ waiting (λ t. absurd (given a name named same t)) new is
@@ -184,7 +187,7 @@ about_by node a (Settles ticket) name id named about same waiting is_in is =
     let m = in_map (settle ticket) a.waiting waiting is_in in
     subst (λ (x : Waiting). id_in x.request ≡ id) (sym m.made) (about same m.from m.member (ap (λ (x : Waiting). x.ticket) (sym m.made) ∙ is))
 about_by node a (Replies ticket other answer) name id named about same waiting is_in is = about same waiting (in_filter _ a.waiting waiting is_in) is
-about_by node a (Restarts serial) name id named about same waiting is_in is = absurd is_in
+about_by node a (Restarts lost serial) name id named about same waiting is_in is = absurd is_in
 about_by node a act name id named about same waiting is_in is = about same waiting is_in is
 
 about_after : (before w : World) (name : Name) (id : ℕ) → Fresh before name id w → (node : ℕ) (act : Act) → IsAbout name id ((after w node act).actors name.node)
@@ -205,11 +208,11 @@ asks_after before w name id fresh node act may sender other is_in = elim (ask_ca
 ]
 
 -- a teller that voted at a place tells of that place or of a higher one
-reaches_vote : (records : Records) (id place : ℕ) (vote held : Vote) (told : Option Told) → (records (slot_at id place)).vote ≡ Some held → IsTold records id told → HasReached told place
+reaches_vote : (records : Records) (id place : ℕ) (vote held : Vote) (told : Option TopVote) → (records (slot_at id place)).vote ≡ Some held → IsTold records id told → HasReached told place
 reaches_vote records id place vote held None holds is = let none = is place in cc
 reaches_vote records id place vote held (Some told) holds is = is.highest place held holds
 
-tells_after : (before w : World) → Keeps w → (name : Name) (id : ℕ) → Fresh before name id w → (node : ℕ) (act : Act) → May w node act → (teller : ℕ) (told : Option Told) → In (Tell teller name told) (after w node act).packets → (place : ℕ) (vote : Vote) → In (cast teller (slot_at id place) vote) before.votes → HasReached told place
+tells_after : (before w : World) → Keeps w → (name : Name) (id : ℕ) → Fresh before name id w → (node : ℕ) (act : Act) → May w node act → (teller : ℕ) (told : Option TopVote) → In (Tell teller name told) (after w node act).packets → (place : ℕ) (vote : Vote) → In (cast teller (slot_at id place) vote) before.votes → HasReached told place
 tells_after before w keeps name id fresh node act may teller told is_in place vote voted = elim (tell_cases w node act teller name told is_in) [
   | inl new ↦
       let m : MayTell (w.actors node) (w.records node) new.id name told = (subst (May w node) new.by may).needs in
@@ -234,7 +237,7 @@ pub fresh_begun : (w : World) → Names w → (node ticket : ℕ) (request : Req
 fresh_begun w names node ticket request may =
     let name : Name = record { node = node; incarnation = (w.actors node).incarnation; ticket = ticket } in
     let here = actor_here w node (Begins ticket request) in
-    let is_next : ticket ≡ (w.actors node).ticket = may.needs.0 in
+    let is_next : ticket ≡ (w.actors node).ticket = may.needs.next in
     record {
       votes = λ c is_in. is_in;
       asks = λ sender other is_in. absurd (not_given (w.actors node) ticket (names.asked sender other name is_in) is_next);

@@ -1,23 +1,26 @@
 -- What every act leaves as it was, or lets grow.
-use Rattle.std.proofs.Common.{◌∷◌, [], ◌≡◌, ◌⊎◌, ℕ, suc, ◌<◌, ◌≤◌, Bool, true, false, List, refl, sym, ◌∙◌, ap, subst, inl, inr, arith}
+use Rattle.std.proofs.Common.{◌∷◌, [], ◌≡◌, ◌⊎◌, ℕ, suc, ◌+◌, ◌<◌, ◌≤◌, Bool, true, false, List, refl, sym, ◌∙◌, ap, subst, inl, inr, arith}
 use Rattle.std.specs.Prelude.{◌==◌, if◌then◌else◌}
 use Rattle.std.proofs.lemmas.Bool.{eq-eqb}
-use Rattle.mc_model.specs.OneSlot.{In}
-use Rattle.mc_model.specs.Packet.{Slot, same_slot, Packet}
-use Rattle.mc_model.specs.Acceptor.{Record, Records, with_record, after_promise, after_vote}
-use Rattle.mc_model.specs.Actor.{Actor, Outcome}
-use Rattle.mc_model.specs.World.{World, Act, Receives, Promises, Votes, Prepares, Proposes, Begins, Grants, Answers, Abandons, Restarts, Deed, Cast, cast, May, after, changed, records_by, actor_by, votes_by, sent_by, reached}
-use Rattle.mc_laws.proofs.Membership.{in_right, in_either, of_only, same_number, slots_same}
+use Rattle.mc_model.specs.synod.Lists.{In}
+use Rattle.mc_model.specs.synod.Packet.{Slot, same_slot, Packet}
+use Rattle.mc_model.specs.synod.Acceptor.{SlotRecord, Records, with_record, after_promise, after_vote}
+use Rattle.mc_model.specs.node.Outcome.{Outcome}
+use Rattle.mc_model.specs.node.Actor.{Actor, Request, Submit, Query, Cancel}
+use Rattle.mc_model.specs.node.Act.{Act, Receives, Promises, Votes, Prepares, Proposes, Begins, Grants, Concludes, Abandons, Restarts}
+use Rattle.mc_model.specs.node.Effect.{next_serial, records_by, actor_by}
+use Rattle.mc_model.specs.cluster.World.{World, Deed, Cast, cast, May, after, changed, votes_by, sent_by, reached}
+use Rattle.mc_parts.proofs.Membership.{in_right, in_either, of_only, same_number, slots_same}
 
 -- ---- what an act does to a record
 
 -- the record that an act makes new
-abbrev pub IsNew : Records → Act → Slot → Record → Type 0
+abbrev pub IsNew : Records → Act → Slot → SlotRecord → Type 0
 IsNew records (Promises slot ballot sent) other new = (other ≡ slot) × (new ≡ after_promise (records slot) ballot)
 IsNew records (Votes slot vote sent) other new = (other ≡ slot) × (new ≡ after_vote vote)
 IsNew records act other new = ⊥
 
-with_cases : (records : Records) (slot : Slot) (new : Record) (other : Slot) (test : Bool) → same_slot other slot ≡ test → (with_record records slot new other ≡ records other) ⊎ ((other ≡ slot) × (with_record records slot new other ≡ new))
+with_cases : (records : Records) (slot : Slot) (new : SlotRecord) (other : Slot) (test : Bool) → same_slot other slot ≡ test → (with_record records slot new other ≡ records other) ⊎ ((other ≡ slot) × (with_record records slot new other ≡ new))
 with_cases records slot new other true same = inr (slots_same other slot same, ap (λ (test : Bool). if test then new else records other) same)
 with_cases records slot new other false same = inl (ap (λ (test : Bool). if test then new else records other) same)
 
@@ -60,19 +63,19 @@ pub record Grows (w v : World) : Type 0 where
   pub incarnations : (node : ℕ) → (w.actors node).incarnation ≤ (v.actors node).incarnation
   pub past : (deed : Deed) → In deed w.past → In deed v.past
 
-new_promised : (w : World) (node : ℕ) (act : Act) → May w node act → (slot : Slot) (new : Record) → IsNew (w.records node) act slot new → (w.records node slot).promised ≤ new.promised
+new_promised : (w : World) (node : ℕ) (act : Act) → May w node act → (slot : Slot) (new : SlotRecord) → IsNew (w.records node) act slot new → (w.records node slot).promised ≤ new.promised
 new_promised w node (Promises slot ballot sent) may other new is =
-    let below : (w.records node slot).promised < ballot = may.needs in
-    subst (λ (s : Slot). (w.records node s).promised ≤ new.promised) (sym is.0) (subst (λ (r : Record). (w.records node slot).promised ≤ r.promised) (sym is.1) (omega (arith, below)))
+    let below : (w.records node slot).promised < ballot = may.needs.may in
+    subst (λ (s : Slot). (w.records node s).promised ≤ new.promised) (sym is.0) (subst (λ (r : SlotRecord). (w.records node slot).promised ≤ r.promised) (sym is.1) (omega (arith, below)))
 new_promised w node (Votes slot vote sent) may other new is =
     let below : (w.records node slot).promised ≤ vote.ballot = may.needs.may in
-    subst (λ (s : Slot). (w.records node s).promised ≤ new.promised) (sym is.0) (subst (λ (r : Record). (w.records node slot).promised ≤ r.promised) (sym is.1) below)
+    subst (λ (s : Slot). (w.records node s).promised ≤ new.promised) (sym is.0) (subst (λ (r : SlotRecord). (w.records node slot).promised ≤ r.promised) (sym is.1) below)
 new_promised w node act may other new is = absurd is
 
 promised_after : (w : World) (node : ℕ) (act : Act) → May w node act → (other : ℕ) (slot : Slot) → (w.records other slot).promised ≤ ((after w node act).records other slot).promised
 promised_after w node act may other slot =
     elim (records_after w node act other slot) [
-      | inl same ↦ subst (λ (r : Record). (w.records other slot).promised ≤ r.promised) (sym same) (omega arith)
+      | inl same ↦ subst (λ (r : SlotRecord). (w.records other slot).promised ≤ r.promised) (sym same) (omega arith)
       | inr new ↦ subst (λ (n : ℕ). (w.records n slot).promised ≤ ((after w node act).records other slot).promised) (sym new.node_is) (new_promised w node act may slot ((after w node act).records other slot) new.is_new)
     ]
 
@@ -100,15 +103,17 @@ actor_apart w node act other apart = elim (actors_after w node act other) [ inl 
 pub record Remembers (a b : Actor) : Type 0 where
   pub incarnation : b.incarnation ≡ a.incarnation
   pub ticket : a.ticket ≤ b.ticket
+  pub serial : a.serial ≤ b.serial
   pub received : (packet : Packet) → In packet a.received → In packet b.received
   pub sent : (packet : Packet) → In packet a.sent → In packet b.sent
   pub granted : (slot : Slot) → In slot a.granted → In slot b.granted
   pub closed : (attempt : Slot × Outcome) → In attempt a.closed → In attempt b.closed
 
-remembers_all : (a b : Actor) → b.incarnation ≡ a.incarnation → b.ticket ≡ a.ticket → b.received ≡ a.received → b.sent ≡ a.sent → b.granted ≡ a.granted → b.closed ≡ a.closed → Remembers a b
-remembers_all a b incarnation ticket received sent granted closed = record {
+remembers_all : (a b : Actor) → b.incarnation ≡ a.incarnation → b.ticket ≡ a.ticket → b.serial ≡ a.serial → b.received ≡ a.received → b.sent ≡ a.sent → b.granted ≡ a.granted → b.closed ≡ a.closed → Remembers a b
+remembers_all a b incarnation ticket serial received sent granted closed = record {
   incarnation = incarnation;
   ticket = omega (arith, ticket);
+  serial = omega (arith, serial);
   received = λ packet is_in. subst (λ (xs : List Packet). In packet xs) (sym received) is_in;
   sent = λ packet is_in. subst (λ (xs : List Packet). In packet xs) (sym sent) is_in;
   granted = λ slot is_in. subst (λ (xs : List Slot). In slot xs) (sym granted) is_in;
@@ -116,29 +121,35 @@ remembers_all a b incarnation ticket received sent granted closed = record {
 }
 
 abbrev pub StartsAnew : Act → Type 0
-StartsAnew act = (serial : ℕ) × (act ≡ Restarts serial)
+StartsAnew act = (lost : ℕ) × (serial : ℕ) × (act ≡ Restarts lost serial)
+
+-- a submit_sm takes a serial, and nothing else does
+serials : (request : Request) (serial : ℕ) → serial ≤ next_serial request serial
+serials (Submit id message) serial = omega arith
+serials (Query id account source) serial = omega arith
+serials (Cancel id account source destination) serial = omega arith
 
 pub remembers : (node : ℕ) (a : Actor) (act : Act) → StartsAnew act ⊎ Remembers a (actor_by node a act)
-remembers node a (Restarts serial) = inl (serial, refl)
-remembers node a (Receives packet) = inr (record { incarnation = refl; ticket = omega arith; received = λ other is_in. inr is_in; sent = λ other is_in. is_in; granted = λ slot is_in. is_in; closed = λ attempt is_in. is_in })
-remembers node a (Prepares slot ballot) = inr (record { incarnation = refl; ticket = omega arith; received = λ packet is_in. is_in; sent = λ packet is_in. inr is_in; granted = λ other is_in. is_in; closed = λ attempt is_in. is_in })
-remembers node a (Proposes slot vote) = inr (record { incarnation = refl; ticket = omega arith; received = λ packet is_in. is_in; sent = λ packet is_in. inr is_in; granted = λ other is_in. is_in; closed = λ attempt is_in. is_in })
-remembers node a (Begins ticket request) = inr (record { incarnation = refl; ticket = omega arith; received = λ packet is_in. is_in; sent = λ packet is_in. is_in; granted = λ slot is_in. is_in; closed = λ attempt is_in. is_in })
-remembers node a (Grants slot) = inr (record { incarnation = refl; ticket = omega arith; received = λ packet is_in. is_in; sent = λ packet is_in. is_in; granted = λ other is_in. inr is_in; closed = λ attempt is_in. is_in })
-remembers node a (Answers slot outcome) = inr (record { incarnation = refl; ticket = omega arith; received = λ packet is_in. is_in; sent = λ packet is_in. is_in; granted = λ other is_in. is_in; closed = λ attempt is_in. inr is_in })
-remembers node a (Abandons slot) = inr (record { incarnation = refl; ticket = omega arith; received = λ packet is_in. is_in; sent = λ packet is_in. is_in; granted = λ other is_in. is_in; closed = λ attempt is_in. inr is_in })
-remembers node a act = inr (remembers_all a (actor_by node a act) refl refl refl refl refl refl)
+remembers node a (Restarts lost serial) = inl (lost, serial, refl)
+remembers node a (Receives packet) = inr (record { incarnation = refl; ticket = omega arith; serial = omega arith; received = λ other is_in. inr is_in; sent = λ other is_in. is_in; granted = λ slot is_in. is_in; closed = λ attempt is_in. is_in })
+remembers node a (Prepares slot ballot chain) = inr (record { incarnation = refl; ticket = omega arith; serial = omega arith; received = λ packet is_in. is_in; sent = λ packet is_in. inr is_in; granted = λ other is_in. is_in; closed = λ attempt is_in. is_in })
+remembers node a (Proposes slot vote) = inr (record { incarnation = refl; ticket = omega arith; serial = omega arith; received = λ packet is_in. is_in; sent = λ packet is_in. inr is_in; granted = λ other is_in. is_in; closed = λ attempt is_in. is_in })
+remembers node a (Begins ticket request) = inr (record { incarnation = refl; ticket = omega arith; serial = serials request a.serial; received = λ packet is_in. is_in; sent = λ packet is_in. is_in; granted = λ slot is_in. is_in; closed = λ attempt is_in. is_in })
+remembers node a (Grants slot) = inr (record { incarnation = refl; ticket = omega arith; serial = omega arith; received = λ packet is_in. is_in; sent = λ packet is_in. is_in; granted = λ other is_in. inr is_in; closed = λ attempt is_in. is_in })
+remembers node a (Concludes slot outcome) = inr (record { incarnation = refl; ticket = omega arith; serial = omega arith; received = λ packet is_in. is_in; sent = λ packet is_in. is_in; granted = λ other is_in. is_in; closed = λ attempt is_in. inr is_in })
+remembers node a (Abandons slot) = inr (record { incarnation = refl; ticket = omega arith; serial = omega arith; received = λ packet is_in. is_in; sent = λ packet is_in. is_in; granted = λ other is_in. is_in; closed = λ attempt is_in. inr is_in })
+remembers node a act = inr (remembers_all a (actor_by node a act) refl refl refl refl refl refl refl)
 
 pub later : (node : ℕ) (a : Actor) (act : Act) → a.incarnation ≤ (actor_by node a act).incarnation
 later node a act = elim (remembers node a act) [
-  | inl anew ↦ subst (λ (x : Act). a.incarnation ≤ (actor_by node a x).incarnation) (sym anew.1) (omega arith)
+  | inl anew ↦ subst (λ (x : Act). a.incarnation ≤ (actor_by node a x).incarnation) (sym anew.2) (omega arith)
   | inr r ↦ let same = r.incarnation in omega (arith, same)
 ]
 
 -- an actor that is in the same incarnation remembers
 pub same_life : (node : ℕ) (a : Actor) (act : Act) → (actor_by node a act).incarnation ≡ a.incarnation → Remembers a (actor_by node a act)
 same_life node a act same = elim (remembers node a act) [
-  | inl anew ↦ absurd (let next : (actor_by node a act).incarnation ≡ suc a.incarnation = ap (λ (x : Act). (actor_by node a x).incarnation) anew.1 in omega (arith, same, next))
+  | inl anew ↦ absurd (let next : (actor_by node a act).incarnation ≡ suc (a.incarnation + anew.0) = ap (λ (x : Act). (actor_by node a x).incarnation) anew.2 in omega (arith, same, next))
   | inr r ↦ r
 ]
 

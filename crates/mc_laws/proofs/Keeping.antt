@@ -2,14 +2,17 @@
 use Rattle.std.proofs.Common.{◌≡◌, ◌⊎◌, ℕ, ◌<◌, ◌≤◌, Bool, true, false, List, [], ◌∷◌, Option, Some, None, refl, sym, ◌∙◌, ap, subst, inl, inr, arith}
 use Rattle.std.specs.Prelude.{◌==◌, if◌then◌else◌}
 use Rattle.std.proofs.lemmas.Bool.{eq-eqb, and_from}
-use Rattle.mc_model.specs.Ballot.{proposer_of, incarnation_in}
-use Rattle.mc_model.specs.Chain.{Decree}
-use Rattle.mc_model.specs.OneSlot.{Vote, vote_at, In, Tells as Reaches, IsOfHighest, IsJustified, IsSound}
-use Rattle.mc_model.specs.Packet.{Slot, Packet, Prepare, Promise, Propose, Voted, Refused, Ask, Tell}
-use Rattle.mc_model.specs.Acceptor.{Record, Records, with_record, after_promise, after_vote}
-use Rattle.mc_model.specs.Actor.{Actor}
-use Rattle.mc_model.specs.World.{World, Act, Receives, Promises, Votes, Refuses, Tells, Prepares, Proposes, Asks, Restarts, Cast, cast, May, after, records_by, actor_by, votes_by, sent_by, if_sent, start}
-use Rattle.mc_laws.proofs.Membership.{in_either}
+use Rattle.mc_model.specs.message.Decree.{Decree}
+use Rattle.mc_model.specs.synod.Lists.{In}
+use Rattle.mc_model.specs.synod.Ballot.{proposer_of, incarnation_in}
+use Rattle.mc_model.specs.synod.OneSlot.{Vote, vote_at, IsOfHighest, IsJustified, IsSound, Reaches}
+use Rattle.mc_model.specs.synod.Packet.{Slot, slot_at, TopVote, Packet, Prepare, Promise, Propose, Voted, Refused, Ask, Tell}
+use Rattle.mc_model.specs.synod.Acceptor.{SlotRecord, Records, IsTop, with_record, after_promise, after_vote}
+use Rattle.mc_model.specs.node.Actor.{Actor}
+use Rattle.mc_model.specs.node.Act.{Act, Receives, Promises, Votes, Refuses, Tells, Prepares, Proposes, Asks, Restarts}
+use Rattle.mc_model.specs.node.Effect.{records_by, actor_by, if_sent}
+use Rattle.mc_model.specs.cluster.World.{World, Cast, cast, May, after, votes_by, sent_by, start}
+use Rattle.mc_parts.proofs.Membership.{in_either}
 use Rattle.mc_laws.proofs.Growth.{Grows, grows, IsNew, records_after, changed_cases, later, same_life, changed_here}
 
 -- ---- what holds of each packet
@@ -31,12 +34,13 @@ Fits w (Propose sender slot vote) = ProposeFits w sender slot vote
 Fits w (Voted sender slot vote) = In (cast sender slot vote) w.votes
 Fits w (Refused sender slot ballot promised) = Unit {0}
 Fits w (Ask sender id name) = Unit {0}
-Fits w (Tell sender name told) = Unit {0}
+Fits w (Tell sender name None) = Unit {0}
+Fits w (Tell sender name (Some told)) = In (cast sender (slot_at told.id told.place) told.vote) w.votes
 
 -- ---- what holds of a world
 
 -- a record keeps a vote: it has one that is not below it
-pub record KeepsVote (r : Record) (vote : Vote) : Type 0 where
+pub record KeepsVote (r : SlotRecord) (vote : Vote) : Type 0 where
   pub held : Vote
   pub holds : r.vote ≡ Some held
   pub above : vote.ballot ≤ held.ballot
@@ -95,11 +99,12 @@ fits_still w v grown (Propose sender slot vote) fits = record {
 fits_still w v grown (Voted sender slot vote) fits = grown.votes (cast sender slot vote) fits
 fits_still w v grown (Refused sender slot ballot promised) fits = tt
 fits_still w v grown (Ask sender id name) fits = tt
-fits_still w v grown (Tell sender name told) fits = tt
+fits_still w v grown (Tell sender name None) fits = tt
+fits_still w v grown (Tell sender name (Some told)) fits = grown.votes (cast sender (slot_at told.id told.place) told.vote) fits
 
 -- ---- the record that a node has after its own act
 
-pub with_here : (records : Records) (slot : Slot) (new : Record) → with_record records slot new slot ≡ new
+pub with_here : (records : Records) (slot : Slot) (new : SlotRecord) → with_record records slot new slot ≡ new
 with_here records slot new =
     ap (λ (test : Bool). if test then new else records slot) (and_from (slot.id == slot.id) (slot.place == slot.place) (eq-eqb slot.id slot.id refl) (eq-eqb slot.place slot.place refl))
 
@@ -114,7 +119,7 @@ IsSent w node (Promises slot ballot sent) packet = packet ≡ Promise node slot 
 IsSent w node (Votes slot vote sent) packet = packet ≡ Voted node slot vote
 IsSent w node (Refuses slot ballot) packet = packet ≡ Refused node slot ballot (w.records node slot).promised
 IsSent w node (Tells id name told) packet = packet ≡ Tell node name told
-IsSent w node (Prepares slot ballot) packet = packet ≡ Prepare node slot ballot
+IsSent w node (Prepares slot ballot chain) packet = packet ≡ Prepare node slot ballot
 IsSent w node (Proposes slot vote) packet = packet ≡ Propose node slot vote
 IsSent w node (Asks id ticket) packet = packet ≡ Ask node id (record { node = node; incarnation = (w.actors node).incarnation; ticket = ticket })
 IsSent w node act packet = ⊥
@@ -132,7 +137,7 @@ sent_is w node (Promises slot ballot sent) packet is_in = only_if sent packet _ 
 sent_is w node (Votes slot vote sent) packet is_in = only_if sent packet _ is_in
 sent_is w node (Refuses slot ballot) packet is_in = only packet _ is_in
 sent_is w node (Tells id name told) packet is_in = only packet _ is_in
-sent_is w node (Prepares slot ballot) packet is_in = only packet _ is_in
+sent_is w node (Prepares slot ballot chain) packet is_in = only packet _ is_in
 sent_is w node (Proposes slot vote) packet is_in = only packet _ is_in
 sent_is w node (Asks id ticket) packet is_in = only packet _ is_in
 sent_is w node act packet is_in = absurd is_in
@@ -143,7 +148,7 @@ reaches report held ballot is above = subst (λ (r : Option Vote). Reaches r bal
 
 promise_fits : (w : World) → Keeps w → (node : ℕ) (slot : Slot) (ballot : ℕ) (sent : Bool) → (w.records node slot).promised < ballot → PromiseFits (after w node (Promises slot ballot sent)) node slot ballot (w.records node slot).vote
 promise_fits w keeps node slot ballot sent below = record {
-  bound = subst (λ (r : Record). ballot ≤ r.promised) (sym (promise_here w node slot ballot sent)) (omega arith);
+  bound = subst (λ (r : SlotRecord). ballot ≤ r.promised) (sym (promise_here w node slot ballot sent)) (omega arith);
   kept = λ vote is_in lower.
       let k = keeps.records (cast node slot vote) is_in in
       reaches (w.records node slot).vote k.held vote.ballot k.holds k.above;
@@ -157,16 +162,23 @@ propose_fits w node slot vote may = record {
   justified = justified_more w.nodes (λ acceptor report. In (Promise acceptor slot vote.ballot report) w.packets) (λ acceptor report. In (Promise acceptor slot vote.ballot report) (after w node (Proposes slot vote)).packets) vote.chain (λ acceptor report is_in. inr is_in) may.needs.justified;
 }
 
+-- what an acceptor tells of it voted for
+told_cast : (w : World) → Keeps w → (node id : ℕ) (told : TopVote) → IsTop (w.records node) id told → In (cast node (slot_at told.id told.place) told.vote) w.votes
+told_cast w keeps node id told top =
+    subst (λ (i : ℕ). In (cast node (slot_at i told.place) told.vote) w.votes) (sym top.about) (keeps.held node (slot_at id told.place) told.vote top.voted).voted
+
 fits_new : (w : World) → Keeps w → (node : ℕ) (act : Act) → May w node act → (packet : Packet) → IsSent w node act packet → Fits (after w node act) packet
 fits_new w keeps node (Promises slot ballot sent) may packet is =
-    subst (λ (p : Packet). Fits (after w node (Promises slot ballot sent)) p) (sym is) (promise_fits w keeps node slot ballot sent may.needs)
+    subst (λ (p : Packet). Fits (after w node (Promises slot ballot sent)) p) (sym is) (promise_fits w keeps node slot ballot sent may.needs.may)
 fits_new w keeps node (Votes slot vote sent) may packet is =
     subst (λ (p : Packet). Fits (after w node (Votes slot vote sent)) p) (sym is) (inl refl)
 fits_new w keeps node (Proposes slot vote) may packet is =
     subst (λ (p : Packet). Fits (after w node (Proposes slot vote)) p) (sym is) (propose_fits w node slot vote may)
 fits_new w keeps node (Refuses slot ballot) may packet is = subst (λ (p : Packet). Fits (after w node (Refuses slot ballot)) p) (sym is) tt
-fits_new w keeps node (Tells id name told) may packet is = subst (λ (p : Packet). Fits (after w node (Tells id name told)) p) (sym is) tt
-fits_new w keeps node (Prepares slot ballot) may packet is = subst (λ (p : Packet). Fits (after w node (Prepares slot ballot)) p) (sym is) tt
+fits_new w keeps node (Tells id name None) may packet is = subst (λ (p : Packet). Fits (after w node (Tells id name None)) p) (sym is) tt
+fits_new w keeps node (Tells id name (Some told)) may packet is =
+    subst (λ (p : Packet). Fits (after w node (Tells id name (Some told))) p) (sym is) (told_cast w keeps node id told may.needs.told_is)
+fits_new w keeps node (Prepares slot ballot chain) may packet is = subst (λ (p : Packet). Fits (after w node (Prepares slot ballot chain)) p) (sym is) tt
 fits_new w keeps node (Asks id ticket) may packet is = subst (λ (p : Packet). Fits (after w node (Asks id ticket)) p) (sym is) tt
 fits_new w keeps node act may packet is = absurd is
 
@@ -179,20 +191,20 @@ fits_after w keeps node act may packet is_in = elim (in_either packet (sent_by w
 -- ---- records and votes
 
 -- what a record keeps it keeps when it is made new
-keeps_new : (w : World) → Keeps w → (node : ℕ) (act : Act) → May w node act → (slot : Slot) (new : Record) → IsNew (w.records node) act slot new → (vote : Vote) → In (cast node slot vote) w.votes → KeepsVote new vote
+keeps_new : (w : World) → Keeps w → (node : ℕ) (act : Act) → May w node act → (slot : Slot) (new : SlotRecord) → IsNew (w.records node) act slot new → (vote : Vote) → In (cast node slot vote) w.votes → KeepsVote new vote
 keeps_new w keeps node (Promises slot ballot sent) may other new is vote is_in =
     let k = keeps.records (cast node other vote) is_in in
-    record { held = k.held; holds = ap (λ (r : Record). r.vote) is.1 ∙ ap (λ (s : Slot). (w.records node s).vote) (sym is.0) ∙ k.holds; above = k.above }
+    record { held = k.held; holds = ap (λ (r : SlotRecord). r.vote) is.1 ∙ ap (λ (s : Slot). (w.records node s).vote) (sym is.0) ∙ k.holds; above = k.above }
 keeps_new w keeps node (Votes slot voted sent) may other new is vote is_in =
     let k = keeps.records (cast node other vote) is_in in
     let h = keeps.held node other k.held k.holds in
     let may_vote : (w.records node slot).promised ≤ voted.ballot = may.needs.may in
     let same : (w.records node other).promised ≡ (w.records node slot).promised = ap (λ (s : Slot). (w.records node s).promised) is.0 in
-    record { held = voted; holds = ap (λ (r : Record). r.vote) is.1; above = omega (arith, k.above, h.within, may_vote, same) }
+    record { held = voted; holds = ap (λ (r : SlotRecord). r.vote) is.1; above = omega (arith, k.above, h.within, may_vote, same) }
 keeps_new w keeps node act may other new is vote is_in = absurd is
 
-same_record : (r s : Record) (vote : Vote) → s ≡ r → KeepsVote r vote → KeepsVote s vote
-same_record r s vote same k = record { held = k.held; holds = ap (λ (x : Record). x.vote) same ∙ k.holds; above = k.above }
+same_record : (r s : SlotRecord) (vote : Vote) → s ≡ r → KeepsVote r vote → KeepsVote s vote
+same_record r s vote same k = record { held = k.held; holds = ap (λ (x : SlotRecord). x.vote) same ∙ k.holds; above = k.above }
 
 old_kept : (w : World) → Keeps w → (node : ℕ) (act : Act) → May w node act → (c : Cast) → In c w.votes → KeepsVote ((after w node act).records c.acceptor c.slot) c.vote
 old_kept w keeps node act may c is_in = elim (records_after w node act c.acceptor c.slot) [
@@ -225,18 +237,18 @@ records_kept w keeps node act may c is_in = elim (in_either c (votes_by node act
 ]
 
 -- a record that an act makes new holds a vote that was saved
-held_new : (w : World) → Keeps w → (node : ℕ) (act : Act) → May w node act → (slot : Slot) (new : Record) → IsNew (w.records node) act slot new → (vote : Vote) → new.vote ≡ Some vote → In (cast node slot vote) (after w node act).votes × (vote.ballot ≤ new.promised)
+held_new : (w : World) → Keeps w → (node : ℕ) (act : Act) → May w node act → (slot : Slot) (new : SlotRecord) → IsNew (w.records node) act slot new → (vote : Vote) → new.vote ≡ Some vote → In (cast node slot vote) (after w node act).votes × (vote.ballot ≤ new.promised)
 held_new w keeps node (Promises slot ballot sent) may other new is vote holds =
-    let before : (w.records node other).vote ≡ Some vote = ap (λ (s : Slot). (w.records node s).vote) is.0 ∙ sym (ap (λ (r : Record). r.vote) is.1) ∙ holds in
+    let before : (w.records node other).vote ≡ Some vote = ap (λ (s : Slot). (w.records node s).vote) is.0 ∙ sym (ap (λ (r : SlotRecord). r.vote) is.1) ∙ holds in
     let h = keeps.held node other vote before in
-    let below : (w.records node slot).promised < ballot = may.needs in
+    let below : (w.records node slot).promised < ballot = may.needs.may in
     let same : (w.records node other).promised ≡ (w.records node slot).promised = ap (λ (s : Slot). (w.records node s).promised) is.0 in
-    let promised : new.promised ≡ ballot = ap (λ (r : Record). r.promised) is.1 in
+    let promised : new.promised ≡ ballot = ap (λ (r : SlotRecord). r.promised) is.1 in
     (h.voted, omega (arith, h.within, below, same, promised))
 held_new w keeps node (Votes slot voted sent) may other new is vote holds =
-    let same : Some voted ≡ Some vote = sym (ap (λ (r : Record). r.vote) is.1) ∙ holds in
+    let same : Some voted ≡ Some vote = sym (ap (λ (r : SlotRecord). r.vote) is.1) ∙ holds in
     let votes : voted ≡ vote = cc in
-    let promised : new.promised ≡ voted.ballot = ap (λ (r : Record). r.promised) is.1 in
+    let promised : new.promised ≡ voted.ballot = ap (λ (r : SlotRecord). r.promised) is.1 in
     (inl (λ i. cast node (is.0 i) (sym votes i)), let ballots : voted.ballot ≡ vote.ballot = ap (λ (v : Vote). v.ballot) votes in omega (arith, promised, ballots))
 held_new w keeps node act may other new is vote holds = absurd is
 
@@ -245,7 +257,7 @@ held_after w keeps node act may other slot vote holds =
     let grown = grows w node act may in
     elim (records_after w node act other slot) [
       | inl same ↦
-          let h = keeps.held other slot vote (sym (ap (λ (r : Record). r.vote) same) ∙ holds) in
+          let h = keeps.held other slot vote (sym (ap (λ (r : SlotRecord). r.vote) same) ∙ holds) in
           let more = grown.promised other slot in
           record { voted = grown.votes (cast other slot vote) h.voted; within = omega (arith, h.within, more) }
       | inr new ↦
@@ -276,7 +288,7 @@ proposing w node (Promises other ballot sent) sender slot vote is = cc
 proposing w node (Votes other voted sent) sender slot vote is = cc
 proposing w node (Refuses other ballot) sender slot vote is = cc
 proposing w node (Tells id name told) sender slot vote is = cc
-proposing w node (Prepares other ballot) sender slot vote is = cc
+proposing w node (Prepares other ballot chain) sender slot vote is = cc
 proposing w node (Asks id ticket) sender slot vote is = cc
 proposing w node act sender slot vote is = absurd is
 
@@ -353,7 +365,7 @@ single_after w keeps node act may slot m n one other in_one in_other same =
 heard : (w : World) → Keeps w → (node : ℕ) (act : Act) → May w node act → (packet : Packet) → In packet (actor_by node (w.actors node) act).received → In packet w.packets
 heard w keeps node (Receives new) may packet (inl same) = subst (λ (p : Packet). In p w.packets) (sym same) may.needs
 heard w keeps node (Receives new) may packet (inr old) = keeps.received node packet old
-heard w keeps node (Restarts serial) may packet is_in = absurd is_in
+heard w keeps node (Restarts lost serial) may packet is_in = absurd is_in
 heard w keeps node act may packet is_in = keeps.received node packet is_in
 
 received_after : (w : World) → Keeps w → (node : ℕ) (act : Act) → May w node act → (other : ℕ) (packet : Packet) → In packet ((after w node act).actors other).received → In packet (after w node act).packets

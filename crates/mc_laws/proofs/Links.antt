@@ -1,16 +1,24 @@
 -- Every chain that is proposed is a permitted one, and stands on a chosen one; and an open attempt is not passed.
 use Rattle.std.proofs.Common.{◌≡◌, ◌⊎◌, ℕ, ◌<◌, ◌≤◌, List, [], ◌∷◌, Option, Some, None, refl, sym, ◌∙◌, ap, subst, inl, inr, arith}
 use Rattle.std.proofs.lemmas.Bool.{cases_eq}
-use Rattle.mc_model.specs.Chain.{Author, Submission, Decree, Kind, Taken, Attempt, Failed, Fate, Delivered, Expired, Deleted, Undeliverable, Rejected, IsTaken, IsPermitted, MayFollow, MayExtend}
-use Rattle.mc_model.specs.Majority.{Majority}
-use Rattle.mc_model.specs.OneSlot.{Vote, vote_at, In, IsOfHighest}
-use Rattle.mc_model.specs.Packet.{Slot, slot_of, Promise}
-use Rattle.mc_model.specs.Actor.{Actor, Request, Submit, Waiting, Outcome, Unanswered, decree_of}
-use Rattle.mc_model.specs.Proposal.{IsFirst, IsNext, IsOwn, IsFree, IsClosed, IsLost, Allows}
-use Rattle.mc_model.specs.World.{World, Act, Proposes, Begins, Settles, Replies, Answers, Abandons, Restarts, Deed, cast, May, IsChosenIn, StandsIn, MayWait, after, actor_by, settle, start}
-use Rattle.mc_model.specs.Fate.{deed_by}
-use Rattle.mc_laws.proofs.Membership.{in_either, of_only, in_map, in_filter}
-use Rattle.mc_laws.proofs.Majorities.{both}
+use Rattle.mc_model.specs.message.Submission.{Submission}
+use Rattle.mc_model.specs.message.Decree.{Author, Decree, Kind, Taken, Attempt, Failed, Fate, Delivered, Expired, Deleted, Undeliverable, Rejected}
+use Rattle.mc_model.specs.message.Neighbours.{IsTaken, MayFollow}
+use Rattle.mc_model.specs.message.Chain.{IsPermitted, MayExtend}
+use Rattle.mc_model.specs.synod.Lists.{In}
+use Rattle.mc_model.specs.synod.Majority.{Majority}
+use Rattle.mc_model.specs.synod.OneSlot.{Vote, vote_at, IsOfHighest}
+use Rattle.mc_model.specs.synod.Packet.{Slot, slot_of, Promise}
+use Rattle.mc_model.specs.node.Outcome.{Outcome, Unanswered, decree_of}
+use Rattle.mc_model.specs.node.Actor.{Actor, Request, Submit, Waiting}
+use Rattle.mc_model.specs.node.Room.{IsFitToWait, IsNumbered}
+use Rattle.mc_model.specs.node.Proposal.{IsFirst, IsNext, IsOwn, IsFree, IsClosed, IsLost, Allows}
+use Rattle.mc_model.specs.node.Act.{Act, Proposes, Begins, Settles, Replies, Concludes, Abandons, Restarts}
+use Rattle.mc_model.specs.node.Effect.{actor_by, settle}
+use Rattle.mc_model.specs.cluster.World.{World, Deed, cast, May, IsChosenIn, StandsIn, after, start}
+use Rattle.mc_model.specs.cluster.Fate.{deed_by}
+use Rattle.mc_parts.proofs.Membership.{in_either, of_only, in_map, in_filter}
+use Rattle.mc_parts.proofs.Majorities.{both}
 use Rattle.mc_laws.proofs.Growth.{Grows, grows, changed_cases, later, same_life, actors_after, actor_here, actor_apart}
 use Rattle.mc_laws.proofs.Keeping.{Keeps, WasProposed, PromiseFits, proposal_cases}
 
@@ -19,7 +27,7 @@ use Rattle.mc_laws.proofs.Keeping.{Keeps, WasProposed, PromiseFits, proposal_cas
 -- an attempt was closed by its author, with this outcome
 abbrev pub ClosedIn : List Deed → Author → Slot → Outcome → Type 0
 ClosedIn past author slot outcome =
-    In (deed_by author (Answers slot outcome)) past ⊎ ((outcome ≡ Unanswered 998) × In (deed_by author (Abandons slot)) past)
+    In (deed_by author (Concludes slot outcome)) past ⊎ ((outcome ≡ Unanswered 998) × In (deed_by author (Abandons slot)) past)
 
 pub record PassedClosed (w : World) (attempted : Author) (slot : Slot) (next : Kind) : Type 0 where
   pub outcome : Outcome
@@ -183,11 +191,11 @@ closed_more w node act author slot outcome (inr abandoned) = inr (abandoned.0, i
 
 -- what an act leaves that an actor has closed
 closed_by : (w : World) → Links w → (node : ℕ) (act : Act) (slot : Slot) (outcome : Outcome) → In (slot, outcome) (actor_by node (w.actors node) act).closed → ClosedIn (after w node act).past (record { node = node; incarnation = (actor_by node (w.actors node) act).incarnation }) slot outcome
-closed_by w links node (Answers other came) slot outcome (inl new) = inl (inl (λ i. record { node = node; incarnation = (w.actors node).incarnation; act = Answers (new i).0 (new i).1 }))
-closed_by w links node (Answers other came) slot outcome (inr old) = closed_more w node (Answers other came) _ slot outcome (links.closed node slot outcome old)
+closed_by w links node (Concludes other came) slot outcome (inl new) = inl (inl (λ i. record { node = node; incarnation = (w.actors node).incarnation; act = Concludes (new i).0 (new i).1 }))
+closed_by w links node (Concludes other came) slot outcome (inr old) = closed_more w node (Concludes other came) _ slot outcome (links.closed node slot outcome old)
 closed_by w links node (Abandons other) slot outcome (inl new) = inr (ap (λ (x : Slot × Outcome). x.1) new, inl (λ i. record { node = node; incarnation = (w.actors node).incarnation; act = Abandons (new i).0 }))
 closed_by w links node (Abandons other) slot outcome (inr old) = closed_more w node (Abandons other) _ slot outcome (links.closed node slot outcome old)
-closed_by w links node (Restarts serial) slot outcome is_in = absurd is_in
+closed_by w links node (Restarts lost serial) slot outcome is_in = absurd is_in
 closed_by w links node act slot outcome is_in = closed_more w node act _ slot outcome (links.closed node slot outcome is_in)
 
 closed_after : (w : World) → Links w → (node : ℕ) (act : Act) (other : ℕ) (slot : Slot) (outcome : Outcome) → In (slot, outcome) ((after w node act).actors other).closed → ClosedIn (after w node act).past (record { node = other; incarnation = ((after w node act).actors other).incarnation }) slot outcome
@@ -211,19 +219,19 @@ lived_after w links node act may deed (inr old) =
 
 -- ---- the messages that wait to be taken
 
-begun_takes : (node : ℕ) (a : Actor) (ticket : ℕ) (request : Request) → MayWait node a request → MayTake node a → MayTake node (actor_by node a (Begins ticket request))
+begun_takes : (node : ℕ) (a : Actor) (ticket : ℕ) (request : Request) → IsFitToWait node a request → MayTake node a → MayTake node (actor_by node a (Begins ticket request))
 begun_takes node a ticket request may takes waiting id message is_in submits = elim (in_either waiting a.waiting _ is_in) [
   | inl old ↦ takes waiting id message old submits
-  | inr new ↦ of_only (λ (x : Waiting). x.request ≡ Submit id message → IsTaken id (record { node = node; incarnation = a.incarnation }) x.since message) _ waiting (λ is. let m : MayWait node a (Submit id message) = subst (MayWait node a) is may in m.2) new submits
+  | inr new ↦ of_only (λ (x : Waiting). x.request ≡ Submit id message → IsTaken id (record { node = node; incarnation = a.incarnation }) x.since message) _ waiting (λ is. let m : IsNumbered node a id message = subst (IsFitToWait node a) is may in m.takes) new submits
 ]
 
 takes_by : (w : World) (node : ℕ) (act : Act) → May w node act → MayTake node (w.actors node) → MayTake node (actor_by node (w.actors node) act)
-takes_by w node (Begins ticket request) may takes waiting id message is_in submits = begun_takes node (w.actors node) ticket request may.needs.1 takes waiting id message is_in submits
+takes_by w node (Begins ticket request) may takes waiting id message is_in submits = begun_takes node (w.actors node) ticket request may.needs.fit takes waiting id message is_in submits
 takes_by w node (Settles ticket) may takes waiting id message is_in submits =
     let m = in_map (settle ticket) (w.actors node).waiting waiting is_in in
     subst (λ (x : Waiting). IsTaken id (record { node = node; incarnation = (w.actors node).incarnation }) x.since message) (sym m.made) (takes m.from id message m.member (ap (λ (x : Waiting). x.request) (sym m.made) ∙ submits))
 takes_by w node (Replies ticket other answer) may takes waiting id message is_in submits = takes waiting id message (in_filter _ (w.actors node).waiting waiting is_in) submits
-takes_by w node (Restarts serial) may takes waiting id message is_in submits = absurd is_in
+takes_by w node (Restarts lost serial) may takes waiting id message is_in submits = absurd is_in
 takes_by w node act may takes waiting id message is_in submits = takes waiting id message is_in submits
 
 takes_after : (w : World) → Links w → (node : ℕ) (act : Act) → May w node act → (other : ℕ) → MayTake other ((after w node act).actors other)
@@ -234,7 +242,7 @@ takes_after w links node act may other = elim (actors_after w node act other) [
 
 -- ---- what an actor closed in this incarnation it remembers
 
-closed_new : (w : World) (node : ℕ) (act : Act) (slot : Slot) (outcome : Outcome) → act ≡ Answers slot outcome → In (slot, outcome) (actor_by node (w.actors node) act).closed
+closed_new : (w : World) (node : ℕ) (act : Act) (slot : Slot) (outcome : Outcome) → act ≡ Concludes slot outcome → In (slot, outcome) (actor_by node (w.actors node) act).closed
 closed_new w node act slot outcome is = subst (λ (x : Act). In (slot, outcome) (actor_by node (w.actors node) x).closed) (sym is) (inl refl)
 
 abandoned_new : (w : World) (node : ℕ) (act : Act) (slot : Slot) → act ≡ Abandons slot → In (slot, Unanswered 998) (actor_by node (w.actors node) act).closed

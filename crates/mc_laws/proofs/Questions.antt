@@ -1,17 +1,23 @@
 -- The stories of a query_sm and of a cancel_sm are runs.
 use Rattle.std.proofs.Common.{◌≡◌, ℕ, ◌≤◌, Bool, true, false, List, [], ◌∷◌, ◌++◌, pred, length, map, Some, refl, sym, ap, subst, inl, inr, arith}
 use Rattle.std.specs.Prelude.{if◌then◌else◌}
-use Rattle.mc_model.specs.Chain.{Submission, Decree, Taken, Fate, Deleted}
-use Rattle.mc_model.specs.OneSlot.{Vote, vote_at, In}
-use Rattle.mc_model.specs.Packet.{Slot, slot_at, slot_of, same_slot, Packet, Prepare, Promise, Propose, Voted, Refused, Told, Ask, Tell}
-use Rattle.mc_model.specs.Acceptor.{Record, Records, blank, with_record, after_promise, after_vote, IsTop}
-use Rattle.mc_model.specs.Actor.{Query, Cancel, Waiting, opening_clock}
-use Rattle.mc_model.specs.Replies.{Shown, Removed}
-use Rattle.mc_model.specs.Proposal.{IsMatch}
-use Rattle.mc_model.specs.Knowledge.{Knows, HasTold, IsReached, IsSettled}
-use Rattle.mc_model.specs.World.{World, Act, Begins, Settles, Replies, IsWaiting, May, reached, IsRun, after}
-use Rattle.mc_model.specs.Stories.{first_id, first_ballot, taken_chain, attempted_chain, delivered_chain, round_for, delivery_story, asking, told_of, question_for, query_story, deleted_chain, cancel_story, decreed, by_node_1, one_node, MayBeTried}
-use Rattle.mc_laws.proofs.Membership.{slots_same}
+use Rattle.mc_model.specs.message.Submission.{Submission}
+use Rattle.mc_model.specs.message.Decree.{Decree, Taken, Fate, Deleted}
+use Rattle.mc_model.specs.synod.Lists.{In}
+use Rattle.mc_model.specs.synod.OneSlot.{Vote, vote_at}
+use Rattle.mc_model.specs.synod.Packet.{Slot, slot_at, slot_of, same_slot, Packet, Prepare, Promise, Propose, Voted, Refused, TopVote, Ask, Tell}
+use Rattle.mc_model.specs.synod.Acceptor.{SlotRecord, Records, blank, with_record, after_promise, after_vote, IsTop}
+use Rattle.mc_model.specs.node.Actor.{Query, Cancel, Waiting, opening_clock}
+use Rattle.mc_model.specs.node.Room.{IsWaiting}
+use Rattle.mc_model.specs.node.Knowledge.{Knows}
+use Rattle.mc_model.specs.node.Settling.{HasTold, IsReached, IsSettled}
+use Rattle.mc_model.specs.node.Proposal.{IsMatch}
+use Rattle.mc_model.specs.node.Replies.{Shown, Removed}
+use Rattle.mc_model.specs.node.Act.{Act, Begins, Settles, Replies}
+use Rattle.mc_model.specs.cluster.World.{World, May, reached, IsRun, after}
+use Rattle.mc_laws.specs.Stories.{first_id, first_ballot, taken_chain, attempted_chain, delivered_chain, round_for, delivery_story, deleted_chain, decreed, by_node_1, one_node, MayBeTried}
+use Rattle.mc_laws.specs.AnswerStories.{asking, told_of, question_for, query_story, cancel_story}
+use Rattle.mc_parts.proofs.Membership.{slots_same}
 use Rattle.mc_laws.proofs.Behind.{run_on}
 use Rattle.mc_laws.proofs.Rounds.{all_of_one, IsReady, round_runs}
 use Rattle.mc_laws.proofs.Delivery.{apart, begun, accepted, answered, knows, until_accepted, accepted_run, delivery_run}
@@ -25,7 +31,7 @@ NoneAbove bound records = (place : ℕ) (vote : Vote) → (records (slot_at firs
 none_in_blank : (bound : ℕ) → NoneAbove bound (λ slot. blank)
 none_in_blank bound place vote is = absurd cc
 
-none_with : (bound : ℕ) (records : Records) (slot : Slot) (new : Record) → slot.place ≤ bound → NoneAbove bound records → NoneAbove bound (with_record records slot new)
+none_with : (bound : ℕ) (records : Records) (slot : Slot) (new : SlotRecord) → slot.place ≤ bound → NoneAbove bound records → NoneAbove bound (with_record records slot new)
 none_with bound records slot new below none place vote is = by_test (same_slot (slot_at first_id place) slot) refl
   where
     by_test : (test : Bool) → same_slot (slot_at first_id place) slot ≡ test → place ≤ bound
@@ -41,7 +47,7 @@ none_after bound w chain below none =
 -- ---- what is settled by what was told
 
 -- all that a list of packets tells of how far chains have come is this
-abbrev TellsOnce : Told → Packet → Type 0
+abbrev TellsOnce : TopVote → Packet → Type 0
 TellsOnce told (Tell sender name other) = other ≡ Some told
 TellsOnce told (Voted sender slot vote) = Unit {0}
 TellsOnce told (Prepare sender slot ballot) = Unit {0}
@@ -50,11 +56,11 @@ TellsOnce told (Propose sender slot proposed) = Unit {0}
 TellsOnce told (Refused sender slot ballot promised) = Unit {0}
 TellsOnce told (Ask sender id name) = Unit {0}
 
-abbrev TellOnce : Told → List Packet → Type 0
+abbrev TellOnce : TopVote → List Packet → Type 0
 TellOnce told [] = Unit {0}
 TellOnce told (packet ∷ packets) = TellsOnce told packet × TellOnce told packets
 
-once : (told : Told) (packets : List Packet) → TellOnce told packets → (packet : Packet) → In packet packets → TellsOnce told packet
+once : (told : TopVote) (packets : List Packet) → TellOnce told packets → (packet : Packet) → In packet packets → TellsOnce told packet
 once told [] are packet is_in = absurd is_in
 once told (first ∷ packets) are packet (inl same) = subst (TellsOnce told) (sym same) are.0
 once told (first ∷ packets) are packet (inr later) = once told packets are.1 packet later
@@ -93,6 +99,7 @@ querying message = record { ticket = 2; since = opening_clock; request = Query f
 
 top_delivered : (message : Submission) → IsTop ((queried message).records 1) first_id (told_of (delivered_chain message))
 top_delivered message = record {
+  about = refl;
   voted = refl;
   highest = none_after 2 (answered message) (delivered_chain message) (omega arith) (none_after 2 (accepted message) (attempted_chain message) (omega arith) (none_after 2 (begun message) (taken_chain message) (omega arith) (none_in_blank 2)));
 }
@@ -118,7 +125,7 @@ may_show message = record {
 }
 
 begun_query : (message : Submission) → MayBeTried message → IsRun one_node ((1, Begins 2 (Query first_id message.submitter message.source.digits)) ∷ delivery_story message)
-begun_query message tried = (record { least = omega arith; most = omega arith; up = refl; needs = (refl, tt) }, delivery_run message tried)
+begun_query message tried = (record { least = omega arith; most = omega arith; up = refl; needs = record { next = refl; room = refl; fit = tt } }, delivery_run message tried)
 
 pub query_run : (message : Submission) → MayBeTried message → IsRun one_node (query_story message)
 query_run message tried =
@@ -149,7 +156,7 @@ matches : (message : Submission) → IsMatch message message.submitter message.s
 matches message = record { owner = record { same_account = refl; same_source = refl }; same_destination = inl refl }
 
 top_taken : (message : Submission) → IsTop ((called message).records 1) first_id (told_of (taken_chain message))
-top_taken message = record { voted = refl; highest = none_after 0 (begun message) (taken_chain message) (omega arith) (none_in_blank 0) }
+top_taken message = record { about = refl; voted = refl; highest = none_after 0 (begun message) (taken_chain message) (omega arith) (none_in_blank 0) }
 
 may_settle : (message : Submission) → May (told message) 1 (Settles 2)
 may_settle message = record {
@@ -188,6 +195,7 @@ ready_to_delete message = record {
     message = refl;
     may = (omega arith, tt);
     allowed = record { waiting = cancelling message true; waits = inl refl; settled = refl; cancels = (refl, matches message) };
+    error = refl;
   });
 }
 
@@ -210,7 +218,7 @@ may_remove message = record {
 }
 
 begun_cancel : (message : Submission) → MayBeTried message → IsRun one_node (until_called message)
-begun_cancel message tried = (record { least = omega arith; most = omega arith; up = refl; needs = (refl, tt) }, accepted_run message tried)
+begun_cancel message tried = (record { least = omega arith; most = omega arith; up = refl; needs = record { next = refl; room = refl; fit = tt } }, accepted_run message tried)
 
 abbrev until_settled : Submission → List (ℕ × Act)
 until_settled message = (1, Settles 2) ∷ map by_node_1 (question_for (taken_chain message)) ++ until_called message

@@ -1,20 +1,27 @@
 -- What holds of every world that acts lead to.
-use Rattle.std.proofs.Common.{◌≡◌, ◌⊎◌, ℕ, ◌≤◌, List, [], ◌∷◌, ◌++◌, length, Some, refl, sym, ◌∙◌, ap, subst, inl, inr, arith}
+use Rattle.std.proofs.Common.{◌≡◌, ◌⊎◌, ℕ, ◌≤◌, List, [], ◌∷◌, ◌++◌, length, Some, sym, ◌∙◌, ap, subst, inl, inr, arith}
 use Rattle.std.proofs.lemmas.Bool.{cases_lt}
-use Rattle.mc_model.specs.Chain.{Decree, Attempt, Final, Delivered, IsPermitted, GoesOn, final_in}
-use Rattle.mc_model.specs.OneSlot.{Vote, In}
-use Rattle.mc_model.specs.Packet.{Slot, Propose, slot_of}
-use Rattle.mc_model.specs.World.{World, Act, Deed, cast, May, IsChosenIn, after, start, reached, IsRun}
-use Rattle.mc_model.specs.Actor.{Outcome}
-use Rattle.mc_model.specs.Fate.{States, IsGrant, IsDelivery}
-use Rattle.mc_laws.proofs.Fates.{fate_is_last}
-use Rattle.mc_laws.proofs.Membership.{in_right}
+use Rattle.mc_model.specs.message.Decree.{Decree, Attempt, Final, Delivered}
+use Rattle.mc_model.specs.message.Chain.{IsPermitted, GoesOn, final_in}
+use Rattle.mc_model.specs.synod.Lists.{In}
+use Rattle.mc_model.specs.synod.OneSlot.{Vote}
+use Rattle.mc_model.specs.synod.Packet.{Slot, Propose, slot_of}
+use Rattle.mc_model.specs.node.Outcome.{Outcome}
+use Rattle.mc_model.specs.node.Act.{Act}
+use Rattle.mc_model.specs.cluster.World.{World, Deed, cast, May, IsChosenIn, after, start, reached, IsRun}
+use Rattle.mc_model.specs.cluster.Fate.{CameBefore, States, IsGrant, IsDelivery}
+use Rattle.mc_parts.proofs.Fates.{fate_is_last}
 use Rattle.mc_laws.proofs.Keeping.{Keeps, sound, keeps_start, keeps_after}
 use Rattle.mc_laws.proofs.Links.{Links, ChainFits, links_start, links_after}
 use Rattle.mc_laws.proofs.Agreement.{Chosen, standing, begins, agree}
 use Rattle.mc_laws.proofs.Deletions.{Deletions, deletions_start, deletions_after}
 use Rattle.mc_laws.proofs.Freshness.{Names, names_start, names_after}
-use Rattle.mc_laws.proofs.Stable.{stable}
+use Rattle.mc_laws.proofs.Honest.{Honest, honest_start, honest_after}
+use Rattle.mc_laws.proofs.Grantings.{Grantings, grantings_start, grantings_after}
+use Rattle.mc_laws.proofs.OwnDecrees.{OwnDecrees, own_decrees_start, own_decrees_after}
+use Rattle.mc_laws.proofs.Rooms.{HasRoom, room_after}
+use Rattle.mc_laws.proofs.Stopping.{StaysDown, down_after}
+use Rattle.mc_parts.proofs.Stable.{stable}
 use Rattle.mc_laws.proofs.Fated.{open_passed, passed_at, Timely, AllTimely, Told, told_start, told_after}
 
 pub record Holds (w : World) : Type 0 where
@@ -23,6 +30,11 @@ pub record Holds (w : World) : Type 0 where
   pub told : Told w
   pub names : Names w
   pub deletions : Deletions w
+  pub honest : Honest w
+  pub grantings : Grantings w
+  pub own : OwnDecrees w
+  pub rooms : (node : ℕ) → HasRoom (w.actors node)
+  pub down : (node : ℕ) → StaysDown w.past node (w.actors node)
 
 pub holds_after : (w : World) → Holds w → (node : ℕ) (act : Act) → May w node act → Holds (after w node act)
 holds_after w h node act may = record {
@@ -31,10 +43,15 @@ holds_after w h node act may = record {
   told = told_after w h.keeps h.links h.told node act may;
   names = names_after w h.keeps h.names node act may;
   deletions = deletions_after w h.keeps h.deletions node act may;
+  honest = honest_after w h.keeps h.names h.honest node act may;
+  grantings = grantings_after w h.links h.grantings node act may;
+  own = own_decrees_after w h.keeps h.own node act may;
+  rooms = room_after w node act may h.rooms;
+  down = down_after w h.links h.down node act may;
 }
 
 pub holds : (nodes : ℕ) (serials : ℕ → ℕ) (acts : List (ℕ × Act)) → IsRun (start nodes serials) acts → Holds (reached (start nodes serials) acts)
-holds nodes serials [] run = record { keeps = keeps_start nodes serials; links = links_start nodes serials; told = told_start nodes serials; names = names_start nodes serials; deletions = deletions_start nodes serials }
+holds nodes serials [] run = record { keeps = keeps_start nodes serials; links = links_start nodes serials; told = told_start nodes serials; names = names_start nodes serials; deletions = deletions_start nodes serials; honest = honest_start nodes serials; grantings = grantings_start nodes serials; own = own_decrees_start nodes serials; rooms = λ node. omega arith; down = λ node is_in. absurd is_in }
 holds nodes serials (newest ∷ older) run = holds_after (reached (start nodes serials) older) (holds nodes serials older run.1) newest.0 newest.1 run.0
 
 -- ---- one fate
@@ -76,20 +93,9 @@ timely_at (first ∷ past) (x ∷ newer) deed older timely is =
     let tails : past ≡ newer ++ deed ∷ older = cc in
     timely_at past newer deed older timely.1 tails
 
--- what came after one deed has it among what came before
-no_grant : (past newer : List Deed) (stating granting : Deed) (older : List Deed) (id : ℕ) (final : Final) → AllTimely past → past ≡ newer ++ stating ∷ older → In granting newer → States stating id final → IsGrant granting id → ⊥
-no_grant past [] stating granting older id final timely is later states grant = later
-no_grant [] (x ∷ newer) stating granting older id final timely is later states grant = cc
-no_grant (first ∷ past) (x ∷ newer) stating granting older id final timely is (inl here) states grant =
-    let heads : first ≡ x = cc in
-    let tails : past ≡ newer ++ stating ∷ older = cc in
-    timely.0.grants grant.slot stating final (ap (λ (d : Deed). d.act) (heads ∙ sym here) ∙ grant.grants) (subst (λ (ds : List Deed). In stating ds) (sym tails) (in_right stating newer (stating ∷ older) (inl refl))) (subst (λ (i : ℕ). States stating i final) (sym grant.about) states)
-no_grant (first ∷ past) (x ∷ newer) stating granting older id final timely is (inr later) states grant =
-    let tails : past ≡ newer ++ stating ∷ older = cc in
-    no_grant past newer stating granting older id final timely.1 tails later states grant
-
-pub no_grant_after : (w : World) → Holds w → (newer : List Deed) (stating granting : Deed) (older : List Deed) (id : ℕ) (final : Final) → w.past ≡ newer ++ stating ∷ older → In granting newer → States stating id final → IsGrant granting id → ⊥
-no_grant_after w h newer stating granting older id final = no_grant w.past newer stating granting older id final h.told.timely
+pub no_grant_after : (w : World) → Holds w → (stating granting : Deed) (id : ℕ) (final : Final) → CameBefore stating granting w.past → States stating id final → IsGrant granting id → ⊥
+no_grant_after w h stating granting id final came states grant =
+    (timely_at w.past came.newer granting came.older h.told.timely came.split).grants grant.slot stating final grant.grants came.before (subst (λ (i : ℕ). States stating i final) (sym grant.about) states)
 
 pub stands_on_delivery : (w : World) → Holds w → (newer : List Deed) (stating : Deed) (older : List Deed) (id : ℕ) → w.past ≡ newer ++ stating ∷ older → (states : States stating id Delivered) → IsDelivery id states.chain older
 stands_on_delivery w h newer stating older id is states =

@@ -1,19 +1,21 @@
 -- The story of a node that stops between a save and its answer is a run.
 use Rattle.std.proofs.Common.{◌≡◌, ℕ, zero, suc, Bool, true, false, List, [], ◌∷◌, ◌++◌, None, refl, sym, ap, subst, inl, inr, arith}
 use Rattle.std.specs.Prelude.{◌==◌, not}
-use Rattle.mc_model.specs.Chain.{Submission}
-use Rattle.mc_model.specs.Majority.{Majority, HoldsOf}
-use Rattle.mc_model.specs.OneSlot.{Vote, In}
-use Rattle.mc_model.specs.Packet.{Slot, Packet, Voted}
-use Rattle.mc_model.specs.Actor.{Submit, opening_clock}
-use Rattle.mc_model.specs.Knowledge.{IsLearned, Knows, KnowsNothing}
-use Rattle.mc_model.specs.World.{IsChosenIn, IsRun, reached}
-use Rattle.mc_model.specs.Stories.{first_id, first_ballot, taken_chain, taken_slot, taken_vote, until_promised, until_stopped, until_anew, restart_story, three_nodes, MayBeTried}
-use Rattle.mc_laws.proofs.Majorities.{both}
-use Rattle.mc_laws.proofs.Membership.{in_right}
+use Rattle.mc_model.specs.message.Submission.{Submission}
+use Rattle.mc_model.specs.synod.Lists.{In}
+use Rattle.mc_model.specs.synod.Majority.{Majority, HoldsOf}
+use Rattle.mc_model.specs.synod.OneSlot.{Vote}
+use Rattle.mc_model.specs.synod.Packet.{Slot, Packet, Voted}
+use Rattle.mc_model.specs.node.Actor.{Submit, opening_clock}
+use Rattle.mc_model.specs.node.Knowledge.{IsLearned, Knows, KnowsNothing}
+use Rattle.mc_model.specs.cluster.World.{IsChosenIn, IsRun, reached}
+use Rattle.mc_laws.specs.Stories.{first_id, first_ballot, taken_chain, taken_slot, taken_vote, three_nodes, MayBeTried}
+use Rattle.mc_laws.specs.StopStories.{until_promised, until_stopped, until_anew, restart_story}
+use Rattle.mc_parts.proofs.Majorities.{both}
+use Rattle.mc_parts.proofs.Membership.{in_right}
 
 -- what holds of nodes 1 and 2 holds of a majority of a cluster of three
-two_of_three : (P : ℕ → Type 0) → P 1 → P 2 → Majority 3 P
+pub two_of_three : (P : ℕ → Type 0) → P 1 → P 2 → Majority 3 P
 two_of_three P one two = record { test = λ node. not (node == 3); most = omega arith; each = each }
   where
     each : HoldsOf 3 (λ node. not (node == 3)) P
@@ -31,11 +33,11 @@ promised_run message tried = (
   (
     record { least = omega arith; most = omega arith; up = refl; needs = inr (inl refl) },
     (
-      record { least = omega arith; most = omega arith; up = refl; needs = omega arith },
+      record { least = omega arith; most = omega arith; up = refl; needs = record { sender = 1; prepared = inl refl; may = omega arith } },
       (
         record { least = omega arith; most = omega arith; up = refl; needs = inr (inl refl) },
         (
-          record { least = omega arith; most = omega arith; up = refl; needs = omega arith },
+          record { least = omega arith; most = omega arith; up = refl; needs = record { sender = 1; prepared = inl refl; may = omega arith } },
           (
             record { least = omega arith; most = omega arith; up = refl; needs = inl refl },
             (
@@ -45,7 +47,7 @@ promised_run message tried = (
                   least = omega arith;
                   most = omega arith;
                   up = refl;
-                  needs = (refl, (omega arith, refl, record { node = refl; incarnation = refl; expiry = tried.valid; schedule = let s = tried.scheduled in let v = tried.valid in omega (arith, s, v) }));
+                  needs = record { next = refl; room = refl; fit = record { serial = record { least = omega arith; most = omega arith }; id_is = refl; takes = record { node = refl; incarnation = refl; expiry = tried.valid; schedule = let s = tried.scheduled in let v = tried.valid in omega (arith, s, v) } } };
                 },
                 tt,
               ),

@@ -1,16 +1,19 @@
 -- How one node alone settles a slot.
 use Rattle.std.proofs.Common.{◌≡◌, ℕ, zero, suc, ◌<◌, ◌≤◌, Bool, true, false, List, ◌∷◌, map, None, refl, sym, ap, subst, inl, inr, arith}
 use Rattle.std.specs.Prelude.{if◌then◌else◌}
-use Rattle.mc_model.specs.Chain.{Author, Submission, Decree, Kind, Taken, Attempt, Failed, Fate, Delivered, Expired, Deleted, Undeliverable, Rejected}
-use Rattle.mc_model.specs.Majority.{Majority, IsMajority, count}
-use Rattle.mc_model.specs.Ballot.{proposer_of, incarnation_in}
-use Rattle.mc_model.specs.OneSlot.{Vote, vote_at, In, ReportsWithin}
-use Rattle.mc_model.specs.Packet.{Slot, slot_of, Packet, Prepare, Promise, Propose}
-use Rattle.mc_model.specs.Acceptor.{Record, blank, after_promise}
-use Rattle.mc_model.specs.Actor.{Actor}
-use Rattle.mc_model.specs.Proposal.{Allows, IsOwn, MayPropose}
-use Rattle.mc_model.specs.World.{World, Receives, Promises, Prepares, IsChosenIn, StandsIn, IsRun, after}
-use Rattle.mc_model.specs.Stories.{round, by_node_1}
+use Rattle.mc_model.specs.message.Submission.{Submission}
+use Rattle.mc_model.specs.message.Decree.{Author, Decree, Kind, Taken, Attempt, Failed, Fate, Delivered, Expired, Deleted, Undeliverable, Rejected}
+use Rattle.mc_model.specs.synod.Lists.{In}
+use Rattle.mc_model.specs.synod.Majority.{Majority, IsMajority, count}
+use Rattle.mc_model.specs.synod.Ballot.{proposer_of, incarnation_in}
+use Rattle.mc_model.specs.synod.OneSlot.{Vote, vote_at, ReportsWithin}
+use Rattle.mc_model.specs.synod.Packet.{Slot, slot_of, Packet, Prepare, Promise, Propose}
+use Rattle.mc_model.specs.synod.Acceptor.{SlotRecord, blank, after_promise}
+use Rattle.mc_model.specs.node.Actor.{Actor, Offer}
+use Rattle.mc_model.specs.node.Proposal.{Allows, IsOwn, MayPropose}
+use Rattle.mc_model.specs.node.Act.{Receives, Promises, Prepares}
+use Rattle.mc_model.specs.cluster.World.{World, IsChosenIn, StandsIn, IsRun, after}
+use Rattle.mc_laws.specs.Stories.{round, by_node_1}
 use Rattle.mc_laws.proofs.Keeping.{with_here}
 
 -- what holds of node 1 holds of the majority of a cluster of one
@@ -42,40 +45,40 @@ pub record IsReady (w : World) (slot : Slot) (vote : Vote) : Type 0 where
   pub mine : IsOwn (IsChosenIn w) 1 (w.actors 1) slot.id vote.chain
 
 -- and so is what it needs
-allowed_still : (a : Actor) (received sent : List Packet) (slot : Slot) (taken : Submission) (attempted : Author) (kind next : Kind) → Allows a slot taken attempted kind next → Allows (record a { received = received; sent = sent }) slot taken attempted kind next
-allowed_still a received sent slot taken attempted (Attempt number) next (inl closed) = inl (record { outcome = closed.outcome; incarnation = closed.incarnation; closed = closed.closed; kind = closed.kind })
-allowed_still a received sent slot taken attempted (Attempt number) next (inr lost) = inr (record { incarnation = lost.incarnation; kind = lost.kind })
-allowed_still a received sent slot taken attempted (Taken message) (Fate Deleted error) c = record { waiting = c.waiting; waits = c.waits; settled = c.settled; cancels = c.cancels }
-allowed_still a received sent slot taken attempted (Failed cause) (Fate Deleted error) c = record { waiting = c.waiting; waits = c.waits; settled = c.settled; cancels = c.cancels }
-allowed_still a received sent slot taken attempted (Fate final cause) (Fate Deleted error) c = record { waiting = c.waiting; waits = c.waits; settled = c.settled; cancels = c.cancels }
-allowed_still a received sent slot taken attempted (Taken message) (Fate Delivered error) c = tt
-allowed_still a received sent slot taken attempted (Taken message) (Fate Expired error) c = tt
-allowed_still a received sent slot taken attempted (Taken message) (Fate Undeliverable error) c = tt
-allowed_still a received sent slot taken attempted (Taken message) (Fate Rejected error) c = tt
-allowed_still a received sent slot taken attempted (Taken message) (Taken other) c = tt
-allowed_still a received sent slot taken attempted (Taken message) (Attempt number) c = tt
-allowed_still a received sent slot taken attempted (Taken message) (Failed error) c = tt
-allowed_still a received sent slot taken attempted (Failed cause) (Fate Delivered error) c = tt
-allowed_still a received sent slot taken attempted (Failed cause) (Fate Expired error) c = tt
-allowed_still a received sent slot taken attempted (Failed cause) (Fate Undeliverable error) c = tt
-allowed_still a received sent slot taken attempted (Failed cause) (Fate Rejected error) c = tt
-allowed_still a received sent slot taken attempted (Failed cause) (Taken other) c = tt
-allowed_still a received sent slot taken attempted (Failed cause) (Attempt number) c = tt
-allowed_still a received sent slot taken attempted (Failed cause) (Failed error) c = tt
-allowed_still a received sent slot taken attempted (Fate final cause) (Fate Delivered error) c = tt
-allowed_still a received sent slot taken attempted (Fate final cause) (Fate Expired error) c = tt
-allowed_still a received sent slot taken attempted (Fate final cause) (Fate Undeliverable error) c = tt
-allowed_still a received sent slot taken attempted (Fate final cause) (Fate Rejected error) c = tt
-allowed_still a received sent slot taken attempted (Fate final cause) (Taken other) c = tt
-allowed_still a received sent slot taken attempted (Fate final cause) (Attempt number) c = tt
-allowed_still a received sent slot taken attempted (Fate final cause) (Failed error) c = tt
+allowed_still : (a : Actor) (received sent : List Packet) (offers : List Offer) (slot : Slot) (taken : Submission) (attempted : Author) (kind next : Kind) → Allows a slot taken attempted kind next → Allows (record a { received = received; sent = sent; offers = offers }) slot taken attempted kind next
+allowed_still a received sent offers slot taken attempted (Attempt number) next (inl closed) = inl (record { outcome = closed.outcome; incarnation = closed.incarnation; closed = closed.closed; kind = closed.kind })
+allowed_still a received sent offers slot taken attempted (Attempt number) next (inr lost) = inr (record { incarnation = lost.incarnation; kind = lost.kind })
+allowed_still a received sent offers slot taken attempted (Taken message) (Fate Deleted error) c = record { waiting = c.waiting; waits = c.waits; settled = c.settled; cancels = c.cancels }
+allowed_still a received sent offers slot taken attempted (Failed cause) (Fate Deleted error) c = record { waiting = c.waiting; waits = c.waits; settled = c.settled; cancels = c.cancels }
+allowed_still a received sent offers slot taken attempted (Fate final cause) (Fate Deleted error) c = record { waiting = c.waiting; waits = c.waits; settled = c.settled; cancels = c.cancels }
+allowed_still a received sent offers slot taken attempted (Taken message) (Fate Delivered error) c = tt
+allowed_still a received sent offers slot taken attempted (Taken message) (Fate Expired error) c = tt
+allowed_still a received sent offers slot taken attempted (Taken message) (Fate Undeliverable error) c = tt
+allowed_still a received sent offers slot taken attempted (Taken message) (Fate Rejected error) c = tt
+allowed_still a received sent offers slot taken attempted (Taken message) (Taken other) c = tt
+allowed_still a received sent offers slot taken attempted (Taken message) (Attempt number) c = tt
+allowed_still a received sent offers slot taken attempted (Taken message) (Failed error) c = tt
+allowed_still a received sent offers slot taken attempted (Failed cause) (Fate Delivered error) c = tt
+allowed_still a received sent offers slot taken attempted (Failed cause) (Fate Expired error) c = tt
+allowed_still a received sent offers slot taken attempted (Failed cause) (Fate Undeliverable error) c = tt
+allowed_still a received sent offers slot taken attempted (Failed cause) (Fate Rejected error) c = tt
+allowed_still a received sent offers slot taken attempted (Failed cause) (Taken other) c = tt
+allowed_still a received sent offers slot taken attempted (Failed cause) (Attempt number) c = tt
+allowed_still a received sent offers slot taken attempted (Failed cause) (Failed error) c = tt
+allowed_still a received sent offers slot taken attempted (Fate final cause) (Fate Delivered error) c = tt
+allowed_still a received sent offers slot taken attempted (Fate final cause) (Fate Expired error) c = tt
+allowed_still a received sent offers slot taken attempted (Fate final cause) (Fate Undeliverable error) c = tt
+allowed_still a received sent offers slot taken attempted (Fate final cause) (Fate Rejected error) c = tt
+allowed_still a received sent offers slot taken attempted (Fate final cause) (Taken other) c = tt
+allowed_still a received sent offers slot taken attempted (Fate final cause) (Attempt number) c = tt
+allowed_still a received sent offers slot taken attempted (Fate final cause) (Failed error) c = tt
 
 -- a chain of a node's own is its own also where it has received and sent more
-own_still : (Chosen Later : Slot → Vote → Type 0) (a b : Actor) (id : ℕ) (chain : List Decree) → ((slot : Slot) (vote : Vote) → Chosen slot vote → Later slot vote) → b ≡ record a { received = b.received; sent = b.sent } → IsOwn Chosen 1 a id chain → IsOwn Later 1 b id chain
+own_still : (Chosen Later : Slot → Vote → Type 0) (a b : Actor) (id : ℕ) (chain : List Decree) → ((slot : Slot) (vote : Vote) → Chosen slot vote → Later slot vote) → b ≡ record a { received = b.received; sent = b.sent; offers = b.offers } → IsOwn Chosen 1 a id chain → IsOwn Later 1 b id chain
 own_still Chosen Later a b id chain more is own =
     subst (λ (x : Actor). IsOwn Later 1 x id chain) (sym is) (kept own)
   where
-    kept : IsOwn Chosen 1 a id chain → IsOwn Later 1 (record a { received = b.received; sent = b.sent }) id chain
+    kept : IsOwn Chosen 1 a id chain → IsOwn Later 1 (record a { received = b.received; sent = b.sent; offers = b.offers }) id chain
     kept (inl first) = inl (record { waiting = first.waiting; message = first.message; waits = first.waits; submits = first.submits; chain_is = first.chain_is })
     kept (inr n) = inr (record {
       next = n.next;
@@ -89,15 +92,16 @@ own_still Chosen Later a b id chain more is own =
       moment = n.moment;
       message = n.message;
       may = n.may;
-      allowed = allowed_still a b.received b.sent (slot_of id (n.newest ∷ n.older)) n.taken n.newest.author n.newest.kind n.next.kind n.allowed;
+      allowed = allowed_still a b.received b.sent b.offers (slot_of id (n.newest ∷ n.older)) n.taken n.newest.author n.newest.kind n.next.kind n.allowed;
+      error = n.error;
     })
 
 reported : (w : World) (slot : Slot) (vote : Vote) → IsReady w slot vote → Promise 1 slot vote.ballot None ≡ Promise 1 slot vote.ballot (w.records 1 slot).vote
-reported w slot vote ready = ap (λ (r : Record). Promise 1 slot vote.ballot r.vote) (sym ready.unused)
+reported w slot vote ready = ap (λ (r : SlotRecord). Promise 1 slot vote.ballot r.vote) (sym ready.unused)
 
 -- once it has its own promise
 abbrev promised : World → Slot → Vote → World
-promised w slot vote = after (after (after (after w 1 (Prepares slot vote.ballot)) 1 (Receives (Prepare 1 slot vote.ballot))) 1 (Promises slot vote.ballot true)) 1 (Receives (Promise 1 slot vote.ballot None))
+promised w slot vote = after (after (after (after w 1 (Prepares slot vote.ballot vote.chain)) 1 (Receives (Prepare 1 slot vote.ballot))) 1 (Promises slot vote.ballot true)) 1 (Receives (Promise 1 slot vote.ballot None))
 
 proposes : (w : World) (slot : Slot) (vote : Vote) → IsReady w slot vote → MayPropose w.nodes (λ packet. In packet (promised w slot vote).packets) (StandsIn (promised w slot vote)) (IsChosenIn (promised w slot vote)) 1 ((promised w slot vote).actors 1) slot vote
 proposes w slot vote ready = record {
@@ -118,7 +122,7 @@ round_runs w slot vote ready =
     let nodes = ready.nodes in (
       record { least = omega arith; most = omega (arith, nodes); up = ready.up; needs = inl refl },
       (
-        record { least = omega arith; most = omega (arith, nodes); up = ready.up; needs = record { sender = 1; proposed = inl refl; may = subst (λ (r : Record). r.promised ≤ vote.ballot) (sym (with_here (w.records 1) slot (after_promise (w.records 1 slot) vote.ballot))) (omega arith) } },
+        record { least = omega arith; most = omega (arith, nodes); up = ready.up; needs = record { sender = 1; proposed = inl refl; may = subst (λ (r : SlotRecord). r.promised ≤ vote.ballot) (sym (with_here (w.records 1) slot (after_promise (w.records 1 slot) vote.ballot))) (omega arith) } },
         (
           record { least = omega arith; most = omega (arith, nodes); up = ready.up; needs = inl refl },
           (
@@ -126,7 +130,7 @@ round_runs w slot vote ready =
             (
               record { least = omega arith; most = omega (arith, nodes); up = ready.up; needs = inl (reported w slot vote ready) },
               (
-                record { least = omega arith; most = omega (arith, nodes); up = ready.up; needs = subst (λ (r : Record). r.promised < vote.ballot) (sym ready.unused) ready.above },
+                record { least = omega arith; most = omega (arith, nodes); up = ready.up; needs = record { sender = 1; prepared = inl refl; may = subst (λ (r : SlotRecord). r.promised < vote.ballot) (sym ready.unused) ready.above } },
                 (
                   record { least = omega arith; most = omega (arith, nodes); up = ready.up; needs = inl refl },
                   (

@@ -1,24 +1,34 @@
-//! The laws over ballots, majorities, chains and whole runs. The functions do nothing: their contracts are the laws.
+//! The laws over whole runs and over steps. The functions do nothing: their contracts are the laws.
 #![tactic(auto)]
 
-mod assembly;
-mod chains;
 mod promises;
+mod replies;
 mod runs;
+mod steps;
+mod steps_of_nodes;
 mod stories;
-mod synod;
 
-pub use assembly::nodes_make_a_run;
-pub use chains::{a_fate_is_the_end, chains_are_short, newest_decree_says_the_state};
-pub use promises::{answers_are_fresh, headline, replies_are_decided, steps_are_runs};
+pub use promises::{headline, headline_over_steps, what_is_stated_is_chosen};
+pub use replies::{
+    a_settling_majority_has_seen_every_choice, answers_are_fresh, answers_are_fresh_over_steps,
+    tellers_meet_a_choice, tells_follow_their_question,
+};
 pub use runs::{
-    a_grant_is_not_refused, a_query_is_fresh, a_settling_majority_has_seen_every_choice,
-    an_accepted_message_is_known, an_open_attempt_is_not_passed, chosen_chains_agree,
-    deleted_stands_on_a_cancel, delivered_stands_on_a_delivery, no_grant_after_a_fate, one_fate,
-    what_is_chosen_stays,
+    a_cancelled_message_is_deleted, a_full_desk_takes_no_request, a_node_that_stopped_starts_anew,
+    an_open_attempt_is_not_passed, chosen_chains_agree, decrees_have_their_errors,
+    deleted_stands_on_a_cancel, every_packet_concerns_every_node, no_decree_is_ahead_of_the_clock,
+    receipts_are_of_the_node_of_the_id, what_is_chosen_stays, what_is_given_up_was_never_granted,
+};
+pub use steps::{
+    a_run_of_steps_goes_on, a_run_over_old_stores_goes_on, a_step_alone_is_a_step,
+    nodes_make_a_run, nodes_make_a_run_of_steps, replies_are_decided, steps_are_runs,
+};
+pub use steps_of_nodes::{
+    a_node_starts_anew, a_request_finds_no_serial, a_tell_settles_a_query, a_tick_starts_a_round,
+    a_told_vote_is_followed, a_voted_chain_is_carried_on, an_acceptor_promises_or_stops,
+    an_attempt_is_granted_and_concluded, each_cancel_starts_a_round,
 };
 pub use stories::{
-    a_message_is_cancelled, a_message_is_delivered, a_node_stops_after_a_save, a_query_is_answered,
-    a_submit_starts_a_round,
+    a_message_is_cancelled, a_message_is_delivered, a_message_is_taken_step_by_step,
+    a_node_stops_after_a_save, a_query_is_answered, a_submit_starts_a_round,
 };
-pub use synod::{ballots_have_their_parts, choice_is_stable, majorities_meet};

@@ -1,7 +1,6 @@
-use Rattle.mc_model.specs.World.{start, reached}
+use Rattle.mc_model.specs.cluster.World.{world_of}
 use Rattle.mc_laws.proofs.Reached.{holds, choice_stays}
 use Rattle.mc_laws.proofs.runs.what_is_chosen_stays.Goals as goal
 
 pub returns : goal.returns
-returns c = λ nodes serials acts slot chosen acceptor vote run.
-    choice_stays (reached (start nodes serials) acts) (holds nodes serials acts run) slot chosen acceptor vote
+returns c = λ run. choice_stays (world_of run) (holds run.nodes run.serials run.acts run.may)

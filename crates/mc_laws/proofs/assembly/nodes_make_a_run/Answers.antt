@@ -1,5 +1,0 @@
-use Rattle.mc_laws.proofs.Together.{put_together}
-use Rattle.mc_laws.proofs.assembly.nodes_make_a_run.Goals as goal
-
-pub returns : goal.returns
-returns c = put_together

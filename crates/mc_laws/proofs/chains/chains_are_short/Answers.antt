@@ -1,5 +1,0 @@
-use Rattle.mc_laws.proofs.Lengths.{most_decrees}
-use Rattle.mc_laws.proofs.chains.chains_are_short.Goals as goal
-
-pub returns : goal.returns
-returns c = most_decrees

@@ -1,6 +1,0 @@
-use Rattle.mc_model.specs.World.{start}
-use Rattle.mc_laws.proofs.Behind.{steps_run}
-use Rattle.mc_laws.proofs.promises.steps_are_runs.Goals as goal
-
-pub returns : goal.returns
-returns c = λ nodes serials. steps_run (start nodes serials)

@@ -1,0 +1,5 @@
+use Rattle.mc_laws.proofs.Deeds.{removes}
+use Rattle.mc_laws.proofs.runs.a_cancelled_message_is_deleted.Goals as goal
+
+pub returns : goal.returns
+returns c = removes

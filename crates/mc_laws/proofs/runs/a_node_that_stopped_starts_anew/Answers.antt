@@ -1,0 +1,5 @@
+use Rattle.mc_laws.proofs.Deeds.{starts_anew}
+use Rattle.mc_laws.proofs.runs.a_node_that_stopped_starts_anew.Goals as goal
+
+pub returns : goal.returns
+returns c = starts_anew

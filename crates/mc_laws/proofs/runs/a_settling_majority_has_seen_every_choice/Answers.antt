@@ -1,5 +1,0 @@
-use Rattle.mc_laws.proofs.Answers.{settled_covers}
-use Rattle.mc_laws.proofs.runs.a_settling_majority_has_seen_every_choice.Goals as goal
-
-pub returns : goal.returns
-returns c = settled_covers

@@ -1,0 +1,5 @@
+use Rattle.mc_laws.proofs.Following.{follows}
+use Rattle.mc_laws.proofs.steps_of_nodes.a_told_vote_is_followed.Goals as goal
+
+pub returns : goal.returns
+returns c = follows

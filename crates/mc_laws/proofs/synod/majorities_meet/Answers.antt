@@ -1,5 +1,0 @@
-use Rattle.mc_laws.proofs.Majorities.{majorities_meet}
-use Rattle.mc_laws.proofs.synod.majorities_meet.Goals as goal
-
-pub returns : goal.returns
-returns c = majorities_meet

@@ -1,0 +1,24 @@
+-- One node: what it holds, what it may do, and what it does in a step.
+pub mod Setup
+pub mod Outcome
+pub mod Actor
+pub mod Room
+pub mod Knowledge
+pub mod Settling
+pub mod Proposal
+pub mod Replies
+pub mod Grant
+pub mod Act
+pub mod Effect
+pub mod Rounds
+pub mod Rules
+pub mod FirstRule
+pub mod Concerns
+pub mod Input
+pub mod Causes
+pub mod Due
+pub mod Core
+pub mod Phases
+pub mod Step
+pub mod Outputs
+pub mod Alone

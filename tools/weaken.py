@@ -1,0 +1,104 @@
+#!/usr/bin/env python3
+"""Tries each weakening of a definition on a copy: the law that it names must not be proved any more.
+
+    tools/weaken.py [--rt COMMAND] [NAME ..]
+
+A weakening is a file of tools/weakenings: a line `law: PATH`, and `file:`, `old:` and `new:`, where the text stands once in the file.
+(A line's end within a text is written as the character U+23CE.) The last line printed is `N refused, M let through`.
+"""
+import os
+import re
+import shutil
+import subprocess
+import sys
+import tempfile
+
+ROOT = os.path.dirname(os.path.dirname(os.path.abspath(__file__)))
+FOLDER = os.path.join(ROOT, "tools", "weakenings")
+CRATES = ["mc_model", "mc_parts", "mc_laws"]
+
+
+def read(name):
+    """The law of a weakening, and its edits: file, old text and new text."""
+    law, edits, entry = None, [], {}
+    with open(os.path.join(FOLDER, name + ".edit"), encoding="utf-8") as lines:
+        for line in lines:
+            key, text = line.rstrip("\n").split(": ", 1)
+            text = text.replace("\u23ce", "\n")
+            if key == "law":
+                law = text
+            else:
+                entry[key] = text
+            if key == "new":
+                edits.append((entry["file"], entry["old"], text))
+    return law, edits
+
+
+def copied():
+    """A copy of the crates of the model, with what earlier checks kept of them."""
+    copy = tempfile.mkdtemp(prefix="weaken-")
+    os.mkdir(os.path.join(copy, "crates"))
+    for crate in CRATES:
+        there = os.path.join(ROOT, "crates", crate)
+        if os.path.isdir(there):
+            shutil.copytree(there, os.path.join(copy, "crates", crate), symlinks=True)
+    with open(os.path.join(ROOT, "crates.txt"), encoding="utf-8") as lines:
+        kept = [line for line in lines if line.split(":")[0] in CRATES]
+    with open(os.path.join(copy, "crates.txt"), "w", encoding="utf-8") as listed:
+        listed.writelines(kept)
+    return copy
+
+
+def check(copy, law, command):
+    """What a check says of one law: proved, refused, or that the definitions themselves are none."""
+    crate = law.split("::")[0]
+    done = subprocess.run(
+        [command, "check", "--only", law], cwd=os.path.join(copy, "crates", crate), capture_output=True, text=True
+    )
+    said = done.stdout + done.stderr
+    if re.search(r"^fn %s: proved" % re.escape(law), said, re.M):
+        return "proved"
+    if re.search(r"^[./]*(crates/\w+/)?specs/.*error", said, re.M):
+        return "no definition"
+    # a law of a crate below may fail first, and the crate above is not checked then
+    failed = re.search(r"^fn (\S+): (?!proved)", said, re.M)
+    return "refused" if failed else "no such law"
+
+
+def try_one(copy, name, command):
+    """Tries one weakening, and puts the files back."""
+    law, edits = read(name)
+    before = {}
+    for file, old, new in edits:
+        path = os.path.join(copy, file)
+        text = open(path, encoding="utf-8").read()
+        before.setdefault(path, text)
+        if text.count(old) != 1:
+            return law, "stands %d times" % text.count(old)
+        open(path, "w", encoding="utf-8").write(text.replace(old, new))
+    said = check(copy, law, command)
+    for path, text in before.items():
+        open(path, "w", encoding="utf-8").write(text)
+    return law, said
+
+
+def main():
+    words = sys.argv[1:]
+    command = "rt"
+    if words[:1] == ["--rt"]:
+        command, words = words[1], words[2:]
+    names = words or sorted(f[:-5] for f in os.listdir(FOLDER) if f.endswith(".edit"))
+    copy = copied()
+    refused, others = 0, 0
+    for name in names:
+        law, said = try_one(copy, name, command)
+        refused += said == "refused"
+        others += said != "refused"
+        print(f"{name}: {said} ({law})", flush=True)
+    shutil.rmtree(copy)
+    print(f"{refused} refused, {others} let through")
+    return 0 if others == 0 else 1
+
+
+if __name__ == "__main__":
+    sys.exit(main())
