@@ -8,7 +8,8 @@ use Rattle.std.proofs.lemmas.Cmp.{nat_cmp_total}
 use Rattle.std.specs.Map.{keys_of, lookup, set_value}
 use Rattle.std.specs.BTreeMap.{is_at}
 use Rattle.std.specs.declared.cmp.Ordering.TheVariants.{Less}
-use Rattle.mc_model.specs.Chain.{Author, Chain, Expired, taken_in}
+use Rattle.mc_model.specs.message.Decree.{Author, Expired}
+use Rattle.mc_model.specs.message.Chain.{Chain, taken_in}
 use Rattle.desk.specs.Table.{Table}
 use Rattle.desk.specs.Fates.{expires, ended, with_expired}
 use Rattle.desk.specs.Due.{due_in, with_each}

@@ -5,7 +5,8 @@ use Rattle.std.proofs.lemmas.Bool.Decides.{nat_tests}
 use Rattle.std.specs.declared.cmp.Ordering.{Ordering}
 use Rattle.std.specs.declared.cmp.Ordering.TheVariants.{Less, Equal, Greater}
 use Rattle.std.specs.BTreeMap.{insert_entry}
-use Rattle.mc_model.specs.Chain.{Author, Chain, Expired, taken_in}
+use Rattle.mc_model.specs.message.Decree.{Author, Expired}
+use Rattle.mc_model.specs.message.Chain.{Chain, taken_in}
 use Rattle.desk.specs.Table.{Table, IsTable}
 use Rattle.desk.specs.Fates.{expires, ended, expired_at, with_expired}
 

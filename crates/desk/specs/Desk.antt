@@ -2,8 +2,10 @@
 use Rattle.std.specs.Prelude.{ℕ, Bool, ◌+◌, ◌-◌, ◌%◌, ◌^◌, ◌≤◌, min, nat_le, nat_lt, ◌==◌, ◌&&◌, ◌||◌, not, is_some, List, [], ◌∷◌, ◌++◌, length, filter, Option, Some, None, Result, Ok, Err, if◌then◌else◌}
 use Rattle.std.specs.Str.{bytes_eq}
 use Rattle.std.specs.Option.{option_map}
-use Rattle.mc_model.specs.Ids.{IsNode, IsIncarnation, id_of}
-use Rattle.mc_model.specs.Chain.{Author, Submission, Final, Delivered, Expired, Deleted, Undeliverable, Rejected, Taken, Decree, Chain, taken_in, final_in, error_in}
+use Rattle.mc_model.specs.message.Ids.{IsNode, IsIncarnation, id_of}
+use Rattle.mc_model.specs.message.Submission.{Submission}
+use Rattle.mc_model.specs.message.Decree.{Author, Final, Delivered, Expired, Deleted, Undeliverable, Rejected, Taken, Decree}
+use Rattle.mc_model.specs.message.Chain.{Chain, taken_in, final_in, error_in}
 use Rattle.mc_types.specs.Texts.{id_in}
 use Rattle.pdu_tables.specs.declared.status.Status.{Status}
 use Rattle.pdu_tables.specs.declared.status.Status.TheVariants as statuses

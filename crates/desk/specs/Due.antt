@@ -3,7 +3,8 @@ use Rattle.std.specs.Prelude.{ℕ, [], ◌∷◌, map, filter}
 use Rattle.std.specs.Ordering.{nat_cmp}
 use Rattle.std.specs.Map.{set_value}
 use Rattle.std.specs.BTreeMap.{is_at}
-use Rattle.mc_model.specs.Chain.{Author, Expired, taken_in}
+use Rattle.mc_model.specs.message.Decree.{Author, Expired}
+use Rattle.mc_model.specs.message.Chain.{taken_in}
 use Rattle.desk.specs.Table.{Table}
 use Rattle.desk.specs.Fates.{expires, ended}
 

@@ -1,6 +1,8 @@
 -- The final states that are decided here: a message is deleted, or expires.
 use Rattle.std.specs.Prelude.{ℕ, Bool, true, false, IsTrue, ◌≡◌, ◌↔◌, max, nat_le, ◌&&◌, List, [], ◌∷◌, map, Option, Some, None, if◌then◌else◌}
-use Rattle.mc_model.specs.Chain.{Author, Submission, Final, Expired, Deleted, Kind, Taken, Attempt, Failed, Fate, Decree, Chain, MayExtend, taken_in}
+use Rattle.mc_model.specs.message.Submission.{Submission}
+use Rattle.mc_model.specs.message.Decree.{Author, Final, Expired, Deleted, Kind, Taken, Attempt, Failed, Fate, Decree}
+use Rattle.mc_model.specs.message.Chain.{Chain, MayExtend, taken_in}
 use Rattle.desk.specs.Table.{Table}
 
 -- Whether a decree leaves a message idle, that is with no attempt under way and no final state.

@@ -3,7 +3,7 @@ use Rattle.std.specs.Prelude.{◌≡◌, ℕ, List, [], ◌∷◌, Option}
 use Rattle.std.specs.Ordering.{nat_cmp}
 use Rattle.std.specs.Map.{lookup}
 use Rattle.std.specs.BTreeMap.{is_at, insert_entry}
-use Rattle.mc_model.specs.Chain.{Chain}
+use Rattle.mc_model.specs.message.Chain.{Chain}
 
 -- from id to chain, the ids ascending
 abbrev pub Table : Type 0

@@ -1,7 +1,7 @@
 //! What is done with a cancel_sm.
 
 ghost use Rattle.std.specs.Prelude.{◌≡◌, IfOk, OnErr};
-ghost use Rattle.mc_model.specs.Chain.{final_in};
+ghost use Rattle.mc_model.specs.message.Chain.{final_in};
 ghost use Rattle.desk.specs.Table.{chain_at};
 ghost use Rattle.desk.specs.Desk.{author_at, begins, cancelled_by, late_answer, is_meant};
 ghost use Rattle.desk.specs.declared.request.Request.TheVariants as requests;

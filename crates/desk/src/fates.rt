@@ -1,7 +1,7 @@
 //! The final states that are decided here.
 
 ghost use Rattle.std.specs.Prelude.{◌≡◌, IfOk};
-ghost use Rattle.mc_model.specs.Chain.{MayExtend, taken_in};
+ghost use Rattle.mc_model.specs.message.Chain.{MayExtend, taken_in};
 ghost use Rattle.fate_chain.specs.Kinds.{author_of, final_of};
 ghost use Rattle.desk.specs.Fates as fates;
 

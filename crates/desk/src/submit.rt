@@ -1,8 +1,8 @@
 //! What is done with a submit_sm.
 
 ghost use Rattle.std.specs.Prelude.{◌≡◌, ◌<◌, ◌≤◌, ◌+◌, [], ◌∷◌, true, false, Some, Ok, IfOk, OnOk, OnErr};
-ghost use Rattle.mc_model.specs.Ids.{node_of, incarnation_of};
-ghost use Rattle.mc_model.specs.Chain.{Taken};
+ghost use Rattle.mc_model.specs.message.Ids.{node_of, incarnation_of};
+ghost use Rattle.mc_model.specs.message.Decree.{Taken};
 ghost use Rattle.desk.specs.Table.{with_chain};
 ghost use Rattle.desk.specs.Desk.{begins, fields_refusal, submission_of, waits, is_busy, chain_begun, next_id};
 ghost use Rattle.desk.specs.declared.request.Request.TheVariants.{Submit};

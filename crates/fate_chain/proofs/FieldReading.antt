@@ -7,7 +7,7 @@ use Rattle.std.proofs.lemmas.List.{append-nil, take_at, drop_at, take-append-dro
 use Rattle.std.proofs.lemmas.List.Elements.{All-from_get_or}
 use Rattle.std.proofs.lemmas.List.Folds.{list_any_none, list_any_at}
 use Rattle.std.proofs.lemmas.Nat.{be_bytes_2, be_bytes_4, be_bytes_8, from_be_bytes-to_be_bytes_2, from_be_bytes-to_be_bytes_4, from_be_bytes-to_be_bytes_8}
-use Rattle.mc_model.specs.Chain.{Final, Delivered, Expired, Deleted, Undeliverable, Rejected}
+use Rattle.mc_model.specs.message.Decree.{Final, Delivered, Expired, Deleted, Undeliverable, Rejected}
 use Rattle.mc_types.specs.Texts.{is_id}
 use Rattle.mc_types.proofs.Texts.{is_id-tells, is_id-told}
 use Rattle.pdu_codec.specs.declared.fault.Field.TheVariants.{OptionalParameters}

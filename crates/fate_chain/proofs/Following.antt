@@ -1,6 +1,9 @@
 -- A mark says enough of a decree, and a standing of a chain, to tell which decree may follow.
 use Rattle.std.proofs.Common.{◌≡◌, ◌≤◌, ◌↔◌, ℕ, List, [], ◌∷◌, Some, slice_get, sym, subst}
-use Rattle.mc_model.specs.Chain.{Submission, Kind, Taken, Attempt, Failed, Fate, Delivered, Expired, Deleted, Undeliverable, Rejected, Author, Decree, IsFirstAttempt, IsNextAttempt, MayFollow, MayExtend, taken_in, attempts_in}
+use Rattle.mc_model.specs.message.Submission.{Submission}
+use Rattle.mc_model.specs.message.Decree.{Kind, Taken, Attempt, Failed, Fate, Delivered, Expired, Deleted, Undeliverable, Rejected, Author, Decree}
+use Rattle.mc_model.specs.message.Neighbours.{IsFirstAttempt, IsNextAttempt, MayFollow}
+use Rattle.mc_model.specs.message.Chain.{MayExtend, taken_in, attempts_in}
 use Rattle.fate_chain.specs.Kinds.{author_of}
 use Rattle.fate_chain.specs.Marks.{bare_message, bare, bare_kind, IsMarkOf, IsStandingOf}
 use Rattle.fate_chain.specs.declared.marks.Mark.{Mark}

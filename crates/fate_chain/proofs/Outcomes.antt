@@ -1,6 +1,7 @@
 -- What reading found, in the words of a chain's octets.
 use Rattle.std.proofs.Common.{◌≡◌, ◌↔◌, ℕ, List, [], ◌∷◌, Option, None, Some, Result, Ok, Err, IfOk, IsErrOf, refl, sym, ap, subst, ◌∙◌}
-use Rattle.mc_model.specs.Chain.{Decree, Chain, IsPermitted}
+use Rattle.mc_model.specs.message.Decree.{Decree}
+use Rattle.mc_model.specs.message.Chain.{Chain, IsPermitted}
 use Rattle.pdu_codec.specs.Text.{IsOctets}
 use Rattle.fate_chain.specs.declared.fault.ChainFault.{ChainFault}
 use Rattle.fate_chain.specs.declared.fault.ChainFault.TheVariants.{NotPermitted, NotBytes, Memory}

@@ -1,7 +1,10 @@
 -- Which decree stands first in a permitted chain.
 use Rattle.std.proofs.Common.{◌≡◌, ℕ, List, [], ◌∷◌, ◌++◌, Option, None, Some, reverse, drop, slice_get, ◌∙◌, refl, ap}
 use Rattle.std.proofs.lemmas.List.{reverse-append}
-use Rattle.mc_model.specs.Chain.{Decree, Author, Kind, Submission, Taken, Attempt, Failed, Fate, MayBegin, MayFollow, MayExtend, IsPermitted, taken_by, taken_in}
+use Rattle.mc_model.specs.message.Submission.{Submission}
+use Rattle.mc_model.specs.message.Decree.{Decree, Author, Kind, Taken, Attempt, Failed, Fate}
+use Rattle.mc_model.specs.message.Neighbours.{MayBegin, MayFollow}
+use Rattle.mc_model.specs.message.Chain.{MayExtend, IsPermitted, taken_by, taken_in}
 use Rattle.fate_chain.specs.Kinds.{kind_of}
 use Rattle.fate_chain.specs.declared.decree.Kind.{Kind as Decided}
 use Rattle.fate_chain.specs.declared.decree.Kind.TheVariants as decided

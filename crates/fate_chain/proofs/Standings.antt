@@ -1,6 +1,9 @@
 -- The standing of a chain, decree after decree.
 use Rattle.std.proofs.Common.{◌≡◌, ℕ, ◌+◌, ◌*◌, ◌≤◌, List, [], ◌∷◌, length, Option, None, Some, refl, ap, subst, ◌∙◌, arith}
-use Rattle.mc_model.specs.Chain.{Submission, Kind, Taken, Attempt, Failed, Fate, Delivered, Expired, Deleted, Undeliverable, Rejected, Author, Decree, MayBegin, MayFollow, MayExtend, IsPermitted, taken_in, attempts_of, attempts_in}
+use Rattle.mc_model.specs.message.Submission.{Submission}
+use Rattle.mc_model.specs.message.Decree.{Kind, Taken, Attempt, Failed, Fate, Delivered, Expired, Deleted, Undeliverable, Rejected, Author, Decree}
+use Rattle.mc_model.specs.message.Neighbours.{MayBegin, MayFollow}
+use Rattle.mc_model.specs.message.Chain.{MayExtend, IsPermitted, taken_in, attempts_of, attempts_in}
 use Rattle.fate_chain.specs.Marks.{bare, bare_kind, IsMarkOf, IsStandingOf}
 use Rattle.fate_chain.specs.declared.marks.Mark.{Mark}
 use Rattle.fate_chain.specs.declared.marks.Standing.{Standing}

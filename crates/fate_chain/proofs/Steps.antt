@@ -2,7 +2,8 @@
 use Rattle.std.proofs.Common.{◌≡◌, ℕ, zero, suc, ◌+◌, ◌-◌, ◌<◌, ◌≤◌, List, [], ◌∷◌, ◌++◌, length, reverse, true, false, eqb, Option, Some, None, IsSome, is_some, refl, sym, ap, subst, ◌∙◌, arith}
 use Rattle.std.proofs.lemmas.Bool.{eqb-true, false≢true}
 use Rattle.std.proofs.lemmas.List.{nil_from_length, reverse-append}
-use Rattle.mc_model.specs.Chain.{Decree, IsPermitted}
+use Rattle.mc_model.specs.message.Decree.{Decree}
+use Rattle.mc_model.specs.message.Chain.{IsPermitted}
 use Rattle.fate_chain.specs.Fields.{◌>>=◌}
 use Rattle.fate_chain.specs.Bytes.{decree_at, decrees_at, chain_from, chain_at}
 use Rattle.fate_chain.specs.Marks.{IsProgressOf}

@@ -1,6 +1,6 @@
 -- What is written is within its limits.
 use Rattle.std.proofs.Common.{ℕ, ◌<◌, arith}
-use Rattle.mc_model.specs.Ids.{IsMoment}
+use Rattle.mc_model.specs.message.Ids.{IsMoment}
 use Rattle.fate_chain.specs.Fields.{IsBetween}
 
 pub octet_between : (n : ℕ) → n < 256 → IsBetween 0 255 n

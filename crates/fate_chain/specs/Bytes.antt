@@ -1,8 +1,10 @@
 -- The octets of a chain, format 1, all numbers with their highest octet first: the format's number; the id; how many
 -- decrees there are; each decree, the oldest first.
 use Rattle.std.specs.Prelude.{ℕ, zero, suc, ◌≡◌, ◌≤◌, ◌==◌, List, [], ◌∷◌, ◌++◌, length, Option, Some, None, Result, Ok, Err, if◌then◌else◌}
-use Rattle.mc_model.specs.Ids.{IsId}
-use Rattle.mc_model.specs.Chain.{Submission, Kind, Taken, Attempt, Failed, Fate, Decree, Chain, IsPermitted}
+use Rattle.mc_model.specs.message.Ids.{IsId}
+use Rattle.mc_model.specs.message.Submission.{Submission}
+use Rattle.mc_model.specs.message.Decree.{Kind, Taken, Attempt, Failed, Fate, Decree}
+use Rattle.mc_model.specs.message.Chain.{Chain, IsPermitted}
 use Rattle.pdu_codec.specs.Text.{AreOptional, optional_octets}
 use Rattle.pdu_codec.specs.Grammar.{optional_at}
 use Rattle.fate_chain.specs.declared.fault.ChainFault.{ChainFault}

@@ -2,8 +2,8 @@
 use Rattle.std.specs.Prelude.{Bool, ◌≡◌, ℕ, ◌≤◌, List, [], ◌∷◌, ◌++◌, length, take, drop, find, Option, Some, None, nat_lt, nat_le, not, ◌==◌, ◌&&◌, if◌then◌else◌, is_ok}
 use Rattle.std.specs.List.{list_any}
 use Rattle.std.specs.Int.{w16, w32, w64, to_be_bytes, from_be_bytes}
-use Rattle.mc_model.specs.Ids.{IsId}
-use Rattle.mc_model.specs.Chain.{Final, Delivered, Expired, Deleted, Undeliverable, Rejected}
+use Rattle.mc_model.specs.message.Ids.{IsId}
+use Rattle.mc_model.specs.message.Decree.{Final, Delivered, Expired, Deleted, Undeliverable, Rejected}
 use Rattle.mc_types.specs.Texts.{is_id}
 use Rattle.pdu_tables.specs.StateCodes.{state_code}
 use Rattle.pdu_codec.specs.Text.{IsText, IsShortMessage, AreOptional, optional_octets}

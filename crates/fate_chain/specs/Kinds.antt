@@ -1,5 +1,5 @@
 -- What a decree decides, as the model's.
-use Rattle.mc_model.specs.Chain.{Author, Kind, Taken, Attempt, Failed, Fate, Final, Delivered, Expired, Deleted, Undeliverable, Rejected}
+use Rattle.mc_model.specs.message.Decree.{Author, Kind, Taken, Attempt, Failed, Fate, Final, Delivered, Expired, Deleted, Undeliverable, Rejected}
 use Rattle.fate_chain.specs.declared.decree.Author.{Author as Writer}
 use Rattle.fate_chain.specs.declared.decree.Final.{Final as Ending}
 use Rattle.fate_chain.specs.declared.decree.Final.TheVariants as endings

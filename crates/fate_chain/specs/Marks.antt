@@ -1,6 +1,8 @@
 -- What of a decree decides which may follow: who made it and when, and its kind without texts and errors.
 use Rattle.std.specs.Prelude.{◌≡◌, ◌<◌, ℕ, [], List, length, slice_get, Some}
-use Rattle.mc_model.specs.Chain.{Submission, Kind, Taken, Attempt, Failed, Fate, Decree, IsPermitted, taken_in, attempts_in}
+use Rattle.mc_model.specs.message.Submission.{Submission}
+use Rattle.mc_model.specs.message.Decree.{Kind, Taken, Attempt, Failed, Fate, Decree}
+use Rattle.mc_model.specs.message.Chain.{IsPermitted, taken_in, attempts_in}
 use Rattle.fate_chain.specs.Kinds.{author_of, final_of}
 use Rattle.fate_chain.specs.declared.marks.Act.{Act}
 use Rattle.fate_chain.specs.declared.marks.Act.TheVariants as acts

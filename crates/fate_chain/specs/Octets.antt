@@ -1,6 +1,7 @@
 -- What is seen in a decree as it stands in octets, and that its texts are some.
 use Rattle.std.specs.Prelude.{IsTrue}
-use Rattle.mc_model.specs.Chain.{Submission, Kind, Taken, Attempt, Failed, Fate, Decree}
+use Rattle.mc_model.specs.message.Submission.{Submission}
+use Rattle.mc_model.specs.message.Decree.{Kind, Taken, Attempt, Failed, Fate, Decree}
 use Rattle.pdu_codec.specs.Text.{IsText, IsShortMessage}
 use Rattle.fate_chain.specs.Fields.{Contents, is_optional}
 use Rattle.fate_chain.specs.Bytes.{party_fields, handling_fields, text_fields, message_of}

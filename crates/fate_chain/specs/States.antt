@@ -1,6 +1,6 @@
 -- The state of a chain, as message_state tells it (SMPP 3.4, 5.2.28).
 use Rattle.std.specs.Prelude.{Option, Some, None}
-use Rattle.mc_model.specs.Chain.{Final, Delivered, Expired, Deleted, Undeliverable, Rejected}
+use Rattle.mc_model.specs.message.Decree.{Final, Delivered, Expired, Deleted, Undeliverable, Rejected}
 use Rattle.pdu_tables.specs.declared.state.State.{State}
 use Rattle.pdu_tables.specs.declared.state.State.TheVariants as states
 

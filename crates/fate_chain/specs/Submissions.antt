@@ -1,5 +1,5 @@
 -- What was taken, as the model's.
-use Rattle.mc_model.specs.Chain.{Address}
+use Rattle.mc_model.specs.message.Submission.{Address}
 use Rattle.pdu_codec.specs.declared.pdu.Address.{Address as Wire}
 
 abbrev pub address_of : Wire → Address

@@ -1,8 +1,9 @@
 //! Chains.
 
 ghost use Rattle.std.specs.Prelude.{◌≡◌, ◌<◌, ◌≤◌, ◌↔◌, ◌∷◌, [], Some, reverse, slice_get, IfOk, IsErrOf, IsTrue};
-ghost use Rattle.mc_model.specs.Ids.{node_of, incarnation_of};
-ghost use Rattle.mc_model.specs.Chain.{Chain as ChainValue, Taken, IsPermitted, MayExtend, taken_in, final_in, error_in};
+ghost use Rattle.mc_model.specs.message.Ids.{node_of, incarnation_of};
+ghost use Rattle.mc_model.specs.message.Decree.{Taken};
+ghost use Rattle.mc_model.specs.message.Chain.{Chain as ChainValue, IsPermitted, MayExtend, taken_in, final_in, error_in};
 ghost use Rattle.fate_chain.specs.Bytes.{chain_octets, read_chain, Fits, IsSpelled, Judges};
 ghost use Rattle.fate_chain.specs.Marks.{IsStandingOf};
 ghost use Rattle.fate_chain.specs.States.{state_of};
@@ -30,7 +31,7 @@ pub struct Chain {
 
 impl Model for Chain {
     ghost use Rattle.std.specs.Prelude.{reverse};
-    ghost use Rattle.mc_model.specs.Chain.{Chain, IsPermitted};
+    ghost use Rattle.mc_model.specs.message.Chain.{Chain, IsPermitted};
 
     ghost Value = { Chain };
 

@@ -1,7 +1,7 @@
 //! Decrees.
 
 ghost use Rattle.std.specs.Prelude.{◌≡◌, ◌≤◌, ◌↔◌, Some, IfSome, IfOk, IsSome, option_map};
-ghost use Rattle.mc_model.specs.Chain.{error_by};
+ghost use Rattle.mc_model.specs.message.Chain.{error_by};
 ghost use Rattle.fate_chain.specs.Fields.{final_in};
 ghost use Rattle.fate_chain.specs.Kinds.{final_of, kind_of};
 ghost use Rattle.fate_chain.specs.Marks.{bare, bare_kind, IsMarkOf};
@@ -156,7 +156,7 @@ pub struct Decree {
 }
 
 impl Model for Decree {
-    ghost use Rattle.mc_model.specs.Chain.{Decree};
+    ghost use Rattle.mc_model.specs.message.Decree.{Decree};
     ghost use Rattle.fate_chain.specs.Kinds.{author_of, kind_of};
 
     ghost Value = { Decree };

@@ -1,7 +1,9 @@
 //! Which decree may follow which.
 
 ghost use Rattle.std.specs.Prelude.{◌≡◌, ◌<◌, ◌≤◌, ◌↔◌, ◌∷◌, List, length, IsTrue};
-ghost use Rattle.mc_model.specs.Chain.{Decree, IsFailureOf, IsFirstAttempt, IsNextAttempt, MayExtend, MayFollow, attempts_of, taken_in};
+ghost use Rattle.mc_model.specs.message.Decree.{Decree};
+ghost use Rattle.mc_model.specs.message.Neighbours.{IsFailureOf, IsFirstAttempt, IsNextAttempt, MayFollow};
+ghost use Rattle.mc_model.specs.message.Chain.{MayExtend, attempts_of, taken_in};
 ghost use Rattle.fate_chain.specs.Kinds.{author_of};
 ghost use Rattle.fate_chain.specs.Marks.{bare_kind, bare_message, IsMarkOf, IsStandingOf};
 

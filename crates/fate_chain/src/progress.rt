@@ -1,7 +1,9 @@
 //! Whether decrees that are read one after another are a permitted chain.
 
 ghost use Rattle.std.specs.Prelude.{◌≡◌, ◌∷◌, [], ℕ, List, reverse, MatchOption};
-ghost use Rattle.mc_model.specs.Chain.{Decree as DecreeValue, IsPermitted, MayBegin};
+ghost use Rattle.mc_model.specs.message.Decree.{Decree as DecreeValue};
+ghost use Rattle.mc_model.specs.message.Neighbours.{MayBegin};
+ghost use Rattle.mc_model.specs.message.Chain.{IsPermitted};
 ghost use Rattle.fate_chain.specs.Kinds.{author_of};
 ghost use Rattle.fate_chain.specs.Marks.{bare_kind, IsMarkOf, IsProgressOf, IsStandingOf};
 ghost use Rattle.fate_chain.specs.declared.marks.Act.TheVariants as acts;

@@ -1,7 +1,7 @@
 //! From octets to decrees.
 
 ghost use Rattle.std.specs.Prelude.{◌≡◌, [], List, ℕ, length, reverse, Some, IsSome, IfOk};
-ghost use Rattle.mc_model.specs.Ids.{IsId};
+ghost use Rattle.mc_model.specs.message.Ids.{IsId};
 ghost use Rattle.fate_chain.specs.Bytes.{chain_at, chain_fields, decrees_at, Judges};
 ghost use Rattle.fate_chain.specs.Fields.{Finds, front_at};
 

@@ -33,7 +33,7 @@ pub struct Submission {
 }
 
 impl Model for Submission {
-    ghost use Rattle.mc_model.specs.Chain.{Submission};
+    ghost use Rattle.mc_model.specs.message.Submission.{Submission};
     ghost use Rattle.fate_chain.specs.Submissions.{address_of};
 
     ghost Value = { Submission };

@@ -6,7 +6,7 @@ ghost use Rattle.pdu_codec.specs.Text.{IsOctets, IsText, IsShortMessage, AreOpti
 ghost use Rattle.fate_chain.specs.Bytes.{party_fields, parties_in, handling_fields, handling_in, text_fields, texts_in, head_fields, chain_fields, kind_code, kind_octets, submission_octets, decree_octets, decrees_octets, DecreeFits, DecreesFit, KindFits, MessageFits};
 ghost use Rattle.fate_chain.specs.Fields.{spellings, AreWithin};
 ghost use Rattle.fate_chain.specs.Kinds.{author_of, kind_of};
-ghost use Rattle.mc_model.specs.Ids.{IsId, IsIncarnation, IsMoment, IsNode};
+ghost use Rattle.mc_model.specs.message.Ids.{IsId, IsIncarnation, IsMoment, IsNode};
 
 use crate::decree::{Author, Decree, Kind};
 use crate::submission::Submission;

@@ -4,7 +4,7 @@ use Rattle.std.specs.Fmt.{decimal}
 use Rattle.std.specs.Str.Parse.{digits_value}
 use Rattle.std.proofs.lemmas.Bool.{and_parts, and_from, leb-true, le-leb}
 use Rattle.std.proofs.lemmas.Fmt.{digits_value-decimal}
-use Rattle.mc_model.specs.Ids.{IsId}
+use Rattle.mc_model.specs.message.Ids.{IsId}
 use Rattle.mc_types.specs.Texts.{is_ten_digits, is_id, id_in}
 use Rattle.mc_types.proofs.Digits.{numerals, spelled, ten_digits-decimal}
 

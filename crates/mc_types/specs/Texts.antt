@@ -3,7 +3,7 @@ use Rattle.std.specs.Prelude.{ℕ, Bool, ◌==◌, ◌&&◌, nat_le, List, lengt
 use Rattle.std.specs.List.{list_all}
 use Rattle.std.specs.Char.{is_ascii_digit}
 use Rattle.std.specs.Str.Parse.{digits_value}
-use Rattle.mc_model.specs.Ids.{node_of, incarnation_of, serial_of}
+use Rattle.mc_model.specs.message.Ids.{node_of, incarnation_of, serial_of}
 
 -- whether a number is a message id
 abbrev pub is_id : ℕ → Bool

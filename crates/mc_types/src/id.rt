@@ -5,7 +5,7 @@ ghost use Rattle.std.specs.Fmt.{decimal};
 ghost use Rattle.std.specs.List.{list_all};
 ghost use Rattle.std.specs.Char.{is_ascii_digit};
 ghost use Rattle.std.specs.Str.Parse.{digits_value};
-ghost use Rattle.mc_model.specs.Ids.{IsId, IsSerial, id_of, node_of, incarnation_of, serial_of};
+ghost use Rattle.mc_model.specs.message.Ids.{IsId, IsSerial, id_of, node_of, incarnation_of, serial_of};
 ghost use Rattle.mc_types.specs.declared.fault.TypeFault.TheVariants.{NotAnId, OutOfRange};
 ghost use Rattle.mc_types.specs.Texts.{id_in, is_ten_digits};
 

@@ -1,7 +1,7 @@
 //! Numbers that keep their ranges.
 
 ghost use Rattle.std.specs.Prelude.{◌≡◌, ◌↔◌, ◌+◌, min, ℕ, IsOk, IfOk, IfErr};
-ghost use Rattle.mc_model.specs.Ids.{IsNode, IsIncarnation, IsMoment};
+ghost use Rattle.mc_model.specs.message.Ids.{IsNode, IsIncarnation, IsMoment};
 ghost use Rattle.mc_types.specs.declared.fault.TypeFault.TheVariants.{OutOfRange};
 
 use crate::fault::TypeFault;

@@ -10,7 +10,7 @@ use Rattle.std.proofs.lemmas.List.Sums.{position_or_len_is}
 use Rattle.std.proofs.lemmas.Option.{cond_some, some_pair_parts}
 use Rattle.std.proofs.lemmas.Str.Parse.{digit_at}
 use Rattle.hex.specs.Hex.{decode_of}
-use Rattle.mc_model.specs.Ids.{IsMoment}
+use Rattle.mc_model.specs.message.Ids.{IsMoment}
 use Rattle.script_lines.specs.Said.{Said, Skipped, Nodes, Frame, Tick, Settle, IsWording, IsSession, Spells, spaced, ◌>>=◌, behind, has_leading_zero, number_of, word_len, number_at, nodes_said, frame_parts, frame_said, tick_said, are_ones, settle_said, is_skipped, words_said, said_of}
 use Rattle.script_lines.proofs.WordLemmas.{own, Numeral, Numeral-from_test, test-from_Numeral}
 

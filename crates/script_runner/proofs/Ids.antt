@@ -4,7 +4,7 @@ use Rattle.std.specs.Fmt.{decimal}
 use Rattle.std.specs.List.{AllByRecursion}
 use Rattle.std.proofs.lemmas.Fmt.{decimal_by_steps, length-decimal-le}
 use Rattle.std.proofs.lemmas.List.Elements.{All-from_recursion}
-use Rattle.mc_model.specs.Ids.{IsId}
+use Rattle.mc_model.specs.message.Ids.{IsId}
 use Rattle.pdu_codec.specs.Text.{IsText}
 
 abbrev IsPositive : List ℕ → Type 0

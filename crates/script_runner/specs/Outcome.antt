@@ -1,7 +1,7 @@
 -- What came of a script: what was read of it, and what was written.
 use Rattle.std.specs.Prelude.{◌≡◌, ◌⊎◌, ℕ, ◌≤◌, Bool, true, false, List, [], ◌∷◌, ◌++◌, Option, Some, None, Result, Ok, Err}
 use Rattle.std.specs.Io.KnownBytes.{Consumes, Appends, Keeps, IsAtEnd}
-use Rattle.mc_model.specs.Ids.{IsMoment}
+use Rattle.mc_model.specs.message.Ids.{IsMoment}
 use Rattle.script_lines.specs.Lines.{NeedsMore}
 use Rattle.script_lines.specs.Said.{Said, Skipped, Nodes, Frame, Tick, Settle}
 use Rattle.script_runner.specs.Script.{Stage, Stepped, opened, step_of, text_of, bad_line}

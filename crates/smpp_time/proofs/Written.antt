@@ -6,7 +6,7 @@ use Rattle.std.proofs.lemmas.List.Elements.{All-from_recursion}
 use Rattle.std.specs.Char.{is_ascii_digit}
 use Rattle.std.proofs.lemmas.Bool.{lt-ltb}
 use Rattle.std.proofs.lemmas.Bool.Decides.{nat_tests}
-use Rattle.mc_model.specs.Ids.{IsMoment}
+use Rattle.mc_model.specs.message.Ids.{IsMoment}
 use Rattle.smpp_time.specs.Calendar.{Date, IsDateOf, is_date, day_number, date_at, date_of, days_in_month}
 use Rattle.smpp_time.specs.Texts.{two_digits, is_shaped, is_clock, moment_of, said_of, time_said, time_text}
 use Rattle.smpp_time.proofs.Texts.{said_absolute}

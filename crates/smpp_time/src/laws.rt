@@ -1,7 +1,7 @@
 //! Laws of days and texts, each the contract of a function that does nothing.
 
 ghost use Rattle.std.specs.Prelude.{◌≡◌, ◌<◌, ◌↔◌, ℕ, Some, Ok, All, length};
-ghost use Rattle.mc_model.specs.Ids.{IsMoment};
+ghost use Rattle.mc_model.specs.message.Ids.{IsMoment};
 ghost use Rattle.smpp_time.specs.Calendar.{Date, IsDateOf, date_of};
 ghost use Rattle.smpp_time.specs.Texts.{time_said, time_text};
 

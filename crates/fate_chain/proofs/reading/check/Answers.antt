@@ -1,5 +1,5 @@
 use Rattle.std.proofs.Common.{ℕ, List, ◌∷◌, sym}
-use Rattle.mc_model.specs.Chain.{Decree}
+use Rattle.mc_model.specs.message.Decree.{Decree}
 use Rattle.fate_chain.specs.Octets.{decree_seen}
 use Rattle.fate_chain.proofs.Steps.{so-far-more, so-far-cut, so-far-all, chain_at-none, chain_at-more, chain_at-all, progress-stands, progress-fails, nothing_left, something_left}
 use Rattle.fate_chain.proofs.reading.check.Goals as goal

@@ -1,5 +1,5 @@
 use Rattle.std.proofs.Common.{ℕ, List, reverse}
-use Rattle.mc_model.specs.Chain.{Decree}
+use Rattle.mc_model.specs.message.Decree.{Decree}
 use Rattle.fate_chain.specs.Octets.{decree_seen}
 use Rattle.fate_chain.proofs.Steps.{so-far-more, so-far-cut, so-far-all, some-not-none, pushed}
 use Rattle.fate_chain.proofs.reading.decrees_of.Goals as goal

@@ -1,5 +1,5 @@
 use Rattle.std.proofs.Common.{◌≡◌, ◌≤◌, reverse, take}
-use Rattle.mc_model.specs.Chain.{error_in}
+use Rattle.mc_model.specs.message.Chain.{error_in}
 use Rattle.fate_chain.proofs.chain.Chain.error.Given as goal
 
 abbrev pub invariant-loop-decree : goal.invariant-loop-decree

@@ -1,6 +1,6 @@
 use Rattle.std.proofs.Common.{◌+◌, List, get_or, reverse, take, sym}
 use Rattle.std.proofs.lemmas.List.{take_more}
-use Rattle.mc_model.specs.Chain.{Decree}
+use Rattle.mc_model.specs.message.Decree.{Decree}
 use Rattle.fate_chain.proofs.Steps.{pushed}
 use Rattle.fate_chain.proofs.progress.Progress.of.Goals as goal
 
