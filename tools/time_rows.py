@@ -50,20 +50,19 @@ def relative():
             yield seconds(now), f"{years:02d}{months:02d}{days:02d}{hours:02d}{minutes:02d}{secs:02d}000R", seconds(later(now, years, months, days, clock))
 
 
-def rows(name, kind, lines):
-    lines = list(lines)
-    print(f"\npub const {name}: [{kind}; {len(lines)}] = [")
+def rows(name, lines):
+    print(f'\npub const {name}: &str = "\\')
     for line in lines:
-        print("    (" + ", ".join(f'"{part}"' if isinstance(part, str) else str(part) for part in line) + "),")
-    print("];")
+        print(" ".join(str(part) for part in line) + "\\n\\")
+    print('";')
 
 
 def main():
     print("//! Times by Python's `datetime` and `calendar`: written by `tools/time_rows.py`.")
-    print("\n// Absolute times, and their seconds since 1970.")
-    rows("ABSOLUTE", "(&str, u32)", absolute())
-    print("\n// A moment, a relative time, and the moment that it names then.")
-    rows("RELATIVE", "(u32, &str, u32)", relative())
+    print("\n// A line each: an absolute time, and its seconds since 1970.")
+    rows("ABSOLUTE", absolute())
+    print("\n// A line each: a moment, a relative time, and the moment that it names then.")
+    rows("RELATIVE", relative())
 
 
 if __name__ == "__main__":

@@ -217,23 +217,12 @@ fn requests_are_refused_at_once(rt: HostRuntime) -> Result<(), Fail> {
 }
 
 #[test]
-fn the_last_serial_is_given(rt: HostRuntime) -> Result<(), Fail> {
+fn serials_run_out(rt: HostRuntime) -> Result<(), Fail> {
     let alloc = rt.alloc();
     let id = MsgId::read(b"1000199999")?;
     let mut node = node_from(alloc, 99999);
-    answers(
-        &rt,
-        alloc,
-        &mut node,
-        &[(Asked::Submit(0), Answer::Submitted(id))],
-    )
-}
-
-#[test]
-fn serials_run_out(rt: HostRuntime) -> Result<(), Fail> {
-    let alloc = rt.alloc();
-    let mut node = node_from(alloc, 99999);
-    node.answer(alloc, Asked::Submit(0))?;
+    let last = (Asked::Submit(0), Answer::Submitted(id));
+    answers(&rt, alloc, &mut node, &[last])?;
     refuses(
         &rt,
         alloc,

@@ -3,6 +3,7 @@
 use crate::time_rows::{ABSOLUTE, RELATIVE};
 use mc_types::Moment;
 use smpp_time::{TimeFault, read_time, receipt_date, write_time};
+use std::process::Abort;
 use std::test::Fail;
 
 /// What a text says at the start of 2000: the seconds since 1970.
@@ -10,30 +11,53 @@ fn said(text: &[u8]) -> Result<Option<u32>, TimeFault> {
     Ok(read_time(text, Moment::least())?.map(|moment| moment.seconds()))
 }
 
-#[test]
-fn absolute_times_are_read(rt: HostRuntime) {
-    for (text, seconds) in ABSOLUTE {
-        assert_eq!(rt; said(text.as_bytes()), Ok(Some(seconds)), "{text}");
-    }
+/// A line of an absolute time and its seconds.
+fn absolute(line: &str) -> Result<(&str, u32), Fail> {
+    let (text, seconds) = line.split_once(' ').ok_or("two words")?;
+    Ok((text, seconds.parse()?))
 }
 
 #[test]
-fn relative_times_are_read(rt: HostRuntime) -> Result<(), Fail> {
-    for (now, text, seconds) in RELATIVE {
-        let read = read_time(text.as_bytes(), Moment::make(now)?)?;
-        assert_eq!(rt; read, Some(Moment::make(seconds)?), "{now} {text}");
+fn absolute_times_are_read(rt: HostRuntime) -> Result<(), Fail> {
+    for line in ABSOLUTE.lines() {
+        let (text, seconds) = absolute(line)?;
+        assert_eq!(rt; said(text.as_bytes()), Ok(Some(seconds)), "{line}");
     }
     Ok(())
 }
 
+/// A line of a moment, a relative time and the moment that it names.
+fn relative(line: &str) -> Result<(Moment, &str, u32), Fail> {
+    let (now, rest) = line.split_once(' ').ok_or("three words")?;
+    let (text, seconds) = absolute(rest)?;
+    Ok((Moment::make(now.parse()?)?, text, seconds))
+}
+
+#[test]
+fn relative_times_are_read(rt: HostRuntime) -> Result<(), Fail> {
+    for line in RELATIVE.lines() {
+        let (now, text, seconds) = relative(line)?;
+        let read = read_time(text.as_bytes(), now)?;
+        assert_eq!(rt; read, Some(Moment::make(seconds)?), "{line}");
+    }
+    Ok(())
+}
+
+/// That a moment is written so, and its date in a receipt.
+fn is_written(rt: &impl Abort, text: &str, moment: Moment) {
+    assert_eq!(rt; write_time(moment).as_slice(), text.as_bytes(), "{text}");
+    assert!(rt;
+        text.as_bytes().starts_with(&receipt_date(moment)),
+        "{text}"
+    );
+}
+
 #[test]
 fn moments_are_written(rt: HostRuntime) -> Result<(), Fail> {
-    for (text, seconds) in ABSOLUTE {
+    for line in ABSOLUTE.lines() {
+        let (text, seconds) = absolute(line)?;
         if text.ends_with("000+") {
-            let moment = Moment::make(seconds)?;
-            assert_eq!(rt; write_time(moment).as_slice(), text.as_bytes(), "{text}");
-            let date = receipt_date(moment);
-            assert!(rt; text.as_bytes().starts_with(&date), "{text}");
+            is_written(&rt, text, Moment::make(seconds)?);
         }
     }
     Ok(())
