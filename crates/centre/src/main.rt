@@ -6,6 +6,11 @@ use std::io;
 use std::process::ExitCode;
 
 fn main(rt: HostRuntime) -> ExitCode {
-    let status = run_program(&rt, &mut rt.reader(), &mut io::writer(&rt), &mut rt.stderr());
+    let status = run_program(
+        &rt,
+        &mut rt.reader(),
+        &mut io::writer(&rt),
+        &mut rt.stderr(),
+    );
     ExitCode::from(status)
 }
