@@ -21,7 +21,7 @@ fn good_lines_are_read(rt: HostRuntime) -> Result<(), Fail> {
     let octets = Vec::from_slice(alloc, &[0xab, 0xcd, 0x09])?;
     assert_eq!(rt;
         read_line(alloc, b"pdu 1 99 aBCd09")?,
-        Some(Line::Frame(99, octets))
+        Some(Line::Octets(99, octets))
     );
     Ok(())
 }
@@ -114,7 +114,7 @@ fn the_longest_line_is_9996_octets_on_a_session(rt: HostRuntime) -> Result<(), F
     let octets = vec![in alloc; 0xa5u8; 9996]?;
     assert_eq!(rt;
         read_line(alloc, line.as_slice())?,
-        Some(Line::Frame(1, octets))
+        Some(Line::Octets(1, octets))
     );
     line.push(b'\n')?;
     assert_eq!(rt;

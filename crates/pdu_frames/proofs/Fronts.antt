@@ -1,9 +1,10 @@
 -- What stands at the front of a stream: a part of a frame, a wrong length, or a frame, and one of these alone.
 use Rattle.std.proofs.Common.{◌≡◌, ℕ, true, false, nat_le, ◌+◌, ◌-◌, ◌≤◌, ◌⊎◌, inl, inr, List, ◌++◌, length, take, drop, refl, sym, ap, ◌∙◌, subst, arith, append_assoc}
 use Rattle.std.proofs.lemmas.List.{append_cancel_left, length-append, length-take-le, take_at, take-append-le, take-append-drop, take-take, take_rest, drop-take}
-use Rattle.std.proofs.lemmas.Bool.{cases_lt, cases_Bool, and_parts, leb-true}
+use Rattle.std.proofs.Math.Bool.{and-false}
+use Rattle.std.proofs.lemmas.Bool.{cases_lt, cases_Bool, and_parts, and_from, leb-true, le-leb, lt-leb}
 use Rattle.std.specs.Int.{from_be_bytes, w32}
-use Rattle.pdu_frames.specs.Frames.{command_length, is_pdu_length, IsFrame, IsPart, HasWrongLength}
+use Rattle.pdu_frames.specs.Frames.{command_length, is_pdu_length, IsFrame, IsPart, HasWrongLength, begins_with_frame, begins_wrong}
 
 -- a length that a PDU may have, in numbers
 pub within_limits : (count : ℕ) → is_pdu_length count ≡ true → (16 ≤ count) × (count ≤ 8192)
@@ -40,7 +41,7 @@ one_frame frame other behind rest is too e =
     (same, append_cancel_left other behind rest (ap (λ f. f ++ behind) (sym same) ∙ e))
 
 -- As many octets as a command_length says are a frame, if it is no wrong one and they have come.
-whole_front : (stream : List ℕ) → is_pdu_length (command_length stream) ≡ true → command_length stream ≤ length stream → IsFrame (take (command_length stream) stream)
+pub whole_front : (stream : List ℕ) → is_pdu_length (command_length stream) ≡ true → command_length stream ≤ length stream → IsFrame (take (command_length stream) stream)
 whole_front stream may whole =
     let count : length (take (command_length stream) stream) ≡ command_length stream = length-take-le (command_length stream) stream whole in
     let come : 4 ≤ command_length stream = omega (arith, within_limits (command_length stream) may) in
@@ -60,6 +61,22 @@ front_cases stream =
         ]
       ]
     ]
+
+-- A stream with a frame in front begins with one.
+pub frame_begins : (frame behind : List ℕ) → IsFrame frame → begins_with_frame (frame ++ behind) ≡ true
+frame_begins frame behind is =
+    let field = length_of_frame frame behind is in
+    and_from (is_pdu_length (command_length (frame ++ behind))) (nat_le (command_length (frame ++ behind)) (length (frame ++ behind)))
+    (ap (λ n. is_pdu_length n) field ∙ is.allowed)
+    (le-leb (command_length (frame ++ behind)) (length (frame ++ behind)) (omega (arith, field, length-append frame behind)))
+
+-- what is tested of octets with no whole frame
+pub wrong_begins : (octets : List ℕ) → HasWrongLength octets → begins_wrong octets ≡ true
+wrong_begins octets wrong = rw (wrong.wrong, le-leb 4 (length octets) wrong.come) refl
+
+pub part_begins : (octets : List ℕ) → IsPart octets → begins_wrong octets ≡ false
+part_begins octets (inl short) = rw (lt-leb 4 (length octets) short) refl
+part_begins octets (inr part) = let allowed : is_pdu_length (command_length octets) ≡ true = part.0 in rw allowed (and-false (nat_le 4 (length octets)))
 
 -- What is added to what is held in two goes, off a piece and off the rest of it, is the front of the piece.
 pub added_in_two : (held piece : List ℕ) (first second : ℕ) → (held ++ take first piece) ++ take second (take (length piece - first) (drop first piece)) ≡ held ++ take (first + second) piece

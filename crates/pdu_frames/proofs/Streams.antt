@@ -1,11 +1,12 @@
 -- The laws of frames, by recursion on the frames of a stream and on calls.
-use Rattle.std.proofs.Common.{◌≡◌, ℕ, zero, suc, ◌≤◌, ◌⊎◌, inl, inr, List, [], ◌∷◌, ◌++◌, length, refl, sym, ap, ◌∙◌, subst, arith, append_assoc}
-use Rattle.std.proofs.lemmas.List.{append-nil, length-append}
-use Rattle.pdu_frames.specs.Frames.{IsPart, HasWrongLength, AreFrames}
+use Rattle.std.proofs.Common.{◌≡◌, ℕ, true, false, zero, suc, nat_le, ◌≤◌, ◌⊎◌, inl, inr, List, [], ◌∷◌, ◌++◌, length, take, drop, refl, sym, ap, ◌∙◌, subst, arith, append_assoc}
+use Rattle.std.proofs.lemmas.List.{append-nil, length-append, length-drop, take-append-drop}
+use Rattle.std.proofs.lemmas.Bool.{cases_Bool, and_parts, leb-true}
+use Rattle.pdu_frames.specs.Frames.{command_length, is_pdu_length, IsPart, HasWrongLength, AreFrames, begins_with_frame, cut, cut_within}
 use Rattle.pdu_frames.specs.Calls.{Call, Run, taken_in, given_out}
 use Rattle.pdu_frames.specs.Calls.Call.{TakesIn, GivesOut}
-use Rattle.pdu_frames.specs.Laws.{StreamHasFrames, FramesAreOne, FirstFramesAreGiven, AllFramesAreGiven}
-use Rattle.pdu_frames.proofs.Fronts.{no_frame, one_frame, front_cases, within_limits}
+use Rattle.pdu_frames.specs.Laws.{StreamHasFrames, StreamsAreCut, FramesAreOne, FirstFramesAreGiven, AllFramesAreGiven}
+use Rattle.pdu_frames.proofs.Fronts.{no_frame, one_frame, front_cases, frame_begins, whole_front, within_limits}
 
 pub frames_one : FramesAreOne
 frames_one stream [] [] rest left a b = (refl, sym a.0 ∙ b.0)
@@ -16,20 +17,34 @@ frames_one stream (frame ∷ frames) (other ∷ others) rest left a b =
     let more = frames_one b.1.0 frames others rest left (subst (λ s. AreFrames s frames rest) one.1 a.1.2) b.1.2 in
     (ap (λ f. f ∷ frames) one.0 ∙ ap (λ fs. other ∷ fs) more.0, more.1)
 
--- the frames of a stream of so many octets at most
-frames_within : (most : ℕ) (stream : List ℕ) → length stream ≤ most → (frames : List (List ℕ)) × (rest : List ℕ) × AreFrames stream frames rest
-frames_within zero stream within = ([], stream, (refl, inl (inl (omega arith))))
-frames_within (suc most) stream within =
+-- no frame stands at the front if none begins there
+no_front : (stream : List ℕ) → begins_with_frame stream ≡ false → IsPart stream ⊎ HasWrongLength stream
+no_front stream none =
     elim (front_cases stream) [
-      | inl end ↦ ([], stream, (refl, end))
-      | inr front ↦
-          let fewer : length front.1 ≤ most = omega (arith, within_limits (length front.0) front.2.allowed, length-append front.0 front.1, ap (λ s. length s) front.3) in
-          let more = frames_within most front.1 fewer in
-          (front.0 ∷ more.0, more.1, (front.2, (front.1, front.3, more.2)))
+      | inl end ↦ end
+      | inr front ↦ absurd (let begins = frame_begins front.0 front.1 front.2 in let same = ap (λ s. begins_with_frame s) front.3 in cc)
     ]
 
+-- the cut of a stream of so many octets at most
+cut_are : (most : ℕ) (stream : List ℕ) → length stream ≤ most → AreFrames stream (cut_within most stream).frames (cut_within most stream).rest
+unfolding cut_within
+cut_are zero stream within = (refl, inl (inl (omega arith)))
+cut_are (suc most) stream within =
+    elim (cases_Bool (begins_with_frame stream)) [
+      | inr none ↦ rw none (refl, no_front stream none)
+      | inl begins ↦
+          let both = and_parts (is_pdu_length (command_length stream)) (nat_le (command_length stream) (length stream)) begins in
+          let come = leb-true (command_length stream) (length stream) both.1 in
+          let fewer : length (drop (command_length stream) stream) ≤ most = omega (arith, within_limits (command_length stream) both.0, length-drop (command_length stream) stream) in
+          let more = cut_are most (drop (command_length stream) stream) fewer in
+          rw begins (whole_front stream both.0 come, (drop (command_length stream) stream, sym (take-append-drop (command_length stream) stream), more))
+    ]
+
+pub streams_cut : StreamsAreCut
+streams_cut stream = cut_are (length stream) stream (omega arith)
+
 pub stream_frames : StreamHasFrames
-stream_frames stream = frames_within (length stream) stream (omega arith)
+stream_frames stream = ((cut stream).frames, (cut stream).rest, streams_cut stream)
 
 -- The same of calls on a Framer that holds some octets already.
 first_given : (calls : List Call) (old held more rest : List ℕ) (frames : List (List ℕ)) → Run old calls held → AreFrames (old ++ (taken_in calls ++ more)) frames rest

@@ -1,5 +1,5 @@
 -- A stream of octets falls into frames: the octets of one PDU each, whatever its body.
-use Rattle.std.specs.Prelude.{◌≡◌, ℕ, ◌-◌, ◌<◌, ◌≤◌, ◌⊎◌, ◌&&◌, Bool, false, IsTrue, nat_le, if◌then◌else◌, List, [], ◌∷◌, ◌++◌, length}
+use Rattle.std.specs.Prelude.{◌≡◌, ℕ, zero, suc, ◌-◌, ◌<◌, ◌≤◌, ◌⊎◌, ◌&&◌, Bool, false, IsTrue, nat_le, not, if◌then◌else◌, List, [], ◌∷◌, ◌++◌, length, take, drop}
 use Rattle.pdu_codec.specs.Grammar.{word_at}
 
 -- command_length, in the first four octets of a PDU, counts the whole PDU, itself included (SMPP 3.4, 3.2 and 5.1.1).
@@ -42,3 +42,33 @@ IsOfOneFrame octets = length octets ≤ front_end octets
 -- how many octets are missing: to the end of command_length, and once that has come to the end of the frame
 abbrev pub wanted_of : List ℕ → ℕ
 wanted_of octets = front_end octets - length octets
+
+-- ---- the frames of a stream, computed
+
+-- whether a whole frame stands at the front of octets
+abbrev pub begins_with_frame : List ℕ → Bool
+begins_with_frame octets = is_pdu_length (command_length octets) && nat_le (command_length octets) (length octets)
+
+-- whether a wrong length stands there
+abbrev pub begins_wrong : List ℕ → Bool
+begins_wrong octets = nat_le 4 (length octets) && not (is_pdu_length (command_length octets))
+
+-- a stream that is cut: its frames, and the octets behind them
+pub record Cut : Type 0 where
+  pub frames : List (List ℕ)
+  pub rest : List ℕ
+
+-- a frame in front of what is cut
+abbrev pub in_front_of : List ℕ → Cut → Cut
+in_front_of frame others = record { frames = frame ∷ others.frames; rest = others.rest }
+
+-- Frame after frame is cut off the front, at most so many.
+unfoldable pub cut_within : ℕ → List ℕ → Cut
+cut_within zero stream = record { frames = []; rest = stream }
+cut_within (suc most) stream =
+    if begins_with_frame stream then in_front_of (take (command_length stream) stream) (cut_within most (drop (command_length stream) stream))
+    else record { frames = []; rest = stream }
+
+-- No stream has more frames than octets.
+abbrev pub cut : List ℕ → Cut
+cut stream = cut_within (length stream) stream

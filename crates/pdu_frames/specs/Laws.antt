@@ -1,11 +1,15 @@
 -- The laws of frames, for all streams and all ways to cut them.
 use Rattle.std.specs.Prelude.{◌≡◌, ℕ, ◌⊎◌, List, [], ◌++◌}
-use Rattle.pdu_frames.specs.Frames.{AreFrames, IsPart, HasWrongLength}
+use Rattle.pdu_frames.specs.Frames.{AreFrames, IsPart, HasWrongLength, cut}
 use Rattle.pdu_frames.specs.Calls.{Call, Run, taken_in, given_out}
 
 -- Each stream has frames, and no others.
 abbrev pub StreamHasFrames : Type 0
 StreamHasFrames = (stream : List ℕ) → (frames : List (List ℕ)) × (rest : List ℕ) × AreFrames stream frames rest
+
+-- They are those that cutting gives.
+abbrev pub StreamsAreCut : Type 0
+StreamsAreCut = (stream : List ℕ) → AreFrames stream (cut stream).frames (cut stream).rest
 
 abbrev pub FramesAreOne : Type 0
 FramesAreOne = (stream : List ℕ) (frames others : List (List ℕ)) (rest left : List ℕ) → AreFrames stream frames rest → AreFrames stream others left → (frames ≡ others) × (rest ≡ left)

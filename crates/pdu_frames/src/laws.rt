@@ -1,10 +1,15 @@
 //! Laws of frames, each the contract of a function that does nothing.
 
-ghost use Rattle.pdu_frames.specs.Laws.{StreamHasFrames, FramesAreOne, FirstFramesAreGiven, AllFramesAreGiven};
+ghost use Rattle.pdu_frames.specs.Laws.{StreamHasFrames, StreamsAreCut, FramesAreOne, FirstFramesAreGiven, AllFramesAreGiven};
 
 /// Each stream has a list of frames, and a rest behind them.
 pub fn stream_has_frames()
     ensures { StreamHasFrames }
+{}
+
+/// They are those that cutting gives.
+pub fn streams_are_cut()
+    ensures { StreamsAreCut }
 {}
 
 /// It has no other frames, and no other rest.

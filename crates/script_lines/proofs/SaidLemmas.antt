@@ -11,7 +11,7 @@ use Rattle.std.proofs.lemmas.Option.{cond_some, some_pair_parts}
 use Rattle.std.proofs.lemmas.Str.Parse.{digit_at}
 use Rattle.hex.specs.Hex.{decode_of}
 use Rattle.mc_model.specs.message.Ids.{IsMoment}
-use Rattle.script_lines.specs.Said.{Said, Skipped, Nodes, Frame, Tick, Settle, IsWording, IsSession, Spells, spaced, ◌>>=◌, behind, has_leading_zero, number_of, word_len, number_at, nodes_said, frame_parts, frame_said, tick_said, are_ones, settle_said, is_skipped, words_said, said_of}
+use Rattle.script_lines.specs.Said.{Said, Skipped, Nodes, Octets, Tick, Settle, IsWording, IsSession, Spells, spaced, ◌>>=◌, behind, has_leading_zero, number_of, word_len, number_at, nodes_said, octets_parts, octets_said, tick_said, are_ones, settle_said, is_skipped, words_said, said_of}
 use Rattle.script_lines.proofs.WordLemmas.{own, Numeral, Numeral-from_test, test-from_Numeral}
 
 -- ---- a step that gave a value
@@ -182,16 +182,16 @@ nodes_first : nodes_said (spaced (decimal 1 ∷ [])) ≡ Some (Nodes 1)
 unfolding nodes_said behind
 nodes_first = rw decimal_one refl
 
--- ---- frames
+-- ---- octets of a stream
 
 record TakesParts (text : List ℕ) (session : ℕ) (digits : List ℕ) : Type 0 where
   is_session : IsSession session
   some : digits ≢ []
   parts : text ≡ spaced (decimal 1 ∷ decimal session ∷ digits ∷ [])
 
-frame_parts_takes : (text : List ℕ) (session : ℕ) (digits : List ℕ) → frame_parts text ≡ Some (session, digits) → TakesParts text session digits
-unfolding frame_parts
-frame_parts_takes text session digits e =
+octets_parts_take : (text : List ℕ) (session : ℕ) (digits : List ℕ) → octets_parts text ≡ Some (session, digits) → TakesParts text session digits
+unfolding octets_parts
+octets_parts_take text session digits e =
     let a = bind_some (behind (codes " 1") text) (λ words. number_at 1 99 words >>= λ found. behind (codes " ") found.1 >>= λ digits'. cond (length digits' == 0) None (Some (found.0, digits'))) (session, digits) e in
     let b = bind_some (number_at 1 99 a.0) (λ found. behind (codes " ") found.1 >>= λ digits'. cond (length digits' == 0) None (Some (found.0, digits'))) (session, digits) a.2 in
     let c = bind_some (behind (codes " ") b.0.1) (λ digits'. cond (length digits' == 0) None (Some (b.0.0, digits'))) (session, digits) b.2 in
@@ -213,19 +213,19 @@ ok_if : {E : Type 0} (read : Result (List ℕ) E) (octets : List ℕ) → result
 ok_if (Ok x) octets e = cc
 ok_if (Err x) octets e = absurd cc
 
-frame_takes : (text : List ℕ) (said : Said) → frame_said text ≡ Some said → IsWording said (codes "pdu" ++ text)
-unfolding frame_said
-frame_takes text said e =
-    let a = bind_some (frame_parts text) (λ parts. result_ok (decode_of parts.1) >>= λ octets. Some (Frame parts.0 octets)) said e in
-    let b = bind_some (result_ok (decode_of a.0.1)) (λ octets. Some (Frame a.0.0 octets)) said a.2 in
-    let said-is : Frame a.0.0 b.0 ≡ said = (let both = b.2 in cc) in
-    let taken = frame_parts_takes text a.0.0 a.0.1 a.1 in
+octets_take : (text : List ℕ) (said : Said) → octets_said text ≡ Some said → IsWording said (codes "pdu" ++ text)
+unfolding octets_said
+octets_take text said e =
+    let a = bind_some (octets_parts text) (λ parts. result_ok (decode_of parts.1) >>= λ octets. Some (Octets parts.0 octets)) said e in
+    let b = bind_some (result_ok (decode_of a.0.1)) (λ octets. Some (Octets a.0.0 octets)) said a.2 in
+    let said-is : Octets a.0.0 b.0 ≡ said = (let both = b.2 in cc) in
+    let taken = octets_parts_take text a.0.0 a.0.1 a.1 in
     subst (λ s. IsWording s (codes "pdu" ++ text)) said-is
     (taken.is_session, (a.0.1, taken.some, ok_if (decode_of a.0.1) b.0 b.1, ap (λ xs. codes "pdu" ++ xs) taken.parts))
 
-frame_again : (session : ℕ) (digits octets : List ℕ) → IsSession session → digits ≢ [] → decode_of digits ≡ Ok octets → frame_said (spaced (decimal 1 ∷ decimal session ∷ digits ∷ [])) ≡ Some (Frame session octets)
-unfolding frame_said frame_parts behind
-frame_again session digits octets range some read =
+octets_again : (session : ℕ) (digits octets : List ℕ) → IsSession session → digits ≢ [] → decode_of digits ≡ Ok octets → octets_said (spaced (decimal 1 ∷ decimal session ∷ digits ∷ [])) ≡ Some (Octets session octets)
+unfolding octets_said octets_parts behind
+octets_again session digits octets range some read =
     rw (decimal_one, number_at_again 1 99 session (32 ∷ digits ++ []) range.least range.most (omega (arith, range.most)) (λ more. refl), append-nil digits, some_word digits some, read) refl
 
 -- ---- ticks
@@ -274,11 +274,11 @@ unfolding words_said settle_said
 words_takes line said e =
     let settle = cond (starts_with nat_eq line (codes "settle")) (settle_said (drop 6 line)) None in
     let tick = cond (starts_with nat_eq line (codes "tick")) (tick_said (drop 4 line)) settle in
-    let pdu = cond (starts_with nat_eq line (codes "pdu")) (frame_said (drop 3 line)) tick in
+    let pdu = cond (starts_with nat_eq line (codes "pdu")) (octets_said (drop 3 line)) tick in
     elim (chosen (starts_with nat_eq line (codes "nodes")) (nodes_said (drop 5 line)) pdu (Some said) e) [
       | inl nodes ↦ subst (IsWording said) (sym (begins (codes "nodes") line nodes.0)) (nodes_takes (drop 5 line) said nodes.1)
-      | inr others ↦ elim (chosen (starts_with nat_eq line (codes "pdu")) (frame_said (drop 3 line)) tick (Some said) others.1) [
-        | inl frame ↦ subst (IsWording said) (sym (begins (codes "pdu") line frame.0)) (frame_takes (drop 3 line) said frame.1)
+      | inr others ↦ elim (chosen (starts_with nat_eq line (codes "pdu")) (octets_said (drop 3 line)) tick (Some said) others.1) [
+        | inl octets ↦ subst (IsWording said) (sym (begins (codes "pdu") line octets.0)) (octets_take (drop 3 line) said octets.1)
         | inr later ↦ elim (chosen (starts_with nat_eq line (codes "tick")) (tick_said (drop 4 line)) settle (Some said) later.1) [
           | inl moment ↦ subst (IsWording said) (sym (begins (codes "tick") line moment.0)) (tick_takes (drop 4 line) said moment.1)
           | inr end ↦ elim (chosen (starts_with nat_eq line (codes "settle")) (settle_said (drop 6 line)) None (Some said) end.1) [
@@ -329,9 +329,9 @@ nodes_line : (text : List ℕ) → said_short (codes "nodes" ++ text) ≡ nodes_
 unfolding words_said
 nodes_line text = refl
 
-frame_line : (text : List ℕ) → said_short (codes "pdu" ++ text) ≡ frame_said text
+octets_line : (text : List ℕ) → said_short (codes "pdu" ++ text) ≡ octets_said text
 unfolding words_said
-frame_line text = refl
+octets_line text = refl
 
 tick_line : (text : List ℕ) → said_short (codes "tick" ++ text) ≡ tick_said text
 unfolding words_said
@@ -348,8 +348,8 @@ wording_again line (Nodes serial) w =
       | inl given ↦ ap said_short given ∙ nodes_line (spaced (decimal 1 ∷ decimal serial ∷ [])) ∙ nodes_again serial w.0 w.1
       | inr first ↦ ap said_short first.1 ∙ nodes_line (spaced (decimal 1 ∷ [])) ∙ nodes_first ∙ ap (λ n. Some (Nodes n)) (sym first.0)
     ]
-wording_again line (Frame session octets) w =
-    ap said_short w.1.3 ∙ frame_line (spaced (decimal 1 ∷ decimal session ∷ w.1.0 ∷ [])) ∙ frame_again session w.1.0 octets w.0 w.1.1 w.1.2
+wording_again line (Octets session octets) w =
+    ap said_short w.1.3 ∙ octets_line (spaced (decimal 1 ∷ decimal session ∷ w.1.0 ∷ [])) ∙ octets_again session w.1.0 octets w.0 w.1.1 w.1.2
 wording_again line (Tick moment) w =
     ap said_short w.1 ∙ tick_line (spaced (decimal 1 ∷ decimal moment ∷ [])) ∙ tick_again moment w.0
 wording_again line Settle w = ap said_short w.2 ∙ settle_line (spaced (map decimal w.0)) (settle_again w.0 w.1)

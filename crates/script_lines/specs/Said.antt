@@ -17,7 +17,7 @@ pub data Said : Type 0 where
   -- one node, whose first message has this serial
   Nodes : ℕ → Said
   -- octets that came on a session
-  Frame : ℕ → List ℕ → Said
+  Octets : ℕ → List ℕ → Said
   -- this moment has come
   Tick : ℕ → Said
   -- what was asked is answered
@@ -27,7 +27,7 @@ pub data Said : Type 0 where
 abbrev pub said_by : Line → Said
 said_by lines.Skipped = Skipped
 said_by (lines.Nodes serial) = Nodes serial
-said_by (lines.Frame session octets) = Frame session octets.items
+said_by (lines.Octets session octets) = Octets session octets.items
 said_by (lines.Tick moment) = Tick moment
 said_by lines.Settle = Settle
 
@@ -52,7 +52,7 @@ IsWording Skipped line = (line ≡ []) ⊎ IsComment line
 IsWording (Nodes serial) line =
     (1 ≤ serial) × (serial ≤ 99999)
     × ((line ≡ codes "nodes" ++ spaced (decimal 1 ∷ decimal serial ∷ [])) ⊎ ((serial ≡ 1) × (line ≡ codes "nodes" ++ spaced (decimal 1 ∷ []))))
-IsWording (Frame session octets) line =
+IsWording (Octets session octets) line =
     IsSession session
     × ((digits : List ℕ) × (digits ≢ []) × (decode_of digits ≡ Ok octets)
     × (line ≡ codes "pdu" ++ spaced (decimal 1 ∷ decimal session ∷ digits ∷ [])))
@@ -110,19 +110,19 @@ nodes_said text = do
     if length serial.1 == 0 then Some (Nodes serial.0) else None
 
 -- the session and the digits behind `pdu`
-unfoldable pub frame_parts : List ℕ → Option (ℕ × List ℕ)
-frame_parts text = do
+unfoldable pub octets_parts : List ℕ → Option (ℕ × List ℕ)
+octets_parts text = do
   words ← behind (codes " 1") text
   session ← number_at 1 99 words
   digits ← behind (codes " ") session.1
   if length digits == 0 then None else Some (session.0, digits)
 
 -- what is behind `pdu`
-unfoldable pub frame_said : List ℕ → Option Said
-frame_said text = do
-  parts ← frame_parts text
+unfoldable pub octets_said : List ℕ → Option Said
+octets_said text = do
+  parts ← octets_parts text
   octets ← result_ok (decode_of parts.1)
-  Some (Frame parts.0 octets)
+  Some (Octets parts.0 octets)
 
 -- what is behind `tick`
 unfoldable pub tick_said : List ℕ → Option Said
@@ -145,7 +145,7 @@ settle_said text = if are_ones text then Some Settle else None
 unfoldable pub words_said : List ℕ → Option Said
 words_said line =
     if starts_with nat_eq line (codes "nodes") then nodes_said (drop 5 line)
-    else if starts_with nat_eq line (codes "pdu") then frame_said (drop 3 line)
+    else if starts_with nat_eq line (codes "pdu") then octets_said (drop 3 line)
     else if starts_with nat_eq line (codes "tick") then tick_said (drop 4 line)
     else if starts_with nat_eq line (codes "settle") then settle_said (drop 6 line)
     else None
@@ -162,11 +162,11 @@ said_of line =
     else if is_skipped line then Some Skipped
     else words_said line
 
--- a frame is said
-abbrev pub IsFrame : Option Said → Type 0
-IsFrame (Some (Frame session octets)) = Unit {0}
-IsFrame (Some Skipped) = ⊥
-IsFrame (Some (Nodes serial)) = ⊥
-IsFrame (Some (Tick moment)) = ⊥
-IsFrame (Some Settle) = ⊥
-IsFrame None = ⊥
+-- octets are said
+abbrev pub SaysOctets : Option Said → Type 0
+SaysOctets (Some (Octets session octets)) = Unit {0}
+SaysOctets (Some Skipped) = ⊥
+SaysOctets (Some (Nodes serial)) = ⊥
+SaysOctets (Some (Tick moment)) = ⊥
+SaysOctets (Some Settle) = ⊥
+SaysOctets None = ⊥

@@ -5,7 +5,7 @@ ghost use Rattle.std.specs.Option.{option_map, option_copied};
 ghost use Rattle.std.specs.List.{list_all};
 ghost use Rattle.std.specs.Char.{is_ascii_digit, is_ascii_hexdigit};
 ghost use Rattle.hex.specs.Hex.{decode_of};
-ghost use Rattle.script_lines.specs.Said.{Said, Spells, IsFrame, said_by, said_of, words_said, nodes_said, frame_said, tick_said, settle_said};
+ghost use Rattle.script_lines.specs.Said.{Said, Spells, SaysOctets, said_by, said_of, words_said, nodes_said, octets_said, tick_said, settle_said};
 ghost use Rattle.script_lines.specs.Said as spec;
 
 use crate::octets::place_of;
@@ -34,19 +34,19 @@ pub enum Line {
     Skipped,
     /// `nodes 1 SERIAL`: one node, whose first message has the serial, 1 to 99999; 1 where none is given.
     Nodes(u32),
-    /// `pdu 1 SESSION HEX`: the octets come on a session, 1 to 99.
-    Frame(u8, Vec<u8>),
+    /// `pdu 1 SESSION HEX`: the next octets of the stream of a session, 1 to 99.
+    Octets(u8, Vec<u8>),
     /// `tick 1 MOMENT`: this moment has come, in whole seconds since 1970-01-01T00:00:00Z, 946684800 to 4102444799.
     Tick(u32),
     /// `settle`, which may name the node 1.
     Settle,
 }
 
-/// What a line says, its line feed taken off; a bad line says nothing. An `Err` is want of memory, which a frame's octets need.
+/// What a line says, its line feed taken off; a bad line says nothing. An `Err` is want of memory, which octets need.
 #[tactic(auto, unfolding(crate::specs::Said::said_of))]
 pub fn read_line(alloc: Global, line: &[u8]) -> Result<Option<Line>, AllocError>
     ensures said { IfOk result (λ read. option_map said_by read ≡ said_of line.now) }
-    ensures memory { OnErr result (IsFrame (said_of line.now)) }
+    ensures memory { OnErr result (SaysOctets (said_of line.now)) }
 {
     if line.len() > MOST_OCTETS {
         return Ok(None);
@@ -61,13 +61,13 @@ pub fn read_line(alloc: Global, line: &[u8]) -> Result<Option<Line>, AllocError>
 #[tactic(auto, unfolding(crate::specs::Said::words_said, crate::specs::Said::behind))]
 fn words_of(alloc: Global, line: &[u8]) -> Result<Option<Line>, AllocError>
     ensures said { IfOk result (λ read. option_map said_by read ≡ words_said line.now) }
-    ensures memory { OnErr result (IsFrame (words_said line.now)) }
+    ensures memory { OnErr result (SaysOctets (words_said line.now)) }
 {
     if let Some(words) = line.strip_prefix(b"nodes") {
         return Ok(nodes_of(words));
     }
     if let Some(words) = line.strip_prefix(b"pdu") {
-        return frame_of(alloc, words);
+        return octets_of(alloc, words);
     }
     if let Some(words) = line.strip_prefix(b"tick") {
         return Ok(tick_of(words));
@@ -95,25 +95,25 @@ fn nodes_of(words: &[u8]) -> Option<Line>
 }
 
 /// What stands behind `pdu`: the node, a session and octets.
-#[tactic(auto, unfolding(crate::specs::Said::frame_said))]
-fn frame_of(alloc: Global, words: &[u8]) -> Result<Option<Line>, AllocError>
-    ensures said { IfOk result (λ read. option_map said_by read ≡ frame_said words.now) }
-    ensures memory { OnErr result (IsFrame (frame_said words.now)) }
+#[tactic(auto, unfolding(crate::specs::Said::octets_said))]
+fn octets_of(alloc: Global, words: &[u8]) -> Result<Option<Line>, AllocError>
+    ensures said { IfOk result (λ read. option_map said_by read ≡ octets_said words.now) }
+    ensures memory { OnErr result (SaysOctets (octets_said words.now)) }
 {
-    let Some((session, digits)) = frame_parts(words) else {
+    let Some((session, digits)) = octets_parts(words) else {
         return Ok(None);
     };
     if !are_octets(digits) {
         return Ok(None);
     }
     let octets = hex::decode(alloc, digits).map_err(|_| AllocError)?;
-    Ok(Some(Line::Frame(session, octets)))
+    Ok(Some(Line::Octets(session, octets)))
 }
 
 /// The session and the digits behind `pdu`.
-#[tactic(auto, unfolding(crate::specs::Said::frame_parts))]
-fn frame_parts(words: &[u8]) -> Option<(u8, &[u8])>
-    ensures { option_map (λ p. (p.0, p.1.now)) result ≡ spec.frame_parts words.now }
+#[tactic(auto, unfolding(crate::specs::Said::octets_parts))]
+fn octets_parts(words: &[u8]) -> Option<(u8, &[u8])>
+    ensures { option_map (λ p. (p.0, p.1.now)) result ≡ spec.octets_parts words.now }
 {
     let words = behind(b" 1", words)?;
     let (session, words) = number_at(1, MOST_SESSION, words)?;

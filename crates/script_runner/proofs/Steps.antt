@@ -1,6 +1,6 @@
 -- What a line does, by what it says.
 use Rattle.std.proofs.Common.{◌≡◌, ◌↔◌, ℕ, List, Option, Some, ap}
-use Rattle.script_lines.specs.Said.{Said, Skipped, Nodes, Frame, Tick, Settle, Spells, said_of}
+use Rattle.script_lines.specs.Said.{Said, Skipped, Nodes, Octets, Tick, Settle, Spells, said_of}
 use Rattle.script_runner.specs.Script.{Stage, step_by, step_of}
 use Rattle.script_runner.specs.Outcome.{NumberFits}
 
@@ -15,6 +15,6 @@ SaysItsSpelling = (line : List ℕ) (said : Said) → (said_of line ≡ Some sai
 pub number_fits : SaysItsSpelling → (line : List ℕ) (said : Said) → said_of line ≡ Some said → NumberFits said
 number_fits spelled line Skipped e = tt
 number_fits spelled line (Nodes serial) e = let spells = (spelled line (Nodes serial)).0 e in (spells.wording.0, spells.wording.1)
-number_fits spelled line (Frame session octets) e = tt
+number_fits spelled line (Octets session octets) e = tt
 number_fits spelled line (Tick moment) e = ((spelled line (Tick moment)).0 e).wording.0
 number_fits spelled line Settle e = tt

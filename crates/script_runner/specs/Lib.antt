@@ -4,5 +4,6 @@ pub mod Lines
 pub mod Checks
 pub mod Centre
 pub mod OneNode
+pub mod Streams
 pub mod Script
 pub mod Outcome

@@ -3,7 +3,7 @@ use Rattle.std.specs.Prelude.{◌≡◌, ◌⊎◌, ℕ, ◌≤◌, Bool, true, 
 use Rattle.std.specs.Io.KnownBytes.{Consumes, Appends, Keeps, IsAtEnd}
 use Rattle.mc_model.specs.message.Ids.{IsMoment}
 use Rattle.script_lines.specs.Lines.{NeedsMore}
-use Rattle.script_lines.specs.Said.{Said, Skipped, Nodes, Frame, Tick, Settle}
+use Rattle.script_lines.specs.Said.{Said, Skipped, Nodes, Octets, Tick, Settle}
 use Rattle.script_runner.specs.Script.{Stage, Stepped, opened, step_of, text_of, bad_line}
 use Rattle.script_runner.specs.declared.fault.ScriptFault.{ScriptFault}
 use Rattle.script_runner.specs.declared.fault.ScriptFault.TheVariants.{BadLine, Read, Write, Memory}
@@ -14,7 +14,7 @@ use Rattle.script_runner.specs.declared.fault.ScriptFault.TheVariants.{BadLine, 
 abbrev pub NumberFits : Said → Type 0
 NumberFits Skipped = Unit {0}
 NumberFits (Nodes serial) = (1 ≤ serial) × (serial ≤ 99999)
-NumberFits (Frame session octets) = Unit {0}
+NumberFits (Octets session octets) = Unit {0}
 NumberFits (Tick moment) = IsMoment moment
 NumberFits Settle = Unit {0}
 

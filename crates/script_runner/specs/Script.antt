@@ -1,10 +1,11 @@
 -- The text of a script.
 use Rattle.std.specs.Prelude.{ℕ, suc, List, [], ◌∷◌, ◌++◌, Option, Some, None}
 use Rattle.script_lines.specs.Lines.{lines_of}
-use Rattle.script_lines.specs.Said.{Said, Skipped, Nodes, Frame, Tick, Settle, said_of}
+use Rattle.script_lines.specs.Said.{Said, Skipped, Nodes, Octets, Tick, Settle, said_of}
 use Rattle.script_runner.specs.declared.centre.Centre.{Centre}
 use Rattle.script_runner.specs.Centre.{Done}
-use Rattle.script_runner.specs.OneNode.{on_frame, on_tick, on_settle}
+use Rattle.script_runner.specs.OneNode.{on_tick, on_settle}
+use Rattle.script_runner.specs.Streams.{on_octets}
 
 -- node 1 in its first incarnation, at which nothing was asked yet: a message is valid for three days if it asks for nothing else,
 -- and the clock begins at the least moment
@@ -13,6 +14,7 @@ opened serial = record {
   desk = record { node = 1; incarnation = 1; validity = 259200; serial = serial; given = 0; waiting = [] };
   chains = [];
   bound = [];
+  streams = [];
   pending = [];
   clock = 946684800;
 }
@@ -34,11 +36,11 @@ abbrev pub step_by : Stage → Option Said → Option Stepped
 step_by stage None = None
 step_by stage (Some Skipped) = Some (record { stage = stage; text = [] })
 step_by None (Some (Nodes serial)) = Some (record { stage = Some (opened serial); text = [] })
-step_by None (Some (Frame session octets)) = None
+step_by None (Some (Octets session octets)) = None
 step_by None (Some (Tick moment)) = None
 step_by None (Some Settle) = None
 step_by (Some centre) (Some (Nodes serial)) = None
-step_by (Some centre) (Some (Frame session octets)) = stepped (on_frame centre session octets)
+step_by (Some centre) (Some (Octets session octets)) = stepped (on_octets centre session octets)
 step_by (Some centre) (Some (Tick moment)) = stepped (record { next = on_tick centre moment; text = [] })
 step_by (Some centre) (Some Settle) = stepped (on_settle centre)
 

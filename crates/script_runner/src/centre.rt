@@ -1,6 +1,6 @@
 //! The centre: one node, and the sessions with its ESMEs.
 
-ghost use Rattle.std.specs.Prelude.{◌≡◌, ◌≤◌, IsErr, OnOk, IfOk};
+ghost use Rattle.std.specs.Prelude.{◌≡◌, ◌≤◌, ◌++◌, IsErr, OnOk, IfOk};
 ghost use Rattle.script_runner.specs.Responses.{requested_by};
 ghost use Rattle.pdu_tables.specs.CommandCodes.{command_of};
 
@@ -11,8 +11,10 @@ use crate::clock::Clock;
 use crate::output::{write_answer, write_gone, write_response};
 use crate::pending::{Pending, PendingRequests};
 use crate::response::{Requested, Response};
+use crate::streams::Streams;
 use desk::{Begun, Chains, Desk, Request};
 use mc_types::{Incarnation, Moment, NodeNo};
+use pdu_frames::Framer;
 use pdu_codec::{Bind, Body, Header, Message, PduFault, Text, decode, read_header};
 use pdu_tables::Status;
 use std::alloc::{AllocError, Global};
@@ -26,6 +28,7 @@ pub struct Centre {
     desk: Desk,
     chains: Chains,
     bound: Bound,
+    streams: Streams,
     pending: PendingRequests,
     clock: Clock,
 }
@@ -33,6 +36,8 @@ pub struct Centre {
 impl Centre {
     ghost use Rattle.script_runner.specs.Centre.{IsDone, Reacts, account_of};
     ghost use Rattle.script_runner.specs.OneNode.{on_frame, on_tick, on_settle, on_bind, on_begun, on_request, on_body, on_fault, on_wrong_length};
+    ghost use Rattle.script_runner.specs.Streams.{on_octets, on_cut};
+    ghost use Rattle.pdu_frames.specs.Frames.{cut};
     ghost use Rattle.script_runner.specs.Script.{opened};
 
     /// Node 1 in its first incarnation, at which nothing was asked yet. Its first message has this serial, and its
@@ -52,14 +57,60 @@ impl Centre {
             ),
             chains: Chains::empty(alloc),
             bound: Bound::none(alloc),
+            streams: Streams::none(alloc),
             pending: PendingRequests::empty(alloc),
             clock: Clock::start(),
         }
     }
 
-    /// Octets came on a session, which are one PDU: adds the lines of what goes out. After an `Err`, which is want
+    /// The next octets of a session's stream came: adds the lines of what goes out for each PDU that is whole now. After an
+    /// `Err`, which is want of memory, nothing is said of the centre.
+    #[tactic(auto, unfolding(crate::specs::Streams::on_octets))]
+    pub fn octets(
+        &mut self,
+        alloc: Global,
+        session: u8,
+        octets: &[u8],
+        text: &mut Vec<u8>,
+    ) -> Result<(), AllocError>
+        ensures { OnOk result (IsDone (on_octets self.old session octets.now) self.new text.old.items text.new.items) }
+    {
+        let Ok(framer) = self.streams.take_out(alloc, session) else {
+            return Err(AllocError);
+        };
+        self.stream(alloc, session, framer, octets, text)
+    }
+
+    /// The octets that a Framer of a session holds, and these behind them: each frame is served in its turn.
+    fn stream(
+        &mut self,
+        alloc: Global,
+        session: u8,
+        mut framer: Framer,
+        octets: &[u8],
+        text: &mut Vec<u8>,
+    ) -> Result<(), AllocError>
+        ensures { OnOk result (IsDone (on_cut self.old session (cut (framer ++ octets.now))) self.new text.old.items text.new.items) }
+    {
+        let mut frame = Vec::new(alloc);
+        let mut rest = octets;
+        loop {
+            let Ok(count) = framer.feed(rest) else {
+                return self.wrong_length(alloc, session, text);
+            };
+            rest = &rest[count..];
+            match framer.take(&mut frame) {
+                Ok(true) => self.frame(alloc, session, &frame, text)?,
+                Ok(false) => return self.streams.put_back(session, framer),
+                Err(PduFault::Memory) => return Err(AllocError),
+                Err(_) => return self.wrong_length(alloc, session, text),
+            }
+        }
+    }
+
+    /// One PDU came on a session: adds the lines of what goes out. After an `Err`, which is want
     /// of memory, nothing is said of the centre.
-    pub fn frame(
+    fn frame(
         &mut self,
         alloc: Global,
         session: u8,

@@ -12,6 +12,7 @@ mod pending;
 mod program;
 mod response;
 mod run;
+mod streams;
 
 pub use fault::{ScriptFault, exit_status};
 pub use program::run_program;

@@ -90,10 +90,10 @@ fn act(
     match said {
         Line::Skipped => Ok(true),
         Line::Nodes(serial) => Ok(start(alloc, stage, serial)),
-        Line::Frame(session, octets) => match stage {
+        Line::Octets(session, octets) => match stage {
             None => Ok(false),
             Some(centre) => {
-                centre.frame(alloc, session, &octets, text)?;
+                centre.octets(alloc, session, &octets, text)?;
                 Ok(true)
             }
         },
