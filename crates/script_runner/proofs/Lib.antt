@@ -5,4 +5,4 @@ pub mod Retained
 pub mod Running
 pub mod Settling
 pub mod Steps
-pub mod Streams
+pub mod StreamLemmas

@@ -95,15 +95,16 @@ impl Centre {
         let mut frame = Vec::new(alloc);
         let mut rest = octets;
         loop {
-            let Ok(count) = framer.feed(rest) else {
-                return self.wrong_length(alloc, session, text);
+            let taken = match framer.feed(rest) {
+                Ok(count) => count,
+                Err(_) => return self.wrong_length(alloc, session, text),
             };
-            rest = &rest[count..];
+            rest = &rest[taken..];
             match framer.take(&mut frame) {
                 Ok(true) => self.frame(alloc, session, &frame, text)?,
                 Ok(false) => return self.streams.put_back(session, framer),
-                Err(PduFault::Memory) => return Err(AllocError),
-                Err(_) => return self.wrong_length(alloc, session, text),
+                Err(PduFault::Length) => return self.wrong_length(alloc, session, text),
+                Err(_) => return Err(AllocError),
             }
         }
     }
