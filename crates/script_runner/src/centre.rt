@@ -14,8 +14,8 @@ use crate::response::{Requested, Response};
 use crate::streams::Streams;
 use desk::{Begun, Chains, Desk, Request};
 use mc_types::{Incarnation, Moment, NodeNo};
-use pdu_frames::Framer;
 use pdu_codec::{Bind, Body, Header, Message, PduFault, Text, decode, read_header};
+use pdu_frames::Framer;
 use pdu_tables::Status;
 use std::alloc::{AllocError, Global};
 

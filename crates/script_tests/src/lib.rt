@@ -4,6 +4,8 @@
 #[cfg(test)]
 mod ends;
 #[cfg(test)]
+mod pieces;
+#[cfg(test)]
 mod program;
 #[cfg(test)]
 mod rows;

@@ -1,0 +1,85 @@
+//! Worked scripts whose octets come in pieces, and several PDUs at once.
+
+use crate::rows::ROWS;
+use crate::scripts::BIND;
+use script_runner::run_script;
+use std::alloc::{AllocError, Global};
+use std::test::Fail;
+
+/// The script with each `pdu` line cut into lines of so many octets at most.
+fn in_pieces(alloc: Global, script: &str, count: usize) -> Result<Vec<u8>, AllocError> {
+    let mut cut = Vec::new(alloc);
+    for line in script.lines() {
+        match line.rsplit_once(' ') {
+            Some((before, digits)) if before.starts_with("pdu") => {
+                for piece in digits.as_bytes().chunks(2 * count) {
+                    push_line(&mut cut, before, piece)?;
+                }
+            }
+            _ => push_line(&mut cut, line, b"")?,
+        }
+    }
+    Ok(cut)
+}
+
+/// Adds a line of these words.
+fn push_line(script: &mut Vec<u8>, before: &str, digits: &[u8]) -> Result<(), AllocError> {
+    script.extend_from_slice(before.as_bytes())?;
+    if !digits.is_empty() {
+        script.push(b' ')?;
+        script.extend_from_slice(digits)?;
+    }
+    script.push(b'\n')?;
+    Ok(())
+}
+
+/// A row of good lines in which no session goes: what the line with a wrong length still holds is dropped, and other lines
+/// are a new session's.
+#[test]
+fn pdus_come_in_pieces(rt: HostRuntime) -> Result<(), Fail> {
+    let alloc = rt.alloc();
+    for row in &ROWS {
+        if row.status == 0 && !row.output.contains("gone") {
+            for count in [1, 2, 3, 7] {
+                let script = in_pieces(alloc, row.script, count)?;
+                let mut output = Vec::new(alloc);
+                let outcome = run_script(alloc, &mut script.as_slice(), &mut output);
+                assert_eq!(rt; outcome, Ok(()), "{} by {count}", row.name);
+                assert_eq!(rt;
+                    output.as_slice(),
+                    row.output.as_bytes(),
+                    "{} by {count}",
+                    row.name
+                );
+            }
+        }
+    }
+    Ok(())
+}
+
+/// Two enquire_links in one line, behind which the length of a third is wrong: its octets and those behind it are dropped.
+#[test]
+fn several_pdus_come_at_once(rt: HostRuntime) -> Result<(), Fail> {
+    let alloc = rt.alloc();
+    let mut script = Vec::new(alloc);
+    script.extend_from_slice(BIND)?;
+    script.extend_from_slice(
+        b"pdu 1 1 00000010000000150000000000000002\
+00000010000000150000000000000003\
+0000000f00000015000000000000000400000010000000150000000000000005\n\
+pdu 1 1 00000010000000150000000000000006\n",
+    )?;
+    let mut output = Vec::new(alloc);
+    assert_eq!(rt;
+        run_script(alloc, &mut script.as_slice(), &mut output),
+        Ok(())
+    );
+    let answers = b"pdu 1 1 0000001c80000009000000000000000143454e545245000210000134\n\
+pdu 1 1 00000010800000150000000000000002\n\
+pdu 1 1 00000010800000150000000000000003\n\
+pdu 1 1 00000010800000000000000200000000\n\
+gone 1 1\n\
+pdu 1 1 00000010800000150000000000000006\n";
+    assert_eq!(rt; output.as_slice(), answers.as_slice());
+    Ok(())
+}
