@@ -4,7 +4,7 @@ use Rattle.std.specs.Int.{w16, w32, w64, from_be_bytes}
 use Rattle.std.specs.List.{list_any, position_or_len}
 use Rattle.std.proofs.Math.Seq.{drop-cons, get_or-append_seam}
 use Rattle.std.proofs.Math.ListN.{get_or-append}
-use Rattle.std.proofs.lemmas.Bool.{and_parts, and_from, eqb-false, eqb-true, eq-eqb, ne_eqb, ltb-true, ltb-false, lt-ltb, le-ltb, false≢true}
+use Rattle.std.proofs.lemmas.Bool.{and_parts, and_from, eqb-false, eqb-true, eq-eqb, ne_eqb, leb-true, le-leb, ltb-true, ltb-false, lt-ltb, le-ltb, false≢true}
 use Rattle.std.proofs.lemmas.List.{append-nil, get_or-take, get_or-drop, take_at, drop_at, take-append-drop}
 use Rattle.std.proofs.lemmas.List.Elements.{All-from_get_or}
 use Rattle.std.proofs.lemmas.List.Folds.{list_any_none, list_any_at}
@@ -13,7 +13,7 @@ use Rattle.std.proofs.lemmas.List.Sums.{position_or_len_is}
 use Rattle.std.proofs.lemmas.Nat.{be_bytes_2, be_bytes_4, be_bytes_8, from_be_bytes-to_be_bytes_2, from_be_bytes-to_be_bytes_4, from_be_bytes-to_be_bytes_8}
 use Rattle.octet_fields.specs.declared.defect.Defect.{Defect}
 use Rattle.octet_fields.specs.declared.defect.Defect.TheVariants.{Cut, Few, Long, Unfit}
-use Rattle.octet_fields.specs.Kinds.{IsOctets, Size, One, Two, Four, Eight, capacity, Kind, Number, Text, Counted, Rest, Content, is_text, number_octets, spelling, IsWithin, is_sized}
+use Rattle.octet_fields.specs.Kinds.{IsOctets, Size, One, Two, Four, Eight, capacity, Kind, Number, Text, Counted, Rest, Content, is_between, is_text, number_octets, spelling, IsWithin, is_sized}
 use Rattle.octet_fields.specs.Reading.{◌>>=◌, number_at, text_until, text_at, taken_at, counted_at, rest_at, passing, content_at}
 use Rattle.octet_fields.specs.Laws.{MayPrecede, Stands}
 
@@ -25,6 +25,15 @@ IsOctets-take zero octets are i = omega arith
 IsOctets-take (suc n) [] are i = omega arith
 IsOctets-take (suc n) (a ∷ octets) are zero = are 0
 IsOctets-take (suc n) (a ∷ octets) are (suc i) = IsOctets-take n octets (IsOctets-drop 1 (a ∷ octets) are) i
+
+pub IsOctets-before : (octets rest : List ℕ) → IsOctets (octets ++ rest) → IsOctets octets
+IsOctets-before [] rest are i = omega arith
+IsOctets-before (a ∷ octets) rest are zero = are 0
+IsOctets-before (a ∷ octets) rest are (suc i) = IsOctets-before octets rest (λ k. are (suc k)) i
+
+pub IsOctets-behind : (octets rest : List ℕ) → IsOctets (octets ++ rest) → IsOctets rest
+IsOctets-behind [] rest are = are
+IsOctets-behind (a ∷ octets) rest are = IsOctets-behind octets rest (λ k. are (suc k))
 
 -- ---- results
 
@@ -100,6 +109,14 @@ number_again Two number rest small = ap (λ (n : ℕ). read n rest) (from_be_byt
 number_again Four number rest small = ap (λ (n : ℕ). read n rest) (from_be_bytes-to_be_bytes_4 number small)
 number_again Eight number rest small = ap (λ (n : ℕ). read n rest) (from_be_bytes-to_be_bytes_8 number small)
 
+pub is_between-tells : (least most number : ℕ) → is_between least most number ≡ true → (least ≤ number) × (number ≤ most)
+is_between-tells least most number test =
+    let parts = and_parts (leb least number) (leb number most) test in
+    (leb-true _ _ parts.0, leb-true _ _ parts.1)
+
+pub is_between-told : (least most number : ℕ) → least ≤ number → number ≤ most → is_between least most number ≡ true
+is_between-told least most number low high = and_from _ _ (le-leb _ _ low) (le-leb _ _ high)
+
 -- ---- texts that a zero ends
 
 pub is_text-told : (limit : ℕ) (text : List ℕ) → length text < limit → All (λ octet. 0 < octet) text → is_text limit text ≡ true
@@ -139,6 +156,21 @@ is_text-before limit octets place found =
 pub record Takes (kind : Kind) (octets : List ℕ) (x : Content kind × List ℕ) : Type 0 where
   pub stands : Stands kind octets x.0 x.1
   pub rest : IsOctets x.1
+
+-- what stands in a field of octets is octets too
+abbrev pub HoldsOctets : (kind : Kind) → Content kind → Type 0
+HoldsOctets (Number size test) number = Unit {0}
+HoldsOctets (Text limit) text = IsOctets text
+HoldsOctets (Counted size most test) octets = IsOctets octets
+HoldsOctets (Rest most test) octets = IsOctets octets
+
+pub holds_octets : (kind : Kind) (octets : List ℕ) (c : Content kind) (rest : List ℕ) → IsOctets octets → Stands kind octets c rest → HoldsOctets kind c
+holds_octets (Number size test) octets c rest are stands = tt
+holds_octets (Text limit) octets c rest are stands =
+    IsOctets-before c (0 ∷ []) (IsOctets-before (c ++ 0 ∷ []) rest (subst IsOctets stands.parts are))
+holds_octets (Counted size most test) octets c rest are stands =
+    IsOctets-behind (number_octets size (length c)) c (IsOctets-before (number_octets size (length c) ++ c) rest (subst IsOctets stands.parts are))
+holds_octets (Rest most test) octets c rest are stands = IsOctets-before c rest (subst IsOctets stands.parts are)
 
 text_takes : (limit : ℕ) (octets : List ℕ) (found : Option ℕ) (x : List ℕ × List ℕ) → IsOctets octets → position (λ octet. eqb octet 0) (take limit octets) ≡ found → text_until limit octets found ≡ Ok x → Takes (Text limit) octets x
 text_takes limit octets None x are found e = neither (leb limit (length octets)) e

@@ -6,12 +6,17 @@ use Rattle.octet_fields.specs.declared.defect.Defect.{Defect}
 use Rattle.octet_fields.specs.Kinds.{IsOctets, Kind, Number, Text, Counted, Rest, Content, spelling, IsWithin, Part, Contents, spellings, AreWithin, is_sized, is_delimited, are_delimited, are_closed}
 use Rattle.octet_fields.specs.Reading.{◌>>=◌, content_at, told, front_at, nothing_at, contents_at}
 use Rattle.octet_fields.specs.Laws.{MayPrecede, IsFirstFault}
-use Rattle.octet_fields.proofs.Fields.{bind_ok, ok_is, content_takes, content_again, stands_again}
+use Rattle.octet_fields.proofs.Fields.{bind_ok, ok_is, HoldsOctets, holds_octets, content_takes, content_again, stands_again}
 
-pub record TakesFront {E : Type 0} (fields : List (Part E)) (octets : List ℕ) (x : Contents fields × List ℕ) : Type 0 where
-  pub parts : octets ≡ spellings fields x.0 ++ x.1
+abbrev pub HoldOctets : {E : Type 0} → (parts : List (Part E)) → Contents parts → Type 0
+HoldOctets [] c = Unit {0}
+HoldOctets (first ∷ others) c = HoldsOctets first.kind c.0 × HoldOctets others c.1
+
+pub record TakesFront {E : Type 0} (fields : List (Part E)) (whole : List ℕ) (x : Contents fields × List ℕ) : Type 0 where
+  pub parts : whole ≡ spellings fields x.0 ++ x.1
   pub rest : IsOctets x.1
   pub within : AreWithin fields x.0
+  pub octets : HoldOctets fields x.0
 
 told_ok : {A E : Type 0} (fault : Defect → E) (r : Result A Defect) (x : A) → told fault r ≡ Ok x → r ≡ Ok x
 told_ok fault (Ok y) x e = ap Ok (ok_is y x e)
@@ -20,7 +25,7 @@ told_ok fault (Err d) x e = absurd cc
 pub front_takes : {E : Type 0} (parts : List (Part E)) (octets : List ℕ) (x : Contents parts × List ℕ) → IsOctets octets → front_at parts octets ≡ Ok x → TakesFront parts octets x
 front_takes {E} [] octets x are e =
     let made : Contents {E = E} [] × List ℕ = (tt, octets) in
-    subst (λ (y : Contents {E = E} [] × List ℕ). TakesFront {E = E} [] octets y) (ok_is made x e) (record { parts = refl; rest = are; within = tt })
+    subst (λ (y : Contents {E = E} [] × List ℕ). TakesFront {E = E} [] octets y) (ok_is made x e) (record { parts = refl; rest = are; within = tt; octets = tt })
 front_takes (first ∷ others) octets x are e =
     let a = bind_ok (told first.fault (content_at first.kind octets)) (λ y. front_at others y.1 >>= λ z. Ok ((y.0, z.0), z.1)) x e in
     let b = bind_ok (front_at others a.0.1) (λ z. Ok ((a.0.0, z.0), z.1)) x a.2 in
@@ -31,6 +36,7 @@ front_takes (first ∷ others) octets x are e =
       parts = front.stands.parts ∙ ap (λ (rest : List ℕ). spelling first.kind a.0.0 ++ rest) behind.parts ∙ sym (append_assoc (spelling first.kind a.0.0) (spellings others b.0.0) b.0.1);
       rest = behind.rest;
       within = (front.stands.within, behind.within);
+      octets = (holds_octets first.kind octets a.0.0 a.0.1 are front.stands, behind.octets);
     })
 
 -- a field that says itself where it ends may stand before anything

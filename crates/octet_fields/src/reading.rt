@@ -1,6 +1,6 @@
 //! Fields at the front of octets, each with the octets behind it. Nothing here takes memory.
 
-ghost use Rattle.std.specs.Prelude.{◌≡◌, ◌==◌, [], position, IfOk};
+ghost use Rattle.std.specs.Prelude.{◌≡◌, ◌≤◌, ◌==◌, [], length, position, IfOk};
 ghost use Rattle.octet_fields.specs.Kinds as kinds;
 ghost use Rattle.octet_fields.specs.Reading as spec;
 
@@ -83,7 +83,8 @@ pub fn text_at(limit: usize, octets: &[u8]) -> Result<(&[u8], &[u8]), Defect>
 /// So many octets. Long if they are more than `most`, and Few if there are not so many.
 #[tactic(auto, unfolding(crate::specs::Reading::taken_at))]
 fn taken_at(most: usize, count: usize, octets: &[u8]) -> Result<(&[u8], &[u8]), Defect>
-    ensures { spec.IsRead (λ x. (x.0.now, x.1.now)) result (spec.taken_at most count octets.now) }
+    ensures few { IfOk result (λ x. length x.0.now ≤ most) }
+    ensures read { spec.IsRead (λ x. (x.0.now, x.1.now)) result (spec.taken_at most count octets.now) }
 {
     if count > most {
         return Err(Defect::Long);
@@ -101,6 +102,7 @@ pub fn counted_at(most: usize, octets: &[u8]) -> Result<(&[u8], &[u8]), Defect>
     ensures read { spec.IsRead (λ x. (x.0.now, x.1.now)) result (spec.counted_at kinds.One most octets.now) }
     ensures any { spec.IsRead (λ x. (x.0.now, x.1.now)) result
         (spec.content_at (kinds.Counted kinds.One most kinds.any) octets.now) }
+    ensures few { IfOk result (λ x. length x.0.now ≤ most) }
 {
     let (count, rest) = octet_at(octets)?;
     let counted = taken_at(most, count as usize, rest)?;
@@ -114,6 +116,7 @@ pub fn long_counted_at(most: usize, octets: &[u8]) -> Result<(&[u8], &[u8]), Def
     ensures read { spec.IsRead (λ x. (x.0.now, x.1.now)) result (spec.counted_at kinds.Two most octets.now) }
     ensures any { spec.IsRead (λ x. (x.0.now, x.1.now)) result
         (spec.content_at (kinds.Counted kinds.Two most kinds.any) octets.now) }
+    ensures few { IfOk result (λ x. length x.0.now ≤ most) }
 {
     let (count, rest) = u16_at(octets)?;
     let counted = taken_at(most, count as usize, rest)?;
