@@ -1,14 +1,50 @@
 -- Chains: what is read is spelled so and within its limits, and what is spelled so is read.
-use Rattle.std.proofs.Common.{◌≡◌, ℕ, zero, suc, ◌+◌, ◌≤◌, Bool, true, false, cond, eqb, List, [], ◌∷◌, ◌++◌, length, Option, Some, refl, sym, ap, subst, ◌∙◌, arith, append_assoc}
+use Rattle.std.proofs.Common.{◌≡◌, ℕ, zero, suc, ◌+◌, ◌≤◌, Bool, true, false, cond, eqb, List, [], ◌∷◌, ◌++◌, length, Option, Some, None, Result, Ok, is_ok, refl, sym, ap, subst, ◌∙◌, arith, append_assoc}
 use Rattle.std.proofs.lemmas.Bool.{eqb-true, eqb-false}
 use Rattle.std.proofs.lemmas.List.{append-nil}
 use Rattle.mc_model.specs.message.Submission.{Submission}
-use Rattle.mc_model.specs.message.Decree.{Kind, Taken, Attempt, Failed, Fate, Decree}
+use Rattle.mc_model.specs.message.Decree.{Kind, Taken, Attempt, Failed, Fate, Final, Delivered, Expired, Deleted, Undeliverable, Rejected, Decree}
 use Rattle.mc_model.specs.message.Chain.{Chain}
-use Rattle.pdu_codec.specs.Text.{IsOctets, AreOptional, optional_octets}
-use Rattle.fate_chain.specs.Fields.{State, IsBetween, IsOptional, Contents, spellings, AreWithin, ◌>>=◌, front_at}
-use Rattle.fate_chain.specs.Bytes.{octet, error, party_fields, parties_in, handling_fields, handling_in, text_fields, texts_in, kind_code, head_fields, head_in, submission_octets, kind_octets, decree_octets, decrees_octets, chain_fields, chain_octets, MessageFits, KindFits, DecreeFits, DecreesFit, Fits, first_of, tlvs_in, message_of, message_at, kind_at, decree_of, decree_at, decrees_at, chain_from, chain_at, read_chain}
-use Rattle.fate_chain.proofs.FieldReading.{one, bind_some, some_is, optional_again, front_takes, front_again}
+use Rattle.mc_types.proofs.Texts.{is_id-tells, is_id-told}
+use Rattle.octet_fields.specs.declared.defect.Defect.{Defect}
+use Rattle.octet_fields.specs.Kinds.{IsOctets, Contents, spellings, AreWithin}
+use Rattle.octet_fields.specs.Reading.{◌>>=◌, front_at}
+use Rattle.octet_fields.proofs.Fields.{bind_ok, ok_is, is_between-tells}
+use Rattle.octet_fields.proofs.Records.{front_takes, front_again}
+use Rattle.pdu_codec.specs.declared.fault.Field.TheVariants.{OptionalParameters}
+use Rattle.pdu_codec.specs.Text.{AreOptional, optional_octets}
+use Rattle.pdu_codec.specs.Grammar.{tlvs_from, optional_at, Optional}
+use Rattle.pdu_codec.proofs.FieldLaws.{content_takes, last_again}
+use Rattle.pdu_codec.proofs.TlvLaws.{IsOptional-from_ok, optional-whole}
+use Rattle.pdu_codec.proofs.PduSpelling.{find-passes}
+use Rattle.fate_chain.specs.States.{final_code, finals, final_in}
+use Rattle.fate_chain.specs.Bytes.{octet, error, is_optional, party_fields, parties_in, handling_fields, handling_in, text_fields, texts_in, kind_code, head_fields, head_in, submission_octets, kind_octets, decree_octets, decrees_octets, chain_fields, chain_octets, MessageFits, KindFits, DecreeFits, DecreesFit, Fits, first_of, tlvs_in, message_of, message_at, found, kind_at, decree_of, decree_at, decrees_at, chain_from, chain_at, read_chain}
+
+abbrev done : {A : Type 0} → A → Result A Defect
+done x = Ok x
+
+-- ---- optional parameters
+
+-- the octets of optional parameters that are within their limits
+record IsOptional (octets : List ℕ) : Type 0 where
+  tlvs : List (ℕ × List ℕ)
+  limits : AreOptional tlvs
+  spelled : octets ≡ optional_octets tlvs
+
+is_optional-tells : (octets : List ℕ) → IsOctets octets → is_optional octets ≡ true → IsOptional octets
+unfolding tlvs_from
+is_optional-tells octets are ok =
+    let known = IsOptional-from_ok octets ok in
+    let whole = optional-whole octets [] known.few (sym known.some) refl in
+    let made : List (ℕ × List ℕ) × List ℕ = (whole.0, []) in
+    let taken = content_takes OptionalParameters Optional octets made are whole.1 in
+    record { tlvs = whole.0; limits = taken.within; spelled = taken.parts ∙ append-nil (optional_octets whole.0) }
+
+optional_again : (tlvs : List (ℕ × List ℕ)) → AreOptional tlvs → optional_at (optional_octets tlvs) ≡ Ok (tlvs, [])
+optional_again tlvs are = sym (ap optional_at (append-nil (optional_octets tlvs))) ∙ last_again OptionalParameters Optional tlvs are
+
+pub is_optional-told : (tlvs : List (ℕ × List ℕ)) → AreOptional tlvs → is_optional (optional_octets tlvs) ≡ true
+is_optional-told tlvs are = ap is_ok (optional_again tlvs are)
 
 -- ---- messages
 
@@ -32,37 +68,54 @@ AreOptional-tlvs_in octets is =
 apart : (a b c rest : List ℕ) → (a ++ b ++ c) ++ rest ≡ a ++ (b ++ (c ++ rest))
 apart a b c rest = append_assoc (a ++ b) c rest ∙ append_assoc a b (c ++ rest)
 
-message_takes : (octets : List ℕ) (x : Submission × List ℕ) → IsOctets octets → message_at octets ≡ Some x → TakesMessage octets x
+message_takes : (octets : List ℕ) (x : Submission × List ℕ) → IsOctets octets → message_at octets ≡ Ok x → TakesMessage octets x
 unfolding message_at
 message_takes octets x are e =
-    let a = bind_some (front_at party_fields octets) (λ p. front_at handling_fields p.1 >>= λ h. front_at text_fields h.1 >>= λ t. Some (message_of p.0 h.0 t.0, t.1)) x e in
-    let b = bind_some (front_at handling_fields a.0.1) (λ h. front_at text_fields h.1 >>= λ t. Some (message_of a.0.0 h.0 t.0, t.1)) x a.2 in
-    let c = bind_some (front_at text_fields b.0.1) (λ t. Some (message_of a.0.0 b.0.0 t.0, t.1)) x b.2 in
+    let a = bind_ok (front_at party_fields octets) (λ p. front_at handling_fields p.1 >>= λ h. front_at text_fields h.1 >>= λ t. Ok (message_of p.0 h.0 t.0, t.1)) x e in
+    let b = bind_ok (front_at handling_fields a.0.1) (λ h. front_at text_fields h.1 >>= λ t. Ok (message_of a.0.0 h.0 t.0, t.1)) x a.2 in
+    let c = bind_ok (front_at text_fields b.0.1) (λ t. Ok (message_of a.0.0 b.0.0 t.0, t.1)) x b.2 in
     let parties = front_takes party_fields octets a.0 are a.1 in
     let handling = front_takes handling_fields a.0.1 b.0 parties.rest b.1 in
     let texts = front_takes text_fields b.0.1 c.0 handling.rest c.1 in
     let made : Submission × List ℕ = (message_of a.0.0 b.0.0 c.0.0, c.0.1) in
-    let texts_are : texts_in made.0 ≡ c.0.0 = ap (λ (o : List ℕ). (c.0.0.0, (o, tt))) (octets-tlvs_in c.0.0.1.0 texts.within.1.0) in
+    let passed = is_optional-tells c.0.0.1.0 texts.octets.1.0 texts.within.1.0.1 in
+    let texts_are : texts_in made.0 ≡ c.0.0 = ap (λ (o : List ℕ). (c.0.0.0, (o, tt))) (octets-tlvs_in c.0.0.1.0 passed) in
     let whole : octets ≡ spellings party_fields a.0.0 ++ (spellings handling_fields b.0.0 ++ (spellings text_fields c.0.0 ++ c.0.1)) =
     parties.parts ∙ ap (λ (r : List ℕ). spellings party_fields a.0.0 ++ r) (handling.parts ∙ ap (λ (r : List ℕ). spellings handling_fields b.0.0 ++ r) texts.parts) in
-    subst (λ (y : Submission × List ℕ). TakesMessage octets y) (some_is made x c.2) (record {
+    subst (λ (y : Submission × List ℕ). TakesMessage octets y) (ok_is made x c.2) (record {
       parts = whole ∙ sym (apart (spellings party_fields a.0.0) (spellings handling_fields b.0.0) (spellings text_fields c.0.0) c.0.1) ∙ ap (λ (t : Contents text_fields). (spellings party_fields a.0.0 ++ spellings handling_fields b.0.0 ++ spellings text_fields t) ++ c.0.1) (sym texts_are);
       rest = texts.rest;
-      fits = record { parties = parties.within; handling = handling.within; texts = subst (λ (t : Contents text_fields). AreWithin text_fields t) (sym texts_are) texts.within; passed = AreOptional-tlvs_in c.0.0.1.0 texts.within.1.0 };
+      fits = record { parties = parties.within; handling = handling.within; texts = subst (λ (t : Contents text_fields). AreWithin text_fields t) (sym texts_are) texts.within; passed = AreOptional-tlvs_in c.0.0.1.0 passed };
     })
 
-message_again : (m : Submission) (rest : List ℕ) → MessageFits m → message_at (submission_octets m ++ rest) ≡ Some (m, rest)
+message_again : (m : Submission) (rest : List ℕ) → MessageFits m → message_at (submission_octets m ++ rest) ≡ Ok (m, rest)
 unfolding message_at
 message_again m rest fits =
     let handling : List ℕ = spellings handling_fields (handling_in m) in
     let texts : List ℕ = spellings text_fields (texts_in m) in
     ap message_at (apart (spellings party_fields (parties_in m)) handling texts rest)
-    ∙ ap (λ (o : Option (Contents party_fields × List ℕ)). o >>= λ p. front_at handling_fields p.1 >>= λ h. front_at text_fields h.1 >>= λ t. Some (message_of p.0 h.0 t.0, t.1)) (front_again party_fields (parties_in m) (handling ++ (texts ++ rest)) (omega arith, (omega arith, (omega arith, (omega arith, (omega arith, (omega arith, (omega arith, (omega arith, (omega arith, tt))))))))) fits.parties)
-    ∙ ap (λ (o : Option (Contents handling_fields × List ℕ)). o >>= λ h. front_at text_fields h.1 >>= λ t. Some (message_of (parties_in m) h.0 t.0, t.1)) (front_again handling_fields (handling_in m) (texts ++ rest) (omega arith, (omega arith, (omega arith, (omega arith, (omega arith, (omega arith, (omega arith, tt))))))) fits.handling)
-    ∙ ap (λ (o : Option (Contents text_fields × List ℕ)). o >>= λ t. Some (message_of (parties_in m) (handling_in m) t.0, t.1)) (front_again text_fields (texts_in m) rest (tt, (tt, tt)) fits.texts)
-    ∙ ap (λ (tlvs : List (ℕ × List ℕ)). one (record m { passed = tlvs }, rest)) (tlvs_in-octets m.passed fits.passed)
+    ∙ ap (λ (o : Result (Contents party_fields × List ℕ) Defect). o >>= λ p. front_at handling_fields p.1 >>= λ h. front_at text_fields h.1 >>= λ t. Ok (message_of p.0 h.0 t.0, t.1)) (front_again party_fields (parties_in m) (handling ++ (texts ++ rest)) refl fits.parties)
+    ∙ ap (λ (o : Result (Contents handling_fields × List ℕ) Defect). o >>= λ h. front_at text_fields h.1 >>= λ t. Ok (message_of (parties_in m) h.0 t.0, t.1)) (front_again handling_fields (handling_in m) (texts ++ rest) refl fits.handling)
+    ∙ ap (λ (o : Result (Contents text_fields × List ℕ) Defect). o >>= λ t. Ok (message_of (parties_in m) (handling_in m) t.0, t.1)) (front_again text_fields (texts_in m) rest refl fits.texts)
+    ∙ ap (λ (tlvs : List (ℕ × List ℕ)). done (record m { passed = tlvs }, rest)) (tlvs_in-octets m.passed fits.passed)
 
 -- ---- kinds
+
+final-told : (f : Final) → final_in (final_code f) ≡ Some f
+unfolding final_in
+final-told Delivered = refl
+final-told Expired = refl
+final-told Deleted = refl
+final-told Undeliverable = refl
+final-told Rejected = refl
+
+final-tells : (code : ℕ) (f : Final) → found (final_in code) ≡ Ok f → final_code f ≡ code
+unfolding final_in
+final-tells code f e = by (final_in code) refl e
+  where
+    by : (o : Option Final) → final_in code ≡ o → found o ≡ Ok f → final_code f ≡ code
+    by None is e = absurd cc
+    by (Some g) is e = eqb-true _ _ (find-passes (λ x. eqb (final_code x) code) finals f (is ∙ ap Some (ok_is g f e)))
 
 record TakesKind (code : ℕ) (octets : List ℕ) (x : Kind × List ℕ) : Type 0 where
   code_is : kind_code x.0 ≡ code
@@ -71,52 +124,61 @@ record TakesKind (code : ℕ) (octets : List ℕ) (x : Kind × List ℕ) : Type 
   fits : KindFits x.0
 
 module _ (code : ℕ) (octets : List ℕ) (x : Kind × List ℕ) (are : IsOctets octets) where
-  taken : code ≡ 1 → (message_at octets >>= λ y. one (Taken y.0, y.1)) ≡ Some x → TakesKind code octets x
+  taken : code ≡ 1 → (message_at octets >>= λ y. done (Taken y.0, y.1)) ≡ Ok x → TakesKind code octets x
   taken is e =
-      let b = bind_some (message_at octets) (λ y. one (Taken y.0, y.1)) x e in
+      let b = bind_ok (message_at octets) (λ y. done (Taken y.0, y.1)) x e in
       let front = message_takes octets b.0 are b.1 in
       let made : Kind × List ℕ = (Taken b.0.0, b.0.1) in
-      subst (λ (y : Kind × List ℕ). TakesKind code octets y) (some_is made x b.2) (record { code_is = sym is; parts = front.parts; rest = front.rest; fits = front.fits })
+      subst (λ (y : Kind × List ℕ). TakesKind code octets y) (ok_is made x b.2) (record { code_is = sym is; parts = front.parts; rest = front.rest; fits = front.fits })
 
-  attempt : code ≡ 2 → (front_at (octet ∷ []) octets >>= λ y. one (Attempt y.0.0, y.1)) ≡ Some x → TakesKind code octets x
+  attempt : code ≡ 2 → (front_at (octet ∷ []) octets >>= λ y. done (Attempt y.0.0, y.1)) ≡ Ok x → TakesKind code octets x
   attempt is e =
-      let b = bind_some (front_at (octet ∷ []) octets) (λ y. one (Attempt y.0.0, y.1)) x e in
+      let b = bind_ok (front_at (octet ∷ []) octets) (λ y. done (Attempt y.0.0, y.1)) x e in
       let front = front_takes (octet ∷ []) octets b.0 are b.1 in
       let made : Kind × List ℕ = (Attempt b.0.0.0, b.0.1) in
-      subst (λ (y : Kind × List ℕ). TakesKind code octets y) (some_is made x b.2) (record { code_is = sym is; parts = front.parts; rest = front.rest; fits = front.within })
+      subst (λ (y : Kind × List ℕ). TakesKind code octets y) (ok_is made x b.2) (record { code_is = sym is; parts = front.parts; rest = front.rest; fits = front.within })
 
-  failed : code ≡ 3 → (front_at (error ∷ []) octets >>= λ y. one (Failed y.0.0, y.1)) ≡ Some x → TakesKind code octets x
+  failed : code ≡ 3 → (front_at (error ∷ []) octets >>= λ y. done (Failed y.0.0, y.1)) ≡ Ok x → TakesKind code octets x
   failed is e =
-      let b = bind_some (front_at (error ∷ []) octets) (λ y. one (Failed y.0.0, y.1)) x e in
+      let b = bind_ok (front_at (error ∷ []) octets) (λ y. done (Failed y.0.0, y.1)) x e in
       let front = front_takes (error ∷ []) octets b.0 are b.1 in
       let made : Kind × List ℕ = (Failed b.0.0.0, b.0.1) in
-      subst (λ (y : Kind × List ℕ). TakesKind code octets y) (some_is made x b.2) (record { code_is = sym is; parts = front.parts; rest = front.rest; fits = front.within })
+      subst (λ (y : Kind × List ℕ). TakesKind code octets y) (ok_is made x b.2) (record { code_is = sym is; parts = front.parts; rest = front.rest; fits = front.within })
 
-  fate : code ≡ 4 → (front_at (State ∷ error ∷ []) octets >>= λ y. one (Fate y.0.0 y.0.1.0, y.1)) ≡ Some x → TakesKind code octets x
+  fate : code ≡ 4 → (front_at (octet ∷ error ∷ []) octets >>= λ y. found (final_in y.0.0) >>= λ f. done (Fate f y.0.1.0, y.1)) ≡ Ok x → TakesKind code octets x
   fate is e =
-      let b = bind_some (front_at (State ∷ error ∷ []) octets) (λ y. one (Fate y.0.0 y.0.1.0, y.1)) x e in
-      let front = front_takes (State ∷ error ∷ []) octets b.0 are b.1 in
-      let made : Kind × List ℕ = (Fate b.0.0.0 b.0.0.1.0, b.0.1) in
-      subst (λ (y : Kind × List ℕ). TakesKind code octets y) (some_is made x b.2) (record { code_is = sym is; parts = front.parts; rest = front.rest; fits = front.within })
+      let b = bind_ok (front_at (octet ∷ error ∷ []) octets) (λ y. found (final_in y.0.0) >>= λ f. done (Fate f y.0.1.0, y.1)) x e in
+      let f = bind_ok (found (final_in b.0.0.0)) (λ f. done (Fate f b.0.0.1.0, b.0.1)) x b.2 in
+      let front = front_takes (octet ∷ error ∷ []) octets b.0 are b.1 in
+      let made : Kind × List ℕ = (Fate f.0 b.0.0.1.0, b.0.1) in
+      let code_is : b.0.0 ≡ (final_code f.0, b.0.0.1) = ap (λ (n : ℕ). (n, b.0.0.1)) (sym (final-tells b.0.0.0 f.0 f.1)) in
+      subst (λ (y : Kind × List ℕ). TakesKind code octets y) (ok_is made x f.2) (record {
+        code_is = sym is;
+        parts = front.parts ∙ ap (λ (h : Contents (octet ∷ error ∷ [])). spellings (octet ∷ error ∷ []) h ++ b.0.1) code_is;
+        rest = front.rest;
+        fits = subst (λ (h : Contents (octet ∷ error ∷ [])). AreWithin (octet ∷ error ∷ []) h) code_is front.within;
+      })
 
-  choose : {r s : Option (Kind × List ℕ)} (n : ℕ) → (code ≡ n → r ≡ Some x → TakesKind code octets x) → ((code ≡ n → ⊥) → s ≡ Some x → TakesKind code octets x) → cond (eqb code n) r s ≡ Some x → TakesKind code octets x
+  choose : {r s : Result (Kind × List ℕ) Defect} (n : ℕ) → (code ≡ n → r ≡ Ok x → TakesKind code octets x) → ((code ≡ n → ⊥) → s ≡ Ok x → TakesKind code octets x) → cond (eqb code n) r s ≡ Ok x → TakesKind code octets x
   choose {r} {s} n then' else' e = by (eqb code n) refl e
     where
-      by : (b : Bool) → eqb code n ≡ b → cond b r s ≡ Some x → TakesKind code octets x
+      by : (b : Bool) → eqb code n ≡ b → cond b r s ≡ Ok x → TakesKind code octets x
       by true is e = then' (eqb-true _ _ is) e
       by false is e = else' (eqb-false _ _ is) e
 
-  kind_takes : 1 ≤ code → code ≤ 4 → kind_at code octets ≡ Some x → TakesKind code octets x
+  kind_takes : 1 ≤ code → code ≤ 4 → kind_at code octets ≡ Ok x → TakesKind code octets x
   unfolding kind_at
   kind_takes least most e =
       choose 1 taken (λ not1. choose 2 attempt (λ not2. choose 3 failed (λ not3. fate (omega (arith, not1, not2, not3))))) e
 
-kind_again : (kind : Kind) (rest : List ℕ) → KindFits kind → kind_at (kind_code kind) (kind_octets kind ++ rest) ≡ Some (kind, rest)
+kind_again : (kind : Kind) (rest : List ℕ) → KindFits kind → kind_at (kind_code kind) (kind_octets kind ++ rest) ≡ Ok (kind, rest)
 unfolding kind_at
-kind_again (Taken message) rest fits = ap (λ (o : Option (Submission × List ℕ)). o >>= λ y. one (Taken y.0, y.1)) (message_again message rest fits)
-kind_again (Attempt number) rest fits = ap (λ (o : Option (Contents (octet ∷ []) × List ℕ)). o >>= λ y. one (Attempt y.0.0, y.1)) (front_again (octet ∷ []) (number, tt) rest (omega arith, tt) fits)
-kind_again (Failed cause) rest fits = ap (λ (o : Option (Contents (error ∷ []) × List ℕ)). o >>= λ y. one (Failed y.0.0, y.1)) (front_again (error ∷ []) (cause, tt) rest (omega arith, tt) fits)
-kind_again (Fate final cause) rest fits = ap (λ (o : Option (Contents (State ∷ error ∷ []) × List ℕ)). o >>= λ y. one (Fate y.0.0 y.0.1.0, y.1)) (front_again (State ∷ error ∷ []) (final, (cause, tt)) rest (tt, (omega arith, tt)) fits)
+kind_again (Taken message) rest fits = ap (λ (o : Result (Submission × List ℕ) Defect). o >>= λ y. done (Taken y.0, y.1)) (message_again message rest fits)
+kind_again (Attempt number) rest fits = ap (λ (o : Result (Contents (octet ∷ []) × List ℕ) Defect). o >>= λ y. done (Attempt y.0.0, y.1)) (front_again (octet ∷ []) (number, tt) rest refl fits)
+kind_again (Failed cause) rest fits = ap (λ (o : Result (Contents (error ∷ []) × List ℕ) Defect). o >>= λ y. done (Failed y.0.0, y.1)) (front_again (error ∷ []) (cause, tt) rest refl fits)
+kind_again (Fate final cause) rest fits =
+    ap (λ (o : Result (Contents (octet ∷ error ∷ []) × List ℕ) Defect). o >>= λ y. found (final_in y.0.0) >>= λ f. done (Fate f y.0.1.0, y.1)) (front_again (octet ∷ error ∷ []) (final_code final, (cause, tt)) rest refl fits)
+    ∙ ap (λ (o : Option Final). found o >>= λ f. done (Fate f cause, rest)) (final-told final)
 
 -- ---- decrees
 
@@ -125,27 +187,28 @@ record TakesDecree (octets : List ℕ) (x : Decree × List ℕ) : Type 0 where
   rest : IsOctets x.1
   fits : DecreeFits x.0
 
-decree_takes : (octets : List ℕ) (x : Decree × List ℕ) → IsOctets octets → decree_at octets ≡ Some x → TakesDecree octets x
+decree_takes : (octets : List ℕ) (x : Decree × List ℕ) → IsOctets octets → decree_at octets ≡ Ok x → TakesDecree octets x
 unfolding decree_at decree_octets
 decree_takes octets x are e =
-    let a = bind_some (front_at head_fields octets) (λ h. kind_at h.0.0 h.1 >>= λ k. Some (decree_of h.0 k.0, k.1)) x e in
-    let b = bind_some (kind_at a.0.0.0 a.0.1) (λ k. Some (decree_of a.0.0 k.0, k.1)) x a.2 in
+    let a = bind_ok (front_at head_fields octets) (λ h. kind_at h.0.0 h.1 >>= λ k. Ok (decree_of h.0 k.0, k.1)) x e in
+    let b = bind_ok (kind_at a.0.0.0 a.0.1) (λ k. Ok (decree_of a.0.0 k.0, k.1)) x a.2 in
     let head = front_takes head_fields octets a.0 are a.1 in
-    let kind = kind_takes a.0.0.0 a.0.1 b.0 head.rest head.within.0.low head.within.0.high b.1 in
+    let code = is_between-tells 1 4 a.0.0.0 head.within.0.1 in
+    let kind = kind_takes a.0.0.0 a.0.1 b.0 head.rest code.0 code.1 b.1 in
     let made : Decree × List ℕ = (decree_of a.0.0 b.0.0, b.0.1) in
     let head_is : head_in made.0 ≡ a.0.0 = ap (λ (code : ℕ). (code, a.0.0.1)) kind.code_is in
-    subst (λ (y : Decree × List ℕ). TakesDecree octets y) (some_is made x b.2) (record {
+    subst (λ (y : Decree × List ℕ). TakesDecree octets y) (ok_is made x b.2) (record {
       parts = head.parts ∙ ap (λ (r : List ℕ). spellings head_fields a.0.0 ++ r) kind.parts ∙ sym (append_assoc (spellings head_fields a.0.0) (kind_octets b.0.0) b.0.1) ∙ ap (λ (h : Contents head_fields). (spellings head_fields h ++ kind_octets b.0.0) ++ b.0.1) (sym head_is);
       rest = kind.rest;
       fits = record { head = subst (λ (h : Contents head_fields). AreWithin head_fields h) (sym head_is) head.within; kind = kind.fits };
     })
 
-decree_again : (d : Decree) (rest : List ℕ) → DecreeFits d → decree_at (decree_octets d ++ rest) ≡ Some (d, rest)
+decree_again : (d : Decree) (rest : List ℕ) → DecreeFits d → decree_at (decree_octets d ++ rest) ≡ Ok (d, rest)
 unfolding decree_at decree_octets
 decree_again d rest fits =
     ap decree_at (append_assoc (spellings head_fields (head_in d)) (kind_octets d.kind) rest)
-    ∙ ap (λ (o : Option (Contents head_fields × List ℕ)). o >>= λ h. kind_at h.0.0 h.1 >>= λ k. Some (decree_of h.0 k.0, k.1)) (front_again head_fields (head_in d) (kind_octets d.kind ++ rest) (omega arith, (omega arith, (omega arith, (omega arith, tt)))) fits.head)
-    ∙ ap (λ (o : Option (Kind × List ℕ)). o >>= λ k. Some (decree_of (head_in d) k.0, k.1)) (kind_again d.kind rest fits.kind)
+    ∙ ap (λ (o : Result (Contents head_fields × List ℕ) Defect). o >>= λ h. kind_at h.0.0 h.1 >>= λ k. Ok (decree_of h.0 k.0, k.1)) (front_again head_fields (head_in d) (kind_octets d.kind ++ rest) refl fits.head)
+    ∙ ap (λ (o : Result (Kind × List ℕ) Defect). o >>= λ k. Ok (decree_of (head_in d) k.0, k.1)) (kind_again d.kind rest fits.kind)
 
 -- ---- decrees one after another
 
@@ -154,13 +217,13 @@ record TakesDecrees (count : ℕ) (older : List Decree) (octets : List ℕ) (x :
   fit : DecreesFit x.0
   counted : length x.0 ≡ length older + count
 
-decrees_take : (count : ℕ) (older : List Decree) (octets : List ℕ) (x : List Decree × List ℕ) → IsOctets octets → DecreesFit older → decrees_at count older octets ≡ Some x → TakesDecrees count older octets x
+decrees_take : (count : ℕ) (older : List Decree) (octets : List ℕ) (x : List Decree × List ℕ) → IsOctets octets → DecreesFit older → decrees_at count older octets ≡ Ok x → TakesDecrees count older octets x
 unfolding decrees_at
 decrees_take zero older octets x are fit e =
     let made : List Decree × List ℕ = (older, octets) in
-    subst (λ (y : List Decree × List ℕ). TakesDecrees zero older octets y) (some_is made x e) (record { parts = refl; fit = fit; counted = omega arith })
+    subst (λ (y : List Decree × List ℕ). TakesDecrees zero older octets y) (ok_is made x e) (record { parts = refl; fit = fit; counted = omega arith })
 decrees_take (suc count) older octets x are fit e =
-    let a = bind_some (decree_at octets) (λ y. decrees_at count (y.0 ∷ older) y.1) x e in
+    let a = bind_ok (decree_at octets) (λ y. decrees_at count (y.0 ∷ older) y.1) x e in
     let first = decree_takes octets a.0 are a.1 in
     let others = decrees_take count (a.0.0 ∷ older) a.0.1 x first.rest (fit, first.fits) a.2 in
     record {
@@ -177,7 +240,7 @@ decrees_again (newest ∷ older) count rest fit =
     ap (λ (n : ℕ). decrees_at n [] ((decrees_octets older ++ decree_octets newest) ++ rest)) more
     ∙ ap (decrees_at (length older + suc count) []) (append_assoc (decrees_octets older) (decree_octets newest) rest)
     ∙ decrees_again older (suc count) (decree_octets newest ++ rest) fit.0
-    ∙ ap (λ (o : Option (Decree × List ℕ)). o >>= λ y. decrees_at count (y.0 ∷ older) y.1) (decree_again newest rest fit.1)
+    ∙ ap (λ (o : Result (Decree × List ℕ) Defect). o >>= λ y. decrees_at count (y.0 ∷ older) y.1) (decree_again newest rest fit.1)
 
 -- ---- chains
 
@@ -189,31 +252,31 @@ record IsWhole (id : ℕ) (x : List Decree × List ℕ) (c : Chain) : Type 0 whe
   nothing : x.1 ≡ []
   chain : ◌≡◌ {A = Chain} (record { id = id; decrees = x.0 }) c
 
-whole_is : (id : ℕ) (x : List Decree × List ℕ) (c : Chain) → chain_from id x ≡ Some c → IsWhole id x c
-whole_is id (decrees, []) c e = record { nothing = refl; chain = some_is (record { id = id; decrees = decrees }) c e }
+whole_is : (id : ℕ) (x : List Decree × List ℕ) (c : Chain) → chain_from id x ≡ Ok c → IsWhole id x c
+whole_is id (decrees, []) c e = record { nothing = refl; chain = ok_is (record { id = id; decrees = decrees }) c e }
 whole_is id (decrees, o ∷ octets) c e = absurd cc
 
-pub chain_takes : (octets : List ℕ) (c : Chain) → IsOctets octets → read_chain octets ≡ Some c → TakesChain octets c
+pub chain_takes : (octets : List ℕ) (c : Chain) → IsOctets octets → read_chain octets ≡ Ok c → TakesChain octets c
 unfolding read_chain
 chain_takes octets c are e =
-    let a = bind_some (front_at chain_fields octets) (λ h. chain_at h.0.1.0 h.0.1.1.0 h.1) c e in
+    let a = bind_ok (front_at chain_fields octets) (λ h. chain_at h.0.1.0 h.0.1.1.0 h.1) c e in
     let id : ℕ = a.0.0.1.0 in
     let count : ℕ = a.0.0.1.1.0 in
-    let b = bind_some (decrees_at count [] a.0.1) (λ d. chain_from id d) c a.2 in
+    let b = bind_ok (decrees_at count [] a.0.1) (λ d. chain_from id d) c a.2 in
     let head = front_takes chain_fields octets a.0 are a.1 in
     let decrees = decrees_take count [] a.0.1 b.0 head.rest tt b.1 in
     let whole = whole_is id b.0 c b.2 in
     let made : Chain = record { id = id; decrees = b.0.0 } in
-    let format_is : a.0.0.0 ≡ 1 = omega (arith, head.within.0.low, head.within.0.high) in
+    let format_is : a.0.0.0 ≡ 1 = omega (arith, is_between-tells 1 1 a.0.0.0 head.within.0.1) in
     let count_is : count ≡ length b.0.0 = omega (arith, decrees.counted) in
     let head_is : ◌≡◌ {A = Contents chain_fields} a.0.0 (1, (id, (length b.0.0, tt))) = ap (λ (n : ℕ). (n, (id, (count, tt)))) format_is ∙ ap (λ (n : ℕ). (1, (id, (n, tt)))) count_is in
     let rest_is : a.0.1 ≡ decrees_octets b.0.0 = decrees.parts ∙ ap (λ (r : List ℕ). decrees_octets b.0.0 ++ r) whole.nothing ∙ append-nil (decrees_octets b.0.0) in
     subst (λ (d : Chain). TakesChain octets d) whole.chain (record {
       spelled = head.parts ∙ ap (λ (h : Contents chain_fields). spellings chain_fields h ++ a.0.1) head_is ∙ ap (λ (r : List ℕ). spellings chain_fields (1, (id, (length b.0.0, tt))) ++ r) rest_is;
-      fits = record { id = head.within.1.0; count = omega (arith, count_is, head.within.1.1.0.high); decrees = decrees.fit };
+      fits = record { id = is_id-tells id head.within.1.0.1; count = omega (arith, count_is, head.within.1.1.0.0); decrees = decrees.fit };
     })
 
-all_again : (decrees : List Decree) → DecreesFit decrees → decrees_at (length decrees) [] (decrees_octets decrees) ≡ Some (decrees, [])
+all_again : (decrees : List Decree) → DecreesFit decrees → decrees_at (length decrees) [] (decrees_octets decrees) ≡ Ok (decrees, [])
 unfolding decrees_at
 all_again decrees fit =
     let none_more : length decrees ≡ length decrees + 0 = omega arith in
@@ -221,11 +284,10 @@ all_again decrees fit =
     ∙ ap (decrees_at (length decrees + 0) []) (sym (append-nil (decrees_octets decrees)))
     ∙ decrees_again decrees 0 [] fit
 
-pub chain_again : (c : Chain) → Fits c → read_chain (chain_octets c) ≡ Some c
+pub chain_again : (c : Chain) → Fits c → read_chain (chain_octets c) ≡ Ok c
 unfolding read_chain
 chain_again c fits =
     let head : Contents chain_fields = (1, (c.id, (length c.decrees, tt))) in
-    let one_is : IsBetween 1 1 1 = record { low = omega arith; high = omega arith } in
-    let count_is : IsBetween 0 65535 (length c.decrees) = record { low = omega arith; high = fits.count } in
-    ap (λ (o : Option (Contents chain_fields × List ℕ)). o >>= λ h. chain_at h.0.1.0 h.0.1.1.0 h.1) (front_again chain_fields head (decrees_octets c.decrees) (omega arith, (tt, (omega arith, tt))) (one_is, (fits.id, (count_is, tt))))
-    ∙ ap (λ (o : Option (List Decree × List ℕ)). o >>= λ d. chain_from c.id d) (all_again c.decrees fits.decrees)
+    let within : AreWithin chain_fields head = ((omega arith, refl), ((omega (arith, fits.id.node.most), is_id-told c.id fits.id), ((omega (arith, fits.count), refl), tt))) in
+    ap (λ (o : Result (Contents chain_fields × List ℕ) Defect). o >>= λ h. chain_at h.0.1.0 h.0.1.1.0 h.1) (front_again chain_fields head (decrees_octets c.decrees) refl within)
+    ∙ ap (λ (o : Result (List Decree × List ℕ) Defect). o >>= λ d. chain_from c.id d) (all_again c.decrees fits.decrees)

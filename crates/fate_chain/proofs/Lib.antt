@@ -1,6 +1,5 @@
 pub mod Permitted
 pub mod Following
-pub mod FieldReading
 pub mod ChainReading
 pub mod Written
 pub mod Standings

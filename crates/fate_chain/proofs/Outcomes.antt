@@ -1,38 +1,39 @@
 -- What reading found, in the words of a chain's octets.
-use Rattle.std.proofs.Common.{◌≡◌, ◌↔◌, ℕ, List, [], ◌∷◌, Option, None, Some, Result, Ok, Err, IfOk, IsErrOf, refl, sym, ap, subst, ◌∙◌}
+use Rattle.std.proofs.Common.{◌≡◌, ◌↔◌, ℕ, List, [], ◌∷◌, Result, Ok, Err, IfOk, IsErrOf, refl, sym, ap, subst, ◌∙◌}
 use Rattle.mc_model.specs.message.Decree.{Decree}
 use Rattle.mc_model.specs.message.Chain.{Chain, IsPermitted}
-use Rattle.pdu_codec.specs.Text.{IsOctets}
+use Rattle.octet_fields.specs.Kinds.{IsOctets}
 use Rattle.fate_chain.specs.declared.fault.ChainFault.{ChainFault}
 use Rattle.fate_chain.specs.declared.fault.ChainFault.TheVariants.{NotPermitted, NotBytes, Memory}
-use Rattle.fate_chain.specs.Fields.{◌>>=◌}
+use Rattle.octet_fields.specs.declared.defect.Defect.{Defect}
+use Rattle.octet_fields.specs.Reading.{◌>>=◌}
 use Rattle.fate_chain.specs.Bytes.{decrees_at, chain_from, chain_at, read_chain, IsSpelled, Judges}
-use Rattle.fate_chain.proofs.FieldReading.{some_is}
+use Rattle.octet_fields.proofs.Fields.{ok_is}
 use Rattle.fate_chain.proofs.ChainReading.{chain_takes, chain_again}
 
-from-same : (id : ℕ) (read : List Decree) (rest : List ℕ) (c : Chain) → chain_from id (read, rest) ≡ Some c → ◌≡◌ {A = Chain} c (record { id = id; decrees = read })
-from-same id read [] c e = sym (some_is (record { id = id; decrees = read }) c e)
+from-same : (id : ℕ) (read : List Decree) (rest : List ℕ) (c : Chain) → chain_from id (read, rest) ≡ Ok c → ◌≡◌ {A = Chain} c (record { id = id; decrees = read })
+from-same id read [] c e = sym (ok_is (record { id = id; decrees = read }) c e)
 from-same id read (o ∷ octets) c e = absurd cc
 
 -- the decrees that are read are the chain's
-pub chain_at-same : (id count : ℕ) (octets : List ℕ) (read : List Decree) (rest : List ℕ) (c : Chain) → chain_at id count octets ≡ Some c → decrees_at count [] octets ≡ Some (read, rest) → ◌≡◌ {A = Chain} c (record { id = id; decrees = read })
+pub chain_at-same : (id count : ℕ) (octets : List ℕ) (read : List Decree) (rest : List ℕ) (c : Chain) → chain_at id count octets ≡ Ok c → decrees_at count [] octets ≡ Ok (read, rest) → ◌≡◌ {A = Chain} c (record { id = id; decrees = read })
 chain_at-same id count octets read rest c e is =
-    from-same id read rest c (sym (ap (λ (o : Option (List Decree × List ℕ)). o >>= λ d. chain_from id d) is) ∙ e)
+    from-same id read rest c (sym (ap (λ (o : Result (List Decree × List ℕ) Defect). o >>= λ d. chain_from id d) is) ∙ e)
 
-spells : (octets : List ℕ) (c : Chain) → IsOctets octets → read_chain octets ≡ Some c → IsSpelled octets c
+spells : (octets : List ℕ) (c : Chain) → IsOctets octets → read_chain octets ≡ Ok c → IsSpelled octets c
 spells octets c are e = let taken = chain_takes octets c are e in record { fits = taken.fits; spelled = taken.spelled }
 
-spelled : (octets : List ℕ) (c : Chain) → IsSpelled octets c → read_chain octets ≡ Some c
+spelled : (octets : List ℕ) (c : Chain) → IsSpelled octets c → read_chain octets ≡ Ok c
 spelled octets c is = ap read_chain is.spelled ∙ chain_again c is.fits
 
-same_read : (octets : List ℕ) (c d : Chain) → read_chain octets ≡ Some c → read_chain octets ≡ Some d → c ≡ d
-same_read octets c d e f = some_is c d (sym e ∙ f)
+same_read : (octets : List ℕ) (c d : Chain) → read_chain octets ≡ Ok c → read_chain octets ≡ Ok d → c ≡ d
+same_read octets c d e f = ok_is c d (sym e ∙ f)
 
 pub one-chain : (octets : List ℕ) (one other : Chain) → IsSpelled octets one → IsSpelled octets other → one ≡ other
 one-chain octets one other is also = same_read octets one other (spelled octets one is) (spelled octets other also)
 
-never : (octets : List ℕ) (c : Chain) → read_chain octets ≡ None → read_chain octets ≡ Some c → ⊥
-never octets c e f = let clash = sym e ∙ f in cc
+never : (octets : List ℕ) (c : Chain) (defect : Defect) → read_chain octets ≡ Err defect → read_chain octets ≡ Ok c → ⊥
+never octets c defect e f = let clash = sym e ∙ f in cc
 
 abbrev Found : List ℕ → Result Chain ChainFault → Type 0
 Found octets r = Judges (λ chain read. read ≡ chain) r (read_chain octets)
@@ -53,20 +54,20 @@ found-only octets (Err Memory) found c is = tt
 pub found-not_bytes : (octets : List ℕ) (r : Result Chain ChainFault) → IsOctets octets → Found octets r → IsErrOf r NotBytes ↔ ((c : Chain) → IsSpelled octets c → ⊥)
 found-not_bytes octets (Ok x) are found = (λ is. absurd cc, λ none. absurd (none found.0 (spells octets found.0 are found.1)))
 found-not_bytes octets (Err NotPermitted) are found = (λ is. absurd cc, λ none. absurd (none found.0 (spells octets found.0 are found.1)))
-found-not_bytes octets (Err NotBytes) are found = (λ is c so. never octets c found (spelled octets c so), λ none. refl)
+found-not_bytes octets (Err NotBytes) are found = (λ is c so. never octets c found.0 found.1 (spelled octets c so), λ none. refl)
 found-not_bytes octets (Err Memory) are found = (λ is. absurd cc, λ none. absurd (none found.0 (spells octets found.0 are found.1)))
 
 abbrev IsStrayed : List ℕ → Type 0
 IsStrayed octets = (c : Chain) × IsSpelled octets c × (IsPermitted c.id c.decrees → ⊥)
 
-strayed-not : (octets : List ℕ) (c : Chain) → read_chain octets ≡ Some c → IsPermitted c.id c.decrees → IsStrayed octets → ⊥
+strayed-not : (octets : List ℕ) (c : Chain) → read_chain octets ≡ Ok c → IsPermitted c.id c.decrees → IsStrayed octets → ⊥
 strayed-not octets c is permitted other =
     other.2 (subst (λ (d : Chain). IsPermitted d.id d.decrees) (same_read octets c other.0 is (spelled octets other.0 other.1)) permitted)
 
 pub found-not_permitted : (octets : List ℕ) (r : Result Chain ChainFault) → IsOctets octets → Found octets r → IsErrOf r NotPermitted ↔ IsStrayed octets
 found-not_permitted octets (Ok x) are found = (λ is. absurd cc, λ other. absurd (strayed-not octets found.0 found.1 found.2 other))
 found-not_permitted octets (Err NotPermitted) are found = (λ is. (found.0, spells octets found.0 are found.1, found.2), λ other. refl)
-found-not_permitted octets (Err NotBytes) are found = (λ is. absurd cc, λ other. absurd (never octets other.0 found (spelled octets other.0 other.1)))
+found-not_permitted octets (Err NotBytes) are found = (λ is. absurd cc, λ other. absurd (never octets other.0 found.0 found.1 (spelled octets other.0 other.1)))
 found-not_permitted octets (Err Memory) are found = (λ is. absurd cc, λ other. absurd (strayed-not octets found.0 found.1 found.2 other))
 
 pub found-memory : (octets : List ℕ) (r : Result Chain ChainFault) → IsOctets octets → Found octets r → IsErrOf r Memory → (c : Chain) × IsSpelled octets c × IsPermitted c.id c.decrees

@@ -1,41 +1,74 @@
 -- The octets of a chain, format 1, all numbers with their highest octet first: the format's number; the id; how many
 -- decrees there are; each decree, the oldest first.
-use Rattle.std.specs.Prelude.{ℕ, zero, suc, ◌≡◌, ◌≤◌, ◌==◌, List, [], ◌∷◌, ◌++◌, length, Option, Some, None, Result, Ok, Err, if◌then◌else◌}
+use Rattle.std.specs.Prelude.{Bool, ℕ, zero, suc, ◌≡◌, ◌≤◌, ◌==◌, List, [], ◌∷◌, ◌++◌, length, Option, Some, None, Result, Ok, Err, is_ok, if◌then◌else◌}
 use Rattle.mc_model.specs.message.Ids.{IsId}
 use Rattle.mc_model.specs.message.Submission.{Submission}
 use Rattle.mc_model.specs.message.Decree.{Kind, Taken, Attempt, Failed, Fate, Decree}
 use Rattle.mc_model.specs.message.Chain.{Chain, IsPermitted}
+use Rattle.mc_types.specs.Texts.{is_id}
+use Rattle.octet_fields.specs.declared.defect.Defect.{Defect}
+use Rattle.octet_fields.specs.declared.defect.Defect.TheVariants.{Unfit, Extra}
+use Rattle.octet_fields.specs.Kinds.{Kind as FieldKind, Size, One, Two, Four, Eight, Number, Counted, any, is_between, is_text, Part, Contents, spellings, AreWithin}
+use Rattle.octet_fields.specs.Reading.{◌>>=◌, front_at, nothing_at}
 use Rattle.pdu_codec.specs.Text.{AreOptional, optional_octets}
 use Rattle.pdu_codec.specs.Grammar.{optional_at}
 use Rattle.fate_chain.specs.declared.fault.ChainFault.{ChainFault}
 use Rattle.fate_chain.specs.declared.fault.ChainFault.TheVariants.{NotPermitted, NotBytes, Memory}
-use Rattle.fate_chain.specs.Fields.{Field, Number, One, Two, Four, Id, State, TextBelow, Short, Optional, Contents, spellings, AreWithin, ◌>>=◌, front_at}
+use Rattle.fate_chain.specs.States.{final_code, final_in}
+
+-- ---- the fields of chains
+
+-- a field of which a defect is told as it is
+abbrev pub field : FieldKind → Part Defect
+field kind = record { kind = kind; fault = λ defect. defect }
+
+abbrev pub between : Size → ℕ → ℕ → Part Defect
+between size least most = field (Number size (is_between least most))
+
+abbrev pub octet : Part Defect
+octet = field (Number One any)
+
+abbrev pub moment : Part Defect
+moment = between Four 946684800 4102444799
+
+-- an error is 0 to 999
+abbrev pub error : Part Defect
+error = between Two 0 999
+
+-- a text below a limit, behind the number of its octets
+abbrev pub text : ℕ → Part Defect
+text limit = field (Counted One 255 (is_text limit))
+
+-- a short_message, behind the number of its octets
+abbrev pub short : Part Defect
+short = field (Counted One 254 any)
+
+-- the octets of optional parameters, as they stand in a PDU, behind their number
+abbrev pub is_optional : List ℕ → Bool
+is_optional octets = is_ok (optional_at octets)
+
+abbrev pub parameters : Part Defect
+parameters = field (Counted Two 65535 is_optional)
 
 -- ---- the fields of a message that was taken, in order
 
-abbrev pub octet : Field
-octet = Number One 0 255
-
-abbrev pub moment : Field
-moment = Number Four 946684800 4102444799
-
 -- the accounts that sent it and that it goes to, its service_type, its source and its destination
-abbrev pub party_fields : List Field
-party_fields = TextBelow 16 ∷ TextBelow 16 ∷ TextBelow 6 ∷ octet ∷ octet ∷ TextBelow 21 ∷ octet ∷ octet ∷ TextBelow 21 ∷ []
+abbrev pub party_fields : List (Part Defect)
+party_fields = text 16 ∷ text 16 ∷ text 6 ∷ octet ∷ octet ∷ text 21 ∷ octet ∷ octet ∷ text 21 ∷ []
 
 abbrev pub parties_in : Submission → Contents party_fields
 parties_in m = (m.submitter, (m.target, (m.service_type, (m.source.ton, (m.source.npi, (m.source.digits, (m.destination.ton, (m.destination.npi, (m.destination.digits, tt)))))))))
 
 -- its esm_class, protocol_id, priority_flag, registered_delivery and data_coding, its schedule and its expiry
-abbrev pub handling_fields : List Field
+abbrev pub handling_fields : List (Part Defect)
 handling_fields = octet ∷ octet ∷ octet ∷ octet ∷ octet ∷ moment ∷ moment ∷ []
 
 abbrev pub handling_in : Submission → Contents handling_fields
 handling_in m = (m.esm_class, (m.protocol_id, (m.priority_flag, (m.registered_delivery, (m.data_coding, (m.schedule, (m.expiry, tt)))))))
 
--- its text, and the octets of the optional parameters that are passed on, as they stand in a PDU
-abbrev pub text_fields : List Field
-text_fields = Short ∷ Optional ∷ []
+-- its text, and the optional parameters that are passed on
+abbrev pub text_fields : List (Part Defect)
+text_fields = short ∷ parameters ∷ []
 
 abbrev pub texts_in : Submission → Contents text_fields
 texts_in m = (m.text, (optional_octets m.passed, tt))
@@ -45,18 +78,14 @@ texts_in m = (m.text, (optional_octets m.passed, tt))
 abbrev pub kind_code : Kind → ℕ
 kind_code (Taken message) = 1
 kind_code (Attempt number) = 2
-kind_code (Failed error) = 3
-kind_code (Fate final error) = 4
+kind_code (Failed cause) = 3
+kind_code (Fate final cause) = 4
 
-abbrev pub head_fields : List Field
-head_fields = Number One 1 4 ∷ Number One 1 9 ∷ Number Two 1 9999 ∷ moment ∷ []
+abbrev pub head_fields : List (Part Defect)
+head_fields = between One 1 4 ∷ between One 1 9 ∷ between Two 1 9999 ∷ moment ∷ []
 
 abbrev pub head_in : Decree → Contents head_fields
 head_in d = (kind_code d.kind, (d.author.node, (d.author.incarnation, (d.moment, tt))))
-
--- an error is 0 to 999
-abbrev pub error : Field
-error = Number Two 0 999
 
 abbrev pub submission_octets : Submission → List ℕ
 submission_octets m = spellings party_fields (parties_in m) ++ spellings handling_fields (handling_in m) ++ spellings text_fields (texts_in m)
@@ -65,7 +94,7 @@ abbrev pub kind_octets : Kind → List ℕ
 kind_octets (Taken message) = submission_octets message
 kind_octets (Attempt number) = spellings (octet ∷ []) (number, tt)
 kind_octets (Failed cause) = spellings (error ∷ []) (cause, tt)
-kind_octets (Fate final cause) = spellings (State ∷ error ∷ []) (final, (cause, tt))
+kind_octets (Fate final cause) = spellings (octet ∷ error ∷ []) (final_code final, (cause, tt))
 
 unfoldable pub decree_octets : Decree → List ℕ
 decree_octets d = spellings head_fields (head_in d) ++ kind_octets d.kind
@@ -75,8 +104,8 @@ abbrev pub decrees_octets : List Decree → List ℕ
 decrees_octets [] = []
 decrees_octets (newest ∷ older) = decrees_octets older ++ decree_octets newest
 
-abbrev pub chain_fields : List Field
-chain_fields = Number One 1 1 ∷ Id ∷ Number Two 0 65535 ∷ []
+abbrev pub chain_fields : List (Part Defect)
+chain_fields = between One 1 1 ∷ field (Number Eight is_id) ∷ field (Number Two any) ∷ []
 
 abbrev pub chain_octets : Chain → List ℕ
 chain_octets c = spellings chain_fields (1, (c.id, (length c.decrees, tt))) ++ decrees_octets c.decrees
@@ -93,7 +122,7 @@ abbrev pub KindFits : Kind → Type 0
 KindFits (Taken message) = MessageFits message
 KindFits (Attempt number) = AreWithin (octet ∷ []) (number, tt)
 KindFits (Failed cause) = AreWithin (error ∷ []) (cause, tt)
-KindFits (Fate final cause) = AreWithin (State ∷ error ∷ []) (final, (cause, tt))
+KindFits (Fate final cause) = AreWithin (octet ∷ error ∷ []) (final_code final, (cause, tt))
 
 pub record DecreeFits (d : Decree) : Type 0 where
   pub head : AreWithin head_fields (head_in d)
@@ -145,47 +174,57 @@ message_of p h t = record {
   passed = tlvs_in t.1.0;
 }
 
-unfoldable pub message_at : List ℕ → Option (Submission × List ℕ)
-message_at octets =
-    front_at party_fields octets >>= λ p. front_at handling_fields p.1 >>= λ h. front_at text_fields h.1 >>= λ t. Some (message_of p.0 h.0 t.0, t.1)
+unfoldable pub message_at : List ℕ → Result (Submission × List ℕ) Defect
+message_at octets = do
+  p ← front_at party_fields octets
+  h ← front_at handling_fields p.1
+  t ← front_at text_fields h.1
+  Ok (message_of p.0 h.0 t.0, t.1)
+
+-- the final state of a number, if there is one
+abbrev pub found : {A : Type 0} → Option A → Result A Defect
+found (Some x) = Ok x
+found None = Err Unfit
 
 -- what a decree with a kind of this number decides
-unfoldable pub kind_at : ℕ → List ℕ → Option (Kind × List ℕ)
+unfoldable pub kind_at : ℕ → List ℕ → Result (Kind × List ℕ) Defect
 kind_at code octets =
-    if code == 1 then (message_at octets >>= λ x. Some (Taken x.0, x.1))
-    else if code == 2 then (front_at (octet ∷ []) octets >>= λ x. Some (Attempt x.0.0, x.1))
-    else if code == 3 then (front_at (error ∷ []) octets >>= λ x. Some (Failed x.0.0, x.1))
-    else (front_at (State ∷ error ∷ []) octets >>= λ x. Some (Fate x.0.0 x.0.1.0, x.1))
+    if code == 1 then (message_at octets >>= λ x. Ok (Taken x.0, x.1))
+    else if code == 2 then (front_at (octet ∷ []) octets >>= λ x. Ok (Attempt x.0.0, x.1))
+    else if code == 3 then (front_at (error ∷ []) octets >>= λ x. Ok (Failed x.0.0, x.1))
+    else (front_at (octet ∷ error ∷ []) octets >>= λ x. found (final_in x.0.0) >>= λ final. Ok (Fate final x.0.1.0, x.1))
 
 abbrev pub decree_of : Contents head_fields → Kind → Decree
 decree_of h kind = record { author = record { node = h.1.0; incarnation = h.1.1.0 }; moment = h.1.1.1.0; kind = kind }
 
-unfoldable pub decree_at : List ℕ → Option (Decree × List ℕ)
-decree_at octets = front_at head_fields octets >>= λ h. kind_at h.0.0 h.1 >>= λ k. Some (decree_of h.0 k.0, k.1)
+unfoldable pub decree_at : List ℕ → Result (Decree × List ℕ) Defect
+decree_at octets = do
+  h ← front_at head_fields octets
+  k ← kind_at h.0.0 h.1
+  Ok (decree_of h.0 k.0, k.1)
 
 -- so many decrees, each put before the older ones
-unfoldable pub decrees_at : ℕ → List Decree → List ℕ → Option (List Decree × List ℕ)
-decrees_at zero older octets = Some (older, octets)
+unfoldable pub decrees_at : ℕ → List Decree → List ℕ → Result (List Decree × List ℕ) Defect
+decrees_at zero older octets = Ok (older, octets)
 decrees_at (suc count) older octets = decree_at octets >>= λ x. decrees_at count (x.0 ∷ older) x.1
 
 -- the chain, where no octet is left
-abbrev pub chain_from : ℕ → List Decree × List ℕ → Option Chain
-chain_from id (decrees, []) = Some (record { id = id; decrees = decrees })
-chain_from id (decrees, more) = None
+abbrev pub chain_from : ℕ → List Decree × List ℕ → Result Chain Defect
+chain_from id d = nothing_at Extra d.1 >>= λ _. Ok (record { id = id; decrees = d.0 })
 
 -- the chain that so many decrees make, where no octet is left
-abbrev pub chain_at : ℕ → ℕ → List ℕ → Option Chain
+abbrev pub chain_at : ℕ → ℕ → List ℕ → Result Chain Defect
 chain_at id count octets = decrees_at count [] octets >>= λ d. chain_from id d
 
 -- the chain of which the octets are the text
-unfoldable pub read_chain : List ℕ → Option Chain
+unfoldable pub read_chain : List ℕ → Result Chain Defect
 read_chain octets =
     front_at chain_fields octets >>= λ h. chain_at h.0.1.0 h.0.1.1.0 h.1
 
 -- What is found in octets that are read so: a permitted chain, which there may be no memory for, another list of
 -- decrees, or no text at all.
-abbrev pub Judges : {A : Type 0} → (A → Chain → Type 0) → Result A ChainFault → Option Chain → Type 0
-Judges same (Ok x) read = (c : Chain) × (read ≡ Some c) × IsPermitted c.id c.decrees × same x c
-Judges same (Err NotPermitted) read = (c : Chain) × (read ≡ Some c) × (IsPermitted c.id c.decrees → ⊥)
-Judges same (Err NotBytes) read = read ≡ None
-Judges same (Err Memory) read = (c : Chain) × (read ≡ Some c) × IsPermitted c.id c.decrees
+abbrev pub Judges : {A : Type 0} → (A → Chain → Type 0) → Result A ChainFault → Result Chain Defect → Type 0
+Judges same (Ok x) read = (c : Chain) × (read ≡ Ok c) × IsPermitted c.id c.decrees × same x c
+Judges same (Err NotPermitted) read = (c : Chain) × (read ≡ Ok c) × (IsPermitted c.id c.decrees → ⊥)
+Judges same (Err NotBytes) read = (defect : Defect) × (read ≡ Err defect)
+Judges same (Err Memory) read = (c : Chain) × (read ≡ Ok c) × IsPermitted c.id c.decrees

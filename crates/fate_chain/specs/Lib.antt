@@ -3,5 +3,4 @@ pub mod Marks
 pub mod States
 pub mod Submissions
 pub mod Bytes
-pub mod Fields
 pub mod Octets

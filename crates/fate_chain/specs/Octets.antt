@@ -3,8 +3,8 @@ use Rattle.std.specs.Prelude.{IsTrue}
 use Rattle.mc_model.specs.message.Submission.{Submission}
 use Rattle.mc_model.specs.message.Decree.{Kind, Taken, Attempt, Failed, Fate, Decree}
 use Rattle.pdu_codec.specs.Text.{IsText, IsShortMessage}
-use Rattle.fate_chain.specs.Fields.{Contents, is_optional}
-use Rattle.fate_chain.specs.Bytes.{party_fields, handling_fields, text_fields, message_of}
+use Rattle.octet_fields.specs.Kinds.{Contents}
+use Rattle.fate_chain.specs.Bytes.{is_optional, party_fields, handling_fields, text_fields, message_of}
 use Rattle.fate_chain.specs.Kinds.{author_of, final_of}
 use Rattle.fate_chain.specs.declared.octets.Parties.{Parties}
 use Rattle.fate_chain.specs.declared.octets.Handling.{Handling}

@@ -220,7 +220,7 @@ impl Chain {
     fn judged(alloc: Global, octets: &[u8]) -> Result<Chain, ChainFault>
         ensures { Judges (λ chain read. read ≡ chain) result (read_chain octets.now) }
     {
-        let Some(head) = head_at(octets) else {
+        let Ok(head) = head_at(octets) else {
             return Err(ChainFault::NotBytes);
         };
         check(head.id, head.count, head.decrees)?;

@@ -2,10 +2,9 @@
 
 ghost use Rattle.std.specs.Prelude.{◌≡◌, ◌≤◌, ◌↔◌, Some, IfSome, IfOk, IsSome, option_map};
 ghost use Rattle.mc_model.specs.message.Chain.{error_by};
-ghost use Rattle.fate_chain.specs.Fields.{final_in};
 ghost use Rattle.fate_chain.specs.Kinds.{final_of, kind_of};
 ghost use Rattle.fate_chain.specs.Marks.{bare, bare_kind, IsMarkOf};
-ghost use Rattle.fate_chain.specs.States.{state_of};
+ghost use Rattle.fate_chain.specs.States.{final_in, state_of};
 
 use crate::marks::{Act, Mark};
 use crate::submission::Submission;
@@ -80,7 +79,7 @@ pub enum Final {
 
 impl Final {
     /// The one whose message_state has this code; none where there is none.
-    #[tactic(auto, unfolding(crate::specs::Fields::final_in))]
+    #[tactic(auto, unfolding(crate::specs::States::final_in))]
     pub(crate) fn of_code(code: u8) -> Option<Final>
         ensures { option_map final_of result ≡ final_in code }
     {

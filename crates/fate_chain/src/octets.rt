@@ -1,23 +1,33 @@
 //! Decrees as they stand in octets. Only what makes a decree of one takes memory.
 
-ghost use Rattle.std.specs.Prelude.{◌≡◌, IfOk, IfSome};
+ghost use Rattle.std.specs.Prelude.{◌≡◌, IfOk};
 ghost use Rattle.pdu_codec.specs.Text.{IsText};
 ghost use Rattle.fate_chain.specs.Bytes.{party_fields, handling_fields, text_fields, message_at, kind_at, decree_at};
-ghost use Rattle.fate_chain.specs.Fields.{Finds, front_at};
+ghost use Rattle.octet_fields.specs.Reading.{IsRead, front_at};
 ghost use Rattle.fate_chain.specs.Kinds.{kind_of};
 ghost use Rattle.fate_chain.specs.Marks.{bare, bare_kind, IsMarkOf};
 ghost use Rattle.fate_chain.specs.Octets.{parties_seen, handling_seen, texts_seen, message_seen, kind_seen, decree_seen, PartiesAreTexts, AreTexts, MessageHasTexts, HasTexts};
 
 use crate::decree::{Author, Decree, ErrorCode, Final, Kind};
 use crate::fields::{
-    error_at, final_at, incarnation_at, kind_at, moment_at, node_at, octet_at, optional_at,
-    short_at, text_at,
+    error_at, incarnation_at, kind_at, moment_at, node_at, parameters_at, text_at,
 };
 use crate::marks::{Act, Mark, Term};
 use crate::submission::Submission;
 use mc_types::Moment;
+use octet_fields::{Defect, counted_at, octet_at};
 use pdu_codec::{Address, ShortMessage, Text, Tlvs};
 use std::alloc::{AllocError, Global};
+
+/// What was read, or its defect for the caller. The proof of `?` does not cover a value that holds one with an invariant.
+macro_rules! read {
+    ($read:expr) => {
+        match $read {
+            Ok(found) => found,
+            Err(defect) => return Err(defect),
+        }
+    };
+}
 
 /// An address.
 #[derive(Clone, Copy)]
@@ -95,9 +105,9 @@ pub struct DecreeOctets<'a> {
     kind: KindOctets<'a>,
 }
 
-fn parties_at(octets: &[u8]) -> Option<(Parties<'_>, &[u8])>
-    ensures read { Finds (λ x. (parties_seen x.0, x.1.now)) result (front_at party_fields octets.now) }
-    ensures texts { IfSome result (λ x. PartiesAreTexts x.0) }
+fn parties_at(octets: &[u8]) -> Result<(Parties<'_>, &[u8]), Defect>
+    ensures read { IsRead (λ x. (parties_seen x.0, x.1.now)) result (front_at party_fields octets.now) }
+    ensures texts { IfOk result (λ x. PartiesAreTexts x.0) }
 {
     let (submitter, rest) = text_at(16, octets)?;
     let (target, rest) = text_at(16, rest)?;
@@ -123,23 +133,19 @@ fn parties_at(octets: &[u8]) -> Option<(Parties<'_>, &[u8])>
             digits: destination_digits,
         },
     };
-    Some((parties, rest))
+    Ok((parties, rest))
 }
 
-fn handling_at(octets: &[u8]) -> Option<(Handling, &[u8])>
-    ensures { Finds (λ x. (handling_seen x.0, x.1.now)) result (front_at handling_fields octets.now) }
+fn handling_at(octets: &[u8]) -> Result<(Handling, &[u8]), Defect>
+    ensures { IsRead (λ x. (handling_seen x.0, x.1.now)) result (front_at handling_fields octets.now) }
 {
     let (esm_class, rest) = octet_at(octets)?;
     let (protocol_id, rest) = octet_at(rest)?;
     let (priority_flag, rest) = octet_at(rest)?;
     let (registered_delivery, rest) = octet_at(rest)?;
     let (data_coding, rest) = octet_at(rest)?;
-    let Some((schedule, rest)) = moment_at(rest) else {
-        return None;
-    };
-    let Some((expiry, rest)) = moment_at(rest) else {
-        return None;
-    };
+    let (schedule, rest) = read!(moment_at(rest));
+    let (expiry, rest) = read!(moment_at(rest));
     let handling = Handling {
         esm_class,
         protocol_id,
@@ -149,96 +155,81 @@ fn handling_at(octets: &[u8]) -> Option<(Handling, &[u8])>
         schedule,
         expiry,
     };
-    Some((handling, rest))
+    Ok((handling, rest))
 }
 
-fn texts_at(octets: &[u8]) -> Option<(Texts<'_>, &[u8])>
-    ensures read { Finds (λ x. (texts_seen x.0, x.1.now)) result (front_at text_fields octets.now) }
-    ensures texts { IfSome result (λ x. AreTexts x.0) }
+fn texts_at(octets: &[u8]) -> Result<(Texts<'_>, &[u8]), Defect>
+    ensures read { IsRead (λ x. (texts_seen x.0, x.1.now)) result (front_at text_fields octets.now) }
+    ensures texts { IfOk result (λ x. AreTexts x.0) }
 {
-    let (text, rest) = short_at(octets)?;
-    let (passed, rest) = optional_at(rest)?;
-    Some((Texts { text, passed }, rest))
+    let (text, rest) = counted_at(254, octets)?;
+    let (passed, rest) = parameters_at(rest)?;
+    Ok((Texts { text, passed }, rest))
 }
 
 #[tactic(auto, unfolding(crate::specs::Bytes::message_at))]
-fn message_at(octets: &[u8]) -> Option<(MessageOctets<'_>, &[u8])>
-    ensures read { Finds (λ x. (message_seen x.0, x.1.now)) result (message_at octets.now) }
-    ensures texts { IfSome result (λ x. MessageHasTexts x.0) }
+fn message_at(octets: &[u8]) -> Result<(MessageOctets<'_>, &[u8]), Defect>
+    ensures read { IsRead (λ x. (message_seen x.0, x.1.now)) result (message_at octets.now) }
+    ensures texts { IfOk result (λ x. MessageHasTexts x.0) }
 {
     let (parties, rest) = parties_at(octets)?;
-    let Some((handling, rest)) = handling_at(rest) else {
-        return None;
-    };
+    let (handling, rest) = read!(handling_at(rest));
     let (texts, rest) = texts_at(rest)?;
     let message = MessageOctets {
         parties,
         handling,
         texts,
     };
-    Some((message, rest))
+    Ok((message, rest))
 }
 
 /// What a decree of a kind of this number decides.
 #[tactic(auto, unfolding(crate::specs::Bytes::kind_at))]
-fn decided_at(kind: u8, octets: &[u8]) -> Option<(KindOctets<'_>, &[u8])>
-    ensures read { Finds (λ x. (kind_seen x.0, x.1.now)) result (kind_at kind octets.now) }
-    ensures texts { IfSome result (λ x. HasTexts x.0) }
+fn decided_at(kind: u8, octets: &[u8]) -> Result<(KindOctets<'_>, &[u8]), Defect>
+    ensures read { IsRead (λ x. (kind_seen x.0, x.1.now)) result (kind_at kind octets.now) }
+    ensures texts { IfOk result (λ x. HasTexts x.0) }
 {
     match kind {
         1 => {
-            let Some((message, rest)) = message_at(octets) else {
-                return None;
-            };
-            Some((KindOctets::Taken(message), rest))
+            let (message, rest) = read!(message_at(octets));
+            Ok((KindOctets::Taken(message), rest))
         }
         2 => {
             let (number, rest) = octet_at(octets)?;
-            Some((KindOctets::Attempt(number), rest))
+            Ok((KindOctets::Attempt(number), rest))
         }
         3 => {
-            let Some((error, rest)) = error_at(octets) else {
-                return None;
-            };
-            Some((KindOctets::Failed(error), rest))
+            let (error, rest) = read!(error_at(octets));
+            Ok((KindOctets::Failed(error), rest))
         }
         _ => {
-            let Some((last, rest)) = final_at(octets) else {
-                return None;
+            let (code, rest) = octet_at(octets)?;
+            let (error, rest) = read!(error_at(rest));
+            let Some(last) = Final::of_code(code) else {
+                return Err(Defect::Unfit);
             };
-            let Some((error, rest)) = error_at(rest) else {
-                return None;
-            };
-            Some((KindOctets::Fate(last, error), rest))
+            Ok((KindOctets::Fate(last, error), rest))
         }
     }
 }
 
 /// A decree at the front of octets, and the octets behind it; none where there is none.
 #[tactic(auto, unfolding(crate::specs::Bytes::decree_at))]
-pub fn decree_at(octets: &[u8]) -> Option<(DecreeOctets<'_>, &[u8])>
-    ensures read { Finds (λ x. (decree_seen x.0, x.1.now)) result (decree_at octets.now) }
-    ensures texts { IfSome result (λ x. HasTexts x.0.kind) }
+pub fn decree_at(octets: &[u8]) -> Result<(DecreeOctets<'_>, &[u8]), Defect>
+    ensures read { IsRead (λ x. (decree_seen x.0, x.1.now)) result (decree_at octets.now) }
+    ensures texts { IfOk result (λ x. HasTexts x.0.kind) }
 {
     let (kind, rest) = kind_at(octets)?;
-    let Some((node, rest)) = node_at(rest) else {
-        return None;
-    };
-    let Some((incarnation, rest)) = incarnation_at(rest) else {
-        return None;
-    };
-    let Some((moment, rest)) = moment_at(rest) else {
-        return None;
-    };
-    let Some((kind, rest)) = decided_at(kind, rest) else {
-        return None;
-    };
+    let (node, rest) = read!(node_at(rest));
+    let (incarnation, rest) = read!(incarnation_at(rest));
+    let (moment, rest) = read!(moment_at(rest));
+    let (kind, rest) = read!(decided_at(kind, rest));
     let decree = DecreeOctets {
         author: Author { node, incarnation },
         moment,
         kind,
     };
-    Some((decree, rest))
+    Ok((decree, rest))
 }
 
 impl MessageOctets<'_> {

@@ -1,16 +1,17 @@
 //! From octets to decrees.
 
-ghost use Rattle.std.specs.Prelude.{◌≡◌, [], List, ℕ, length, reverse, Some, IsSome, IfOk};
+ghost use Rattle.std.specs.Prelude.{◌≡◌, [], List, ℕ, length, reverse, Ok, IsOk, IfOk};
 ghost use Rattle.mc_model.specs.message.Ids.{IsId};
 ghost use Rattle.fate_chain.specs.Bytes.{chain_at, chain_fields, decrees_at, Judges};
-ghost use Rattle.fate_chain.specs.Fields.{Finds, front_at};
+ghost use Rattle.octet_fields.specs.Reading.{IsRead, front_at};
 
 use crate::decree::Decree;
 use crate::fault::ChainFault;
-use crate::fields::{count_at, format_at, id_at};
+use crate::fields::{format_at, id_at};
 use crate::octets::decree_at;
 use crate::progress::Progress;
 use mc_types::MsgId;
+use octet_fields::{Defect, u16_at};
 use std::alloc::{AllocError, Global};
 
 /// An id, and how many decrees are in the octets behind.
@@ -21,18 +22,19 @@ pub struct Head<'a> {
     pub decrees: &'a [u8],
 }
 
-/// The id and the count of decrees with which a chain's octets begin; none where they are cut, of another format, or
-/// of no id.
-pub fn head_at(octets: &[u8]) -> Option<Head<'_>>
-    ensures { Finds (λ h. ((1, (h.id, (h.count, tt))), h.decrees.now)) result
+/// The id and the count of decrees with which a chain's octets begin. An `Err` if they are cut, of another format, or of
+/// no id.
+pub fn head_at(octets: &[u8]) -> Result<Head<'_>, Defect>
+    ensures { IsRead (λ h. ((1, (h.id, (h.count, tt))), h.decrees.now)) result
         (front_at chain_fields octets.now) }
 {
     let (_, rest) = format_at(octets)?;
-    let Some((id, rest)) = id_at(rest) else {
-        return None;
+    let (id, rest) = match id_at(rest) {
+        Ok(found) => found,
+        Err(defect) => return Err(defect),
     };
-    let (count, decrees) = count_at(rest)?;
-    Some(Head { id, count, decrees })
+    let (count, decrees) = u16_at(rest)?;
+    Ok(Head { id, count, decrees })
 }
 
 /// Finds that the octets are so many decrees, to the last of them, and a permitted chain of the id. Takes no memory.
@@ -43,8 +45,9 @@ pub fn check(id: MsgId, count: u16, octets: &[u8]) -> Result<(), ChainFault>
     let mut rest = octets;
     let mut left = count;
     while left > 0 {
-        let Some((decree, after)) = decree_at(rest) else {
-            return Err(ChainFault::NotBytes);
+        let (decree, after) = match decree_at(rest) {
+            Ok(found) => found,
+            Err(_) => return Err(ChainFault::NotBytes),
         };
         progress = progress.after(id, decree.mark());
         rest = after;
@@ -61,16 +64,17 @@ pub fn check(id: MsgId, count: u16, octets: &[u8]) -> Result<(), ChainFault>
 
 /// The decrees, the oldest first, with which octets begin that are known to begin with so many.
 pub fn decrees_of(alloc: Global, count: u16, octets: &[u8]) -> Result<Vec<Decree>, AllocError>
-    requires { IsSome (decrees_at count [] octets.now) }
+    requires { IsOk (decrees_at count [] octets.now) }
     ensures { IfOk result (λ decrees. (rest : List ℕ)
-        × (decrees_at count [] octets.now ≡ Some (reverse decrees.items, rest))) }
+        × (decrees_at count [] octets.now ≡ Ok (reverse decrees.items, rest))) }
 {
     let mut decrees = Vec::with_capacity(alloc, count as usize)?;
     let mut rest = octets;
     let mut left = count;
     while left > 0 {
-        let Some((decree, after)) = decree_at(rest) else {
-            unreachable!();
+        let (decree, after) = match decree_at(rest) {
+            Ok(found) => found,
+            Err(_) => unreachable!(),
         };
         decrees.push(decree.decree(alloc)?)?;
         rest = after;

@@ -2,25 +2,18 @@
 
 ghost use Rattle.std.specs.Prelude.{◌≡◌, ◌<◌, ◌≤◌, ◌++◌, ◌∷◌, [], length, reverse, IfOk, OnOk};
 ghost use Rattle.std.specs.Int.{w16, w32, w64, to_be_bytes};
-ghost use Rattle.pdu_codec.specs.Text.{IsOctets, IsText, IsShortMessage, AreOptional, optional_octets};
+ghost use Rattle.pdu_codec.specs.Text.{IsText, IsShortMessage, AreOptional, optional_octets};
 ghost use Rattle.fate_chain.specs.Bytes.{party_fields, parties_in, handling_fields, handling_in, text_fields, texts_in, head_fields, chain_fields, kind_code, kind_octets, submission_octets, decree_octets, decrees_octets, DecreeFits, DecreesFit, KindFits, MessageFits};
-ghost use Rattle.fate_chain.specs.Fields.{spellings, AreWithin};
+ghost use Rattle.octet_fields.specs.Kinds.{spellings, AreWithin};
 ghost use Rattle.fate_chain.specs.Kinds.{author_of, kind_of};
 ghost use Rattle.mc_model.specs.message.Ids.{IsId, IsIncarnation, IsMoment, IsNode};
 
 use crate::decree::{Author, Decree, Kind};
 use crate::submission::Submission;
 use mc_types::{Moment, MsgId};
+use octet_fields::{put_counted, put_long_counted, put_octets};
 use pdu_codec::{Address, ShortMessage, Text, Tlvs, put_tlvs};
 use std::alloc::AllocError;
-
-/// Octets, as they are.
-fn put_octets(out: &mut Vec<u8>, octets: &[u8]) -> Result<(), AllocError>
-    ensures ok { OnOk result (out.new.items ≡ out.old.items ++ octets.now) }
-    ensures octets { IsOctets octets.now }
-{
-    out.extend_from_slice(octets)
-}
 
 /// A text behind the number of its octets.
 fn put_text<const LIMIT: usize>(out: &mut Vec<u8>, text: &Text<LIMIT>) -> Result<(), AllocError>
@@ -28,10 +21,7 @@ fn put_text<const LIMIT: usize>(out: &mut Vec<u8>, text: &Text<LIMIT>) -> Result
     ensures ok { OnOk result (out.new.items ≡ out.old.items ++ (length text.now ∷ text.now)) }
     ensures text { IsText LIMIT text.now }
 {
-    let octets = text.octets();
-    out.push(octets.len() as u8)?;
-    out.extend_from_slice(octets)?;
-    Ok(())
+    put_counted(out, text.octets())
 }
 
 /// A short_message behind the number of its octets.
@@ -39,10 +29,7 @@ fn put_short_message(out: &mut Vec<u8>, message: &ShortMessage) -> Result<(), Al
     ensures ok { OnOk result (out.new.items ≡ out.old.items ++ (length message.now ∷ message.now)) }
     ensures short { IsShortMessage message.now }
 {
-    let octets = message.octets();
-    out.push(octets.len() as u8)?;
-    out.extend_from_slice(octets)?;
-    Ok(())
+    put_counted(out, message.octets())
 }
 
 /// Optional parameters behind the number of their octets.
@@ -53,8 +40,7 @@ fn put_optional(out: &mut Vec<u8>, tlvs: &Tlvs) -> Result<(), AllocError>
 {
     let mut octets = Vec::new(*out.allocator());
     put_tlvs(&mut octets, tlvs)?;
-    put_octets(out, &(octets.len() as u16).to_be_bytes())?;
-    put_octets(out, &octets)?;
+    put_long_counted(out, &octets)?;
     Ok(())
 }
 

@@ -1,0 +1,14 @@
+use Rattle.std.proofs.Common.{refl, arith}
+use Rattle.fate_chain.proofs.ChainReading.{is_optional-told}
+use Rattle.fate_chain.proofs.writing.put_message.Goals as goal
+
+pub returns-clause-fits : goal.returns-clause-fits
+returns-clause-fits c =
+    let texts = c.in_ok-put_texts.ensures in
+    let passed = texts.passed in
+    record {
+      parties = c.in_ok-put_parties.ensures.limits;
+      handling = c.in_ok-put_handling.ensures.limits;
+      texts = ((texts.short, refl), ((omega (arith, passed.most), is_optional-told _ passed), tt));
+      passed = passed;
+    }
