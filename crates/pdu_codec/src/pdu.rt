@@ -5,7 +5,7 @@ use crate::tlv::Tlvs;
 use pdu_tables::Command;
 
 /// A PDU: its status, of any number, its sequence_number, of any number, and its body.
-#[derive(Debug, Drop)]
+#[derive(Debug, PartialEq, Eq, Drop)]
 pub struct Pdu {
     /// command_status (section 5.1.3).
     pub status: u32,
@@ -17,7 +17,7 @@ pub struct Pdu {
 
 /// The body of a PDU, by its command. A response may have no body, and is then another PDU than one whose texts
 /// are empty.
-#[derive(Debug, Drop)]
+#[derive(Debug, PartialEq, Eq, Drop)]
 pub enum Body {
     BindTransceiver(Bind),
     BindTransceiverResp(Option<BindAnswer>),
@@ -58,7 +58,7 @@ impl Body {
 }
 
 /// What a bind has (section 4.1.5).
-#[derive(Debug, Drop)]
+#[derive(Debug, PartialEq, Eq, Drop)]
 pub struct Bind {
     pub system_id: Text<16>,
     pub password: Text<9>,
@@ -70,14 +70,14 @@ pub struct Bind {
 }
 
 /// What the response to a bind has (section 4.1.6).
-#[derive(Debug, Drop)]
+#[derive(Debug, PartialEq, Eq, Drop)]
 pub struct BindAnswer {
     pub system_id: Text<16>,
     pub tlvs: Tlvs,
 }
 
 /// An address of an SME, with its type of number and its numbering plan (sections 5.2.5, 5.2.6, 5.2.8).
-#[derive(Debug, Drop)]
+#[derive(Debug, PartialEq, Eq, Drop)]
 pub struct Address {
     pub ton: u8,
     pub npi: u8,
@@ -85,7 +85,7 @@ pub struct Address {
 }
 
 /// What a submit_sm has (section 4.4.1).
-#[derive(Debug, Drop)]
+#[derive(Debug, PartialEq, Eq, Drop)]
 pub struct Message {
     pub service_type: Text<6>,
     pub source: Address,
@@ -104,14 +104,14 @@ pub struct Message {
 }
 
 /// What a query_sm has (section 4.8.1).
-#[derive(Debug, Drop)]
+#[derive(Debug, PartialEq, Eq, Drop)]
 pub struct Query {
     pub message_id: Text<65>,
     pub source: Address,
 }
 
 /// What the response to a query_sm has (section 4.8.2).
-#[derive(Debug, Drop)]
+#[derive(Debug, PartialEq, Eq, Drop)]
 pub struct QueryAnswer {
     pub message_id: Text<65>,
     pub final_date: Text<17>,
@@ -120,7 +120,7 @@ pub struct QueryAnswer {
 }
 
 /// What a cancel_sm has (section 4.9.1).
-#[derive(Debug, Drop)]
+#[derive(Debug, PartialEq, Eq, Drop)]
 pub struct Cancel {
     pub service_type: Text<6>,
     pub message_id: Text<65>,
