@@ -15,19 +15,28 @@ pub struct Pdu {
     pub body: Body,
 }
 
-/// The body of a PDU, by its command. A response may have no body, and is then another PDU than one whose texts
-/// are empty.
+/// The body of a PDU, by its command. A response whose fields may be left out is, without them, another PDU than one whose
+/// texts are empty.
 #[derive(Debug, PartialEq, Eq, Drop)]
 pub enum Body {
+    BindReceiver(Bind),
+    BindReceiverResp(Option<BindAnswer>),
+    BindTransmitter(Bind),
+    BindTransmitterResp(Option<BindAnswer>),
     BindTransceiver(Bind),
     BindTransceiverResp(Option<BindAnswer>),
     SubmitSm(Message),
     /// With the message_id.
     SubmitSmResp(Option<Text<65>>),
+    DeliverSm(Message),
+    /// With the message_id, which an ESME leaves empty.
+    DeliverSmResp(Option<Text<65>>),
     QuerySm(Query),
     QuerySmResp(Option<QueryAnswer>),
     CancelSm(Cancel),
     CancelSmResp,
+    Unbind,
+    UnbindResp,
     EnquireLink,
     EnquireLinkResp,
     GenericNack,
@@ -35,21 +44,29 @@ pub enum Body {
 
 impl Body {
     ghost use Rattle.std.specs.Prelude.{◌≡◌};
-    ghost use Rattle.pdu_codec.specs.Pdu.{command_in};
+    ghost use Rattle.pdu_codec.specs.Bodies.{command_in};
 
     /// Its command.
     pub fn command(&self) -> Command
         ensures { result ≡ command_in self.now }
     {
         match self {
+            Body::BindReceiver(_) => Command::BindReceiver,
+            Body::BindReceiverResp(_) => Command::BindReceiverResp,
+            Body::BindTransmitter(_) => Command::BindTransmitter,
+            Body::BindTransmitterResp(_) => Command::BindTransmitterResp,
             Body::BindTransceiver(_) => Command::BindTransceiver,
             Body::BindTransceiverResp(_) => Command::BindTransceiverResp,
             Body::SubmitSm(_) => Command::SubmitSm,
             Body::SubmitSmResp(_) => Command::SubmitSmResp,
+            Body::DeliverSm(_) => Command::DeliverSm,
+            Body::DeliverSmResp(_) => Command::DeliverSmResp,
             Body::QuerySm(_) => Command::QuerySm,
             Body::QuerySmResp(_) => Command::QuerySmResp,
             Body::CancelSm(_) => Command::CancelSm,
             Body::CancelSmResp => Command::CancelSmResp,
+            Body::Unbind => Command::Unbind,
+            Body::UnbindResp => Command::UnbindResp,
             Body::EnquireLink => Command::EnquireLink,
             Body::EnquireLinkResp => Command::EnquireLinkResp,
             Body::GenericNack => Command::GenericNack,
@@ -84,7 +101,7 @@ pub struct Address {
     pub digits: Text<21>,
 }
 
-/// What a submit_sm has (section 4.4.1).
+/// What a submit_sm and a deliver_sm have (sections 4.4.1 and 4.6.1).
 #[derive(Debug, PartialEq, Eq, Drop)]
 pub struct Message {
     pub service_type: Text<6>,
