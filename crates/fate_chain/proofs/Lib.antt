@@ -5,3 +5,4 @@ pub mod Written
 pub mod Standings
 pub mod Steps
 pub mod Outcomes
+pub mod Sameness

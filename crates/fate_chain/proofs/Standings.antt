@@ -105,3 +105,12 @@ measures-few (Fate final error) count attempts is = is
 pub permitted-few : (id : ℕ) (decrees : List Decree) → IsPermitted id decrees → length decrees ≤ 18
 permitted-few id [] permitted = absurd permitted
 permitted-few id (newest ∷ older) permitted = measures-few newest.kind _ _ (measures-permitted id newest older permitted)
+
+-- so the place in which it stands is one of 18
+pub record HasPlace (decrees : List Decree) : Type 0 where
+  pub least : 1 ≤ length decrees
+  pub most : length decrees ≤ 18
+
+pub has_place : (id : ℕ) (decrees : List Decree) → IsPermitted id decrees → HasPlace decrees
+has_place id [] permitted = absurd permitted
+has_place id (newest ∷ older) permitted = record { least = omega arith; most = permitted-few id (newest ∷ older) permitted }

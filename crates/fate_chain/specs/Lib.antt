@@ -1,5 +1,6 @@
 pub mod Kinds
 pub mod Marks
+pub mod Same
 pub mod States
 pub mod Submissions
 pub mod Bytes

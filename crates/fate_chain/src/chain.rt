@@ -1,6 +1,6 @@
 //! Chains.
 
-ghost use Rattle.std.specs.Prelude.{◌≡◌, ◌<◌, ◌≤◌, ◌↔◌, ◌∷◌, [], Some, reverse, slice_get, IfOk, IsErrOf, IsTrue};
+ghost use Rattle.std.specs.Prelude.{◌≡◌, ◌<◌, ◌≤◌, ◌↔◌, ◌∷◌, [], Some, length, pred, reverse, slice_get, IfOk, IsErrOf, IsTrue};
 ghost use Rattle.mc_model.specs.message.Ids.{node_of, incarnation_of};
 ghost use Rattle.mc_model.specs.message.Decree.{Taken};
 ghost use Rattle.mc_model.specs.message.Chain.{Chain as ChainValue, IsPermitted, MayExtend, taken_in, final_in, error_in};
@@ -9,7 +9,7 @@ ghost use Rattle.fate_chain.specs.Marks.{IsStandingOf};
 ghost use Rattle.fate_chain.specs.States.{state_of};
 ghost use Rattle.fate_chain.specs.declared.fault.ChainFault.TheVariants.{NotPermitted, NotBytes, Memory};
 
-use crate::decree::{Author, Decree, Kind};
+use crate::decree::{Author, Decree, Kind, are_same};
 use crate::fault::ChainFault;
 use crate::marks::Standing;
 use crate::progress::Progress;
@@ -79,6 +79,13 @@ impl Chain {
         ensures { result ≡ self.now.id }
     {
         self.id
+    }
+
+    /// The place in which it stands: one less than the number of its decrees, 0 to 17.
+    pub fn place(&self) -> u8
+        ensures { result ≡ pred (length self.now.decrees) }
+    {
+        (self.decrees.len() - 1) as u8
     }
 
     /// The newest decree.
@@ -182,6 +189,13 @@ impl Chain {
             id: self.id,
             decrees: self.copies(self.decrees.len())?,
         })
+    }
+
+    /// Whether it is the same chain as the other: of the same message, with the same decrees.
+    pub fn is(&self, other: &Chain) -> bool
+        ensures { IsTrue result ↔ (self.now ≡ other.now) }
+    {
+        self.id == other.id && are_same(&self.decrees, &other.decrees)
     }
 
     /// Its octets, format 1. Each number has its highest octet first.

@@ -1,6 +1,6 @@
 //! Decrees.
 
-ghost use Rattle.std.specs.Prelude.{◌≡◌, ◌≤◌, ◌↔◌, Some, IfSome, IfOk, IsSome, option_map};
+ghost use Rattle.std.specs.Prelude.{◌≡◌, ◌≤◌, ◌↔◌, Some, IfSome, IfOk, IsSome, IsTrue, option_map};
 ghost use Rattle.mc_model.specs.message.Chain.{error_by};
 ghost use Rattle.fate_chain.specs.Kinds.{final_of, kind_of};
 ghost use Rattle.fate_chain.specs.Marks.{bare, bare_kind, IsMarkOf};
@@ -133,6 +133,19 @@ impl Kind {
         }
     }
 
+    /// Whether it is the same as the other.
+    fn is(&self, other: &Kind) -> bool
+        ensures { IsTrue result ↔ (kind_of self.now ≡ kind_of other.now) }
+    {
+        match (self, other) {
+            (Kind::Taken(message), Kind::Taken(taken)) => message.is(taken),
+            (Kind::Attempt(number), Kind::Attempt(attempt)) => number == attempt,
+            (Kind::Failed(error), Kind::Failed(cause)) => error == cause,
+            (Kind::Fate(last, error), Kind::Fate(fate, cause)) => last == fate && error == cause,
+            _ => false,
+        }
+    }
+
     /// What of it decides which decree may follow.
     pub(crate) fn act(&self) -> Act
         ensures { bare_kind result ≡ bare (kind_of self.now) }
@@ -175,6 +188,13 @@ impl Decree {
         })
     }
 
+    /// Whether it is the same as the other.
+    fn is(&self, other: &Decree) -> bool
+        ensures { IsTrue result ↔ (self.now ≡ other.now) }
+    {
+        self.author == other.author && self.moment == other.moment && self.kind.is(&other.kind)
+    }
+
     /// What of it decides which decree may follow.
     pub(crate) fn mark(&self) -> Mark
         ensures { IsMarkOf self.now result }
@@ -198,4 +218,19 @@ impl Decree {
             Kind::Failed(error) | Kind::Fate(_, error) => error.number(),
         }
     }
+}
+
+/// Whether both lists have the same decrees, in the same order.
+pub(crate) fn are_same(one: &[Decree], other: &[Decree]) -> bool
+    ensures { IsTrue result ↔ (one.now ≡ other.now) }
+{
+    if one.len() != other.len() {
+        return false;
+    }
+    for place in 0..one.len() {
+        if !one[place].is(&other[place]) {
+            return false;
+        }
+    }
+    true
 }

@@ -1,10 +1,13 @@
 //! What was taken.
 
-ghost use Rattle.std.specs.Prelude.{◌≡◌, IfOk};
+ghost use Rattle.std.specs.Prelude.{◌≡◌, ◌↔◌, IfOk, IsTrue};
+ghost use Rattle.pdu_codec.specs.Tlv.{pair_of, pairs_of};
+ghost use Rattle.fate_chain.specs.Submissions.{address_of};
+ghost use Rattle.fate_chain.specs.Same.{SameHandling, SameParties};
 
 use crate::marks::Term;
 use mc_types::Moment;
-use pdu_codec::{Address, ShortMessage, Text, Tlvs};
+use pdu_codec::{Address, ShortMessage, Text, Tlv, Tlvs};
 use std::alloc::AllocError;
 use std::marker::Model;
 
@@ -89,6 +92,40 @@ impl Submission {
             passed: self.passed.copy()?,
         })
     }
+
+    /// Whether it is the same as the other.
+    pub(crate) fn is(&self, other: &Submission) -> bool
+        ensures { IsTrue result ↔ (self.now ≡ other.now) }
+    {
+        self.has_parties_of(other)
+            && self.is_handled_as(other)
+            && self.text.octets() == other.text.octets()
+            && are_same(self.passed.as_slice(), other.passed.as_slice())
+    }
+
+    /// Whether its accounts, its service_type and its addresses are those of the other.
+    fn has_parties_of(&self, other: &Submission) -> bool
+        ensures { IsTrue result ↔ SameParties self.now other.now }
+    {
+        self.submitter.octets() == other.submitter.octets()
+            && self.target.octets() == other.target.octets()
+            && self.service_type.octets() == other.service_type.octets()
+            && is_same(&self.source, &other.source)
+            && is_same(&self.destination, &other.destination)
+    }
+
+    /// Whether its numbers are those of the other.
+    fn is_handled_as(&self, other: &Submission) -> bool
+        ensures { IsTrue result ↔ SameHandling self.now other.now }
+    {
+        self.esm_class == other.esm_class
+            && self.protocol_id == other.protocol_id
+            && self.priority_flag == other.priority_flag
+            && self.registered_delivery == other.registered_delivery
+            && self.data_coding == other.data_coding
+            && self.schedule == other.schedule
+            && self.expiry == other.expiry
+    }
 }
 
 /// The same address once more.
@@ -100,4 +137,33 @@ fn copy_of(address: &Address) -> Result<Address, AllocError>
         npi: address.npi,
         digits: address.digits.copy()?,
     })
+}
+
+/// Whether both addresses are the same.
+fn is_same(one: &Address, other: &Address) -> bool
+    ensures { IsTrue result ↔ (address_of one.now ≡ address_of other.now) }
+{
+    one.ton == other.ton && one.npi == other.npi && one.digits.octets() == other.digits.octets()
+}
+
+/// Whether both have the same optional parameters, in the same order.
+fn are_same(one: &[Tlv], other: &[Tlv]) -> bool
+    ensures { IsTrue result ↔ (pairs_of one.now ≡ pairs_of other.now) }
+{
+    if one.len() != other.len() {
+        return false;
+    }
+    for place in 0..one.len() {
+        if !is_same_parameter(&one[place], &other[place]) {
+            return false;
+        }
+    }
+    true
+}
+
+/// Whether both optional parameters are the same.
+fn is_same_parameter(one: &Tlv, other: &Tlv) -> bool
+    ensures { IsTrue result ↔ (pair_of one.now ≡ pair_of other.now) }
+{
+    one.tag == other.tag && one.value.as_slice() == other.value.as_slice()
 }

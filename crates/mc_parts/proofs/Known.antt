@@ -12,9 +12,9 @@ use Rattle.mc_parts.proofs.Majorities.{both}
 -- ---- what one more packet makes of a majority
 
 -- each of a majority told before, or one of them told with this packet
-record ToldNow (packet : Packet) (slot : Slot) (vote : Vote) : Type 0 where
-  acceptor : ℕ
-  same : Voted acceptor slot vote ≡ packet
+pub record ToldNow (packet : Packet) (slot : Slot) (vote : Vote) : Type 0 where
+  pub acceptor : ℕ
+  pub same : Voted acceptor slot vote ≡ packet
 
 abbrev TellsIn : Slot → Vote → List Packet → ℕ → Type 0
 TellsIn slot vote received acceptor = In (Voted acceptor slot vote) received
@@ -43,7 +43,7 @@ told_before packet received slot vote test (suc nodes) each =
       | inr before ↦ by_last rest (λ again. before)
     ]
 
-learned_before : (nodes : ℕ) (packet : Packet) (received : List Packet) (slot : Slot) (vote : Vote) → IsLearned nodes (packet ∷ received) slot vote → ToldNow packet slot vote ⊎ IsLearned nodes received slot vote
+pub learned_before : (nodes : ℕ) (packet : Packet) (received : List Packet) (slot : Slot) (vote : Vote) → IsLearned nodes (packet ∷ received) slot vote → ToldNow packet slot vote ⊎ IsLearned nodes received slot vote
 learned_before nodes packet received slot vote learned = elim (told_before packet received slot vote learned.test nodes learned.each) [
   | inl now ↦ inl now
   | inr each ↦ inr (record { test = learned.test; most = learned.most; each = each })

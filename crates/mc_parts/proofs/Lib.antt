@@ -4,5 +4,6 @@ pub mod Fates
 pub mod Lengths
 pub mod Membership
 pub mod Known
+pub mod Learning
 pub mod Refusals
 pub mod OneAnswer

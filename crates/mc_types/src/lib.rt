@@ -1,10 +1,16 @@
-//! Nodes, incarnations, moments and message ids, of which only those in range exist.
+//! Nodes, incarnations, moments, message ids and ballots, of which only those in range exist; slots, and sets of nodes.
 #![tactic(auto)]
 
+mod ballot;
 mod fault;
 mod id;
+mod node_set;
 mod number;
+mod slot;
 
+pub use ballot::Ballot;
 pub use fault::TypeFault;
 pub use id::{MsgId, ids_are_their_texts};
+pub use node_set::NodeSet;
 pub use number::{Incarnation, Moment, NodeNo};
+pub use slot::Slot;

@@ -1,0 +1,5 @@
+pub mod Votes
+pub mod Packets
+pub mod Records
+pub mod Verdicts
+pub mod Laws

@@ -1,0 +1,52 @@
+//! The records of an acceptor.
+
+ghost use Rattle.std.specs.Prelude.{◌≡◌, ◌↔◌, IfOk, IsTrue};
+ghost use Rattle.mc_model.specs.synod.Acceptor.{after_vote};
+ghost use Rattle.synod_acceptor.specs.Votes.{record_of, slot_in, slot_recorded, vote_of};
+
+use crate::vote::{Report, Vote};
+use mc_types::{Ballot, Slot};
+use std::alloc::AllocError;
+
+/// What an acceptor keeps of a slot: the ballot that it promised there, and its vote, if any.
+#[derive(Debug, Drop)]
+pub struct Record {
+    pub promised: Ballot,
+    pub report: Report,
+}
+
+/// A record that takes the place of the old one of its slot. It is to be saved before anything is answered.
+#[derive(Debug, Drop)]
+pub struct Change {
+    pub after: Record,
+}
+
+impl Record {
+    /// The slot of which it is the record.
+    pub fn slot(&self) -> Slot
+        ensures { result ≡ slot_recorded self.now }
+    {
+        self.report.slot()
+    }
+
+    /// Whether it is the record that this vote leaves.
+    pub(crate) fn is_left_by(&self, vote: &Vote) -> bool
+        ensures { slot_recorded self.now ≡ slot_in vote.now →
+            IsTrue result ↔ (record_of self.now ≡ after_vote (vote_of vote.now)) }
+    {
+        match &self.report {
+            Report::Nothing(_) => false,
+            Report::Held(held) => self.promised == vote.ballot && held.is(vote),
+        }
+    }
+
+    /// The same record once more.
+    pub fn copy(&self) -> Result<Record, AllocError>
+        ensures { IfOk result (λ kept. kept ≡ self.now) }
+    {
+        Ok(Record {
+            promised: self.promised,
+            report: self.report.copy()?,
+        })
+    }
+}

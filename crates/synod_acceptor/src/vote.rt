@@ -1,0 +1,73 @@
+//! Votes, and what is reported of them.
+
+ghost use Rattle.std.specs.Prelude.{◌≡◌, ◌↔◌, IfOk, IsTrue};
+ghost use Rattle.synod_acceptor.specs.Votes.{slot_in, slot_reported};
+
+use fate_chain::Chain;
+use mc_types::{Ballot, Slot};
+use std::alloc::AllocError;
+
+/// A vote for a chain at a ballot. Its slot is the one in which the chain stands, so it can't be of another.
+#[derive(Debug, Drop)]
+pub struct Vote {
+    pub ballot: Ballot,
+    pub chain: Chain,
+}
+
+impl Vote {
+    /// The slot in which its chain stands.
+    pub fn slot(&self) -> Slot
+        ensures { result ≡ slot_in self.now }
+    {
+        Slot {
+            id: self.chain.id(),
+            place: self.chain.place(),
+        }
+    }
+
+    /// Whether it is the same vote as the other: for the same chain, at the same ballot.
+    pub fn is(&self, other: &Vote) -> bool
+        ensures { IsTrue result ↔ (self.now ≡ other.now) }
+    {
+        self.ballot == other.ballot && self.chain.is(&other.chain)
+    }
+
+    /// The same vote once more.
+    pub fn copy(&self) -> Result<Vote, AllocError>
+        ensures { IfOk result (λ vote. vote ≡ self.now) }
+    {
+        Ok(Vote {
+            ballot: self.ballot,
+            chain: self.chain.copy()?,
+        })
+    }
+}
+
+/// What an acceptor reports of a slot: that it did not vote there, or its vote.
+#[derive(Debug, Drop)]
+pub enum Report {
+    Nothing(Slot),
+    Held(Vote),
+}
+
+impl Report {
+    /// The slot of which it reports.
+    pub fn slot(&self) -> Slot
+        ensures { result ≡ slot_reported self.now }
+    {
+        match self {
+            Report::Nothing(slot) => *slot,
+            Report::Held(vote) => vote.slot(),
+        }
+    }
+
+    /// The same report once more. It takes memory only for a vote.
+    pub fn copy(&self) -> Result<Report, AllocError>
+        ensures { IfOk result (λ report. report ≡ self.now) }
+    {
+        match self {
+            Report::Nothing(slot) => Ok(Report::Nothing(*slot)),
+            Report::Held(vote) => Ok(Report::Held(vote.copy()?)),
+        }
+    }
+}
