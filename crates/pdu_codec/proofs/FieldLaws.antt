@@ -4,7 +4,7 @@ use Rattle.std.specs.List.{position_or_len, AllByRecursion}
 use Rattle.std.specs.Int.{w16, from_be_bytes, to_be_bytes}
 use Rattle.std.proofs.Math.Seq.{drop-cons, get_or-append_seam}
 use Rattle.std.proofs.Math.ListN.{get_or-append}
-use Rattle.std.proofs.lemmas.Bool.{eqb-false, eqb-true, eq-eqb, ne_eqb, ltb-false, le-ltb, lt-ltb}
+use Rattle.std.proofs.lemmas.Bool.{eqb-false, eqb-true, eq-eqb, ne_eqb, ltb-false, le-ltb, lt-ltb, false≢true}
 use Rattle.std.proofs.lemmas.List.{append-nil, get_or-take, get_or-drop, take_at, drop_at, take-append-drop}
 use Rattle.std.proofs.lemmas.List.Elements.{All-from_get_or}
 use Rattle.std.proofs.lemmas.List.Quantifiers.{position-Some}
@@ -229,19 +229,19 @@ content_takes field Octet (octet ∷ octets) x are e =
 content_takes field Counted octets x are e = counted_takes octets x are e
 content_takes field Optional octets x are e = optional_takes octets x are e
 
--- Optional parameters alone take all octets that are left.
-abbrev pub IsDelimited : Kind → Type 0
-IsDelimited (TextBelow limit) = Unit {0}
-IsDelimited Octet = Unit {0}
-IsDelimited Counted = Unit {0}
-IsDelimited Optional = ⊥
+-- Optional parameters alone take all octets that are left; any other field has an octet, and ends by itself.
+abbrev pub is_delimited : Kind → Bool
+is_delimited (TextBelow limit) = true
+is_delimited Octet = true
+is_delimited Counted = true
+is_delimited Optional = false
 
-pub content_again : (field : Field) (kind : Kind) (c : Content kind) (rest : List ℕ) → IsDelimited kind → IsWithin kind c → content_at field kind (spelling kind c ++ rest) ≡ Ok (c, rest)
+pub content_again : (field : Field) (kind : Kind) (c : Content kind) (rest : List ℕ) → is_delimited kind ≡ true → IsWithin kind c → content_at field kind (spelling kind c ++ rest) ≡ Ok (c, rest)
 unfolding octet_at
 content_again field (TextBelow limit) c rest delimited within = text_again field limit c rest within
 content_again field Octet c rest delimited within = refl
 content_again field Counted c rest delimited within = counted_again c rest within
-content_again field Optional c rest delimited within = absurd delimited
+content_again field Optional c rest delimited within = absurd (false≢true delimited)
 
 -- the last field of a body
 pub last_again : (field : Field) (kind : Kind) (c : Content kind) → IsWithin kind c → content_at field kind (spelling kind c ++ []) ≡ Ok (c, [])

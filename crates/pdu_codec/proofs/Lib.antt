@@ -4,5 +4,5 @@ pub mod TlvLaws
 pub mod MessageLaws
 pub mod PduLaws
 pub mod NoMemory
-pub mod BodyLaws
+pub mod FormLaws
 pub mod PduSpelling

@@ -1,9 +1,8 @@
 -- A message is read piece after piece.
 use Rattle.std.proofs.Common.{◌≡◌, ℕ, List, [], ◌∷◌, ◌++◌, Result, Ok, Err, refl, ap, ◌∙◌}
 use Rattle.pdu_codec.specs.declared.fault.PduFault.{PduFault}
-use Rattle.pdu_codec.specs.Grammar.{Part, Content, Contents, ◌>>=◌, content_at, contents_at, front_at, envelope_parts, handling_parts, text_parts}
-use Rattle.pdu_codec.specs.Pdu.{message_from, message_at}
-use Rattle.pdu_codec.specs.Message.{message_in_pieces}
+use Rattle.pdu_codec.specs.Grammar.{Part, Content, Contents, ◌>>=◌, content_at, contents_at, front_at, envelope_parts, handling_parts, text_parts, message_parts}
+use Rattle.pdu_codec.specs.Message.{join, message_in_pieces}
 
 bind-assoc : {A B C : Type 0} (r : Result A PduFault) (f : A → Result B PduFault) (g : B → Result C PduFault) → ((r >>= f) >>= g) ≡ (r >>= λ x. f x >>= g)
 bind-assoc (Ok x) f g = refl
@@ -16,11 +15,6 @@ bind-same (Err e) f g same = refl
 bind-ok : {A : Type 0} (r : Result A PduFault) → r ≡ (r >>= λ x. Ok x)
 bind-ok (Ok x) = refl
 bind-ok (Err e) = refl
-
--- what stands in the fields of a front, and what stands in those behind it
-abbrev pub join : (front back : List Part) → Contents front → Contents back → Contents (front ++ back)
-join [] back c d = d
-join (first ∷ others) back c d = (c.0, join others back c.1 d)
 
 abbrev with_first : {A B : Type 0} → A → B → Result (A × B) PduFault
 with_first x y = Ok (x, y)
@@ -47,14 +41,10 @@ contents_at-front [] back octets = bind-ok (contents_at back octets)
 contents_at-front (first ∷ others) back octets =
     by_first first others back (contents_at-front others back) (content_at first.field first.kind octets)
 
--- a reading that goes on with what it makes of the contents
-then-front : {A : Type 0} (front back : List Part) (make : Contents (front ++ back) → A) (octets : List ℕ) → (contents_at (front ++ back) octets >>= λ c. Ok (make c)) ≡ (front_at front octets >>= λ x. contents_at back x.1 >>= λ y. Ok (make (join front back x.0 y)))
-then-front front back make octets =
-    ap (λ (r : Result (Contents (front ++ back)) PduFault). r >>= λ c. Ok (make c)) (contents_at-front front back octets)
-    ∙ bind-assoc (front_at front octets) (λ x. contents_at back x.1 >>= λ y. Ok (join front back x.0 y)) (λ c. Ok (make c))
-    ∙ bind-same (front_at front octets) (λ x. (contents_at back x.1 >>= λ y. Ok (join front back x.0 y)) >>= λ c. Ok (make c)) (λ x. contents_at back x.1 >>= λ y. Ok (make (join front back x.0 y))) (λ x. bind-assoc (contents_at back x.1) (λ y. Ok (join front back x.0 y)) (λ c. Ok (make c)))
-
-pub message_at-in_pieces : (octets : List ℕ) → message_at octets ≡ message_in_pieces octets
-message_at-in_pieces octets =
-    then-front envelope_parts (handling_parts ++ text_parts) message_from octets
-    ∙ bind-same (front_at envelope_parts octets) (λ e. contents_at (handling_parts ++ text_parts) e.1 >>= λ c. Ok (message_from (join envelope_parts (handling_parts ++ text_parts) e.0 c))) (λ e. front_at handling_parts e.1 >>= λ h. contents_at text_parts h.1 >>= λ t. Ok (message_from (join envelope_parts (handling_parts ++ text_parts) e.0 (join handling_parts text_parts h.0 t)))) (λ e. then-front handling_parts text_parts (λ c. message_from (join envelope_parts (handling_parts ++ text_parts) e.0 c)) e.1)
+pub message-in_pieces : (octets : List ℕ) → contents_at message_parts octets ≡ message_in_pieces octets
+message-in_pieces octets =
+    contents_at-front envelope_parts (handling_parts ++ text_parts) octets
+    ∙ bind-same (front_at envelope_parts octets) (λ e. contents_at (handling_parts ++ text_parts) e.1 >>= λ c. Ok (join envelope_parts (handling_parts ++ text_parts) e.0 c)) (λ e. front_at handling_parts e.1 >>= λ h. contents_at text_parts h.1 >>= λ t. Ok (join envelope_parts (handling_parts ++ text_parts) e.0 (join handling_parts text_parts h.0 t))) (λ e.
+    ap (λ (r : Result (Contents (handling_parts ++ text_parts)) PduFault). r >>= λ c. Ok (join envelope_parts (handling_parts ++ text_parts) e.0 c)) (contents_at-front handling_parts text_parts e.1)
+    ∙ bind-assoc (front_at handling_parts e.1) (λ h. contents_at text_parts h.1 >>= λ t. Ok (join handling_parts text_parts h.0 t)) (λ c. Ok (join envelope_parts (handling_parts ++ text_parts) e.0 c))
+    ∙ bind-same (front_at handling_parts e.1) (λ h. (contents_at text_parts h.1 >>= λ t. Ok (join handling_parts text_parts h.0 t)) >>= λ c. Ok (join envelope_parts (handling_parts ++ text_parts) e.0 c)) (λ h. contents_at text_parts h.1 >>= λ t. Ok (join envelope_parts (handling_parts ++ text_parts) e.0 (join handling_parts text_parts h.0 t))) (λ h. bind-assoc (contents_at text_parts h.1) (λ t. Ok (join handling_parts text_parts h.0 t)) (λ c. Ok (join envelope_parts (handling_parts ++ text_parts) e.0 c))))

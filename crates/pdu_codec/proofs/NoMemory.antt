@@ -1,7 +1,6 @@
 -- Reading never tells of memory: that fault is the program's alone.
 use Rattle.std.proofs.Common.{◌≡◌, ℕ, Bool, true, false, cond, leb, ltb, eqb, List, [], ◌∷◌, length, take, drop, position, Option, Some, None, Result, Ok, Err}
 use Rattle.pdu_tables.specs.declared.command.Command.{Command}
-use Rattle.pdu_tables.specs.declared.command.Command.TheVariants as commands
 use Rattle.pdu_tables.specs.CommandCodes.{command_of}
 use Rattle.pdu_codec.specs.declared.fault.Field.{Field}
 use Rattle.pdu_codec.specs.declared.fault.Field.TheVariants.{ShortMessage}
@@ -9,10 +8,11 @@ use Rattle.pdu_codec.specs.declared.fault.PduFault.{PduFault}
 use Rattle.pdu_codec.specs.declared.fault.PduFault.TheVariants as faults
 use Rattle.pdu_codec.specs.declared.pdu.Pdu.{Pdu}
 use Rattle.pdu_codec.specs.declared.pdu.Body.{Body}
-use Rattle.pdu_codec.specs.Grammar.{Kind, TextBelow, Octet, Counted, Optional, Part, Content, Contents, ◌>>=◌, text_at, text_until, octet_at, counted_at, optional_at, tlvs_from, tlvs_or_fault, content_at, contents_at, word_at, bind_parts, bind_answer_parts, message_parts, message_id_parts, query_parts, query_answer_parts, cancel_parts}
-use Rattle.pdu_codec.specs.declared.pdu.Body.TheVariants as bodies
+use Rattle.pdu_codec.specs.Grammar.{Kind, TextBelow, Octet, Counted, Optional, Part, Content, Contents, ◌>>=◌, text_at, text_until, octet_at, counted_at, optional_at, tlvs_from, tlvs_or_fault, content_at, contents_at, word_at}
 use Rattle.pdu_codec.proofs.PduLaws.{with_body}
-use Rattle.pdu_codec.specs.Pdu.{answer_at, nothing_at, bind_at, bind_answer_at, message_at, message_id_at, query_at, query_answer_at, cancel_at, body_at, has_wrong_length, read_pdu, bind_from, bind_answer_from, message_from, query_from, query_answer_from, cancel_from}
+use Rattle.pdu_codec.specs.Forms.{Form, Has, MayHave, form_of, Filling, filling_at}
+use Rattle.pdu_codec.specs.Bodies.{body_from, body_at}
+use Rattle.pdu_codec.specs.Pdu.{has_wrong_length, read_pdu}
 
 abbrev pub IsNoMemory : {A : Type 0} → Result A PduFault → Type 0
 IsNoMemory {A} r = ◌≡◌ {A = Result A PduFault} r (Err faults.Memory) → ⊥
@@ -53,31 +53,16 @@ contents [] (octet ∷ octets) = λ same. cc
 contents (first ∷ others) octets =
     bind (content_at first.field first.kind octets) (λ x. contents_at others x.1 >>= λ y. Ok (x.0, y)) (content first.field first.kind octets) (λ x. bind (contents_at others x.1) (λ y. Ok (x.0, y)) (contents others x.1) (λ y. ok (x.0, y)))
 
-made : {A : Type 0} (parts : List Part) (make : Contents parts → A) (octets : List ℕ) → IsNoMemory {A = A} (contents_at parts octets >>= λ c. Ok (make c))
-made parts make octets = bind (contents_at parts octets) (λ c. Ok (make c)) (contents parts octets) (λ c. ok (make c))
-
-answers : {A : Type 0} (read : List ℕ → Result A PduFault) (octets : List ℕ) → ((rest : List ℕ) → IsNoMemory {A = A} (read rest)) → IsNoMemory {A = Option A} (answer_at read octets)
-answers read [] reads = λ same. cc
-answers read (octet ∷ octets) reads = bind (read (octet ∷ octets)) (λ a. Ok (Some a)) (reads (octet ∷ octets)) (λ a. ok (Some a))
-
-nothing : (body : Body) (octets : List ℕ) → IsNoMemory {A = Body} (nothing_at body octets)
-nothing body [] = λ same. cc
-nothing body (octet ∷ octets) = λ same. cc
+filled : (form : Form) (octets : List ℕ) → IsNoMemory {A = Filling form} (filling_at form octets)
+filled (Has parts) octets = contents parts octets
+filled (MayHave parts) octets =
+    choice (eqb (length octets) 0) (Ok None) (contents_at parts octets >>= λ c. Ok (Some c)) (λ same. cc) (bind (contents_at parts octets) (λ c. Ok (Some c)) (contents parts octets) (λ c. ok (Some c)))
 
 body : (command : Option Command) (octets : List ℕ) → IsNoMemory {A = Body} (body_at command octets)
 unfolding body_at
-body (Some commands.BindTransceiver) octets = bind (bind_at octets) (λ b. Ok (bodies.BindTransceiver b)) (made bind_parts bind_from octets) (λ b. ok (bodies.BindTransceiver b))
-body (Some commands.BindTransceiverResp) octets = bind (answer_at bind_answer_at octets) (λ a. Ok (bodies.BindTransceiverResp a)) (answers bind_answer_at octets (made bind_answer_parts bind_answer_from)) (λ a. ok (bodies.BindTransceiverResp a))
-body (Some commands.SubmitSm) octets = bind (message_at octets) (λ m. Ok (bodies.SubmitSm m)) (made message_parts message_from octets) (λ m. ok (bodies.SubmitSm m))
-body (Some commands.SubmitSmResp) octets = bind (answer_at message_id_at octets) (λ a. Ok (bodies.SubmitSmResp a)) (answers message_id_at octets (made message_id_parts (λ c. c.0))) (λ a. ok (bodies.SubmitSmResp a))
-body (Some commands.QuerySm) octets = bind (query_at octets) (λ q. Ok (bodies.QuerySm q)) (made query_parts query_from octets) (λ q. ok (bodies.QuerySm q))
-body (Some commands.QuerySmResp) octets = bind (answer_at query_answer_at octets) (λ a. Ok (bodies.QuerySmResp a)) (answers query_answer_at octets (made query_answer_parts query_answer_from)) (λ a. ok (bodies.QuerySmResp a))
-body (Some commands.CancelSm) octets = bind (cancel_at octets) (λ x. Ok (bodies.CancelSm x)) (made cancel_parts cancel_from octets) (λ x. ok (bodies.CancelSm x))
-body (Some commands.CancelSmResp) octets = nothing bodies.CancelSmResp octets
-body (Some commands.EnquireLink) octets = nothing bodies.EnquireLink octets
-body (Some commands.EnquireLinkResp) octets = nothing bodies.EnquireLinkResp octets
-body (Some commands.GenericNack) octets = nothing bodies.GenericNack octets
-body other octets = λ same. cc
+body None octets = λ same. cc
+body (Some command) octets =
+    bind (filling_at (form_of command) octets) (λ f. Ok (body_from command f)) (filled (form_of command) octets) (λ f. ok (body_from command f))
 
 pub read_pdu-no_memory : (octets : List ℕ) → IsNoMemory {A = Pdu} (read_pdu octets)
 unfolding read_pdu

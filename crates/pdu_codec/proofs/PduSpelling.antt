@@ -1,8 +1,8 @@
 -- PDUs: what is read is spelled so and within its limits, and what is spelled so is read.
-use Rattle.std.proofs.Common.{◌≡◌, ℕ, zero, suc, ◌+◌, ◌-◌, ◌^◌, ◌<◌, ◌≤◌, Bool, true, false, cond, eqb, ltb, not, ◌||◌, List, [], ◌∷◌, ◌++◌, length, take, drop, Option, Some, None, IfOk, Result, Ok, Err, refl, sym, ap, subst, ◌∙◌, arith, length-append, length-take, length-drop}
+use Rattle.std.proofs.Common.{◌≡◌, ℕ, zero, suc, ◌+◌, ◌-◌, ◌^◌, ◌<◌, ◌≤◌, Bool, true, false, cond, eqb, ltb, not, ◌||◌, List, [], ◌∷◌, ◌++◌, length, take, drop, Option, Some, None, IfOk, Result, Ok, Err, refl, sym, ap, subst, ◌∙◌, arith, length-take, length-drop}
 use Rattle.std.specs.List.{find}
 use Rattle.std.specs.Int.{w32, to_be_bytes}
-use Rattle.std.proofs.lemmas.Bool.{eqb-true, ltb-false}
+use Rattle.std.proofs.lemmas.Bool.{eqb-true, ltb-true, ltb-false}
 use Rattle.std.proofs.lemmas.List.{take_all, get_or-take, get_or_past}
 use Rattle.std.proofs.lemmas.Nat.{be_bytes_4, from_be_bytes-to_be_bytes_4}
 use Rattle.pdu_tables.specs.declared.command.Command.{Command}
@@ -14,115 +14,128 @@ use Rattle.pdu_codec.specs.declared.pdu.Pdu.{Pdu}
 use Rattle.pdu_codec.specs.declared.pdu.Body.{Body}
 use Rattle.pdu_codec.specs.declared.pdu.Body.TheVariants as bodies
 use Rattle.pdu_codec.specs.Text.{IsOctets}
-use Rattle.pdu_codec.specs.Grammar.{Kind, TextBelow, Octet, Counted, Optional, Part, Content, Contents, spelling, spellings, IsWithin, AreWithin, ◌>>=◌, word_at, bind_parts, bind_answer_parts, message_parts, message_id_parts, query_parts, query_answer_parts, cancel_parts}
-use Rattle.pdu_codec.specs.Pdu.{answer_at, nothing_at, bind_at, bind_answer_at, message_at, message_id_at, query_at, query_answer_at, cancel_at, bind_from, bind_contents, bind_answer_from, bind_answer_contents, message_from, message_contents, query_from, query_contents, query_answer_from, query_answer_contents, cancel_from, cancel_contents, command_in, body_octets, octets_of, BodyFits, Fits, body_at, has_wrong_length, read_pdu, Gives}
+use Rattle.pdu_codec.specs.Grammar.{◌>>=◌, word_at}
+use Rattle.pdu_codec.specs.Forms.{form_of, Filling, filling_octets, FillingFits, filling_at}
+use Rattle.pdu_codec.specs.Bodies.{Filled, Fills, filled_command, filled_by, octets_in, FilledFits, command_in, body_from, body_octets, BodyFits, body_at}
+use Rattle.pdu_codec.specs.Pdu.{octets_of, Fits, has_wrong_length, read_pdu, Gives}
 use Rattle.pdu_codec.proofs.FieldLaws.{IsOctets-drop, guard_ok, ok_is}
-use Rattle.pdu_codec.proofs.BodyLaws.{bind_ok, made_takes, made_again, answer_takes, answer_again, begins}
-use Rattle.pdu_codec.proofs.PduLaws.{with_body, read_pdu-whole}
+use Rattle.pdu_codec.proofs.FormLaws.{bind_ok, is_sound, form_takes, form_again, form-short}
+use Rattle.pdu_codec.proofs.PduLaws.{with_body, read_pdu-whole, bind_answer_again, message_id_again, query_answer_again}
+
+-- ---- commands
+
+-- Its number stands for it, and has four octets; its form is sound.
+pub record IsServed (command : Command) : Type 0 where
+  pub known : command_of (command_code command) ≡ Some command
+  pub number : ltb (command_code command) (2 ^ 32) ≡ true
+  pub form : is_sound (form_of command) ≡ true
+
+served : (command : Command) → IsServed command
+served commands.BindReceiver = record { known = refl; number = refl; form = refl }
+served commands.BindReceiverResp = record { known = refl; number = refl; form = refl }
+served commands.BindTransmitter = record { known = refl; number = refl; form = refl }
+served commands.BindTransmitterResp = record { known = refl; number = refl; form = refl }
+served commands.BindTransceiver = record { known = refl; number = refl; form = refl }
+served commands.BindTransceiverResp = record { known = refl; number = refl; form = refl }
+served commands.SubmitSm = record { known = refl; number = refl; form = refl }
+served commands.SubmitSmResp = record { known = refl; number = refl; form = refl }
+served commands.DeliverSm = record { known = refl; number = refl; form = refl }
+served commands.DeliverSmResp = record { known = refl; number = refl; form = refl }
+served commands.QuerySm = record { known = refl; number = refl; form = refl }
+served commands.QuerySmResp = record { known = refl; number = refl; form = refl }
+served commands.CancelSm = record { known = refl; number = refl; form = refl }
+served commands.CancelSmResp = record { known = refl; number = refl; form = refl }
+served commands.Unbind = record { known = refl; number = refl; form = refl }
+served commands.UnbindResp = record { known = refl; number = refl; form = refl }
+served commands.EnquireLink = record { known = refl; number = refl; form = refl }
+served commands.EnquireLinkResp = record { known = refl; number = refl; form = refl }
+served commands.GenericNack = record { known = refl; number = refl; form = refl }
 
 -- ---- bodies
 
+-- the octets of a body of this command, which fits
 pub record TakesBody (command : Option Command) (octets : List ℕ) (b : Body) : Type 0 where
   pub command_is : command ≡ Some (command_in b)
   pub spelled : octets ≡ body_octets b
   pub fits : BodyFits b
 
-nothing_takes : (body : Body) (octets : List ℕ) (b : Body) → body_octets body ≡ [] → BodyFits body → nothing_at body octets ≡ Ok b → TakesBody (Some (command_in body)) octets b
-nothing_takes body [] b empty fits e =
-    subst (λ (c : Body). TakesBody (Some (command_in body)) [] c) (ok_is body b e) (record { command_is = refl; spelled = sym empty; fits = fits })
-nothing_takes body (octet ∷ octets) b empty fits e = absurd cc
+made : (command : Command) (filling : Filling (form_of command)) → FillingFits (form_of command) filling → TakesBody (Some command) (filling_octets (form_of command) filling) (body_from command filling)
+made commands.BindReceiver filling fits = record { command_is = refl; spelled = refl; fits = fits }
+made commands.BindReceiverResp None fits = record { command_is = refl; spelled = refl; fits = fits }
+made commands.BindReceiverResp (Some c) fits = record { command_is = refl; spelled = refl; fits = fits }
+made commands.BindTransmitter filling fits = record { command_is = refl; spelled = refl; fits = fits }
+made commands.BindTransmitterResp None fits = record { command_is = refl; spelled = refl; fits = fits }
+made commands.BindTransmitterResp (Some c) fits = record { command_is = refl; spelled = refl; fits = fits }
+made commands.BindTransceiver filling fits = record { command_is = refl; spelled = refl; fits = fits }
+made commands.BindTransceiverResp None fits = record { command_is = refl; spelled = refl; fits = fits }
+made commands.BindTransceiverResp (Some c) fits = record { command_is = refl; spelled = refl; fits = fits }
+made commands.SubmitSm filling fits = record { command_is = refl; spelled = refl; fits = fits }
+made commands.SubmitSmResp None fits = record { command_is = refl; spelled = refl; fits = fits }
+made commands.SubmitSmResp (Some c) fits = record { command_is = refl; spelled = refl; fits = fits }
+made commands.DeliverSm filling fits = record { command_is = refl; spelled = refl; fits = fits }
+made commands.DeliverSmResp None fits = record { command_is = refl; spelled = refl; fits = fits }
+made commands.DeliverSmResp (Some c) fits = record { command_is = refl; spelled = refl; fits = fits }
+made commands.QuerySm filling fits = record { command_is = refl; spelled = refl; fits = fits }
+made commands.QuerySmResp None fits = record { command_is = refl; spelled = refl; fits = fits }
+made commands.QuerySmResp (Some c) fits = record { command_is = refl; spelled = refl; fits = fits }
+made commands.CancelSm filling fits = record { command_is = refl; spelled = refl; fits = fits }
+made commands.CancelSmResp filling fits = record { command_is = refl; spelled = refl; fits = fits }
+made commands.Unbind filling fits = record { command_is = refl; spelled = refl; fits = fits }
+made commands.UnbindResp filling fits = record { command_is = refl; spelled = refl; fits = fits }
+made commands.EnquireLink filling fits = record { command_is = refl; spelled = refl; fits = fits }
+made commands.EnquireLinkResp filling fits = record { command_is = refl; spelled = refl; fits = fits }
+made commands.GenericNack filling fits = record { command_is = refl; spelled = refl; fits = fits }
+
+abbrev body_in : Filled → Body
+body_in (Fills command filling) = body_from command filling
+
+again : (b : Body) → body_in (filled_by b) ≡ b
+again (bodies.BindReceiver bind) = refl
+again (bodies.BindReceiverResp answer) = ap bodies.BindReceiverResp (bind_answer_again answer)
+again (bodies.BindTransmitter bind) = refl
+again (bodies.BindTransmitterResp answer) = ap bodies.BindTransmitterResp (bind_answer_again answer)
+again (bodies.BindTransceiver bind) = refl
+again (bodies.BindTransceiverResp answer) = ap bodies.BindTransceiverResp (bind_answer_again answer)
+again (bodies.SubmitSm message) = refl
+again (bodies.SubmitSmResp answer) = ap bodies.SubmitSmResp (message_id_again answer)
+again (bodies.DeliverSm message) = refl
+again (bodies.DeliverSmResp answer) = ap bodies.DeliverSmResp (message_id_again answer)
+again (bodies.QuerySm query) = refl
+again (bodies.QuerySmResp answer) = ap bodies.QuerySmResp (query_answer_again answer)
+again (bodies.CancelSm cancel) = refl
+again bodies.CancelSmResp = refl
+again bodies.Unbind = refl
+again bodies.UnbindResp = refl
+again bodies.EnquireLink = refl
+again bodies.EnquireLinkResp = refl
+again bodies.GenericNack = refl
 
 body_takes : (command : Option Command) (octets : List ℕ) (b : Body) → IsOctets octets → body_at command octets ≡ Ok b → TakesBody command octets b
 unfolding body_at
-body_takes (Some commands.BindTransceiver) octets b are e =
-    let a = bind_ok (bind_at octets) (λ x. Ok (bodies.BindTransceiver x)) b e in
-    let taken = made_takes bind_parts bind_from bind_contents (λ c. refl) octets a.0 are a.1 in
-    subst (λ (c : Body). TakesBody (Some commands.BindTransceiver) octets c) (ok_is (bodies.BindTransceiver a.0) b a.2) (record { command_is = refl; spelled = taken.spelled; fits = taken.within })
-body_takes (Some commands.SubmitSm) octets b are e =
-    let a = bind_ok (message_at octets) (λ x. Ok (bodies.SubmitSm x)) b e in
-    let taken = made_takes message_parts message_from message_contents (λ c. refl) octets a.0 are a.1 in
-    subst (λ (c : Body). TakesBody (Some commands.SubmitSm) octets c) (ok_is (bodies.SubmitSm a.0) b a.2) (record { command_is = refl; spelled = taken.spelled; fits = taken.within })
-body_takes (Some commands.QuerySm) octets b are e =
-    let a = bind_ok (query_at octets) (λ x. Ok (bodies.QuerySm x)) b e in
-    let taken = made_takes query_parts query_from query_contents (λ c. refl) octets a.0 are a.1 in
-    subst (λ (c : Body). TakesBody (Some commands.QuerySm) octets c) (ok_is (bodies.QuerySm a.0) b a.2) (record { command_is = refl; spelled = taken.spelled; fits = taken.within })
-body_takes (Some commands.CancelSm) octets b are e =
-    let a = bind_ok (cancel_at octets) (λ x. Ok (bodies.CancelSm x)) b e in
-    let taken = made_takes cancel_parts cancel_from cancel_contents (λ c. refl) octets a.0 are a.1 in
-    subst (λ (c : Body). TakesBody (Some commands.CancelSm) octets c) (ok_is (bodies.CancelSm a.0) b a.2) (record { command_is = refl; spelled = taken.spelled; fits = taken.within })
-body_takes (Some commands.BindTransceiverResp) octets b are e =
-    let a = bind_ok (answer_at bind_answer_at octets) (λ x. Ok (bodies.BindTransceiverResp x)) b e in
-    let taken = answer_takes bind_answer_at bind_answer_parts bind_answer_contents (λ rest x. made_takes bind_answer_parts bind_answer_from bind_answer_contents (λ c. refl) rest x) octets a.0 are a.1 in
-    subst (λ (c : Body). TakesBody (Some commands.BindTransceiverResp) octets c) (ok_is (bodies.BindTransceiverResp a.0) b a.2) (record { command_is = refl; spelled = taken.spelled; fits = taken.within })
-body_takes (Some commands.SubmitSmResp) octets b are e =
-    let a = bind_ok (answer_at message_id_at octets) (λ x. Ok (bodies.SubmitSmResp x)) b e in
-    let taken = answer_takes message_id_at message_id_parts (λ id. (id, tt)) (λ rest x. made_takes message_id_parts (λ c. c.0) (λ id. (id, tt)) (λ c. refl) rest x) octets a.0 are a.1 in
-    subst (λ (c : Body). TakesBody (Some commands.SubmitSmResp) octets c) (ok_is (bodies.SubmitSmResp a.0) b a.2) (record { command_is = refl; spelled = taken.spelled; fits = taken.within })
-body_takes (Some commands.QuerySmResp) octets b are e =
-    let a = bind_ok (answer_at query_answer_at octets) (λ x. Ok (bodies.QuerySmResp x)) b e in
-    let taken = answer_takes query_answer_at query_answer_parts query_answer_contents (λ rest x. made_takes query_answer_parts query_answer_from query_answer_contents (λ c. refl) rest x) octets a.0 are a.1 in
-    subst (λ (c : Body). TakesBody (Some commands.QuerySmResp) octets c) (ok_is (bodies.QuerySmResp a.0) b a.2) (record { command_is = refl; spelled = taken.spelled; fits = taken.within })
-body_takes (Some commands.CancelSmResp) octets b are e = nothing_takes bodies.CancelSmResp octets b refl tt e
-body_takes (Some commands.EnquireLink) octets b are e = nothing_takes bodies.EnquireLink octets b refl tt e
-body_takes (Some commands.EnquireLinkResp) octets b are e = nothing_takes bodies.EnquireLinkResp octets b refl tt e
-body_takes (Some commands.GenericNack) octets b are e = nothing_takes bodies.GenericNack octets b refl tt e
-body_takes other octets b are e = absurd cc
+body_takes None octets b are e = absurd cc
+body_takes (Some command) octets b are e =
+    let a = bind_ok (filling_at (form_of command) octets) (λ filling. Ok (body_from command filling)) b e in
+    let taken = form_takes (form_of command) octets a.0 are a.1 in
+    let body = made command a.0 taken.fits in
+    subst (λ (c : Body). TakesBody (Some command) octets c) (ok_is (body_from command a.0) b a.2) (record {
+      command_is = body.command_is;
+      spelled = taken.spelled ∙ body.spelled;
+      fits = body.fits;
+    })
+
+filled_again : (f : Filled) → FilledFits f → body_at (Some (filled_command f)) (octets_in f) ≡ Ok (body_in f)
+unfolding body_at
+filled_again (Fills command filling) fits =
+    ap (λ (r : Result (Filling (form_of command)) PduFault). r >>= λ x. Ok (body_from command x)) (form_again (form_of command) filling (served command).form fits)
 
 body_again : (b : Body) → BodyFits b → body_at (Some (command_in b)) (body_octets b) ≡ Ok b
-unfolding body_at
-body_again (bodies.BindTransceiver bind) fits = ap (λ (r : Result _ PduFault). r >>= λ x. Ok (bodies.BindTransceiver x)) (made_again bind_parts bind_from bind_contents (λ a. refl) (tt, (tt, (tt, (tt, (tt, (tt, tt)))))) bind fits)
-body_again (bodies.SubmitSm message) fits = ap (λ (r : Result _ PduFault). r >>= λ x. Ok (bodies.SubmitSm x)) (made_again message_parts message_from message_contents (λ a. refl) (tt, (tt, (tt, (tt, (tt, (tt, (tt, (tt, (tt, (tt, (tt, (tt, (tt, (tt, (tt, (tt, (tt, tt))))))))))))))))) message fits)
-body_again (bodies.QuerySm query) fits = ap (λ (r : Result _ PduFault). r >>= λ x. Ok (bodies.QuerySm x)) (made_again query_parts query_from query_contents (λ a. refl) (tt, (tt, (tt, tt))) query fits)
-body_again (bodies.CancelSm cancel) fits = ap (λ (r : Result _ PduFault). r >>= λ x. Ok (bodies.CancelSm x)) (made_again cancel_parts cancel_from cancel_contents (λ a. refl) (tt, (tt, (tt, (tt, (tt, (tt, (tt, tt))))))) cancel fits)
-body_again (bodies.BindTransceiverResp None) fits = refl
-body_again (bodies.BindTransceiverResp (Some a)) fits = ap (λ (r : Result (Option _) PduFault). r >>= λ x. Ok (bodies.BindTransceiverResp x)) (answer_again bind_answer_at (spellings bind_answer_parts (bind_answer_contents a)) a (begins a.system_id _) (made_again bind_answer_parts bind_answer_from bind_answer_contents (λ x. refl) (tt, tt) a fits))
-body_again (bodies.SubmitSmResp None) fits = refl
-body_again (bodies.SubmitSmResp (Some id)) fits = ap (λ (r : Result (Option _) PduFault). r >>= λ x. Ok (bodies.SubmitSmResp x)) (answer_again message_id_at (spellings message_id_parts (id, tt)) id (begins id []) (made_again message_id_parts (λ c. c.0) (λ x. (x, tt)) (λ x. refl) tt id fits))
-body_again (bodies.QuerySmResp None) fits = refl
-body_again (bodies.QuerySmResp (Some a)) fits = ap (λ (r : Result (Option _) PduFault). r >>= λ x. Ok (bodies.QuerySmResp x)) (answer_again query_answer_at (spellings query_answer_parts (query_answer_contents a)) a (begins a.message_id _) (made_again query_answer_parts query_answer_from query_answer_contents (λ x. refl) (tt, (tt, (tt, tt))) a fits))
-body_again bodies.CancelSmResp fits = refl
-body_again bodies.EnquireLink fits = refl
-body_again bodies.EnquireLinkResp fits = refl
-body_again bodies.GenericNack fits = refl
+body_again b fits = filled_again (filled_by b) fits ∙ ap Ok (again b)
 
--- ---- how long a body is
+filled-short : (f : Filled) → FilledFits f → length (octets_in f) ≤ 7400
+filled-short (Fills command filling) fits = form-short (form_of command) filling (served command).form fits
 
-abbrev most_of : Kind → ℕ
-most_of (TextBelow limit) = limit
-most_of Octet = 1
-most_of Counted = 255
-most_of Optional = 7000
-
-spelling-short : (kind : Kind) (c : Content kind) → IsWithin kind c → length (spelling kind c) ≤ most_of kind
-spelling-short (TextBelow limit) c within = omega (arith, within.short, length-append c (0 ∷ []))
-spelling-short Octet c within = omega arith
-spelling-short Counted c within = omega (arith, within)
-spelling-short Optional c within = within.most
-
-abbrev most_in : List Part → ℕ
-most_in [] = 0
-most_in (first ∷ others) = most_of first.kind + most_in others
-
-spellings-short : (parts : List Part) (c : Contents parts) → AreWithin parts c → length (spellings parts c) ≤ most_in parts
-spellings-short [] c within = omega arith
-spellings-short (first ∷ others) c within =
-    omega (arith, spelling-short first.kind c.0 within.0, spellings-short others c.1 within.1, length-append (spelling first.kind c.0) (spellings others c.1))
-
-body-short : (b : Body) → BodyFits b → length (body_octets b) ≤ 7400
-body-short (bodies.BindTransceiver bind) fits = omega (arith, spellings-short bind_parts (bind_contents bind) fits)
-body-short (bodies.SubmitSm message) fits = omega (arith, spellings-short message_parts (message_contents message) fits)
-body-short (bodies.QuerySm query) fits = omega (arith, spellings-short query_parts (query_contents query) fits)
-body-short (bodies.CancelSm cancel) fits = omega (arith, spellings-short cancel_parts (cancel_contents cancel) fits)
-body-short (bodies.BindTransceiverResp None) fits = omega arith
-body-short (bodies.BindTransceiverResp (Some a)) fits = omega (arith, spellings-short bind_answer_parts (bind_answer_contents a) fits)
-body-short (bodies.SubmitSmResp None) fits = omega arith
-body-short (bodies.SubmitSmResp (Some id)) fits = omega (arith, spellings-short message_id_parts (id, tt) fits)
-body-short (bodies.QuerySmResp None) fits = omega arith
-body-short (bodies.QuerySmResp (Some a)) fits = omega (arith, spellings-short query_answer_parts (query_answer_contents a) fits)
-body-short bodies.CancelSmResp fits = omega arith
-body-short bodies.EnquireLink fits = omega arith
-body-short bodies.EnquireLinkResp fits = omega arith
-body-short bodies.GenericNack fits = omega arith
+pub body-short : (b : Body) → BodyFits b → length (body_octets b) ≤ 7400
+body-short b fits = filled-short (filled_by b) fits
 
 -- ---- the header
 
@@ -138,32 +151,6 @@ find-passes test (y ∷ ys) x e = at_test (find-passes test ys x) (test y) refl 
 
 code-of_command : (code : ℕ) (command : Command) → command_of code ≡ Some command → command_code command ≡ code
 code-of_command code command e = eqb-true _ _ (find-passes (λ x. eqb (command_code x) code) command_table command e)
-
-command-of_code : (b : Body) → command_of (command_code (command_in b)) ≡ Some (command_in b)
-command-of_code (bodies.BindTransceiver bind) = refl
-command-of_code (bodies.SubmitSm message) = refl
-command-of_code (bodies.QuerySm query) = refl
-command-of_code (bodies.CancelSm cancel) = refl
-command-of_code (bodies.BindTransceiverResp a) = refl
-command-of_code (bodies.SubmitSmResp a) = refl
-command-of_code (bodies.QuerySmResp a) = refl
-command-of_code bodies.CancelSmResp = refl
-command-of_code bodies.EnquireLink = refl
-command-of_code bodies.EnquireLinkResp = refl
-command-of_code bodies.GenericNack = refl
-
-code-short : (b : Body) → command_code (command_in b) < 2 ^ 32
-code-short (bodies.BindTransceiver bind) = omega arith
-code-short (bodies.SubmitSm message) = omega arith
-code-short (bodies.QuerySm query) = omega arith
-code-short (bodies.CancelSm cancel) = omega arith
-code-short (bodies.BindTransceiverResp a) = omega arith
-code-short (bodies.SubmitSmResp a) = omega arith
-code-short (bodies.QuerySmResp a) = omega arith
-code-short bodies.CancelSmResp = omega arith
-code-short bodies.EnquireLink = omega arith
-code-short bodies.EnquireLinkResp = omega arith
-code-short bodies.GenericNack = omega arith
 
 four_octets : (octets : List ℕ) → IsOctets octets → IsOctets (take 4 octets)
 four_octets octets are zero = rw (get_or-take 4 octets 0 0 (omega arith)) (are 0)
@@ -236,10 +223,10 @@ read_pdu-again pdu fits =
     let short = body-short pdu.body fits.body in
     let size : length octets ≡ 16 + length body = omega arith in
     let length_is : word_at 0 octets ≡ 16 + length body = from_be_bytes-to_be_bytes_4 (16 + length body) (omega (arith, short)) in
-    let code_is : word_at 4 octets ≡ command_code (command_in pdu.body) = from_be_bytes-to_be_bytes_4 (command_code (command_in pdu.body)) (code-short pdu.body) in
+    let code_is : word_at 4 octets ≡ command_code (command_in pdu.body) = from_be_bytes-to_be_bytes_4 (command_code (command_in pdu.body)) (ltb-true (command_code (command_in pdu.body)) (2 ^ 32) (served (command_in pdu.body)).number) in
     let status_is : word_at 8 octets ≡ pdu.status = from_be_bytes-to_be_bytes_4 pdu.status fits.status in
     let sequence_is : word_at 12 octets ≡ pdu.sequence = from_be_bytes-to_be_bytes_4 pdu.sequence fits.sequence in
-    let command_is : Some (command_in pdu.body) ≡ command_of (word_at 4 octets) = sym (ap command_of code_is ∙ command-of_code pdu.body) in
+    let command_is : Some (command_in pdu.body) ≡ command_of (word_at 4 octets) = sym (ap command_of code_is ∙ (served (command_in pdu.body)).known) in
     let rest_is : body ≡ take (length octets - 16) (drop 16 octets) = sym (take_all (length octets - 16) body (omega (arith, size))) in
     read_pdu-whole octets body (Some (command_in pdu.body)) (omega (arith, size)) (omega (arith, size, short)) (length_is ∙ sym size) command_is rest_is
     ∙ ap (λ (r : Result Body PduFault). r >>= λ b. Ok (with_body octets b)) (body_again pdu.body fits.body)

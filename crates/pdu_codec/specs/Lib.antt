@@ -1,6 +1,9 @@
 pub mod Text
 pub mod Tlv
 pub mod Grammar
+pub mod Contents
+pub mod Forms
+pub mod Bodies
 pub mod Pdu
 pub mod Message
 pub mod Laws

@@ -1,10 +1,9 @@
 -- A message in three pieces, as they stand in octets: the envelope, the handling, and the text with what follows.
-use Rattle.std.specs.Prelude.{ℕ, List, Result, Ok}
+use Rattle.std.specs.Prelude.{ℕ, List, [], ◌∷◌, ◌++◌, Result, Ok}
 use Rattle.pdu_codec.specs.declared.fault.PduFault.{PduFault}
-use Rattle.pdu_codec.specs.declared.pdu.Message.{Message}
 use Rattle.pdu_codec.specs.declared.message.Envelope.{Envelope}
 use Rattle.pdu_codec.specs.declared.message.Handling.{Handling}
-use Rattle.pdu_codec.specs.Grammar.{Contents, ◌>>=◌, envelope_parts, handling_parts, text_parts, front_at, contents_at}
+use Rattle.pdu_codec.specs.Grammar.{Part, Contents, ◌>>=◌, envelope_parts, handling_parts, text_parts, message_parts, front_at, contents_at}
 
 abbrev pub envelope_contents : Envelope → Contents envelope_parts
 envelope_contents e =
@@ -14,25 +13,12 @@ abbrev pub handling_contents : Handling → Contents handling_parts
 handling_contents h =
     (h.esm_class, (h.protocol_id, (h.priority_flag, (h.schedule_delivery_time.now, (h.validity_period.now, (h.registered_delivery, (h.replace_if_present_flag, (h.data_coding, (h.sm_default_msg_id, tt)))))))))
 
-abbrev pub message_of_pieces : Contents envelope_parts → Contents handling_parts → Contents text_parts → Message
-message_of_pieces e h t = record {
-  service_type = e.0;
-  source = record { ton = e.1.0; npi = e.1.1.0; digits = e.1.1.1.0 };
-  destination = record { ton = e.1.1.1.1.0; npi = e.1.1.1.1.1.0; digits = e.1.1.1.1.1.1.0 };
-  esm_class = h.0;
-  protocol_id = h.1.0;
-  priority_flag = h.1.1.0;
-  schedule_delivery_time = h.1.1.1.0;
-  validity_period = h.1.1.1.1.0;
-  registered_delivery = h.1.1.1.1.1.0;
-  replace_if_present_flag = h.1.1.1.1.1.1.0;
-  data_coding = h.1.1.1.1.1.1.1.0;
-  sm_default_msg_id = h.1.1.1.1.1.1.1.1.0;
-  short_message = t.0;
-  tlvs = t.1.0;
-}
+-- what stands in the fields of a front, and what stands in those behind it
+abbrev pub join : (front back : List Part) → Contents front → Contents back → Contents (front ++ back)
+join [] back c d = d
+join (first ∷ others) back c d = (c.0, join others back c.1 d)
 
 -- reading a message, piece after piece
-abbrev pub message_in_pieces : List ℕ → Result Message PduFault
+abbrev pub message_in_pieces : List ℕ → Result (Contents message_parts) PduFault
 message_in_pieces octets =
-    front_at envelope_parts octets >>= λ e. front_at handling_parts e.1 >>= λ h. contents_at text_parts h.1 >>= λ t. Ok (message_of_pieces e.0 h.0 t)
+    front_at envelope_parts octets >>= λ e. front_at handling_parts e.1 >>= λ h. contents_at text_parts h.1 >>= λ t. Ok (join envelope_parts (handling_parts ++ text_parts) e.0 (join handling_parts text_parts h.0 t))

@@ -1,5 +1,8 @@
 -- Texts and optional parameters, within their limits.
 use Rattle.std.specs.Prelude.{ℕ, ◌<◌, ◌≤◌, ◌^◌, ◌++◌, ◌==◌, Bool, List, length, slice_index, All}
+use Rattle.std.specs.Cmp.Lexicographic.{pointwise}
+use Rattle.std.specs.Ordering.{on, eq_of_both}
+use Rattle.std.specs.Str.{bytes_eq}
 use Rattle.std.specs.List.{AllByRecursion, flat_map, list_any}
 use Rattle.std.specs.Int.{w16, to_be_bytes}
 
@@ -36,3 +39,7 @@ pub record AreOptional (tlvs : List (ℕ × List ℕ)) : Type 0 where
 -- whether the optional parameter has one of these tags
 abbrev pub has_tag_among : List ℕ → ℕ × List ℕ → Bool
 has_tag_among tags tlv = list_any (λ tag. tag == tlv.0) tags
+
+-- whether these optional parameters are as many, each with the tag and the value of the other
+abbrev pub are_same_tlvs : List (ℕ × List ℕ) → List (ℕ × List ℕ) → Bool
+are_same_tlvs = pointwise (eq_of_both (on (λ tlv. tlv.0) ◌==◌) (on (λ tlv. tlv.1) bytes_eq))

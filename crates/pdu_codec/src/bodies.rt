@@ -1,7 +1,10 @@
 //! Bodies of PDUs, read to their last octet. Memory is taken once the whole body is found to be one.
 
-ghost use Rattle.std.specs.Prelude.{◌≡◌};
-ghost use Rattle.pdu_codec.specs.Pdu.{IsMade, bind_at, bind_answer_at, query_at, query_answer_at, message_id_at, cancel_at};
+ghost use Rattle.std.specs.Prelude.{option_map};
+ghost use Rattle.pdu_codec.specs.Grammar.{contents_at, bind_parts, bind_answer_parts, message_id_parts, query_parts, query_answer_parts, cancel_parts};
+ghost use Rattle.pdu_codec.specs.Contents.{bind_contents, bind_answer_contents, message_id_contents, query_contents, query_answer_contents, cancel_contents};
+ghost use Rattle.pdu_codec.specs.Forms.{MayHave, filling_at};
+ghost use Rattle.pdu_codec.specs.Pdu.{IsMade};
 
 use crate::fault::{Field, PduFault};
 use crate::fields::{check_optional, nothing_at, octet_at, text_at};
@@ -11,9 +14,9 @@ use crate::tlv::Tlvs;
 use pdu_tables::limits;
 use std::alloc::Global;
 
-/// What a bind has (SMPP 3.4, section 4.1.5).
+/// What a bind has (SMPP 3.4, sections 4.1.1, 4.1.3 and 4.1.5).
 pub fn bind_of(alloc: Global, octets: &[u8]) -> Result<Bind, PduFault>
-    ensures { IsMade result (bind_at octets.now) }
+    ensures { IsMade bind_contents result (contents_at bind_parts octets.now) }
 {
     let (system_id, rest) = text_at(Field::SystemId, limits::SYSTEM_ID, octets)?;
     let (password, rest) = text_at(Field::Password, limits::PASSWORD, rest)?;
@@ -34,30 +37,37 @@ pub fn bind_of(alloc: Global, octets: &[u8]) -> Result<Bind, PduFault>
     })
 }
 
-/// What the response to a bind has (section 4.1.6).
-pub fn bind_answer_of(alloc: Global, octets: &[u8]) -> Result<BindAnswer, PduFault>
-    ensures { IsMade result (bind_answer_at octets.now) }
+/// What the response to a bind has (sections 4.1.2, 4.1.4 and 4.1.6); none if it has no field.
+pub fn bind_answer_of(alloc: Global, octets: &[u8]) -> Result<Option<BindAnswer>, PduFault>
+    ensures { IsMade (option_map bind_answer_contents) result (filling_at (MayHave bind_answer_parts) octets.now) }
 {
+    if octets.is_empty() {
+        return Ok(None);
+    }
     let (system_id, tlvs) = text_at(Field::SystemId, limits::SYSTEM_ID, octets)?;
     check_optional(tlvs)?;
-    Ok(BindAnswer {
+    Ok(Some(BindAnswer {
         system_id: Text::of(alloc, system_id)?,
         tlvs: Tlvs::of(alloc, tlvs)?,
-    })
+    }))
 }
 
-/// The message_id of the response to a submit_sm (section 4.4.2).
-pub fn message_id_of(alloc: Global, octets: &[u8]) -> Result<Text<65>, PduFault>
-    ensures { IsMade result (message_id_at octets.now) }
+/// The message_id of the response to a submit_sm or a deliver_sm (sections 4.4.2 and 4.6.2); none if the response has no field.
+pub fn message_id_of(alloc: Global, octets: &[u8]) -> Result<Option<Text<65>>, PduFault>
+    ensures { IsMade (option_map message_id_contents) result (filling_at (MayHave message_id_parts) octets.now) }
 {
+    if octets.is_empty() {
+        return Ok(None);
+    }
     let (message_id, rest) = text_at(Field::MessageId, limits::MESSAGE_ID, octets)?;
     nothing_at(rest)?;
-    Ok(Text::of(alloc, message_id)?)
+    let message_id = Text::of(alloc, message_id)?;
+    Ok(Some(message_id))
 }
 
 /// What a query_sm has (section 4.8.1).
 pub fn query_of(alloc: Global, octets: &[u8]) -> Result<Query, PduFault>
-    ensures { IsMade result (query_at octets.now) }
+    ensures { IsMade query_contents result (contents_at query_parts octets.now) }
 {
     let (message_id, rest) = text_at(Field::MessageId, limits::MESSAGE_ID, octets)?;
     let (ton, rest) = octet_at(Field::SourceAddrTon, rest)?;
@@ -74,26 +84,29 @@ pub fn query_of(alloc: Global, octets: &[u8]) -> Result<Query, PduFault>
     })
 }
 
-/// What the response to a query_sm has (section 4.8.2).
-pub fn query_answer_of(alloc: Global, octets: &[u8]) -> Result<QueryAnswer, PduFault>
-    ensures { IsMade result (query_answer_at octets.now) }
+/// What the response to a query_sm has (section 4.8.2); none if it has no field.
+pub fn query_answer_of(alloc: Global, octets: &[u8]) -> Result<Option<QueryAnswer>, PduFault>
+    ensures { IsMade (option_map query_answer_contents) result (filling_at (MayHave query_answer_parts) octets.now) }
 {
+    if octets.is_empty() {
+        return Ok(None);
+    }
     let (message_id, rest) = text_at(Field::MessageId, limits::MESSAGE_ID, octets)?;
     let (final_date, rest) = text_at(Field::FinalDate, limits::TIME, rest)?;
     let (message_state, rest) = octet_at(Field::MessageState, rest)?;
     let (error_code, rest) = octet_at(Field::ErrorCode, rest)?;
     nothing_at(rest)?;
-    Ok(QueryAnswer {
+    Ok(Some(QueryAnswer {
         message_id: Text::of(alloc, message_id)?,
         final_date: Text::of(alloc, final_date)?,
         message_state,
         error_code,
-    })
+    }))
 }
 
 /// What a cancel_sm has (section 4.9.1).
 pub fn cancel_of(alloc: Global, octets: &[u8]) -> Result<Cancel, PduFault>
-    ensures { IsMade result (cancel_at octets.now) }
+    ensures { IsMade cancel_contents result (contents_at cancel_parts octets.now) }
 {
     let (service_type, rest) = text_at(Field::ServiceType, limits::SERVICE_TYPE, octets)?;
     let (message_id, rest) = text_at(Field::MessageId, limits::MESSAGE_ID, rest)?;

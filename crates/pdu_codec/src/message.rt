@@ -1,9 +1,10 @@
-//! The body of a submit_sm (SMPP 3.4, section 4.4.1), read to its last octet in three pieces. Memory is taken once
+//! The body of a submit_sm or a deliver_sm (SMPP 3.4, sections 4.4.1 and 4.6.1), read to its last octet in three pieces. Memory is taken once
 //! the whole body is found to be one.
 
 ghost use Rattle.std.specs.Prelude.{◌≡◌, IfOk};
 ghost use Rattle.pdu_codec.specs.Text.{IsText};
-ghost use Rattle.pdu_codec.specs.Grammar.{envelope_parts, handling_parts, front_at};
+ghost use Rattle.pdu_codec.specs.Grammar.{envelope_parts, handling_parts, message_parts, front_at, contents_at};
+ghost use Rattle.pdu_codec.specs.Contents.{message_contents};
 ghost use Rattle.pdu_codec.specs.Pdu.{IsRead, IsMade};
 ghost use Rattle.pdu_codec.specs.Message.{envelope_contents, handling_contents, message_in_pieces};
 
@@ -118,9 +119,15 @@ fn handling_at(octets: &[u8]) -> Result<(Handling<'_>, &[u8]), PduFault>
     Ok((handling, rest))
 }
 
-/// What a submit_sm has.
+/// What a submit_sm and a deliver_sm have.
 pub fn message_of(alloc: Global, octets: &[u8]) -> Result<Message, PduFault>
-    ensures { IsMade result (message_in_pieces octets.now) }
+    ensures { IsMade message_contents result (contents_at message_parts octets.now) }
+{
+    message_in_pieces(alloc, octets)
+}
+
+fn message_in_pieces(alloc: Global, octets: &[u8]) -> Result<Message, PduFault>
+    ensures { IsMade message_contents result (message_in_pieces octets.now) }
 {
     let (envelope, rest) = envelope_at(octets)?;
     let (handling, rest) = handling_at(rest)?;

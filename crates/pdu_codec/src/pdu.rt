@@ -5,7 +5,7 @@ use crate::tlv::Tlvs;
 use pdu_tables::Command;
 
 /// A PDU: its status, of any number, its sequence_number, of any number, and its body.
-#[derive(Debug, Drop)]
+#[derive(Debug, PartialEq, Eq, Drop)]
 pub struct Pdu {
     /// command_status (section 5.1.3).
     pub status: u32,
@@ -15,19 +15,28 @@ pub struct Pdu {
     pub body: Body,
 }
 
-/// The body of a PDU, by its command. A response may have no body, and is then another PDU than one whose texts
-/// are empty.
-#[derive(Debug, Drop)]
+/// The body of a PDU, by its command. A response whose fields may be left out is, without them, another PDU than one whose
+/// texts are empty.
+#[derive(Debug, PartialEq, Eq, Drop)]
 pub enum Body {
+    BindReceiver(Bind),
+    BindReceiverResp(Option<BindAnswer>),
+    BindTransmitter(Bind),
+    BindTransmitterResp(Option<BindAnswer>),
     BindTransceiver(Bind),
     BindTransceiverResp(Option<BindAnswer>),
     SubmitSm(Message),
     /// With the message_id.
     SubmitSmResp(Option<Text<65>>),
+    DeliverSm(Message),
+    /// With the message_id, which an ESME leaves empty.
+    DeliverSmResp(Option<Text<65>>),
     QuerySm(Query),
     QuerySmResp(Option<QueryAnswer>),
     CancelSm(Cancel),
     CancelSmResp,
+    Unbind,
+    UnbindResp,
     EnquireLink,
     EnquireLinkResp,
     GenericNack,
@@ -35,21 +44,29 @@ pub enum Body {
 
 impl Body {
     ghost use Rattle.std.specs.Prelude.{◌≡◌};
-    ghost use Rattle.pdu_codec.specs.Pdu.{command_in};
+    ghost use Rattle.pdu_codec.specs.Bodies.{command_in};
 
     /// Its command.
     pub fn command(&self) -> Command
         ensures { result ≡ command_in self.now }
     {
         match self {
+            Body::BindReceiver(_) => Command::BindReceiver,
+            Body::BindReceiverResp(_) => Command::BindReceiverResp,
+            Body::BindTransmitter(_) => Command::BindTransmitter,
+            Body::BindTransmitterResp(_) => Command::BindTransmitterResp,
             Body::BindTransceiver(_) => Command::BindTransceiver,
             Body::BindTransceiverResp(_) => Command::BindTransceiverResp,
             Body::SubmitSm(_) => Command::SubmitSm,
             Body::SubmitSmResp(_) => Command::SubmitSmResp,
+            Body::DeliverSm(_) => Command::DeliverSm,
+            Body::DeliverSmResp(_) => Command::DeliverSmResp,
             Body::QuerySm(_) => Command::QuerySm,
             Body::QuerySmResp(_) => Command::QuerySmResp,
             Body::CancelSm(_) => Command::CancelSm,
             Body::CancelSmResp => Command::CancelSmResp,
+            Body::Unbind => Command::Unbind,
+            Body::UnbindResp => Command::UnbindResp,
             Body::EnquireLink => Command::EnquireLink,
             Body::EnquireLinkResp => Command::EnquireLinkResp,
             Body::GenericNack => Command::GenericNack,
@@ -58,7 +75,7 @@ impl Body {
 }
 
 /// What a bind has (section 4.1.5).
-#[derive(Debug, Drop)]
+#[derive(Debug, PartialEq, Eq, Drop)]
 pub struct Bind {
     pub system_id: Text<16>,
     pub password: Text<9>,
@@ -70,22 +87,22 @@ pub struct Bind {
 }
 
 /// What the response to a bind has (section 4.1.6).
-#[derive(Debug, Drop)]
+#[derive(Debug, PartialEq, Eq, Drop)]
 pub struct BindAnswer {
     pub system_id: Text<16>,
     pub tlvs: Tlvs,
 }
 
 /// An address of an SME, with its type of number and its numbering plan (sections 5.2.5, 5.2.6, 5.2.8).
-#[derive(Debug, Drop)]
+#[derive(Debug, PartialEq, Eq, Drop)]
 pub struct Address {
     pub ton: u8,
     pub npi: u8,
     pub digits: Text<21>,
 }
 
-/// What a submit_sm has (section 4.4.1).
-#[derive(Debug, Drop)]
+/// What a submit_sm and a deliver_sm have (sections 4.4.1 and 4.6.1).
+#[derive(Debug, PartialEq, Eq, Drop)]
 pub struct Message {
     pub service_type: Text<6>,
     pub source: Address,
@@ -104,14 +121,14 @@ pub struct Message {
 }
 
 /// What a query_sm has (section 4.8.1).
-#[derive(Debug, Drop)]
+#[derive(Debug, PartialEq, Eq, Drop)]
 pub struct Query {
     pub message_id: Text<65>,
     pub source: Address,
 }
 
 /// What the response to a query_sm has (section 4.8.2).
-#[derive(Debug, Drop)]
+#[derive(Debug, PartialEq, Eq, Drop)]
 pub struct QueryAnswer {
     pub message_id: Text<65>,
     pub final_date: Text<17>,
@@ -120,7 +137,7 @@ pub struct QueryAnswer {
 }
 
 /// What a cancel_sm has (section 4.9.1).
-#[derive(Debug, Drop)]
+#[derive(Debug, PartialEq, Eq, Drop)]
 pub struct Cancel {
     pub service_type: Text<6>,
     pub message_id: Text<65>,

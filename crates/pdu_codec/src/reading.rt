@@ -2,57 +2,59 @@
 
 ghost use Rattle.std.specs.Prelude.{◌≡◌, Ok, IfOk, IsOk};
 ghost use Rattle.pdu_codec.specs.declared.pdu.Pdu.{Pdu};
-ghost use Rattle.pdu_codec.specs.Pdu.{Fits, Gives, IsMade, body_at, octets_of, read_pdu};
+ghost use Rattle.pdu_codec.specs.Bodies.{bare_at, body_at};
+ghost use Rattle.pdu_codec.specs.Pdu.{Fits, Gives, IsMade, octets_of, read_pdu};
 
 use crate::bodies::{bind_answer_of, bind_of, cancel_of, message_id_of, query_answer_of, query_of};
 use crate::fault::PduFault;
+use crate::fields::nothing_at;
 use crate::header::read_header;
 use crate::message::message_of;
 use crate::pdu::{Body, Pdu};
 use pdu_tables::{Command, limits};
 use std::alloc::Global;
 
-/// The body of a command. A response of no octets has none.
-#[tactic(auto, unfolding(crate::specs::Pdu::body_at))]
+/// The body of a command, if there is one.
+#[tactic(auto, unfolding(crate::specs::Bodies::body_at))]
 fn body_of(alloc: Global, command: Option<Command>, octets: &[u8]) -> Result<Body, PduFault>
-    ensures { IsMade result (body_at command octets.now) }
+    ensures { IsMade (λ body. body) result (body_at command octets.now) }
 {
     let Some(command) = command else {
         return Err(PduFault::Command);
     };
-    match (command, octets) {
-        (Command::BindTransceiver, _) => Ok(Body::BindTransceiver(bind_of(alloc, octets)?)),
-        (Command::BindTransceiverResp, []) => Ok(Body::BindTransceiverResp(None)),
-        (Command::BindTransceiverResp, _) => {
-            let answer = bind_answer_of(alloc, octets)?;
-            Ok(Body::BindTransceiverResp(Some(answer)))
-        }
-        (Command::SubmitSm, _) => Ok(Body::SubmitSm(message_of(alloc, octets)?)),
-        (Command::SubmitSmResp, []) => Ok(Body::SubmitSmResp(None)),
-        (Command::SubmitSmResp, _) => {
-            let message_id = message_id_of(alloc, octets)?;
-            Ok(Body::SubmitSmResp(Some(message_id)))
-        }
-        (Command::QuerySm, _) => Ok(Body::QuerySm(query_of(alloc, octets)?)),
-        (Command::QuerySmResp, []) => Ok(Body::QuerySmResp(None)),
-        (Command::QuerySmResp, _) => {
-            let answer = query_answer_of(alloc, octets)?;
-            Ok(Body::QuerySmResp(Some(answer)))
-        }
-        (Command::CancelSm, _) => Ok(Body::CancelSm(cancel_of(alloc, octets)?)),
-        (Command::CancelSmResp, []) => Ok(Body::CancelSmResp),
-        (Command::EnquireLink, []) => Ok(Body::EnquireLink),
-        (Command::EnquireLinkResp, []) => Ok(Body::EnquireLinkResp),
-        (Command::GenericNack, []) => Ok(Body::GenericNack),
-        (
-            Command::CancelSmResp
-            | Command::EnquireLink
-            | Command::EnquireLinkResp
-            | Command::GenericNack,
-            _,
-        ) => Err(PduFault::Extra),
-        _ => Err(PduFault::Command),
+    match command {
+        Command::BindReceiver => bind_of(alloc, octets).map(Body::BindReceiver),
+        Command::BindReceiverResp => bind_answer_of(alloc, octets).map(Body::BindReceiverResp),
+        Command::BindTransmitter => bind_of(alloc, octets).map(Body::BindTransmitter),
+        Command::BindTransmitterResp => bind_answer_of(alloc, octets).map(
+            Body::BindTransmitterResp,
+        ),
+        Command::BindTransceiver => bind_of(alloc, octets).map(Body::BindTransceiver),
+        Command::BindTransceiverResp => bind_answer_of(alloc, octets).map(
+            Body::BindTransceiverResp,
+        ),
+        Command::SubmitSm => message_of(alloc, octets).map(Body::SubmitSm),
+        Command::SubmitSmResp => message_id_of(alloc, octets).map(Body::SubmitSmResp),
+        Command::DeliverSm => message_of(alloc, octets).map(Body::DeliverSm),
+        Command::DeliverSmResp => message_id_of(alloc, octets).map(Body::DeliverSmResp),
+        Command::QuerySm => query_of(alloc, octets).map(Body::QuerySm),
+        Command::QuerySmResp => query_answer_of(alloc, octets).map(Body::QuerySmResp),
+        Command::CancelSm => cancel_of(alloc, octets).map(Body::CancelSm),
+        Command::CancelSmResp => bare(Body::CancelSmResp, octets),
+        Command::Unbind => bare(Body::Unbind, octets),
+        Command::UnbindResp => bare(Body::UnbindResp, octets),
+        Command::EnquireLink => bare(Body::EnquireLink, octets),
+        Command::EnquireLinkResp => bare(Body::EnquireLinkResp, octets),
+        Command::GenericNack => bare(Body::GenericNack, octets),
     }
+}
+
+/// A body of no field, if no octet stands behind the header.
+fn bare(body: Body, octets: &[u8]) -> Result<Body, PduFault>
+    ensures { IsMade (λ body. body) result (bare_at body octets.now) }
+{
+    nothing_at(octets)?;
+    Ok(body)
 }
 
 #[tactic(auto, unfolding(crate::specs::Pdu::read_pdu))]

@@ -1,6 +1,9 @@
 //! Texts that keep their limits.
 
 ghost use Rattle.std.specs.Prelude.{◌≡◌, ◌↔◌, [], List, ℕ, IsSome, IsTrue, IfSome, IfOk, OnErr};
+ghost use Rattle.std.specs.Cmp.{partial_equiv_from_equiv};
+ghost use Rattle.std.specs.Cmp.Lexicographic.{nat_list_eq_equiv};
+ghost use Rattle.std.specs.Str.{bytes_eq};
 ghost use Rattle.pdu_codec.specs.Text.{IsText, IsShortMessage};
 
 use pdu_tables::limits;
@@ -70,6 +73,21 @@ impl<const LIMIT: usize> Text<LIMIT> {
     }
 }
 
+/// Texts are equal whose octets are.
+impl<const LIMIT: usize> PartialEq for Text<LIMIT> {
+    ghost eq = { bytes_eq };
+
+    ghost laws = { partial_equiv_from_equiv nat_list_eq_equiv };
+
+    fn eq(&self, other: &Self) -> bool {
+        self.octets == other.octets
+    }
+}
+
+impl<const LIMIT: usize> Eq for Text<LIMIT> {
+    ghost laws = { nat_list_eq_equiv };
+}
+
 /// A short_message (SMPP 3.4, section 5.2.22): at most 254 octets of any value.
 #[derive(Debug, Drop)]
 pub struct ShortMessage {
@@ -122,4 +140,19 @@ impl ShortMessage {
         let octets = self.octets.clone()?;
         Ok(ShortMessage { octets })
     }
+}
+
+/// Short messages are equal whose octets are.
+impl PartialEq for ShortMessage {
+    ghost eq = { bytes_eq };
+
+    ghost laws = { partial_equiv_from_equiv nat_list_eq_equiv };
+
+    fn eq(&self, other: &Self) -> bool {
+        self.octets == other.octets
+    }
+}
+
+impl Eq for ShortMessage {
+    ghost laws = { nat_list_eq_equiv };
 }

@@ -9,7 +9,7 @@ use std::alloc::{AllocError, Global};
 use std::marker::Model;
 
 /// An optional parameter (SMPP 3.4, section 3.2.4.1): its tag and its value.
-#[derive(Debug, Drop)]
+#[derive(Debug, PartialEq, Eq, Drop)]
 pub struct Tlv {
     pub tag: u16,
     pub value: Vec<u8>,
@@ -113,4 +113,26 @@ impl Tlvs {
         }
         Ok(Tlvs { tlvs })
     }
+}
+
+/// Optional parameters are equal that are as many, each with the tag and the value of the other.
+impl PartialEq for Tlvs {
+    ghost use Rattle.std.proofs.Common.{rules};
+    ghost use Rattle.std.specs.Cmp.Rules.{comparing};
+    ghost use Rattle.pdu_codec.specs.Text.{are_same_tlvs};
+
+    ghost eq = { are_same_tlvs };
+
+    ghost laws = { Prim.search (comparing, rules) };
+
+    fn eq(&self, other: &Self) -> bool {
+        self.tlvs == other.tlvs
+    }
+}
+
+impl Eq for Tlvs {
+    ghost use Rattle.std.proofs.Common.{rules};
+    ghost use Rattle.std.specs.Cmp.Rules.{comparing};
+
+    ghost laws = { Prim.search (comparing, rules) };
 }

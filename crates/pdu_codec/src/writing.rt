@@ -1,11 +1,13 @@
 //! From a PDU to octets.
 
-ghost use Rattle.std.specs.Prelude.{◌≡◌, ◌<◌, ◌++◌, ◌∷◌, [], length, OnOk, OnErr, IfOk};
+ghost use Rattle.std.specs.Prelude.{◌≡◌, ◌<◌, ◌≤◌, ◌++◌, ◌∷◌, [], length, OnOk, OnErr, IfOk};
 ghost use Rattle.std.specs.Int.{w32, to_be_bytes};
 ghost use Rattle.std.specs.Io.{StartsWith};
 ghost use Rattle.pdu_codec.specs.Text.{IsOctets, IsText, IsShortMessage, AreOptional, optional_octets};
 ghost use Rattle.pdu_codec.specs.Grammar.{spellings, AreWithin, bind_parts, bind_answer_parts, message_parts, message_id_parts, query_parts, query_answer_parts, cancel_parts};
-ghost use Rattle.pdu_codec.specs.Pdu.{body_octets, octets_of, Fits, BodyFits, bind_contents, bind_answer_contents, message_contents, query_contents, query_answer_contents, cancel_contents};
+ghost use Rattle.pdu_codec.specs.Contents.{bind_contents, bind_answer_contents, message_contents, query_contents, query_answer_contents, cancel_contents};
+ghost use Rattle.pdu_codec.specs.Bodies.{body_octets, BodyFits};
+ghost use Rattle.pdu_codec.specs.Pdu.{octets_of, Fits};
 
 use crate::pdu::{Address, Bind, BindAnswer, Body, Cancel, Message, Pdu, Query, QueryAnswer};
 use crate::text::{ShortMessage, Text};
@@ -159,28 +161,47 @@ fn put_cancel(out: &mut Vec<u8>, cancel: &Cancel) -> Result<(), AllocError>
     Ok(())
 }
 
-/// The octets of a body; none of a response that has none.
-fn body_octets(alloc: Global, body: &Body) -> Result<Vec<u8>, AllocError>
-    ensures octets { IfOk result (λ octets. octets.items ≡ body_octets body.now) }
+fn put_body(out: &mut Vec<u8>, body: &Body) -> Result<(), AllocError>
+    ensures ok { OnOk result (out.new.items ≡ out.old.items ++ body_octets body.now) }
     ensures limits { OnOk result (BodyFits body.now) }
 {
-    let mut octets = Vec::new(alloc);
     match body {
-        Body::BindTransceiver(bind) => put_bind(&mut octets, bind)?,
-        Body::BindTransceiverResp(Some(answer)) => put_bind_answer(&mut octets, answer)?,
-        Body::SubmitSm(message) => put_message(&mut octets, message)?,
-        Body::SubmitSmResp(Some(message_id)) => put_text(&mut octets, message_id)?,
-        Body::QuerySm(query) => put_query(&mut octets, query)?,
-        Body::QuerySmResp(Some(answer)) => put_query_answer(&mut octets, answer)?,
-        Body::CancelSm(cancel) => put_cancel(&mut octets, cancel)?,
-        Body::BindTransceiverResp(None)
+        Body::BindReceiver(bind) => put_bind(out, bind),
+        Body::BindReceiverResp(Some(answer)) => put_bind_answer(out, answer),
+        Body::BindTransmitter(bind) => put_bind(out, bind),
+        Body::BindTransmitterResp(Some(answer)) => put_bind_answer(out, answer),
+        Body::BindTransceiver(bind) => put_bind(out, bind),
+        Body::BindTransceiverResp(Some(answer)) => put_bind_answer(out, answer),
+        Body::SubmitSm(message) => put_message(out, message),
+        Body::SubmitSmResp(Some(message_id)) => put_text(out, message_id),
+        Body::DeliverSm(message) => put_message(out, message),
+        Body::DeliverSmResp(Some(message_id)) => put_text(out, message_id),
+        Body::QuerySm(query) => put_query(out, query),
+        Body::QuerySmResp(Some(answer)) => put_query_answer(out, answer),
+        Body::CancelSm(cancel) => put_cancel(out, cancel),
+        Body::BindReceiverResp(None)
+        | Body::BindTransmitterResp(None)
+        | Body::BindTransceiverResp(None)
         | Body::SubmitSmResp(None)
+        | Body::DeliverSmResp(None)
         | Body::QuerySmResp(None)
         | Body::CancelSmResp
+        | Body::Unbind
+        | Body::UnbindResp
         | Body::EnquireLink
         | Body::EnquireLinkResp
-        | Body::GenericNack => {}
+        | Body::GenericNack => Ok(()),
     }
+}
+
+/// The octets of a body.
+fn octets_of_body(alloc: Global, body: &Body) -> Result<Vec<u8>, AllocError>
+    ensures octets { IfOk result (λ octets. octets.items ≡ body_octets body.now) }
+    ensures limits { OnOk result (BodyFits body.now) }
+    ensures short { IfOk result (λ octets. length octets.items ≤ 7400) }
+{
+    let mut octets = Vec::new(alloc);
+    put_body(&mut octets, body)?;
     Ok(octets)
 }
 
@@ -190,7 +211,7 @@ fn whole(alloc: Global, pdu: &Pdu) -> Result<Vec<u8>, AllocError>
     ensures octets { IfOk result (λ octets. octets.items ≡ octets_of pdu.now) }
     ensures limits { OnOk result (Fits pdu.now) }
 {
-    let body = body_octets(alloc, &pdu.body)?;
+    let body = octets_of_body(alloc, &pdu.body)?;
     let length = limits::HEADER + body.len();
     let mut octets = Vec::with_capacity(alloc, length)?;
     octets.extend_from_slice(&(length as u32).to_be_bytes())?;
