@@ -1,5 +1,5 @@
 -- Chains: what is read is spelled so and within its limits, and what is spelled so is read.
-use Rattle.std.proofs.Common.{◌≡◌, ℕ, zero, suc, ◌+◌, ◌≤◌, Bool, true, false, cond, eqb, List, [], ◌∷◌, ◌++◌, length, Option, Some, None, Result, Ok, is_ok, refl, sym, ap, subst, ◌∙◌, arith, append_assoc}
+use Rattle.std.proofs.Common.{◌≡◌, ℕ, zero, suc, ◌+◌, ◌≤◌, Bool, true, false, cond, eqb, List, [], ◌∷◌, ◌++◌, length, Option, Some, None, Result, Ok, refl, sym, ap, subst, ◌∙◌, arith, append_assoc}
 use Rattle.std.proofs.lemmas.Bool.{eqb-true, eqb-false}
 use Rattle.std.proofs.lemmas.List.{append-nil}
 use Rattle.mc_model.specs.message.Submission.{Submission}
@@ -7,44 +7,20 @@ use Rattle.mc_model.specs.message.Decree.{Kind, Taken, Attempt, Failed, Fate, Fi
 use Rattle.mc_model.specs.message.Chain.{Chain}
 use Rattle.mc_types.proofs.Texts.{is_id-tells, is_id-told}
 use Rattle.octet_fields.specs.declared.defect.Defect.{Defect}
-use Rattle.octet_fields.specs.Kinds.{IsOctets, Contents, spellings, AreWithin}
+use Rattle.octet_fields.specs.Texts.{IsOctets}
+use Rattle.octet_fields.specs.Kinds.{Contents, spellings, AreWithin}
 use Rattle.octet_fields.specs.Reading.{◌>>=◌, front_at}
-use Rattle.octet_fields.proofs.Fields.{bind_ok, ok_is, is_between-tells}
+use Rattle.octet_fields.proofs.Octets.{bind_ok, ok_is}
+use Rattle.octet_fields.proofs.Fields.{is_between-tells}
 use Rattle.octet_fields.proofs.Records.{front_takes, front_again}
-use Rattle.pdu_codec.specs.declared.fault.Field.TheVariants.{OptionalParameters}
 use Rattle.pdu_codec.specs.Text.{AreOptional, optional_octets}
-use Rattle.pdu_codec.specs.Grammar.{tlvs_from, optional_at, Optional}
-use Rattle.pdu_codec.proofs.FieldLaws.{content_takes, last_again}
-use Rattle.pdu_codec.proofs.TlvLaws.{IsOptional-from_ok, optional-whole}
+use Rattle.pdu_codec.proofs.Optional.{IsOptional, optional-given, optional-again}
 use Rattle.pdu_codec.proofs.PduSpelling.{find-passes}
 use Rattle.fate_chain.specs.States.{final_code, finals, final_in}
-use Rattle.fate_chain.specs.Bytes.{octet, error, is_optional, party_fields, parties_in, handling_fields, handling_in, text_fields, texts_in, kind_code, head_fields, head_in, submission_octets, kind_octets, decree_octets, decrees_octets, chain_fields, chain_octets, MessageFits, KindFits, DecreeFits, DecreesFit, Fits, first_of, tlvs_in, message_of, message_at, found, kind_at, decree_of, decree_at, decrees_at, chain_from, chain_at, read_chain}
+use Rattle.fate_chain.specs.Bytes.{octet, error, party_fields, parties_in, handling_fields, handling_in, text_fields, texts_in, kind_code, head_fields, head_in, submission_octets, kind_octets, decree_octets, decrees_octets, chain_fields, chain_octets, MessageFits, KindFits, DecreeFits, DecreesFit, Fits, first_of, tlvs_in, message_of, message_at, found, kind_at, decree_of, decree_at, decrees_at, chain_from, chain_at, read_chain}
 
 abbrev done : {A : Type 0} → A → Result A Defect
 done x = Ok x
-
--- ---- optional parameters
-
--- the octets of optional parameters that are within their limits
-record IsOptional (octets : List ℕ) : Type 0 where
-  tlvs : List (ℕ × List ℕ)
-  limits : AreOptional tlvs
-  spelled : octets ≡ optional_octets tlvs
-
-is_optional-tells : (octets : List ℕ) → IsOctets octets → is_optional octets ≡ true → IsOptional octets
-unfolding tlvs_from
-is_optional-tells octets are ok =
-    let known = IsOptional-from_ok octets ok in
-    let whole = optional-whole octets [] known.few (sym known.some) refl in
-    let made : List (ℕ × List ℕ) × List ℕ = (whole.0, []) in
-    let taken = content_takes OptionalParameters Optional octets made are whole.1 in
-    record { tlvs = whole.0; limits = taken.within; spelled = taken.parts ∙ append-nil (optional_octets whole.0) }
-
-optional_again : (tlvs : List (ℕ × List ℕ)) → AreOptional tlvs → optional_at (optional_octets tlvs) ≡ Ok (tlvs, [])
-optional_again tlvs are = sym (ap optional_at (append-nil (optional_octets tlvs))) ∙ last_again OptionalParameters Optional tlvs are
-
-pub is_optional-told : (tlvs : List (ℕ × List ℕ)) → AreOptional tlvs → is_optional (optional_octets tlvs) ≡ true
-is_optional-told tlvs are = ap is_ok (optional_again tlvs are)
 
 -- ---- messages
 
@@ -55,7 +31,7 @@ record TakesMessage (octets : List ℕ) (x : Submission × List ℕ) : Type 0 wh
 
 tlvs_in-octets : (tlvs : List (ℕ × List ℕ)) → AreOptional tlvs → tlvs_in (optional_octets tlvs) ≡ tlvs
 unfolding tlvs_in
-tlvs_in-octets tlvs are = ap first_of (optional_again tlvs are)
+tlvs_in-octets tlvs are = ap first_of (optional-again tlvs are)
 
 octets-tlvs_in : (octets : List ℕ) → IsOptional octets → optional_octets (tlvs_in octets) ≡ octets
 octets-tlvs_in octets is =
@@ -78,7 +54,7 @@ message_takes octets x are e =
     let handling = front_takes handling_fields a.0.1 b.0 parties.rest b.1 in
     let texts = front_takes text_fields b.0.1 c.0 handling.rest c.1 in
     let made : Submission × List ℕ = (message_of a.0.0 b.0.0 c.0.0, c.0.1) in
-    let passed = is_optional-tells c.0.0.1.0 texts.octets.1.0 texts.within.1.0.1 in
+    let passed = optional-given c.0.0.1.0 texts.octets.1.0 texts.within.1.0.1 in
     let texts_are : texts_in made.0 ≡ c.0.0 = ap (λ (o : List ℕ). (c.0.0.0, (o, tt))) (octets-tlvs_in c.0.0.1.0 passed) in
     let whole : octets ≡ spellings party_fields a.0.0 ++ (spellings handling_fields b.0.0 ++ (spellings text_fields c.0.0 ++ c.0.1)) =
     parties.parts ∙ ap (λ (r : List ℕ). spellings party_fields a.0.0 ++ r) (handling.parts ∙ ap (λ (r : List ℕ). spellings handling_fields b.0.0 ++ r) texts.parts) in

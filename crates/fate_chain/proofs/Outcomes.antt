@@ -2,13 +2,13 @@
 use Rattle.std.proofs.Common.{◌≡◌, ◌↔◌, ℕ, List, [], ◌∷◌, Result, Ok, Err, IfOk, IsErrOf, refl, sym, ap, subst, ◌∙◌}
 use Rattle.mc_model.specs.message.Decree.{Decree}
 use Rattle.mc_model.specs.message.Chain.{Chain, IsPermitted}
-use Rattle.octet_fields.specs.Kinds.{IsOctets}
+use Rattle.octet_fields.specs.Texts.{IsOctets}
 use Rattle.fate_chain.specs.declared.fault.ChainFault.{ChainFault}
 use Rattle.fate_chain.specs.declared.fault.ChainFault.TheVariants.{NotPermitted, NotBytes, Memory}
 use Rattle.octet_fields.specs.declared.defect.Defect.{Defect}
 use Rattle.octet_fields.specs.Reading.{◌>>=◌}
 use Rattle.fate_chain.specs.Bytes.{decrees_at, chain_from, chain_at, read_chain, IsSpelled, Judges}
-use Rattle.octet_fields.proofs.Fields.{ok_is}
+use Rattle.octet_fields.proofs.Octets.{ok_is}
 use Rattle.fate_chain.proofs.ChainReading.{chain_takes, chain_again}
 
 from-same : (id : ℕ) (read : List Decree) (rest : List ℕ) (c : Chain) → chain_from id (read, rest) ≡ Ok c → ◌≡◌ {A = Chain} c (record { id = id; decrees = read })

@@ -13,4 +13,4 @@ pub moment_within : (n : ℕ) → IsMoment n → IsWithin moment.kind n
 moment_within n is = (omega (arith, is.most), is_between-told 946684800 4102444799 n is.least is.most)
 
 pub text_within : (limit : ℕ) (octets : List ℕ) → limit ≤ 256 → IsText limit octets → IsWithin (text limit).kind octets
-text_within limit octets few is = (omega (arith, is.short), is_text-told limit octets is.short is.no_zero)
+text_within limit octets few is = (omega (arith, is.short), is_text-told limit octets is)

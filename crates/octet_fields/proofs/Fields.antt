@@ -13,46 +13,16 @@ use Rattle.std.proofs.lemmas.List.Sums.{position_or_len_is}
 use Rattle.std.proofs.lemmas.Nat.{be_bytes_2, be_bytes_4, be_bytes_8, from_be_bytes-to_be_bytes_2, from_be_bytes-to_be_bytes_4, from_be_bytes-to_be_bytes_8}
 use Rattle.octet_fields.specs.declared.defect.Defect.{Defect}
 use Rattle.octet_fields.specs.declared.defect.Defect.TheVariants.{Cut, Few, Long, Unfit}
-use Rattle.octet_fields.specs.Kinds.{IsOctets, Size, One, Two, Four, Eight, capacity, Kind, Number, Text, Counted, Rest, Content, is_between, is_text, number_octets, spelling, IsWithin, is_sized}
-use Rattle.octet_fields.specs.Reading.{◌>>=◌, number_at, text_until, text_at, taken_at, counted_at, rest_at, passing, content_at}
+use Rattle.octet_fields.specs.Texts.{IsOctets, IsText, optional_octets}
+use Rattle.octet_fields.specs.Kinds.{Size, One, Two, Four, Eight, capacity, Kind, Number, Text, Counted, Parameters, Content, is_between, is_text, number_octets, spelling, IsWithin, is_sized}
+use Rattle.octet_fields.specs.Reading.{◌>>=◌, number_at, text_until, text_at, taken_at, counted_at, parameters_at, passing, content_at}
 use Rattle.octet_fields.specs.Laws.{MayPrecede, Stands}
-
-pub IsOctets-drop : (n : ℕ) (octets : List ℕ) → IsOctets octets → IsOctets (drop n octets)
-IsOctets-drop n octets are i = rw get_or-drop (are (n + i))
-
-pub IsOctets-take : (n : ℕ) (octets : List ℕ) → IsOctets octets → IsOctets (take n octets)
-IsOctets-take zero octets are i = omega arith
-IsOctets-take (suc n) [] are i = omega arith
-IsOctets-take (suc n) (a ∷ octets) are zero = are 0
-IsOctets-take (suc n) (a ∷ octets) are (suc i) = IsOctets-take n octets (IsOctets-drop 1 (a ∷ octets) are) i
-
-pub IsOctets-before : (octets rest : List ℕ) → IsOctets (octets ++ rest) → IsOctets octets
-IsOctets-before [] rest are i = omega arith
-IsOctets-before (a ∷ octets) rest are zero = are 0
-IsOctets-before (a ∷ octets) rest are (suc i) = IsOctets-before octets rest (λ k. are (suc k)) i
-
-pub IsOctets-behind : (octets rest : List ℕ) → IsOctets (octets ++ rest) → IsOctets rest
-IsOctets-behind [] rest are = are
-IsOctets-behind (a ∷ octets) rest are = IsOctets-behind octets rest (λ k. are (suc k))
-
--- ---- results
-
--- the value of a step that did not fail
-pub bind_ok : {A B E : Type 0} (r : Result A E) (f : A → Result B E) (y : B) → (r >>= f) ≡ Ok y → (x : A) × (r ≡ Ok x) × (f x ≡ Ok y)
-bind_ok (Ok x) f y e = (x, refl, e)
-bind_ok (Err d) f y e = absurd cc
-
-pub ok_is : {A E : Type 0} (x y : A) → ◌≡◌ {A = Result A E} (Ok x) (Ok y) → x ≡ y
-ok_is x y e = cc
+use Rattle.octet_fields.proofs.Octets.{IsOctets-drop, IsOctets-take, IsOctets-before, IsOctets-behind, bind_ok, ok_is, guard_ok}
+use Rattle.octet_fields.proofs.Parameters.{parameters_take, parameters_again}
 
 -- what was read, and the octets behind it
 abbrev read : {A : Type 0} → A → List ℕ → Result (A × List ℕ) Defect
 read x rest = Ok (x, rest)
-
--- a test that did not refuse
-guard_ok : {A E : Type 0} (b : Bool) (fault : E) (r : Result A E) (x : A) → cond b (Err fault) r ≡ Ok x → (b ≡ false) × (r ≡ Ok x)
-guard_ok true fault r x e = absurd cc
-guard_ok false fault r x e = (refl, e)
 
 passing_ok : {A : Type 0} (test : A → Bool) (x y : A × List ℕ) → passing test x ≡ Ok y → (test x.0 ≡ true) × (x ≡ y)
 passing_ok test x y e = by (test x.0) refl e
@@ -119,50 +89,36 @@ is_between-told least most number low high = and_from _ _ (le-leb _ _ low) (le-l
 
 -- ---- texts that a zero ends
 
-pub is_text-told : (limit : ℕ) (text : List ℕ) → length text < limit → All (λ octet. 0 < octet) text → is_text limit text ≡ true
-is_text-told limit text short no_zero =
-    and_from _ _ (lt-ltb _ _ short) (ap not (list_any_none (λ octet. eqb octet 0) text (λ k d below. ne_eqb (get_or text k d) 0 (λ zero_there. absurd (omega (arith, zero_there, no_zero k d below))))))
-
-record IsText (limit : ℕ) (text : List ℕ) : Type 0 where
-  short : length text < limit
-  nonzero : (k : ℕ) → k < length text → 0 < get_or text k 1
-
-not_true : (a : Bool) → not a ≡ true → a ≡ false
-not_true true e = absurd cc
-not_true false e = refl
-
-is_text-tells : (limit : ℕ) (text : List ℕ) → is_text limit text ≡ true → IsText limit text
-is_text-tells limit text test =
-    let parts = and_parts (ltb (length text) limit) (not (list_any (λ octet. eqb octet 0) text)) test in
-    record { short = ltb-true _ _ parts.0; nonzero = λ k below. at_place k below (eqb (get_or text k 1) 0) refl (not_true _ parts.1) }
-  where
-    at_place : (k : ℕ) → k < length text → (b : Bool) → eqb (get_or text k 1) 0 ≡ b → list_any (λ octet. eqb octet 0) text ≡ false → 0 < get_or text k 1
-    at_place k below true is none = absurd (false≢true (sym none ∙ list_any_at (λ octet. eqb octet 0) text k 1 below is))
-    at_place k below false is none = omega (arith, eqb-false _ _ is)
+pub is_text-told : (limit : ℕ) (text : List ℕ) → IsText limit text → is_text limit text ≡ true
+is_text-told limit text is =
+    and_from _ _ (lt-ltb _ _ is.short) (ap not (list_any_none (λ octet. eqb octet 0) text (λ k d below. ne_eqb (get_or text k d) 0 (λ zero_there. absurd (omega (arith, zero_there, is.no_zero k d below))))))
 
 -- the octets before the first zero are a text
-is_text-before : (limit : ℕ) (octets : List ℕ) (place : ℕ) → position (λ octet. eqb octet 0) (take limit octets) ≡ Some place → is_text limit (take place octets) ≡ true
-is_text-before limit octets place found =
+pub IsText-before : (limit : ℕ) (octets : List ℕ) (place : ℕ) → position (λ octet. eqb octet 0) (take limit octets) ≡ Some place → IsText limit (take place octets)
+IsText-before limit octets place found =
     let first = position-Some (λ octet. eqb octet 0) (take limit octets) place 1 found in
     let near : place < min limit (length octets) = omega (arith, first.0, length-take limit octets) in
-    is_text-told limit (take place octets) (omega (arith, length-take place octets)) (All-from_get_or (λ octet. 0 < octet) (take place octets) 1 (λ k below.
-    let before : k < place = omega (arith, length-take place octets) in
-    let inside : k < limit = omega arith in
-    let nonzero = eqb-false (get_or (take limit octets) k 1) 0 (first.2 k before) in
-    let same : get_or (take place octets) k 1 ≡ get_or (take limit octets) k 1 = get_or-take place octets k 1 before ∙ sym (get_or-take limit octets k 1 inside) in
-    rw same (omega (arith, nonzero))))
+    record {
+      short = omega (arith, length-take place octets);
+      no_zero = All-from_get_or (λ octet. 0 < octet) (take place octets) 1 (λ k below.
+          let before : k < place = omega (arith, length-take place octets) in
+          let inside : k < limit = omega arith in
+          let nonzero = eqb-false (get_or (take limit octets) k 1) 0 (first.2 k before) in
+          let same : get_or (take place octets) k 1 ≡ get_or (take limit octets) k 1 = get_or-take place octets k 1 before ∙ sym (get_or-take limit octets k 1 inside) in
+          rw same (omega (arith, nonzero)));
+    }
 
 -- What a reader took from the front: a field that stands there, and the octets behind it.
 pub record Takes (kind : Kind) (octets : List ℕ) (x : Content kind × List ℕ) : Type 0 where
   pub stands : Stands kind octets x.0 x.1
   pub rest : IsOctets x.1
 
--- what stands in a field of octets is octets too
+-- the text or the octets that stand in a field are octets too
 abbrev pub HoldsOctets : (kind : Kind) → Content kind → Type 0
 HoldsOctets (Number size test) number = Unit {0}
 HoldsOctets (Text limit) text = IsOctets text
 HoldsOctets (Counted size most test) octets = IsOctets octets
-HoldsOctets (Rest most test) octets = IsOctets octets
+HoldsOctets (Parameters most) tlvs = Unit {0}
 
 pub holds_octets : (kind : Kind) (octets : List ℕ) (c : Content kind) (rest : List ℕ) → IsOctets octets → Stands kind octets c rest → HoldsOctets kind c
 holds_octets (Number size test) octets c rest are stands = tt
@@ -170,7 +126,7 @@ holds_octets (Text limit) octets c rest are stands =
     IsOctets-before c (0 ∷ []) (IsOctets-before (c ++ 0 ∷ []) rest (subst IsOctets stands.parts are))
 holds_octets (Counted size most test) octets c rest are stands =
     IsOctets-behind (number_octets size (length c)) c (IsOctets-before (number_octets size (length c) ++ c) rest (subst IsOctets stands.parts are))
-holds_octets (Rest most test) octets c rest are stands = IsOctets-before c rest (subst IsOctets stands.parts are)
+holds_octets (Parameters most) octets c rest are stands = tt
 
 text_takes : (limit : ℕ) (octets : List ℕ) (found : Option ℕ) (x : List ℕ × List ℕ) → IsOctets octets → position (λ octet. eqb octet 0) (take limit octets) ≡ found → text_until limit octets found ≡ Ok x → Takes (Text limit) octets x
 text_takes limit octets None x are found e = neither (leb limit (length octets)) e
@@ -188,21 +144,20 @@ text_takes limit octets (Some place) x are found e =
     ∙ sym (append_assoc (take place octets) (0 ∷ []) (drop (suc place) octets)) in
     let made : List ℕ × List ℕ = (take place octets, drop (suc place) octets) in
     subst (λ (y : List ℕ × List ℕ). Takes (Text limit) octets y) (ok_is made x e) (record {
-      stands = record { within = is_text-before limit octets place found; parts = parts; last = tt };
+      stands = record { within = IsText-before limit octets place found; parts = parts; last = tt };
       rest = IsOctets-drop (suc place) octets are;
     })
 
-text_again : (limit : ℕ) (text rest : List ℕ) → is_text limit text ≡ true → text_at limit ((text ++ 0 ∷ []) ++ rest) ≡ Ok (text, rest)
+text_again : (limit : ℕ) (text rest : List ℕ) → IsText limit text → text_at limit ((text ++ 0 ∷ []) ++ rest) ≡ Ok (text, rest)
 unfolding text_at
-text_again limit text rest test =
-    let is = is_text-tells limit text test in
+text_again limit text rest is =
     let octets : List ℕ = (text ++ 0 ∷ []) ++ rest in
     let apart : octets ≡ text ++ 0 ∷ rest = append_assoc text (0 ∷ []) rest in
     let size : length octets ≡ length text + 1 + length rest = omega (arith, length-append (text ++ 0 ∷ []) rest, length-append text (0 ∷ [])) in
     let inside : length text < length (take limit octets) = omega (arith, length-take limit octets, size, is.short) in
     let before : (k : ℕ) → k < length text → eqb (get_or (take limit octets) k 1) 0 ≡ false = λ k below.
     let there : get_or (take limit octets) k 1 ≡ get_or text k 1 = get_or-take limit octets k 1 (omega (arith, is.short)) ∙ ap (λ (xs : List ℕ). get_or xs k 1) apart ∙ get_or-append text (0 ∷ rest) 1 k below in
-    ne_eqb (get_or (take limit octets) k 1) 0 (λ zero_there. absurd (omega (arith, there, zero_there, is.nonzero k below))) in
+    ne_eqb (get_or (take limit octets) k 1) 0 (λ zero_there. absurd (omega (arith, there, zero_there, is.no_zero k 1 below))) in
     let there : get_or (take limit octets) (length text) 1 ≡ 0 = get_or-take limit octets (length text) 1 is.short ∙ ap (λ (xs : List ℕ). get_or xs (length text) 1) apart ∙ get_or-append_seam text 0 rest 1 in
     let first : position_or_len (λ octet. eqb octet 0) (take limit octets) ≡ length text = position_or_len_is (λ octet. eqb octet 0) (take limit octets) (length text) 1 (omega arith) before (λ below. eq-eqb _ _ there) in
     let found : position (λ octet. eqb octet 0) (take limit octets) ≡ Some (length text) = rw (first, lt-ltb (length text) (length (take limit octets)) inside) refl in
@@ -250,7 +205,7 @@ counted_again size most text rest small few =
 -- ---- a field of any kind
 
 pub content_takes : (kind : Kind) (octets : List ℕ) (x : Content kind × List ℕ) → IsOctets octets → content_at kind octets ≡ Ok x → Takes kind octets x
-unfolding content_at text_at rest_at
+unfolding content_at text_at
 content_takes (Number size test) octets x are e =
     let b = bind_ok (number_at size octets) (λ y. passing test y) x e in
     let front = number_takes size octets b.0 are b.1 in
@@ -268,28 +223,24 @@ content_takes (Counted size most test) octets x are e =
       stands = record { within = (front.few, passes.0); parts = front.parts; last = tt };
       rest = front.rest;
     })
-content_takes (Rest most test) octets x are e =
-    let b = bind_ok (rest_at most octets) (λ y. passing test y) x e in
-    let made : List ℕ × List ℕ = (octets, []) in
-    let few = guard_ok (ltb most (length octets)) Long (Ok made) b.0 b.1 in
-    let passes = passing_ok test b.0 x b.2 in
-    let same : made ≡ b.0 = ok_is made b.0 few.1 in
-    subst (λ (y : List ℕ × List ℕ). Takes (Rest most test) octets y) (same ∙ passes.1) (record {
-      stands = record { within = (ltb-false _ _ few.0, ap (λ (y : List ℕ × List ℕ). test y.0) same ∙ passes.0); parts = sym (append-nil octets); last = refl };
-      rest = λ i. omega arith;
-    })
+content_takes (Parameters most) octets x are e =
+    let taken = parameters_take most octets x are e in
+    record {
+      stands = record { within = taken.within; parts = taken.parts; last = taken.rest };
+      rest = subst IsOctets (sym taken.rest) (λ i. omega arith);
+    }
 
 pub content_again : (kind : Kind) (c : Content kind) (rest : List ℕ) → is_sized kind ≡ true → MayPrecede kind rest → IsWithin kind c → content_at kind (spelling kind c ++ rest) ≡ Ok (c, rest)
-unfolding content_at rest_at
+unfolding content_at
 content_again (Number size test) c rest sized last within =
     ap (λ (r : Result (ℕ × List ℕ) Defect). r >>= λ x. passing test x) (number_again size c rest within.0) ∙ passed test c rest within.1
 content_again (Text limit) c rest sized last within = text_again limit c rest within
 content_again (Counted size most test) c rest sized last within =
     ap (λ (r : Result (List ℕ × List ℕ) Defect). r >>= λ x. passing test x) (counted_again size most c rest (omega (arith, within.0, ltb-true _ _ sized)) within.0) ∙ passed test c rest within.1
-content_again (Rest most test) c rest sized last within =
-    ap (λ (r : List ℕ). content_at (Rest most test) (c ++ r)) last
-    ∙ ap (content_at (Rest most test)) (append-nil c)
-    ∙ rw (le-ltb most (length c) within.0) (passed test c [] within.1)
+content_again (Parameters most) c rest sized last within =
+    ap (λ (r : List ℕ). parameters_at most (optional_octets c ++ r)) last
+    ∙ ap (parameters_at most) (append-nil (optional_octets c))
+    ∙ parameters_again most c (leb-true _ _ sized) within
     ∙ ap (λ (r : List ℕ). read c r) (sym last)
 
 -- what stands at the front is read

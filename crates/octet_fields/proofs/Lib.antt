@@ -1,2 +1,4 @@
+pub mod Octets
+pub mod Parameters
 pub mod Fields
 pub mod Records

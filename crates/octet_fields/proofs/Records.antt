@@ -3,10 +3,12 @@ use Rattle.std.proofs.Common.{◌≡◌, ℕ, ◌<◌, true, List, [], ◌∷◌
 use Rattle.std.proofs.lemmas.Bool.{and_parts}
 use Rattle.std.proofs.lemmas.List.{append-nil}
 use Rattle.octet_fields.specs.declared.defect.Defect.{Defect}
-use Rattle.octet_fields.specs.Kinds.{IsOctets, Kind, Number, Text, Counted, Rest, Content, spelling, IsWithin, Part, Contents, spellings, AreWithin, is_sized, is_delimited, are_delimited, are_closed}
+use Rattle.octet_fields.specs.Texts.{IsOctets}
+use Rattle.octet_fields.specs.Kinds.{Kind, Number, Text, Counted, Parameters, Content, spelling, IsWithin, Part, Contents, spellings, AreWithin, is_sized, is_delimited, are_delimited, are_closed, join}
 use Rattle.octet_fields.specs.Reading.{◌>>=◌, content_at, told, front_at, nothing_at, contents_at}
 use Rattle.octet_fields.specs.Laws.{MayPrecede, IsFirstFault}
-use Rattle.octet_fields.proofs.Fields.{bind_ok, ok_is, HoldsOctets, holds_octets, content_takes, content_again, stands_again}
+use Rattle.octet_fields.proofs.Octets.{bind_ok, ok_is}
+use Rattle.octet_fields.proofs.Fields.{HoldsOctets, holds_octets, content_takes, content_again, stands_again}
 
 abbrev pub HoldOctets : {E : Type 0} → (parts : List (Part E)) → Contents parts → Type 0
 HoldOctets [] c = Unit {0}
@@ -44,19 +46,19 @@ delimited-sized : (kind : Kind) → is_delimited kind ≡ true → is_sized kind
 delimited-sized (Number size test) is = refl
 delimited-sized (Text limit) is = refl
 delimited-sized (Counted size most test) is = is
-delimited-sized (Rest most test) is = refl
+delimited-sized (Parameters most) is = absurd cc
 
 delimited-before : (kind : Kind) (rest : List ℕ) → is_delimited kind ≡ true → MayPrecede kind rest
 delimited-before (Number size test) rest is = tt
 delimited-before (Text limit) rest is = tt
 delimited-before (Counted size most test) rest is = tt
-delimited-before (Rest most test) rest is = absurd cc
+delimited-before (Parameters most) rest is = absurd cc
 
 last-before : (kind : Kind) → MayPrecede kind []
 last-before (Number size test) = tt
 last-before (Text limit) = tt
 last-before (Counted size most test) = tt
-last-before (Rest most test) = refl
+last-before (Parameters most) = refl
 
 -- one field more at the front
 more_again : {E : Type 0} (first : Part E) (others : List (Part E)) (c : Contents (first ∷ others)) (rest : List ℕ) → is_sized first.kind ≡ true → MayPrecede first.kind (spellings others c.1 ++ rest) → IsWithin first.kind c.0 → front_at others (spellings others c.1 ++ rest) ≡ Ok (c.1, rest) → front_at (first ∷ others) (spellings (first ∷ others) c ++ rest) ≡ Ok (c, rest)
@@ -83,6 +85,72 @@ pub whole_again : {E : Type 0} (extra : E) (parts : List (Part E)) (c : Contents
 whole_again {E} extra parts c closed within =
     ap (λ (r : Result (Contents parts × List ℕ) E). r >>= λ x. nothing_at extra x.1 >>= λ _. Ok x.0) (ap (front_at parts) (sym (append-nil (spellings parts c))) ∙ closed_again parts c closed within)
 
+pub record TakesWhole {E : Type 0} (fields : List (Part E)) (octets : List ℕ) (c : Contents fields) : Type 0 where
+  pub spelled : octets ≡ spellings fields c
+  pub within : AreWithin fields c
+
+pub whole_takes : {E : Type 0} (extra : E) (parts : List (Part E)) (octets : List ℕ) (c : Contents parts) → IsOctets octets → contents_at extra parts octets ≡ Ok c → TakesWhole parts octets c
+whole_takes {E} extra parts octets c are e =
+    let a = bind_ok (front_at parts octets) (λ x. nothing_at extra x.1 >>= λ _. Ok x.0) c e in
+    let front = front_takes parts octets a.0 are a.1 in
+    ended a.0.0 a.0.1 front.parts front.within a.2
+  where
+    ended : (d : Contents parts) (rest : List ℕ) → octets ≡ spellings parts d ++ rest → AreWithin parts d → (nothing_at extra rest >>= λ _. Ok d) ≡ Ok c → TakesWhole parts octets c
+    ended d [] parts_are within e =
+        subst (λ (f : Contents parts). TakesWhole parts octets f) (ok_is d c e) (record { spelled = parts_are ∙ append-nil (spellings parts d); within = within })
+    ended d (octet ∷ rest) parts_are within e = absurd cc
+
+-- ---- a front, and the fields behind it
+
+pub bind-assoc : {A B C E : Type 0} (r : Result A E) (f : A → Result B E) (g : B → Result C E) → ((r >>= f) >>= g) ≡ (r >>= λ x. f x >>= g)
+bind-assoc (Ok x) f g = refl
+bind-assoc (Err e) f g = refl
+
+pub bind-same : {A B E : Type 0} (r : Result A E) (f g : A → Result B E) → ((x : A) → f x ≡ g x) → (r >>= f) ≡ (r >>= g)
+bind-same (Ok x) f g same = same x
+bind-same (Err e) f g same = refl
+
+bind-ok : {A E : Type 0} (r : Result A E) → r ≡ (r >>= λ x. Ok x)
+bind-ok (Ok x) = refl
+bind-ok (Err e) = refl
+
+abbrev ended : {A E : Type 0} → E → A × List ℕ → Result A E
+ended extra x = nothing_at extra x.1 >>= λ _. Ok x.0
+
+abbrev first_of_all : {E : Type 0} (first : Part E) (others : List (Part E)) → Content first.kind → Contents others × List ℕ → Result (Contents (first ∷ others) × List ℕ) E
+first_of_all first others c z = Ok ((c, z.0), z.1)
+
+abbrev with_first : {E : Type 0} (first : Part E) (others : List (Part E)) → Content first.kind → Contents others → Result (Contents (first ∷ others)) E
+with_first first others x c = Ok (x, c)
+
+module _ {E : Type 0} (extra : E) (first : Part E) (others back : List (Part E)) where
+  -- the fields behind the first, to the end
+  ended-more : (x : Content first.kind) (r : Result (Contents (others ++ back) × List ℕ) E) → ((r >>= first_of_all first (others ++ back) x) >>= ended extra) ≡ ((r >>= ended extra) >>= λ c. with_first first (others ++ back) x c)
+  ended-more x (Ok (z, [])) = refl
+  ended-more x (Ok (z, octet ∷ octets)) = refl
+  ended-more x (Err e) = refl
+
+  by_last : (x : Content first.kind) (z : Contents others) (r : Result (Contents back) E) → ((r >>= λ y. Ok (join others back z y)) >>= λ c. with_first first (others ++ back) x c) ≡ (r >>= λ y. with_first first (others ++ back) x (join others back z y))
+  by_last x z (Ok y) = refl
+  by_last x z (Err e) = refl
+
+  by_others : (x : Content first.kind) (r : Result (Contents others × List ℕ) E) → ((r >>= λ z. contents_at extra back z.1 >>= λ y. Ok (join others back z.0 y)) >>= λ c. with_first first (others ++ back) x c) ≡ ((r >>= first_of_all first others x) >>= λ w. contents_at extra back w.1 >>= λ y. with_first first (others ++ back) w.0.0 (join others back w.0.1 y))
+  by_others x (Ok z) = by_last x z.0 (contents_at extra back z.1)
+  by_others x (Err e) = refl
+
+  by_first : ((rest : List ℕ) → contents_at extra (others ++ back) rest ≡ (front_at others rest >>= λ x. contents_at extra back x.1 >>= λ y. Ok (join others back x.0 y))) → (r : Result (Content first.kind × List ℕ) E) → ((r >>= λ x. front_at (others ++ back) x.1 >>= first_of_all first (others ++ back) x.0) >>= ended extra) ≡ ((r >>= λ x. front_at others x.1 >>= first_of_all first others x.0) >>= λ w. contents_at extra back w.1 >>= λ y. with_first first (others ++ back) w.0.0 (join others back w.0.1 y))
+  by_first others_are (Ok x) =
+      ended-more x.0 (front_at (others ++ back) x.1)
+      ∙ ap (λ (s : Result (Contents (others ++ back)) E). s >>= λ c. with_first first (others ++ back) x.0 c) (others_are x.1)
+      ∙ by_others x.0 (front_at others x.1)
+  by_first others_are (Err e) = refl
+
+-- Fields are read front first, then those behind it.
+pub contents_at-join : {E : Type 0} (extra : E) (front back : List (Part E)) (octets : List ℕ) → contents_at extra (front ++ back) octets ≡ (front_at front octets >>= λ x. contents_at extra back x.1 >>= λ y. Ok (join front back x.0 y))
+contents_at-join extra [] back octets = bind-ok (contents_at extra back octets)
+contents_at-join extra (first ∷ others) back octets =
+    by_first extra first others back (contents_at-join extra others back) (told first.fault (content_at first.kind octets))
+
 -- ---- the first fault
 
 closed-first : {E : Type 0} (first : Part E) (others : List (Part E)) → are_closed (first ∷ others) ≡ true → is_sized first.kind ≡ true
@@ -98,15 +166,9 @@ closed-others first (second ∷ others) closed =
 err_is : {A E : Type 0} (d e : E) → ◌≡◌ {A = Result A E} (Err d) (Err e) → e ≡ d
 err_is d e is = cc
 
-abbrev ended : {A E : Type 0} → E → A × List ℕ → Result A E
-ended extra x = nothing_at extra x.1 >>= λ _. Ok x.0
-
 ended_err : {A E : Type 0} (extra : E) (x : A) (octets : List ℕ) (fault : E) → ended extra (x, octets) ≡ Err fault → (0 < length octets) × (fault ≡ extra)
 ended_err extra x [] fault e = absurd cc
 ended_err extra x (octet ∷ octets) fault e = (omega arith, err_is extra fault e)
-
-abbrev first_of_all : {E : Type 0} (first : Part E) (others : List (Part E)) → Content first.kind → Contents others × List ℕ → Result (Contents (first ∷ others) × List ℕ) E
-first_of_all first others c z = Ok ((c, z.0), z.1)
 
 -- what fails behind the first field fails for the others alone
 err_behind : {E : Type 0} (extra : E) (first : Part E) (others : List (Part E)) (c : Content first.kind) (r : Result (Contents others × List ℕ) E) (fault : E) → ((r >>= λ z. first_of_all first others c z) >>= ended extra) ≡ Err fault → (r >>= ended extra) ≡ Err fault

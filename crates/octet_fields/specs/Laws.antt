@@ -1,7 +1,8 @@
 -- The laws of fields, for all kinds and all octets. E is a format's own word for what may be wrong.
 use Rattle.std.specs.Prelude.{◌≡◌, ◌<◌, ◌⊎◌, ℕ, List, [], ◌∷◌, ◌++◌, length, Ok, Err, IsTrue}
 use Rattle.octet_fields.specs.declared.defect.Defect.{Defect}
-use Rattle.octet_fields.specs.Kinds.{IsOctets, Kind, Number, Text, Counted, Rest, Content, spelling, IsWithin, Part, Contents, spellings, AreWithin, are_delimited, are_closed}
+use Rattle.octet_fields.specs.Texts.{IsOctets}
+use Rattle.octet_fields.specs.Kinds.{Kind, Number, Text, Counted, Parameters, Content, spelling, IsWithin, Part, Contents, spellings, AreWithin, are_delimited, are_closed}
 use Rattle.octet_fields.specs.Reading.{front_at, contents_at}
 
 -- What is read is spelled so, each octet of it, and within its limits.
@@ -23,7 +24,7 @@ WholeIsRead E = (extra : E) (parts : List (Part E)) (contents : Contents parts) 
 
 -- a field that goes on to the end has nothing behind it
 abbrev pub MayPrecede : Kind → List ℕ → Type 0
-MayPrecede (Rest most test) rest = rest ≡ []
+MayPrecede (Parameters most) rest = rest ≡ []
 MayPrecede (Number size test) rest = Unit {0}
 MayPrecede (Text limit) rest = Unit {0}
 MayPrecede (Counted size most test) rest = Unit {0}

@@ -1,3 +1,4 @@
+pub mod Texts
 pub mod Kinds
 pub mod Reading
 pub mod Laws

@@ -1,9 +1,9 @@
 -- Fields are read from the front of octets, up to the first that has no spelling there.
-use Rattle.std.specs.Prelude.{Bool, ◌≡◌, ℕ, suc, List, [], ◌∷◌, length, take, drop, position, Option, Some, None, Result, Ok, Err, nat_lt, nat_le, ◌==◌, if◌then◌else◌}
+use Rattle.std.specs.Prelude.{Bool, ◌≡◌, ℕ, zero, suc, List, [], ◌∷◌, length, take, drop, position, Option, Some, None, option_map, option_and_then, Result, Ok, Err, nat_lt, nat_le, ◌==◌, if◌then◌else◌}
 use Rattle.std.specs.Int.{w16, w32, w64, from_be_bytes}
 use Rattle.octet_fields.specs.declared.defect.Defect.{Defect}
 use Rattle.octet_fields.specs.declared.defect.Defect.TheVariants.{Cut, Few, Long, Unfit}
-use Rattle.octet_fields.specs.Kinds.{Size, One, Two, Four, Eight, Kind, Number, Text, Counted, Rest, Content, Part, Contents}
+use Rattle.octet_fields.specs.Kinds.{Size, One, Two, Four, Eight, Kind, Number, Text, Counted, Parameters, Content, Part, Contents}
 
 infixl 10 ◌>>=◌
 abbrev pub ◌>>=◌ : {A B E : Type 0} → Result A E → (A → Result B E) → Result B E
@@ -37,9 +37,31 @@ taken_at most count octets =
 abbrev pub counted_at : Size → ℕ → List ℕ → Result (List ℕ × List ℕ) Defect
 counted_at size most octets = number_at size octets >>= λ x. taken_at most x.0 x.1
 
--- all octets
-unfoldable pub rest_at : ℕ → List ℕ → Result (List ℕ × List ℕ) Defect
-rest_at most octets = if nat_lt most (length octets) then Err Long else Ok (octets, [])
+-- The optional parameter with which the octets begin, and the octets behind it; none where it is cut.
+unfoldable pub tlv_at : List ℕ → Option ((ℕ × List ℕ) × List ℕ)
+tlv_at (a ∷ b ∷ c ∷ d ∷ octets) =
+    let count = from_be_bytes w16 (c ∷ d ∷ []) in
+    if nat_lt (length octets) count then None
+    else Some ((from_be_bytes w16 (a ∷ b ∷ []), take count octets), drop count octets)
+tlv_at octets = None
+
+-- an optional parameter in front of others
+abbrev pub tlv_before : ℕ × List ℕ → Option (List (ℕ × List ℕ)) → Option (List (ℕ × List ℕ))
+tlv_before tlv others = option_map (λ tlvs. tlv ∷ tlvs) others
+
+-- The optional parameters that the octets are, at most as many as the first number; none where one is cut.
+unfoldable pub tlvs_from : ℕ → List ℕ → Option (List (ℕ × List ℕ))
+tlvs_from most [] = Some []
+tlvs_from zero (octet ∷ octets) = None
+tlvs_from (suc most) (octet ∷ octets) = option_and_then (λ x. tlv_before x.0 (tlvs_from most x.1)) (tlv_at (octet ∷ octets))
+
+abbrev pub tlvs_or_defect : Option (List (ℕ × List ℕ)) → Result (List (ℕ × List ℕ) × List ℕ) Defect
+tlvs_or_defect None = Err Cut
+tlvs_or_defect (Some tlvs) = Ok (tlvs, [])
+
+-- the optional parameters up to the end
+unfoldable pub parameters_at : ℕ → List ℕ → Result (List (ℕ × List ℕ) × List ℕ) Defect
+parameters_at most octets = if nat_lt most (length octets) then Err Long else tlvs_or_defect (tlvs_from (length octets) octets)
 
 -- what passes a test
 abbrev pub passing : {A : Type 0} → (A → Bool) → A × List ℕ → Result (A × List ℕ) Defect
@@ -50,7 +72,7 @@ unfoldable pub content_at : (kind : Kind) → List ℕ → Result (Content kind 
 content_at (Number size test) octets = number_at size octets >>= λ x. passing test x
 content_at (Text limit) octets = text_at limit octets
 content_at (Counted size most test) octets = counted_at size most octets >>= λ x. passing test x
-content_at (Rest most test) octets = rest_at most octets >>= λ x. passing test x
+content_at (Parameters most) octets = parameters_at most octets
 
 -- ---- fields one after another
 

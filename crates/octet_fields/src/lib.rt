@@ -9,6 +9,7 @@ mod writing;
 pub use defect::Defect;
 pub use laws::{first_fault_is_told, read_is_spelled, spelled_is_read, whole_is_read};
 pub use reading::{
-    counted_at, long_counted_at, nothing_at, octet_at, rest_at, text_at, u16_at, u32_at, u64_at,
+    check_parameters, counted_at, long_counted_at, nothing_at, octet_at, text_at, tlv_at, u16_at,
+    u32_at, u64_at,
 };
 pub use writing::{put_counted, put_long_counted, put_octets, put_text};

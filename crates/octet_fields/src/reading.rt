@@ -1,6 +1,7 @@
 //! Fields at the front of octets, each with the octets behind it. Nothing here takes memory.
 
-ghost use Rattle.std.specs.Prelude.{◌≡◌, ◌≤◌, ◌==◌, [], length, position, IfOk};
+ghost use Rattle.std.specs.Prelude.{◌≡◌, ◌≤◌, ◌==◌, ℕ, List, [], length, position, IfOk, MatchOption, MatchResult};
+ghost use Rattle.octet_fields.specs.Texts.{IsText};
 ghost use Rattle.octet_fields.specs.Kinds as kinds;
 ghost use Rattle.octet_fields.specs.Reading as spec;
 
@@ -70,7 +71,8 @@ fn first_zero(octets: &[u8]) -> Option<usize>
 /// if so many octets stand there and none is zero, and Cut if there are not so many.
 #[tactic(auto, unfolding(crate::specs::Reading::text_at, crate::specs::Reading::content_at))]
 pub fn text_at(limit: usize, octets: &[u8]) -> Result<(&[u8], &[u8]), Defect>
-    ensures { spec.IsRead (λ x. (x.0.now, x.1.now)) result (spec.content_at (kinds.Text limit) octets.now) }
+    ensures read { spec.IsRead (λ x. (x.0.now, x.1.now)) result (spec.content_at (kinds.Text limit) octets.now) }
+    ensures text { IfOk result (λ x. IsText limit x.0.now) }
 {
     let near = &octets[..limit.min(octets.len())];
     match first_zero(near) {
@@ -123,15 +125,43 @@ pub fn long_counted_at(most: usize, octets: &[u8]) -> Result<(&[u8], &[u8]), Def
     Ok(counted)
 }
 
-/// All octets. Long if they are more than `most`.
-#[tactic(auto, unfolding(crate::specs::Reading::rest_at))]
-pub fn rest_at(most: usize, octets: &[u8]) -> Result<&[u8], Defect>
-    ensures { spec.IsRead (λ x. (x.now, [])) result (spec.rest_at most octets.now) }
+/// An optional parameter (SMPP 3.4, section 3.2.4.1): its tag and its value; none where it is cut.
+#[tactic(auto, unfolding(crate::specs::Reading::tlv_at))]
+pub fn tlv_at(octets: &[u8]) -> Option<(u16, &[u8], &[u8])>
+    ensures { MatchOption result
+        (spec.tlv_at octets.now ≡ None)
+        (λ x. spec.tlv_at octets.now ≡ Some ((x.0, x.1.now), x.2.now)) }
+{
+    let [a, b, c, d, rest @ ..] = octets else {
+        return None;
+    };
+    let count = u16::from_be_bytes([*c, *d]) as usize;
+    if rest.len() < count {
+        return None;
+    }
+    let (value, rest) = rest.split_at(count);
+    Some((u16::from_be_bytes([*a, *b]), value, rest))
+}
+
+/// Optional parameters up to the end, and nothing behind them. Long if their octets are more than `most`, and Cut if one of
+/// them is.
+#[tactic(auto, unfolding(crate::specs::Reading::parameters_at, crate::specs::Reading::content_at))]
+pub fn check_parameters(most: usize, octets: &[u8]) -> Result<(), Defect>
+    ensures { MatchResult result
+        (λ _. (tlvs : List (ℕ × List ℕ)) × (spec.content_at (kinds.Parameters most) octets.now ≡ Ok (tlvs, [])))
+        (λ defect. spec.content_at (kinds.Parameters most) octets.now ≡ Err defect) }
 {
     if octets.len() > most {
         return Err(Defect::Long);
     }
-    Ok(octets)
+    let mut rest = octets;
+    while let Some((_, _, after)) = tlv_at(rest) {
+        rest = after;
+    }
+    if !rest.is_empty() {
+        return Err(Defect::Cut);
+    }
+    Ok(())
 }
 
 /// No octet. Extra if there is one.

@@ -3,7 +3,7 @@
 ghost use Rattle.std.specs.Prelude.{◌≡◌, ◌<◌, ◌^◌, ◌++◌, ◌∷◌, [], length, OnOk, OnErr};
 ghost use Rattle.std.specs.Int.{w16, to_be_bytes};
 ghost use Rattle.std.specs.Io.{StartsWith};
-ghost use Rattle.octet_fields.specs.Kinds.{IsOctets};
+ghost use Rattle.octet_fields.specs.Texts.{IsOctets};
 
 use std::alloc::AllocError;
 

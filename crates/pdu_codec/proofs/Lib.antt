@@ -1,6 +1,4 @@
 pub mod Optional
-pub mod FieldLaws
-pub mod TlvLaws
 pub mod MessageLaws
 pub mod PduLaws
 pub mod NoMemory

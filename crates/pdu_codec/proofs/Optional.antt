@@ -1,13 +1,52 @@
--- Optional parameters that are kept by a test.
-use Rattle.std.proofs.Common.{◌≡◌, ℕ, ◌+◌, ◌<◌, ◌≤◌, Bool, true, false, cond, List, [], ◌∷◌, ◌++◌, length, get_or, take, refl, sym, ◌∙◌, ap, arith, length-append}
+-- Optional parameters: those that octets are, and those that are kept by a test.
+use Rattle.std.proofs.Common.{◌≡◌, ℕ, ◌+◌, ◌<◌, ◌≤◌, Bool, true, false, cond, List, [], ◌∷◌, ◌++◌, length, get_or, take, Option, None, Result, Ok, Err, IsOk, refl, sym, ◌∙◌, ap, arith, length-append}
 use Rattle.std.specs.List.{filter, flat_map, AllByRecursion}
 use Rattle.std.specs.Int.{w16, to_be_bytes}
 use Rattle.std.proofs.lemmas.List.Folds.{length-flat_map-take, flat_map-map}
 use Rattle.std.proofs.lemmas.List.{append-nil, take_more, map_push}
 use Rattle.std.proofs.lemmas.List.Elements.{filter-append}
+use Rattle.std.proofs.lemmas.Bool.{false≢true}
+use Rattle.octet_fields.specs.declared.defect.Defect.{Defect}
+use Rattle.octet_fields.specs.Reading.{told, content_at, parameters_at, tlv_at}
+use Rattle.octet_fields.proofs.Octets.{ok_is}
+use Rattle.octet_fields.proofs.Parameters.{SoFar, SoFar-all, whole-from_ok, parameters_take, parameters_again}
+use Rattle.pdu_codec.specs.Grammar.{parameters_fault, optional_at}
 use Rattle.pdu_codec.specs.declared.tlv.Tlv.{Tlv}
-use Rattle.pdu_codec.specs.Text.{AreOptional, IsTagged, tlv_octets, optional_octets}
+use Rattle.pdu_codec.specs.Text.{IsOctets, AreOptional, IsTagged, tlv_octets, optional_octets}
 use Rattle.pdu_codec.specs.Tlv.{pair_of, pairs_of}
+
+told_ok : {A : Type 0} (r : Result A Defect) → IsOk (told parameters_fault r) → IsOk r
+told_ok (Ok x) ok = refl
+told_ok (Err d) ok = absurd (false≢true ok)
+
+pub optional-few : (octets : List ℕ) → IsOk (optional_at octets) → length octets ≤ 7000
+unfolding content_at
+optional-few octets ok = (whole-from_ok 7000 octets (told_ok (parameters_at 7000 octets) ok)).few
+
+pub optional-all : (octets rest : List ℕ) (tlvs : List (ℕ × List ℕ)) → SoFar octets tlvs rest → IsOk (optional_at octets) → tlv_at rest ≡ None → optional_at octets ≡ Ok (tlvs, [])
+unfolding content_at
+optional-all octets rest tlvs before ok end =
+    ap (told parameters_fault) (SoFar-all 7000 octets rest tlvs before (told_ok (parameters_at 7000 octets) ok) end)
+
+-- the octets of optional parameters that are within their limits
+pub record IsOptional (octets : List ℕ) : Type 0 where
+  pub tlvs : List (ℕ × List ℕ)
+  pub limits : AreOptional tlvs
+  pub spelled : octets ≡ optional_octets tlvs
+
+pub optional-given : (octets : List ℕ) → IsOctets octets → IsOk (optional_at octets) → IsOptional octets
+unfolding content_at
+optional-given octets are ok = by (parameters_at 7000 octets) refl ok
+  where
+    by : (r : Result (List (ℕ × List ℕ) × List ℕ) Defect) → parameters_at 7000 octets ≡ r → IsOk (told parameters_fault r) → IsOptional octets
+    by (Ok x) is ok =
+        let taken = parameters_take 7000 octets x are is in
+        record { tlvs = x.0; limits = taken.within; spelled = taken.parts ∙ ap (λ (rest : List ℕ). optional_octets x.0 ++ rest) taken.rest ∙ append-nil (optional_octets x.0) }
+    by (Err defect) is ok = absurd (false≢true ok)
+
+pub optional-again : (tlvs : List (ℕ × List ℕ)) → AreOptional tlvs → optional_at (optional_octets tlvs) ≡ Ok (tlvs, [])
+unfolding content_at
+optional-again tlvs are = ap (told parameters_fault) (parameters_again 7000 tlvs (omega arith) are)
 
 tags-filter : (test : ℕ × List ℕ → Bool) (tlvs : List (ℕ × List ℕ)) → AllByRecursion IsTagged tlvs → AllByRecursion IsTagged (filter test tlvs)
 tags-filter test [] tags = tt

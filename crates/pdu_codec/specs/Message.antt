@@ -3,7 +3,8 @@ use Rattle.std.specs.Prelude.{ℕ, List, [], ◌∷◌, ◌++◌, Result, Ok}
 use Rattle.pdu_codec.specs.declared.fault.PduFault.{PduFault}
 use Rattle.pdu_codec.specs.declared.message.Envelope.{Envelope}
 use Rattle.pdu_codec.specs.declared.message.Handling.{Handling}
-use Rattle.pdu_codec.specs.Grammar.{Part, Contents, ◌>>=◌, envelope_parts, handling_parts, text_parts, message_parts, front_at, contents_at}
+use Rattle.octet_fields.specs.Kinds.{join}
+use Rattle.pdu_codec.specs.Grammar.{Parts, Contents, ◌>>=◌, envelope_parts, handling_parts, text_parts, message_parts, front_at, contents_at}
 
 abbrev pub envelope_contents : Envelope → Contents envelope_parts
 envelope_contents e =
@@ -12,11 +13,6 @@ envelope_contents e =
 abbrev pub handling_contents : Handling → Contents handling_parts
 handling_contents h =
     (h.esm_class, (h.protocol_id, (h.priority_flag, (h.schedule_delivery_time.now, (h.validity_period.now, (h.registered_delivery, (h.replace_if_present_flag, (h.data_coding, (h.sm_default_msg_id, tt)))))))))
-
--- what stands in the fields of a front, and what stands in those behind it
-abbrev pub join : (front back : List Part) → Contents front → Contents back → Contents (front ++ back)
-join [] back c d = d
-join (first ∷ others) back c d = (c.0, join others back c.1 d)
 
 -- reading a message, piece after piece
 abbrev pub message_in_pieces : List ℕ → Result (Contents message_parts) PduFault

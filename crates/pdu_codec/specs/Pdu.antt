@@ -41,11 +41,6 @@ Gives (Ok x) read = read ≡ Ok x
 Gives (Err faults.Memory) read = Unit {0}
 Gives (Err fault) read = read ≡ Err fault
 
--- What a function read at the front of octets, seen by view, is what reading gives.
-abbrev pub IsRead : {X Y : Type 0} → (X → Y) → Result X PduFault → Result Y PduFault → Type 0
-IsRead view (Ok x) read = read ≡ Ok (view x)
-IsRead view (Err fault) read = read ≡ Err fault
-
 -- What was to be read is this fault, or memory ran out for what can be read.
 abbrev pub Fails : {Y : Type 0} → PduFault → Result Y PduFault → Type 0
 Fails fault read = (read ≡ Err fault) ⊎ ((fault ≡ faults.Memory) × IsOk read)

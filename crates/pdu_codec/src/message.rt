@@ -3,9 +3,9 @@
 
 ghost use Rattle.std.specs.Prelude.{◌≡◌, IfOk};
 ghost use Rattle.pdu_codec.specs.Text.{IsText};
-ghost use Rattle.pdu_codec.specs.Grammar.{envelope_parts, handling_parts, message_parts, front_at, contents_at};
+ghost use Rattle.pdu_codec.specs.Grammar.{envelope_parts, handling_parts, message_parts, front_at, contents_at, IsRead};
 ghost use Rattle.pdu_codec.specs.Contents.{message_contents};
-ghost use Rattle.pdu_codec.specs.Pdu.{IsRead, IsMade};
+ghost use Rattle.pdu_codec.specs.Pdu.{IsMade};
 ghost use Rattle.pdu_codec.specs.Message.{envelope_contents, handling_contents, message_in_pieces};
 
 use crate::fault::{Field, PduFault};

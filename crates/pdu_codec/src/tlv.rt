@@ -4,7 +4,7 @@ ghost use Rattle.std.specs.Prelude.{◌≡◌, ◌≤◌, ◌+◌, [], ◌∷◌
 ghost use Rattle.pdu_codec.specs.Text.{AreOptional, optional_octets, has_tag_among};
 ghost use Rattle.pdu_codec.specs.Grammar.{optional_at};
 
-use crate::fields::tlv_at;
+use octet_fields::tlv_at;
 use std::alloc::{AllocError, Global};
 use std::marker::Model;
 

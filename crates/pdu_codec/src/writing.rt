@@ -3,7 +3,7 @@
 ghost use Rattle.std.specs.Prelude.{◌≡◌, ◌<◌, ◌≤◌, ◌++◌, ◌∷◌, [], length, OnOk, OnErr, IfOk};
 ghost use Rattle.std.specs.Int.{w32, to_be_bytes};
 ghost use Rattle.std.specs.Io.{StartsWith};
-ghost use Rattle.pdu_codec.specs.Text.{IsOctets, IsText, IsShortMessage, AreOptional, optional_octets};
+ghost use Rattle.pdu_codec.specs.Text.{IsText, IsShortMessage, AreOptional, optional_octets};
 ghost use Rattle.pdu_codec.specs.Grammar.{spellings, AreWithin, bind_parts, bind_answer_parts, message_parts, message_id_parts, query_parts, query_answer_parts, cancel_parts};
 ghost use Rattle.pdu_codec.specs.Contents.{bind_contents, bind_answer_contents, message_contents, query_contents, query_answer_contents, cancel_contents};
 ghost use Rattle.pdu_codec.specs.Bodies.{body_octets, BodyFits};
@@ -12,6 +12,7 @@ ghost use Rattle.pdu_codec.specs.Pdu.{octets_of, Fits};
 use crate::pdu::{Address, Bind, BindAnswer, Body, Cancel, Message, Pdu, Query, QueryAnswer};
 use crate::text::{ShortMessage, Text};
 use crate::tlv::Tlvs;
+use octet_fields::{put_counted, put_octets};
 use pdu_tables::limits;
 use std::alloc::{AllocError, Global};
 
@@ -20,17 +21,7 @@ fn put_text<const LIMIT: usize>(out: &mut Vec<u8>, text: &Text<LIMIT>) -> Result
     ensures ok { OnOk result (out.new.items ≡ out.old.items ++ (text.now ++ 0 ∷ [])) }
     ensures text { IsText LIMIT text.now }
 {
-    out.extend_from_slice(text.octets())?;
-    out.push(0)?;
-    Ok(())
-}
-
-/// Octets, as they are.
-fn put_octets(out: &mut Vec<u8>, octets: &[u8]) -> Result<(), AllocError>
-    ensures ok { OnOk result (out.new.items ≡ out.old.items ++ octets.now) }
-    ensures octets { IsOctets octets.now }
-{
-    out.extend_from_slice(octets)
+    octet_fields::put_text(out, text.octets())
 }
 
 /// sm_length and the short_message.
@@ -38,10 +29,7 @@ fn put_short_message(out: &mut Vec<u8>, message: &ShortMessage) -> Result<(), Al
     ensures ok { OnOk result (out.new.items ≡ out.old.items ++ (length message.now ∷ message.now)) }
     ensures short { IsShortMessage message.now }
 {
-    let octets = message.octets();
-    out.push(octets.len() as u8)?;
-    out.extend_from_slice(octets)?;
-    Ok(())
+    put_counted(out, message.octets())
 }
 
 /// Appends each optional parameter: its tag, its length and its value. An `Err` is want of memory: the octets that were

@@ -1,5 +1,5 @@
-use Rattle.std.proofs.Common.{refl, arith}
-use Rattle.fate_chain.proofs.ChainReading.{is_optional-told}
+use Rattle.std.proofs.Common.{is_ok, refl, ap, arith}
+use Rattle.pdu_codec.proofs.Optional.{optional-again}
 use Rattle.fate_chain.proofs.writing.put_message.Goals as goal
 
 pub returns-clause-fits : goal.returns-clause-fits
@@ -9,6 +9,6 @@ returns-clause-fits c =
     record {
       parties = c.in_ok-put_parties.ensures.limits;
       handling = c.in_ok-put_handling.ensures.limits;
-      texts = ((texts.short, refl), ((omega (arith, passed.most), is_optional-told _ passed), tt));
+      texts = ((texts.short, refl), ((omega (arith, passed.most), ap is_ok (optional-again _ passed)), tt));
       passed = passed;
     }

@@ -1,4 +1,4 @@
-use Rattle.std.proofs.Common.{append_assoc}
+use Rattle.std.proofs.Common.{refl, append_assoc}
 use Rattle.std.proofs.lemmas.List.{append-nil}
 use Rattle.pdu_codec.proofs.writing.put_message.Goals as goal
 
@@ -12,4 +12,4 @@ returns-clause-limits c =
     let second = c.put_octets-2.ensures.octets in
     let source = c.in_ok-put_address.ensures in
     let destination = c.in_ok-put_address-2.ensures in
-    (c.put_text.ensures.text, (source.ton, (source.npi, (source.digits, (destination.ton, (destination.npi, (destination.digits, (first 0, (first 1, (first 2, (c.put_text-2.ensures.text, (c.put_text-3.ensures.text, (second 0, (second 1, (second 2, (second 3, (c.put_short_message.ensures.short, (c.put_tlvs.ensures.limits, tt))))))))))))))))))
+    (c.put_text.ensures.text, ((source.ton, refl), ((source.npi, refl), (source.digits, ((destination.ton, refl), ((destination.npi, refl), (destination.digits, ((first 0, refl), ((first 1, refl), ((first 2, refl), (c.put_text-2.ensures.text, (c.put_text-3.ensures.text, ((second 0, refl), ((second 1, refl), ((second 2, refl), ((second 3, refl), ((c.put_short_message.ensures.short, refl), (c.put_tlvs.ensures.limits, tt))))))))))))))))))

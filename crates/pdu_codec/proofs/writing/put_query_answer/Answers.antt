@@ -1,6 +1,7 @@
+use Rattle.std.proofs.Common.{refl}
 use Rattle.pdu_codec.proofs.writing.put_query_answer.Goals as goal
 
 pub returns-clause-limits : goal.returns-clause-limits
 returns-clause-limits c =
     let octets = c.put_octets.ensures.octets in
-    (c.put_text.ensures.text, (c.put_text-2.ensures.text, (octets 0, (octets 1, tt))))
+    (c.put_text.ensures.text, (c.put_text-2.ensures.text, ((octets 0, refl), ((octets 1, refl), tt))))

@@ -1,11 +1,12 @@
 use Rattle.std.proofs.Common.{ℕ, List, arith}
-use Rattle.pdu_codec.proofs.TlvLaws.{tlv-length, IsOptional-from_ok, SoFar-none, SoFar-more, SoFar-all}
+use Rattle.octet_fields.proofs.Parameters.{tlv-length, SoFar-none, SoFar-more}
+use Rattle.pdu_codec.proofs.Optional.{optional-few, optional-all}
 use Rattle.pdu_codec.proofs.tlv.Tlvs.of.Goals as goal
 
 pub push-requires : goal.push-requires
 push-requires c =
     let x : (ℕ × List ℕ) × List ℕ = ((c.in-Some.tag, c.in-Some.value.now), c.in-Some.after.now) in
-    omega (arith, c.loop-tag.invariant.count, tlv-length c.loop-tag.rest.now x c.in-Some.ensures, (IsOptional-from_ok c.args.octets.now c.requires).few)
+    omega (arith, c.loop-tag.invariant.count, tlv-length c.loop-tag.rest.now x c.in-Some.ensures, optional-few c.args.octets.now c.requires)
 
 pub loop-tag-init : goal.loop-tag-init
 loop-tag-init c = rw c.empty-tlvs.ensures (SoFar-none c.args.octets.now)
@@ -22,4 +23,4 @@ loop-tag-preserved c =
 
 pub returns : goal.returns
 returns c =
-    SoFar-all c.args.octets.now c.loop-tag.rest.now c.loop-tag.tlvs c.loop-tag.invariant c.requires c.in_default.ensures
+    optional-all c.args.octets.now c.loop-tag.rest.now c.loop-tag.tlvs c.loop-tag.invariant c.requires c.in_default.ensures

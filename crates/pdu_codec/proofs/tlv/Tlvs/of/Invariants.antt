@@ -1,5 +1,5 @@
 use Rattle.std.proofs.Common.{length}
-use Rattle.pdu_codec.proofs.TlvLaws.{SoFar}
+use Rattle.octet_fields.proofs.Parameters.{SoFar}
 use Rattle.pdu_codec.proofs.tlv.Tlvs.of.Given as goal
 
 abbrev pub invariant-loop-tag : goal.invariant-loop-tag

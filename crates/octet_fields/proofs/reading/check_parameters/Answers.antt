@@ -1,6 +1,7 @@
 use Rattle.std.proofs.Common.{rules, ℕ, List, ◌∙◌, sym, arith}
-use Rattle.pdu_codec.proofs.TlvLaws.{tlv-length, is_some-next, optional-cut, optional-whole}
-use Rattle.pdu_codec.proofs.fields.check_optional.Goals as goal
+use Rattle.octet_fields.specs.Reading.{content_at}
+use Rattle.octet_fields.proofs.Parameters.{tlv-length, is_some-next, parameters-cut, parameters-whole}
+use Rattle.octet_fields.proofs.reading.check_parameters.Goals as goal
 
 pub loop-after-smaller : goal.loop-after-smaller
 loop-after-smaller c =
@@ -13,9 +14,11 @@ loop-after-preserved c =
     is_some-next c.loop-after.rest.now x c.in-Some.ensures ∙ c.loop-after.invariant
 
 pub returns-then-not-is_empty : goal.returns-then-not-is_empty
+unfolding content_at
 returns-then-not-is_empty c =
-    optional-cut c.args.octets.now c.loop-after.rest.now (search rules) c.in_default.ensures c.loop-after.invariant (sym c.if-not-is_empty.ensures)
+    parameters-cut c.args.most c.args.octets.now c.loop-after.rest.now (search rules) c.in_default.ensures c.loop-after.invariant (sym c.if-not-is_empty.ensures)
 
 pub returns : goal.returns
+unfolding content_at
 returns c =
-    optional-whole c.args.octets.now c.loop-after.rest.now (search rules) c.loop-after.invariant (sym c.if-not-is_empty.ensures)
+    parameters-whole c.args.most c.args.octets.now c.loop-after.rest.now (search rules) c.loop-after.invariant (sym c.if-not-is_empty.ensures)

@@ -1,6 +1,6 @@
 use Rattle.std.proofs.Common.{◌≡◌, length, is_some}
-use Rattle.pdu_codec.proofs.TlvLaws.{tlvs_in}
-use Rattle.pdu_codec.proofs.fields.check_optional.Given as goal
+use Rattle.octet_fields.proofs.Parameters.{tlvs_in}
+use Rattle.octet_fields.proofs.reading.check_parameters.Given as goal
 
 abbrev pub invariant-loop-after : goal.invariant-loop-after
 invariant-loop-after l = is_some (tlvs_in l.rest) ≡ is_some (tlvs_in l.octets)

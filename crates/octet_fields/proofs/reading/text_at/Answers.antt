@@ -1,7 +1,7 @@
 use Rattle.std.proofs.Common.{position, eqb, ap, sym, ◌∙◌}
 use Rattle.std.proofs.lemmas.List.{take_min}
-use Rattle.pdu_codec.proofs.FieldLaws.{IsText-before}
-use Rattle.pdu_codec.proofs.fields.text_at.Goals as goal
+use Rattle.octet_fields.proofs.Fields.{IsText-before}
+use Rattle.octet_fields.proofs.reading.text_at.Goals as goal
 
 pub returns-in-Some-clause-text : goal.returns-in-Some-clause-text
 returns-in-Some-clause-text c =
