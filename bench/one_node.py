@@ -3,8 +3,8 @@
 
 Of ten lines one is a settle, one a cancel and four are queries; the other four are submits, up to the 10,000 that one
 script may have accepted in a calm run, and queries after that. Each script has ten ticks, evenly apart. A tick is 60,000
-seconds after the one before, so that messages expire, which are valid for 259,200 seconds. Give the built program as the
-argument:
+seconds after the one before, so that messages expire, which are valid for 259,200 seconds. GNU time (Debian's `time`) measures,
+since the peak memory of a process that Python starts begins at Python's own. Give the built program as the argument:
 
     python3 bench/one_node.py crates/centre/out/centre
 """
@@ -56,13 +56,15 @@ def run(program, text):
     with tempfile.TemporaryFile() as source, tempfile.TemporaryFile() as sink:
         source.write(text.encode())
         source.seek(0)
-        process = subprocess.Popen([program, "script"], stdin=source, stdout=sink)
-        _, status, usage = os.wait4(process.pid, 0)
+        run = subprocess.run(
+            ["/usr/bin/time", "-f", "%U %S %M", program, "script"], stdin=source, stdout=sink, stderr=subprocess.PIPE, text=True
+        )
         sink.seek(0)
         answers = sum(1 for _ in sink)
-    if status != 0:
-        sys.exit(f"the program ended with status {status}")
-    return usage.ru_utime + usage.ru_stime, usage.ru_maxrss, answers
+    if run.returncode != 0:
+        sys.exit(f"the program ended with status {run.returncode}")
+    user, system, kib = run.stderr.split()[-3:]
+    return float(user) + float(system), int(kib), answers
 
 
 def main():

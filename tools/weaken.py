@@ -1,12 +1,15 @@
 #!/usr/bin/env python3
 """Tries each weakening of a definition on a copy: the law that it names must not be proved any more.
 
-    tools/weaken.py [--rt COMMAND] [NAME ..]
+    tools/weaken.py [--rt COMMAND] [--jobs N] [NAME ..]
 
-A weakening is a file of tools/weakenings: a line `law: PATH`, and `file:`, `old:` and `new:`, where the text stands once in the file.
+With N jobs, N copies are worked on at once. A weakening is a file of tools/weakenings: a line `law: PATH`, and `file:`, `old:` and `new:`, where the text stands once in the file.
 (A line's end within a text is written as the character U+23CE.) The last line printed is `N refused, M let through`.
 """
+import argparse
+import concurrent.futures
 import os
+import queue
 import re
 import shutil
 import subprocess
@@ -83,21 +86,30 @@ def try_one(copy, name, command):
 
 
 def main():
-    words = sys.argv[1:]
-    command = "rt"
-    if words[:1] == ["--rt"]:
-        command, words = words[1], words[2:]
-    names = words or sorted(f[:-5] for f in os.listdir(FOLDER) if f.endswith(".edit"))
-    copy = copied()
-    refused, others = 0, 0
-    for name in names:
-        law, said = try_one(copy, name, command)
-        refused += said == "refused"
-        others += said != "refused"
+    parser = argparse.ArgumentParser(description=__doc__, formatter_class=argparse.RawDescriptionHelpFormatter)
+    parser.add_argument("--rt", metavar="COMMAND", default="rt", help="the command that checks")
+    parser.add_argument("--jobs", metavar="N", type=int, default=1, help="how many copies are worked on at once")
+    parser.add_argument("names", metavar="NAME", nargs="*", help="weakenings; all without any")
+    arguments = parser.parse_args()
+    names = arguments.names or sorted(f[:-5] for f in os.listdir(FOLDER) if f.endswith(".edit"))
+    copies = queue.Queue()
+    for _ in range(arguments.jobs):
+        copies.put(copied())
+
+    def tried(name):
+        copy = copies.get()
+        law, said = try_one(copy, name, arguments.rt)
+        copies.put(copy)
         print(f"{name}: {said} ({law})", flush=True)
-    shutil.rmtree(copy)
-    print(f"{refused} refused, {others} let through")
-    return 0 if others == 0 else 1
+        return said
+
+    with concurrent.futures.ThreadPoolExecutor(arguments.jobs) as pool:
+        said = list(pool.map(tried, names))
+    for _ in range(arguments.jobs):
+        shutil.rmtree(copies.get())
+    refused = said.count("refused")
+    print(f"{refused} refused, {len(said) - refused} let through")
+    return 0 if refused == len(said) else 1
 
 
 if __name__ == "__main__":

@@ -1,0 +1,71 @@
+#!/usr/bin/env python3
+"""Prints the processor time of decoding and of encoding 200,000 submit_sm, here and by libsmpp34.
+
+    python3 bench/codec.py
+
+It builds bench/codec/main.rt with the crates of HEAD in a folder of its own, which proves pdu_codec first and takes minutes, and
+bench/codec/smpp34.c with gcc, if Debian's libsmpp34-dev is there; else it says so. Both run on one PDU in one run of the script,
+each five times, and the best counts. A run of no turns is taken off, so that the start of a process does not count. GNU time
+(Debian's `time`) measures, since the peak memory of a process that Python starts begins at Python's own.
+"""
+import pathlib
+import shutil
+import subprocess
+import sys
+import tempfile
+
+TOP = pathlib.Path(__file__).resolve().parent.parent
+TURNS = 200_000
+RUNS = 5
+# The submit_sm of the first script: 41 octets, from 144 to 155, with a receipt, the text Hi.
+PDU = "0000002900000004000000000000000200010131343400010131353500000000000001000000024869"
+
+
+def built_here(work):
+    """The program over pdu_codec, in a clone of HEAD with one crate more."""
+    clone = work / "clone"
+    subprocess.run(["git", "clone", "-q", str(TOP), str(clone)], check=True)
+    crate = clone / "crates" / "codec_bench"
+    (crate / "src").mkdir(parents=True)
+    shutil.copy(TOP / "bench" / "codec" / "main.rt", crate / "src" / "main.rt")
+    lines = (clone / "crates.txt").read_text().splitlines()
+    below = next(line for line in lines if line.startswith("pdu_codec:")).split(":")[1]
+    with (clone / "crates.txt").open("a") as crates:
+        crates.write(f"codec_bench:{below} pdu_codec hex\n")
+    built = subprocess.run(["rt", "run", "codec_bench", "--", "decode", "1", PDU], cwd=clone, capture_output=True, text=True)
+    if built.returncode != 0:
+        sys.exit(built.stdout + built.stderr)
+    return crate / "out" / "codec_bench"
+
+
+def built_smpp34(work):
+    """The program over libsmpp34, or none if the library is not there."""
+    if not pathlib.Path("/usr/include/libsmpp34/smpp34.h").exists():
+        return None
+    program = work / "smpp34"
+    source = TOP / "bench" / "codec" / "smpp34.c"
+    subprocess.run(["gcc", "-O2", "-I/usr/include/libsmpp34", "-o", program, source, "-lsmpp34"], check=True)
+    return program
+
+
+def used(program, way, turns):
+    """The processor time of a run, in seconds."""
+    run = subprocess.run(["/usr/bin/time", "-f", "%U %S", program, way, str(turns), PDU], capture_output=True, text=True, check=True)
+    return sum(float(word) for word in run.stderr.split()[-2:])
+
+
+def main():
+    work = pathlib.Path(tempfile.mkdtemp(prefix="codec-"))
+    programs = {"pdu_codec": built_here(work), "libsmpp34": built_smpp34(work)}
+    for way in ("decode", "encode"):
+        for name, program in programs.items():
+            if program is None:
+                print(f"{way}, {name}: not measured, since libsmpp34-dev is not there")
+                continue
+            best = min(used(program, way, TURNS) - used(program, way, 0) for _ in range(RUNS))
+            print(f"{way}, {name}: {best:.2f} s for {TURNS} submit_sm, {best / TURNS * 1e6:.2f} microseconds each")
+    shutil.rmtree(work)
+
+
+if __name__ == "__main__":
+    main()
