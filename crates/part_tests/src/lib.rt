@@ -1,9 +1,11 @@
-//! The tests of `mc_types`, `pdu_tables`, `pdu_codec`, `pdu_frames`, `script_lines` and `smpp_time`, in a crate without code so that
+//! The tests of `mc_types`, `octet_fields`, `pdu_tables`, `pdu_codec`, `pdu_frames`, `script_lines` and `smpp_time`, in a crate without code so that
 //! each of those is proved once.
 #![tactic(auto)]
 
 #[cfg(test)]
 mod bodies;
+#[cfg(test)]
+mod fields;
 #[cfg(test)]
 mod frames;
 #[cfg(test)]
