@@ -64,7 +64,11 @@ on_request centre session sequence requested request None = answers centre (Refu
 on_request centre session sequence requested request (Some account) =
     begin centre session sequence requested (begins account centre.clock request centre.desk centre.chains)
 
--- responses of the ESME answer nothing yet
+-- a request that is not served
+abbrev pub not_served : Centre → Reaction
+not_served centre = answers centre (Nack statuses.InvalidCommandId)
+
+-- Responses of the ESME answer nothing yet.
 abbrev pub on_body : Centre → ℕ → ℕ → Body → Reaction
 on_body centre session sequence (bodies.BindTransceiver bind) = on_bind centre session bind (account_of centre session)
 on_body centre session sequence (bodies.SubmitSm message) =
@@ -72,6 +76,10 @@ on_body centre session sequence (bodies.SubmitSm message) =
 on_body centre session sequence (bodies.QuerySm query) = on_request centre session sequence requests.QuerySm (Ask query) (account_of centre session)
 on_body centre session sequence (bodies.CancelSm cancel) = on_request centre session sequence requests.CancelSm (Cancel cancel) (account_of centre session)
 on_body centre session sequence bodies.EnquireLink = answers centre Linked
+on_body centre session sequence (bodies.BindReceiver bind) = not_served centre
+on_body centre session sequence (bodies.BindTransmitter bind) = not_served centre
+on_body centre session sequence (bodies.DeliverSm message) = not_served centre
+on_body centre session sequence bodies.Unbind = not_served centre
 on_body centre session sequence other = silent centre
 
 -- ---- the octets of a session

@@ -11,7 +11,7 @@ use Rattle.pdu_tables.specs.StateCodes.{state_code}
 use Rattle.pdu_codec.specs.declared.pdu.Pdu.{Pdu}
 use Rattle.pdu_codec.specs.declared.pdu.BindAnswer.{BindAnswer}
 use Rattle.pdu_codec.specs.declared.pdu.Body.{Body}
-use Rattle.pdu_codec.specs.declared.pdu.Body.TheVariants.{BindTransceiverResp, SubmitSmResp, QuerySmResp, CancelSmResp, EnquireLinkResp, GenericNack}
+use Rattle.pdu_codec.specs.declared.pdu.Body.TheVariants.{BindReceiverResp, BindTransmitterResp, BindTransceiverResp, SubmitSmResp, DeliverSmResp, QuerySmResp, CancelSmResp, UnbindResp, EnquireLinkResp, GenericNack}
 use Rattle.desk.specs.declared.request.Answer.{Answer}
 use Rattle.desk.specs.declared.request.Answer.TheVariants.{Submitted, Found, NotFound, Cancelled, NotCancelled}
 use Rattle.script_runner.specs.declared.response.Requested.{Requested}
@@ -19,21 +19,29 @@ use Rattle.script_runner.specs.declared.response.Requested.TheVariants as reques
 use Rattle.script_runner.specs.declared.response.Response.{Response}
 use Rattle.script_runner.specs.declared.response.Response.TheVariants.{Nack, Refused, Bound, Linked}
 
--- the request that a command is, if it is one that is served
+-- the request that a command is, if it is one
 abbrev pub requested_by : Option Command → Option Requested
+requested_by (Some commands.BindReceiver) = Some requests.BindReceiver
+requested_by (Some commands.BindTransmitter) = Some requests.BindTransmitter
 requested_by (Some commands.BindTransceiver) = Some requests.BindTransceiver
 requested_by (Some commands.SubmitSm) = Some requests.SubmitSm
+requested_by (Some commands.DeliverSm) = Some requests.DeliverSm
 requested_by (Some commands.QuerySm) = Some requests.QuerySm
 requested_by (Some commands.CancelSm) = Some requests.CancelSm
+requested_by (Some commands.Unbind) = Some requests.Unbind
 requested_by (Some commands.EnquireLink) = Some requests.EnquireLink
 requested_by other = None
 
 -- the body of the response that refuses a request: none behind the header
 abbrev pub refusal_body : Requested → Body
+refusal_body requests.BindReceiver = BindReceiverResp None
+refusal_body requests.BindTransmitter = BindTransmitterResp None
 refusal_body requests.BindTransceiver = BindTransceiverResp None
 refusal_body requests.SubmitSm = SubmitSmResp None
+refusal_body requests.DeliverSm = DeliverSmResp None
 refusal_body requests.QuerySm = QuerySmResp None
 refusal_body requests.CancelSm = CancelSmResp
+refusal_body requests.Unbind = UnbindResp
 refusal_body requests.EnquireLink = EnquireLinkResp
 
 -- what a bind is answered that succeeds: the centre's name, and its version if the ESME knows optional parameters

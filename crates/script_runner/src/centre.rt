@@ -163,7 +163,8 @@ impl Centre {
         Ok(())
     }
 
-    /// What a PDU with this body is answered in its own step, if anything. Each body is moved into one call, and what
+    /// What a PDU with this body is answered in its own step, if anything: a request that is not served gets a generic_nack,
+    /// and a response, which answers nothing here, gets nothing. Each body is moved into one call, and what
     /// goes out is a small value: a function that holds a body over a `?` is dear to prove.
     fn body(
         &mut self,
@@ -186,6 +187,8 @@ impl Centre {
                 self.request(alloc, session, sequence, Requested::CancelSm, request)
             }
             Body::EnquireLink => Ok(Some(Response::Linked)),
+            Body::BindReceiver(_) | Body::BindTransmitter(_) | Body::DeliverSm(_) | Body::Unbind =>
+                { Ok(Some(Response::Nack(Status::InvalidCommandId))) }
             _ => Ok(None),
         }
     }

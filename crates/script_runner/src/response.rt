@@ -18,28 +18,36 @@ const KNOWS_OPTIONAL: u8 = 0x34;
 /// The tag sc_interface_version (section 5.3.2.25).
 const SC_INTERFACE_VERSION: u16 = 0x0210;
 
-/// A request of an ESME, by its command.
+/// A request of an ESME, by its command. Not all of them are served.
 #[derive(Clone, Copy, Debug, PartialEq, Eq)]
 pub enum Requested {
+    BindReceiver,
+    BindTransmitter,
     BindTransceiver,
     SubmitSm,
+    DeliverSm,
     QuerySm,
     CancelSm,
+    Unbind,
     EnquireLink,
 }
 
 impl Requested {
     ghost use Rattle.script_runner.specs.Responses.{requested_by, refusal_body};
 
-    /// The request that a command_id names, if it is one that this centre serves.
+    /// The request that a command_id names, if it names one.
     pub fn of_command(command: u32) -> Option<Requested>
         ensures { result ≡ requested_by (command_of command) }
     {
         match Command::of_code(command) {
+            Some(Command::BindReceiver) => Some(Requested::BindReceiver),
+            Some(Command::BindTransmitter) => Some(Requested::BindTransmitter),
             Some(Command::BindTransceiver) => Some(Requested::BindTransceiver),
             Some(Command::SubmitSm) => Some(Requested::SubmitSm),
+            Some(Command::DeliverSm) => Some(Requested::DeliverSm),
             Some(Command::QuerySm) => Some(Requested::QuerySm),
             Some(Command::CancelSm) => Some(Requested::CancelSm),
+            Some(Command::Unbind) => Some(Requested::Unbind),
             Some(Command::EnquireLink) => Some(Requested::EnquireLink),
             _ => None,
         }
@@ -50,10 +58,14 @@ impl Requested {
         ensures { result ≡ refusal_body self }
     {
         match self {
+            Requested::BindReceiver => Body::BindReceiverResp(None),
+            Requested::BindTransmitter => Body::BindTransmitterResp(None),
             Requested::BindTransceiver => Body::BindTransceiverResp(None),
             Requested::SubmitSm => Body::SubmitSmResp(None),
+            Requested::DeliverSm => Body::DeliverSmResp(None),
             Requested::QuerySm => Body::QuerySmResp(None),
             Requested::CancelSm => Body::CancelSmResp,
+            Requested::Unbind => Body::UnbindResp,
             Requested::EnquireLink => Body::EnquireLinkResp,
         }
     }
