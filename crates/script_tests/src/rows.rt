@@ -10,7 +10,7 @@ pub struct Row {
     pub told: &'static str,
 }
 
-pub const ROWS: [Row; 24] = [
+pub const ROWS: [Row; 25] = [
     Row {
         name: "bind_twice",
         script: "nodes 1\npdu 1 1 0000001e000000090000000000000001736d653100707731000034000000\npdu 1 1 0000001e000000090000000000000001736d653100707731000034000000\n",
