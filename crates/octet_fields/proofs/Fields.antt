@@ -1,13 +1,13 @@
 -- Each kind of field: what is read stands at the front of the octets, and what stands there is read.
-use Rattle.std.proofs.Common.{◌≡◌, ℕ, zero, suc, ◌+◌, ◌<◌, ◌≤◌, Bool, true, false, not, cond, eqb, ltb, leb, List, [], ◌∷◌, ◌++◌, length, get_or, take, drop, position, All, Option, Some, None, Result, Ok, Err, min, refl, sym, ap, subst, ◌∙◌, arith, append_assoc, length-append, length-take}
+use Rattle.std.proofs.Common.{◌≡◌, ℕ, suc, ◌+◌, ◌<◌, ◌≤◌, Bool, true, false, not, cond, eqb, ltb, leb, List, [], ◌∷◌, ◌++◌, length, get_or, take, drop, position, Option, Some, None, Result, Ok, Err, min, refl, sym, ap, subst, ◌∙◌, arith, append_assoc, length-append, length-take}
 use Rattle.std.specs.Int.{w16, w32, w64, from_be_bytes}
-use Rattle.std.specs.List.{list_any, position_or_len}
+use Rattle.std.specs.List.{position_or_len}
 use Rattle.std.proofs.Math.Seq.{drop-cons, get_or-append_seam}
 use Rattle.std.proofs.Math.ListN.{get_or-append}
-use Rattle.std.proofs.lemmas.Bool.{and_parts, and_from, eqb-false, eqb-true, eq-eqb, ne_eqb, leb-true, le-leb, ltb-true, ltb-false, lt-ltb, le-ltb, false≢true}
-use Rattle.std.proofs.lemmas.List.{append-nil, get_or-take, get_or-drop, take_at, drop_at, take-append-drop}
+use Rattle.std.proofs.lemmas.Bool.{and_parts, and_from, eqb-false, eqb-true, eq-eqb, ne_eqb, leb-true, le-leb, ltb-true, ltb-false, lt-ltb, le-ltb}
+use Rattle.std.proofs.lemmas.List.{append-nil, get_or-take, take_at, drop_at, take-append-drop}
 use Rattle.std.proofs.lemmas.List.Elements.{All-from_get_or}
-use Rattle.std.proofs.lemmas.List.Folds.{list_any_none, list_any_at}
+use Rattle.std.proofs.lemmas.List.Folds.{list_any_none}
 use Rattle.std.proofs.lemmas.List.Quantifiers.{position-Some}
 use Rattle.std.proofs.lemmas.List.Sums.{position_or_len_is}
 use Rattle.std.proofs.lemmas.Nat.{be_bytes_2, be_bytes_4, be_bytes_8, from_be_bytes-to_be_bytes_2, from_be_bytes-to_be_bytes_4, from_be_bytes-to_be_bytes_8}

@@ -1,5 +1,5 @@
 -- Optional parameters, read one after the other.
-use Rattle.std.proofs.Common.{◌≡◌, ℕ, zero, suc, ◌+◌, ◌^◌, ◌<◌, ◌≤◌, Bool, true, false, cond, ltb, List, [], ◌∷◌, ◌++◌, length, take, drop, Option, Result, Some, None, IsSome, is_some, IsOk, option_map, option_and_then, Ok, Err, eqb, inl, inr, refl, sym, ap, subst, ◌∙◌, arith, append_assoc, length-append, length-take, length-drop}
+use Rattle.std.proofs.Common.{◌≡◌, ℕ, zero, suc, ◌+◌, ◌^◌, ◌<◌, ◌≤◌, Bool, true, false, cond, ltb, List, [], ◌∷◌, ◌++◌, length, take, drop, Option, Some, None, IsSome, is_some, IsOk, option_map, option_and_then, Ok, Err, eqb, inl, inr, refl, sym, ap, subst, ◌∙◌, arith, append_assoc, length-append, length-take, length-drop}
 use Rattle.std.proofs.lemmas.Bool.{ltb-false, le-ltb, eqb-true, false≢true, cases_Bool}
 use Rattle.std.proofs.lemmas.List.Concat.{flat_map-append}
 use Rattle.std.proofs.lemmas.List.{append-nil, nil_from_length, take_at, drop_at, take-append-drop}
@@ -8,7 +8,6 @@ use Rattle.std.specs.Int.{w16, from_be_bytes, to_be_bytes}
 use Rattle.std.specs.List.{AllByRecursion}
 use Rattle.octet_fields.specs.Texts.{IsOctets, IsTagged, AreParameters, optional_octets, tlv_octets}
 use Rattle.octet_fields.specs.Reading.{tlv_at, tlv_before, tlvs_from, tlvs_or_defect, parameters_at}
-use Rattle.octet_fields.specs.declared.defect.Defect.{Defect}
 use Rattle.octet_fields.specs.declared.defect.Defect.TheVariants.{Cut, Long}
 use Rattle.octet_fields.proofs.Octets.{IsOctets-drop, guard_ok, ok_is}
 

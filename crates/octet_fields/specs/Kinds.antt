@@ -1,5 +1,5 @@
 -- The kinds of field of which PDUs and records are made: what may stand in a field, and its octets.
-use Rattle.std.specs.Prelude.{Bool, true, false, ℕ, ◌<◌, ◌≤◌, ◌^◌, List, [], ◌∷◌, ◌++◌, length, slice_index, nat_lt, nat_le, not, ◌==◌, ◌&&◌, IsTrue}
+use Rattle.std.specs.Prelude.{Bool, true, false, ℕ, ◌<◌, ◌≤◌, ◌^◌, List, [], ◌∷◌, ◌++◌, length, nat_lt, nat_le, not, ◌==◌, ◌&&◌, IsTrue}
 use Rattle.std.specs.List.{list_any}
 use Rattle.std.specs.Int.{w16, w32, w64, to_be_bytes}
 use Rattle.octet_fields.specs.declared.defect.Defect.{Defect}

@@ -1,5 +1,5 @@
 -- A message is read piece after piece.
-use Rattle.std.proofs.Common.{◌≡◌, ℕ, List, ◌++◌, Result, Ok, Err, refl, ap, ◌∙◌}
+use Rattle.std.proofs.Common.{◌≡◌, ℕ, List, ◌++◌, Result, Ok, ap, ◌∙◌}
 use Rattle.octet_fields.specs.Kinds.{join}
 use Rattle.octet_fields.proofs.Records.{bind-assoc, bind-same, contents_at-join}
 use Rattle.pdu_codec.specs.declared.fault.PduFault.{PduFault}

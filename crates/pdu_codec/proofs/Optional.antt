@@ -1,5 +1,5 @@
 -- Optional parameters: those that octets are, and those that are kept by a test.
-use Rattle.std.proofs.Common.{◌≡◌, ℕ, ◌+◌, ◌<◌, ◌≤◌, Bool, true, false, cond, List, [], ◌∷◌, ◌++◌, length, get_or, take, Option, None, Result, Ok, Err, IsOk, refl, sym, ◌∙◌, ap, arith, length-append}
+use Rattle.std.proofs.Common.{◌≡◌, ℕ, ◌+◌, ◌<◌, ◌≤◌, Bool, true, false, cond, List, [], ◌∷◌, ◌++◌, length, get_or, take, None, Result, Ok, Err, IsOk, refl, sym, ◌∙◌, ap, arith, length-append}
 use Rattle.std.specs.List.{filter, flat_map, AllByRecursion}
 use Rattle.std.specs.Int.{w16, to_be_bytes}
 use Rattle.std.proofs.lemmas.List.Folds.{length-flat_map-take, flat_map-map}
@@ -8,7 +8,6 @@ use Rattle.std.proofs.lemmas.List.Elements.{filter-append}
 use Rattle.std.proofs.lemmas.Bool.{false≢true}
 use Rattle.octet_fields.specs.declared.defect.Defect.{Defect}
 use Rattle.octet_fields.specs.Reading.{told, content_at, parameters_at, tlv_at}
-use Rattle.octet_fields.proofs.Octets.{ok_is}
 use Rattle.octet_fields.proofs.Parameters.{SoFar, SoFar-all, whole-from_ok, parameters_take, parameters_again}
 use Rattle.pdu_codec.specs.Grammar.{parameters_fault, optional_at}
 use Rattle.pdu_codec.specs.declared.tlv.Tlv.{Tlv}

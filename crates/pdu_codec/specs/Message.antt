@@ -1,10 +1,10 @@
 -- A message in three pieces, as they stand in octets: the envelope, the handling, and the text with what follows.
-use Rattle.std.specs.Prelude.{ℕ, List, [], ◌∷◌, ◌++◌, Result, Ok}
+use Rattle.std.specs.Prelude.{ℕ, List, ◌++◌, Result, Ok}
 use Rattle.pdu_codec.specs.declared.fault.PduFault.{PduFault}
 use Rattle.pdu_codec.specs.declared.message.Envelope.{Envelope}
 use Rattle.pdu_codec.specs.declared.message.Handling.{Handling}
 use Rattle.octet_fields.specs.Kinds.{join}
-use Rattle.pdu_codec.specs.Grammar.{Parts, Contents, ◌>>=◌, envelope_parts, handling_parts, text_parts, message_parts, front_at, contents_at}
+use Rattle.pdu_codec.specs.Grammar.{Contents, ◌>>=◌, envelope_parts, handling_parts, text_parts, message_parts, front_at, contents_at}
 
 abbrev pub envelope_contents : Envelope → Contents envelope_parts
 envelope_contents e =

@@ -1,10 +1,9 @@
 -- Texts and optional parameters, within their limits.
-use Rattle.std.specs.Prelude.{ℕ, ◌<◌, ◌≤◌, ◌^◌, ◌++◌, ◌==◌, Bool, List, length, slice_index, All}
+use Rattle.std.specs.Prelude.{ℕ, ◌≤◌, ◌==◌, Bool, List, length}
 use Rattle.std.specs.Cmp.Lexicographic.{pointwise}
 use Rattle.std.specs.Ordering.{on, eq_of_both}
 use Rattle.std.specs.Str.{bytes_eq}
-use Rattle.std.specs.List.{AllByRecursion, flat_map, list_any}
-use Rattle.std.specs.Int.{w16, to_be_bytes}
+use Rattle.std.specs.List.{list_any}
 use Rattle.octet_fields.specs.Texts.{AreParameters}
 pub use Rattle.octet_fields.specs.Texts.{IsOctets, IsText, tlv_octets, optional_octets, IsTagged}
 
