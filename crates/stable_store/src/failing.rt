@@ -1,0 +1,93 @@
+//! A store whose device fails, for tests.
+
+ghost use Rattle.std.specs.Prelude.{◌≡◌, ◌↔◌, IsTrue};
+
+use crate::fault::StoreFault;
+use crate::list::ListStore;
+use crate::store::StableStore;
+use mc_types::Incarnation;
+use synod_acceptor::{Change, Record};
+
+/// What a save that failed leaves: what was stored before it, or what it was to store.
+#[derive(Clone, Copy, Debug, PartialEq, Eq)]
+pub enum Found {
+    Before,
+    After,
+}
+
+/// A store of which one save fails. After that it goes on, as a device does that was opened again.
+#[derive(Debug, Drop)]
+pub struct FailingStore {
+    store: ListStore,
+    // How many saves from now the one that fails is; 0 where none is left to fail.
+    fails_in: u64,
+    found: Found,
+    failed: u64,
+}
+
+impl FailingStore {
+    /// A store over this one, of which the save of this number, from 1, fails, and leaves this.
+    pub fn make(store: ListStore, save: u64, found: Found) -> FailingStore
+        ensures store { result.store ≡ store }
+        ensures fails_in { result.fails_in ≡ save }
+        ensures found { result.found ≡ found }
+        ensures failed { result.failed ≡ 0 }
+    {
+        FailingStore {
+            store,
+            fails_in: save,
+            found,
+            failed: 0,
+        }
+    }
+
+    /// Whether the next save fails.
+    pub fn fails_next(&self) -> bool
+        ensures { IsTrue result ↔ (self.now.fails_in ≡ 1) }
+    {
+        self.fails_in == 1
+    }
+
+    /// The store under it.
+    pub fn into_store(self) -> ListStore
+        ensures { result ≡ self.store }
+    {
+        self.store
+    }
+}
+
+impl StableStore for FailingStore {
+    ghost use Rattle.synod_acceptor.specs.Records.{record_at};
+
+    ghost records = { λ s. record_at s.store.entries };
+
+    ghost started = { λ s. s.store.started };
+
+    ghost failed = { λ s. s.failed };
+
+    fn load(&mut self) -> Result<Vec<Record>, StoreFault> {
+        self.store.load()
+    }
+
+    fn save(&mut self, change: &Change) -> Result<(), StoreFault> {
+        if !self.fails_next() {
+            self.store.save(change)?;
+            self.fails_in = self.fails_in.saturating_sub(1);
+            return Ok(());
+        }
+        if self.found == Found::After {
+            self.store.save(change)?;
+        }
+        self.fails_in = 0;
+        self.failed = self.failed.saturating_add(1);
+        Err(StoreFault::Device)
+    }
+
+    fn next_incarnation(&mut self) -> Result<Incarnation, StoreFault> {
+        self.store.next_incarnation()
+    }
+
+    fn failures(&self) -> u64 {
+        self.failed
+    }
+}

@@ -1,0 +1,67 @@
+//! A store that holds a save up, for tests.
+
+ghost use Rattle.std.specs.Prelude.{◌≡◌};
+
+use crate::fault::StoreFault;
+use crate::list::ListStore;
+use crate::store::StableStore;
+use mc_types::Incarnation;
+use synod_acceptor::{Change, Record};
+
+/// What holds a save up: it returns when the save may go on.
+pub trait Hold {
+    fn hold(&mut self);
+}
+
+/// A store of which one save is held up.
+#[derive(Drop)]
+pub struct HoldingStore<H: Hold> {
+    store: ListStore,
+    // How many saves from now the one that is held is; 0 where none is left to hold.
+    holds_in: u64,
+    hold: H,
+}
+
+impl<H: Hold> HoldingStore<H> {
+    /// A store over this one, of which the save of this number, from 1, is held up before it is done.
+    pub fn make(store: ListStore, save: u64, hold: H) -> Self
+        ensures store { result.store ≡ store }
+        ensures holds_in { result.holds_in ≡ save }
+    {
+        HoldingStore {
+            store,
+            holds_in: save,
+            hold,
+        }
+    }
+}
+
+impl<H: Hold> StableStore for HoldingStore<H> {
+    ghost use Rattle.synod_acceptor.specs.Records.{record_at};
+
+    ghost records = { λ s. record_at s.store.entries };
+
+    ghost started = { λ s. s.store.started };
+
+    ghost failed = { λ _. 0 };
+
+    fn load(&mut self) -> Result<Vec<Record>, StoreFault> {
+        self.store.load()
+    }
+
+    fn save(&mut self, change: &Change) -> Result<(), StoreFault> {
+        if self.holds_in == 1 {
+            self.hold.hold();
+        }
+        self.holds_in = self.holds_in.saturating_sub(1);
+        self.store.save(change)
+    }
+
+    fn next_incarnation(&mut self) -> Result<Incarnation, StoreFault> {
+        self.store.next_incarnation()
+    }
+
+    fn failures(&self) -> u64 {
+        0
+    }
+}

@@ -1,0 +1,14 @@
+//! What a node keeps where a stop can't reach it: the records of its acceptor, and the number of its last incarnation.
+#![tactic(auto)]
+
+mod failing;
+mod fault;
+mod holding;
+mod list;
+mod store;
+
+pub use failing::{FailingStore, Found};
+pub use fault::StoreFault;
+pub use holding::{Hold, HoldingStore};
+pub use list::ListStore;
+pub use store::StableStore;

@@ -1,0 +1,95 @@
+//! A store in memory.
+
+ghost use Rattle.std.specs.Prelude.{◌≡◌, [], reverse, IfOk};
+ghost use Rattle.synod_acceptor.specs.Records.{entries_of, record_at};
+
+use crate::fault::StoreFault;
+use crate::store::StableStore;
+use mc_types::Incarnation;
+use std::alloc::{AllocError, Global};
+use std::marker::Model;
+use synod_acceptor::{Change, Record};
+
+/// A store in memory, for scripts and tests: the records in the order in which they were saved. It outlives the stop of a node
+/// whose program goes on. A save costs one copy of a record; a load costs all that were saved.
+#[derive(Debug, Drop)]
+pub struct ListStore {
+    // The oldest first.
+    saved: Vec<Record>,
+    started: u16,
+}
+
+impl Model for ListStore {
+    ghost use Rattle.std.specs.Prelude.{reverse, ◌≤◌};
+    ghost use Rattle.stable_store.specs.Stored.{Listed};
+
+    ghost Value = { Listed };
+
+    ghost use Rattle.synod_acceptor.specs.Records.{entries_of};
+
+    ghost view = { λ s. record {
+      entries = entries_of (reverse s.saved.items);
+      started = s.started;
+    } };
+}
+
+impl ListStore {
+    /// A new store: no record, and no incarnation.
+    pub fn make(alloc: Global) -> ListStore
+        ensures entries { result.entries ≡ [] }
+        ensures started { result.started ≡ 0 }
+    {
+        ListStore {
+            saved: Vec::new(alloc),
+            started: 0,
+        }
+    }
+
+    /// Copies of all records that were saved, the newest first. An `Err` is want of memory: what was saved can always be read.
+    pub fn saved(&self) -> Result<Vec<Record>, AllocError>
+        ensures { IfOk result (λ saved. entries_of saved.items ≡ self.now.entries) }
+    {
+        reversed(*self.saved.allocator(), &self.saved)
+    }
+}
+
+impl StableStore for ListStore {
+    ghost records = { λ s. record_at s.entries };
+
+    ghost started = { λ s. s.started };
+
+    ghost failed = { λ _. 0 };
+
+    fn load(&mut self) -> Result<Vec<Record>, StoreFault> {
+        let saved = self.saved()?;
+        Ok(saved)
+    }
+
+    fn save(&mut self, change: &Change) -> Result<(), StoreFault> {
+        self.saved.push(change.after.copy()?)?;
+        Ok(())
+    }
+
+    fn next_incarnation(&mut self) -> Result<Incarnation, StoreFault> {
+        let Ok(next) = Incarnation::make(self.started.saturating_add(1)) else {
+            return Err(StoreFault::Incarnations);
+        };
+        self.started = next.number();
+        Ok(next)
+    }
+
+    fn failures(&self) -> u64 {
+        0
+    }
+}
+
+/// Copies of records, in the reverse order.
+fn reversed(alloc: Global, records: &[Record]) -> Result<Vec<Record>, AllocError>
+    ensures { IfOk result (λ copies. copies.items ≡ reverse records.now) }
+{
+    let mut copies = Vec::with_capacity(alloc, records.len())?;
+    for place in (0..records.len()).rev() {
+        copies.push(records[place].copy()?)?;
+    }
+    Ok(copies)
+}

@@ -1,0 +1,105 @@
+-- Promises, counted one after another.
+use Rattle.std.proofs.Common.{◌≡◌, ◌↔◌, ℕ, Bool, true, false, cond, List, ◌∷◌, Option, Some, None, refl, sym, ap, subst, ◌∙◌, inl, inr, arith}
+use Rattle.std.specs.Prelude.{◌==◌, ◌||◌, nat_lt}
+use Rattle.std.proofs.lemmas.Bool.{eq-eqb, eqb-true, ltb-true, ltb-false, or_cases}
+use Rattle.mc_types.specs.Nodes.{has}
+use Rattle.mc_model.specs.synod.Lists.{In}
+use Rattle.mc_model.specs.synod.Majority.{IsMajority}
+use Rattle.mc_model.specs.synod.OneSlot.{Vote}
+use Rattle.mc_model.specs.synod.Packet.{Packet, Promise, Slot}
+use Rattle.mc_parts.proofs.Majorities.{counted, majority_counts}
+use Rattle.synod_proposer.specs.Proposing.{IsCounted, Round, higher_of}
+use Rattle.synod_proposer.specs.Promises.{CountsPromises, HasPromised, IsHighestReport, IsHighestVote, IsPromisedBy}
+
+-- ---- the highest vote
+
+-- what one more promise reports is what a packet with it reports
+reported : (acceptor node ballot : ℕ) (slot : Slot) (report : Option Vote) (vote : Vote) → Promise node slot ballot (Some vote) ≡ Promise acceptor slot ballot report → report ≡ Some vote
+reported acceptor node ballot slot report vote same = let votes : Some vote ≡ report = cc in sym votes
+
+highest_of : (received : List Packet) (slot : Slot) (ballot acceptor : ℕ) (top vote : Vote) (test : Bool) → nat_lt top.ballot vote.ballot ≡ test → IsHighestVote received slot ballot top → IsHighestReport (Promise acceptor slot ballot (Some vote) ∷ received) slot ballot (cond test (Some vote) (Some top))
+highest_of received slot ballot acceptor top vote true above is = record {
+  reported = (acceptor, inl refl);
+  highest = λ node cast is_in. elim is_in [
+    | inl same ↦ let votes : Some vote ≡ Some cast = reported acceptor node ballot slot (Some vote) cast same in let equal : vote ≡ cast = cc in let ballots : vote.ballot ≡ cast.ballot = ap (λ (v : Vote). v.ballot) equal in omega arith
+    | inr before ↦ let lower = is.highest node cast before in let higher = ltb-true top.ballot vote.ballot above in omega (arith, lower, higher)
+  ];
+}
+highest_of received slot ballot acceptor top vote false below is = record {
+  reported = (is.reported.0, inr is.reported.1);
+  highest = λ node cast is_in. elim is_in [
+    | inl same ↦ let votes : Some vote ≡ Some cast = reported acceptor node ballot slot (Some vote) cast same in let equal : vote ≡ cast = cc in let ballots : vote.ballot ≡ cast.ballot = ap (λ (v : Vote). v.ballot) equal in let lower = ltb-false top.ballot vote.ballot below in omega (arith, lower, ballots)
+    | inr before ↦ is.highest node cast before
+  ];
+}
+
+highest_more : (received : List Packet) (slot : Slot) (ballot acceptor : ℕ) (top report : Option Vote) → IsHighestReport received slot ballot top → IsHighestReport (Promise acceptor slot ballot report ∷ received) slot ballot (higher_of top report)
+highest_more received slot ballot acceptor None None is = λ node cast is_in. elim is_in [
+  | inl same ↦ let none = reported acceptor node ballot slot None cast same in absurd (cc)
+  | inr before ↦ is node cast before
+]
+highest_more received slot ballot acceptor (Some top) None is = record {
+  reported = (is.reported.0, inr is.reported.1);
+  highest = λ node cast is_in. elim is_in [
+    | inl same ↦ let none = reported acceptor node ballot slot None cast same in absurd (cc)
+    | inr before ↦ is.highest node cast before
+  ];
+}
+highest_more received slot ballot acceptor None (Some vote) is = record {
+  reported = (acceptor, inl refl);
+  highest = λ node cast is_in. elim is_in [
+    | inl same ↦ let votes : Some vote ≡ Some cast = reported acceptor node ballot slot (Some vote) cast same in let equal : vote ≡ cast = cc in let ballots : vote.ballot ≡ cast.ballot = ap (λ (v : Vote). v.ballot) equal in omega arith
+    | inr before ↦ absurd (is node cast before)
+  ];
+}
+highest_more received slot ballot acceptor (Some top) (Some vote) is = highest_of received slot ballot acceptor top vote (nat_lt top.ballot vote.ballot) refl is
+
+-- ---- who promised
+
+promised_more : (old new : ℕ) (received : List Packet) (slot : Slot) (ballot acceptor : ℕ) (report : Option Vote) → ((node : ℕ) → (has old node ≡ true) ↔ HasPromised received slot ballot node) → ((other : ℕ) → has new other ≡ (has old other || other == acceptor)) → (node : ℕ) → (has new node ≡ true) ↔ HasPromised (Promise acceptor slot ballot report ∷ received) slot ballot node
+promised_more old new received slot ballot acceptor report are adds node = (
+  λ has_it. elim (or_cases (has old node) (node == acceptor) (sym (adds node) ∙ has_it)) [
+    | inl was ↦ let had = (are node).0 was in (had.0, inr had.1)
+    | inr same ↦ let is = eqb-true node acceptor same in (report, inl (λ i. Promise (is i) slot ballot report))
+  ],
+  λ promised. from promised,
+)
+  where
+    last : (a b : Bool) → b ≡ true → (a || b) ≡ true
+    last true b is = refl
+    last false b is = is
+
+    first : (a b : Bool) → a ≡ true → (a || b) ≡ true
+    first true b is = refl
+    first false b is = absurd (cc)
+
+    by_packet : (told : Option Vote) → In (Promise node slot ballot told) (Promise acceptor slot ballot report ∷ received) → has new node ≡ true
+    by_packet told (inl same) = let nodes : node ≡ acceptor = cc in adds node ∙ last (has old node) (node == acceptor) (eq-eqb node acceptor nodes)
+    by_packet told (inr before) = adds node ∙ first (has old node) (node == acceptor) ((are node).1 (told, before))
+
+    from : HasPromised (Promise acceptor slot ballot report ∷ received) slot ballot node → has new node ≡ true
+    from promised = by_packet promised.0 promised.1
+
+abbrev Counted : List Packet → ℕ → Slot → ℕ → Type 0
+Counted received promised slot ballot = (node : ℕ) → (has promised node ≡ true) ↔ HasPromised received slot ballot node
+
+pub counted_more : (old new : Round) (received : List Packet) (acceptor : ℕ) (report : Option Vote) → CountsPromises old received → IsCounted old acceptor report new → CountsPromises new (Promise acceptor old.slot old.ballot report ∷ received)
+counted_more old new received acceptor report before is =
+    let packets = Promise acceptor old.slot old.ballot report ∷ received in
+    let promised : Counted packets new.promised old.slot old.ballot = promised_more old.promised new.promised received old.slot old.ballot acceptor report before.promised is.promised in
+    let highest : IsHighestReport packets old.slot old.ballot (higher_of old.highest report) = highest_more received old.slot old.ballot acceptor old.highest report before.highest in
+    record {
+      promised = subst (λ (s : Slot). Counted packets new.promised s new.ballot) (sym is.slot) (subst (λ (b : ℕ). Counted packets new.promised old.slot b) (sym is.ballot) promised);
+      highest =
+          subst (λ (s : Slot). IsHighestReport packets s new.ballot new.highest) (sym is.slot)
+          (subst (λ (b : ℕ). IsHighestReport packets old.slot b new.highest) (sym is.ballot)
+          (subst (λ (h : Option Vote). IsHighestReport packets old.slot old.ballot h) (sym is.highest) highest));
+    }
+
+-- ---- a majority
+
+pub majority_promised : (nodes : ℕ) (r : Round) (received : List Packet) → CountsPromises r received → IsMajority nodes (has r.promised) ↔ IsPromisedBy nodes received r.slot r.ballot
+majority_promised nodes r received counts = (
+  λ most. majority_counts nodes (HasPromised received r.slot r.ballot) (has r.promised) (λ node least within passes. (counts.promised node).0 passes) most,
+  λ majority. counted nodes (HasPromised received r.slot r.ballot) (has r.promised) (λ node least within promised. (counts.promised node).1 promised) majority,
+)

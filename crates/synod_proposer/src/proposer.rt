@@ -1,0 +1,196 @@
+//! The proposer.
+
+ghost use Rattle.std.specs.Prelude.{◌≡◌, ◌≤◌, ◌↔◌, ◌+◌, ℕ, true, false, None, get_or, set, max, option_map, IfOk, IsErr, OnOk, OnErr};
+ghost use Rattle.mc_model.specs.synod.Ballot.{ballot_of};
+ghost use Rattle.mc_model.specs.synod.Packet.{Prepare, slot_of};
+ghost use Rattle.synod_acceptor.specs.Packets.{packet_of};
+ghost use Rattle.synod_acceptor.specs.Votes.{report_of, slot_reported};
+ghost use Rattle.synod_proposer.specs.Proposing.{IsStarted, RoundCounted, RoundProposes, highest_round, refused, runs_at};
+
+use crate::fault::ProposerFault;
+use crate::round::Round;
+use fate_chain::{Author, Chain};
+use mc_types::{Ballot, NodeNo, Slot};
+use std::alloc::AllocError;
+use std::marker::Model;
+use synod_acceptor::{Packet, Report};
+
+/// What a node proposes on one message: the round that runs, if any, and the highest round that it saw at each place of the chain.
+/// All that is handed to it is of that message, and a chain has 18 places at most.
+#[derive(Debug, Drop)]
+pub struct Proposer {
+    me: Author,
+    nodes: u8,
+    round: Option<Round>,
+    seen: [u32; 18],
+}
+
+impl Model for Proposer {
+    ghost use Rattle.synod_proposer.specs.Proposing.{Proposing};
+
+    ghost Value = { Proposing };
+
+    ghost view = { λ p. record {
+      node = p.me.node;
+      incarnation = p.me.incarnation;
+      nodes = p.nodes;
+      round = p.round;
+      seen = p.seen;
+    } };
+}
+
+impl Proposer {
+    /// The proposer of a node in an incarnation, in a cluster of so many nodes. No round runs, and it saw none.
+    pub fn make(me: Author, nodes: u8) -> Proposer
+        ensures node { result.node ≡ me.node }
+        ensures incarnation { result.incarnation ≡ me.incarnation }
+        ensures nodes { result.nodes ≡ nodes }
+        ensures round { result.round ≡ None }
+        ensures seen { (place : ℕ) → get_or result.seen place 0 ≡ 0 }
+    {
+        Proposer {
+            me,
+            nodes,
+            round: None,
+            seen: [0; 18],
+        }
+    }
+
+    /// The slot of the round that runs; none if none does.
+    pub fn running(&self) -> Option<Slot>
+        ensures { result ≡ option_map (λ round. round.slot) self.now.round }
+    {
+        match &self.round {
+            Some(round) => Some(round.slot()),
+            None => None,
+        }
+    }
+
+    /// Starts the round for a chain, in the place of the one that runs, and gives its Prepare. The round is one above the highest at
+    /// that place: of the own record's (0 if there is none), of refusals and of earlier rounds. Rounds exactly if that would pass
+    /// 2^32 - 1; then nothing changes. It takes no memory.
+    pub fn start(&mut self, chain: Chain, own: u32) -> Result<Packet, ProposerFault>
+        ensures rounds { IsErr result ↔ (4294967295 ≤ highest_round self.old (slot_of chain.id chain.decrees).place own) }
+        ensures prepare { IfOk result (λ packet. packet_of packet ≡ Prepare self.old.node (slot_of chain.id chain.decrees)
+            (ballot_of (highest_round self.old (slot_of chain.id chain.decrees).place own + 1) self.old.incarnation self.old.node)) }
+        ensures started { OnOk result (IsStarted self.old (slot_of chain.id chain.decrees) chain.decrees
+            (highest_round self.old (slot_of chain.id chain.decrees).place own + 1) self.new) }
+        ensures err { OnErr result (self.new ≡ self.old) }
+    {
+        let slot = Slot {
+            id: chain.id(),
+            place: chain.place(),
+        };
+        let highest = own.max(seen_at(&self.seen, slot.place));
+        let Some(number) = highest.checked_add(1) else {
+            return Err(ProposerFault::Rounds);
+        };
+        let ballot = Ballot::of(number, self.me.incarnation, self.me.node);
+        note(&mut self.seen, slot.place, number);
+        self.round = Some(Round::start(ballot, chain));
+        Ok(Packet::Prepare {
+            from: self.me.node,
+            slot,
+            ballot,
+        })
+    }
+
+    /// Counts a promise, if it is for the slot and at the ballot of the round that runs, and gives the Propose if it completes a
+    /// majority of promises of different nodes: for the chain of the highest vote that they report, else for the round's own. Any
+    /// other promise changes nothing. An `Err` is want of memory, and changes nothing.
+    pub fn on_promise(
+        &mut self,
+        from: NodeNo,
+        ballot: Ballot,
+        report: &Report,
+    ) -> Result<Option<Packet>, AllocError>
+        ensures elsewhere { runs_at self.old.round (slot_reported report.now) ballot ≡ false → (result ≡ Ok None) × (self.new ≡ self.old) }
+        ensures counted { OnOk result (runs_at self.old.round (slot_reported report.now) ballot ≡ true →
+            RoundCounted self.old.round from (report_of report.now) self.new.round) }
+        ensures proposed { IfOk result (λ packet. runs_at self.old.round (slot_reported report.now) ballot ≡ true →
+            RoundProposes self.old.node self.old.nodes self.old.round self.new.round (option_map packet_of packet)) }
+        ensures seen { self.new.seen ≡ self.old.seen }
+        ensures err { OnErr result (self.new ≡ self.old) }
+    {
+        let Some(round) = &mut self.round else {
+            return Ok(None);
+        };
+        if !round.is_at(report.slot(), ballot) {
+            return Ok(None);
+        }
+        let Some(vote) = round.count(self.nodes, from, report)? else {
+            return Ok(None);
+        };
+        Ok(Some(Packet::Propose {
+            from: self.me.node,
+            vote,
+        }))
+    }
+
+    /// Takes in that a ballot was refused for a promise at another. One of another node or incarnation changes nothing. The round
+    /// that runs ends if it is refused for a greater ballot. It takes no memory.
+    pub fn on_refused(&mut self, slot: Slot, ballot: Ballot, promised: Ballot)
+        ensures { self.new ≡ refused self.old slot ballot promised }
+    {
+        if ballot.node() != self.me.node || ballot.incarnation() != self.me.incarnation {
+            return;
+        }
+        let seen = seen_at(&self.seen, slot.place).max(promised.round());
+        note(&mut self.seen, slot.place, seen);
+        if is_at(&self.round, slot, ballot) && ballot < promised {
+            self.drop_round();
+        }
+    }
+
+    /// Ends the round that runs, if any. It takes no memory.
+    pub fn drop_round(&mut self)
+        ensures { self.new ≡ record self.old { round = None } }
+    {
+        self.round = None;
+    }
+
+    /// The same proposer once more.
+    pub fn copy(&self) -> Result<Proposer, AllocError>
+        ensures { IfOk result (λ proposer. proposer ≡ self.now) }
+    {
+        let round = match &self.round {
+            Some(round) => Some(round.copy()?),
+            None => None,
+        };
+        Ok(Proposer {
+            me: self.me,
+            nodes: self.nodes,
+            round,
+            seen: self.seen,
+        })
+    }
+}
+
+/// Whether a round of this slot at this ballot runs.
+fn is_at(round: &Option<Round>, slot: Slot, ballot: Ballot) -> bool
+    ensures { result ≡ runs_at round.now slot ballot }
+{
+    match round {
+        Some(round) => round.is_at(slot, ballot),
+        None => false,
+    }
+}
+
+/// The highest round that was seen at a place; 0 if none was.
+fn seen_at(seen: &[u32; 18], place: u8) -> u32
+    ensures { result ≡ get_or seen.now place 0 }
+{
+    match seen.get(place as usize) {
+        Some(round) => *round,
+        None => 0,
+    }
+}
+
+/// Notes the highest round that was seen at a place.
+fn note(seen: &mut [u32; 18], place: u8, round: u32)
+    ensures { seen.new ≡ set seen.old place round }
+{
+    if (place as usize) < 18 {
+        seen[place as usize] = round;
+    }
+}
