@@ -5,11 +5,11 @@ use Rattle.std.specs.declared.alloc.AllocError.{AllocError}
 use Rattle.std.specs.Prelude.{OnOk}
 use Rattle.std.specs.Ordering.{nat_cmp}
 use Rattle.std.specs.BTreeMap.{insert_entry}
-use Rattle.pdu_frames.specs.Frames.{IsFrame, IsPart, HasWrongLength, Cut, cut, is_pdu_length}
+use Rattle.pdu_frames.specs.Frames.{IsFrame, IsPart, HasWrongLength, cut, is_pdu_length}
 use Rattle.pdu_frames.proofs.Fronts.{wrong_begins, part_begins, within_limits, length_of_front}
 use Rattle.pdu_frames.proofs.Streams.{frames_one, streams_cut}
 use Rattle.script_runner.specs.declared.centre.Centre.{Centre}
-use Rattle.script_runner.specs.Centre.{Done, IsDone}
+use Rattle.script_runner.specs.Centre.{IsDone}
 use Rattle.script_runner.specs.OneNode.{on_frame, on_wrong_length}
 use Rattle.script_runner.specs.Streams.{holding, then_done, on_frames, on_cut}
 

@@ -1,4 +1,4 @@
-use Rattle.std.proofs.Common.{Ok, Err, ◌++◌, length, take, drop, ◌-◌, sym, ap, ◌∙◌, subst}
+use Rattle.std.proofs.Common.{Ok, Err, ◌++◌, length, take, drop, ◌-◌, ap, ◌∙◌, subst}
 use Rattle.pdu_frames.specs.Frames.{IsPart, HasWrongLength}
 use Rattle.script_runner.proofs.StreamLemmas.{after_take, after_kept, after_wrong, all_taken, joined, wrong_in_front}
 use Rattle.script_runner.proofs.centre.Centre.stream.Goals as goal
