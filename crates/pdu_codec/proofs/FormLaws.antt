@@ -1,5 +1,5 @@
 -- Forms: what is read is spelled so and within its limits, and what is spelled so is read.
-use Rattle.std.proofs.Common.{◌≡◌, ℕ, ◌+◌, ◌<◌, ◌≤◌, Bool, true, false, not, ◌&&◌, eqb, leb, cond, List, [], ◌∷◌, length, Option, Some, None, Result, Ok, refl, ap, ◌∙◌, arith, length-append}
+use Rattle.std.proofs.Common.{◌≡◌, ℕ, ◌+◌, ◌<◌, ◌≤◌, Bool, true, false, not, ◌&&◌, eqb, leb, cond, List, [], ◌∷◌, length, Option, Some, None, Result, Ok, Err, refl, ap, ◌∙◌, arith, length-append}
 use Rattle.std.proofs.lemmas.Bool.{and_parts, false≢true, ne_eqb, eqb-true, leb-true}
 use Rattle.std.proofs.lemmas.List.{nil_from_length}
 use Rattle.octet_fields.specs.declared.defect.Defect.{Defect}
@@ -7,12 +7,13 @@ use Rattle.octet_fields.specs.declared.defect.Defect.TheVariants.{Cut, Few, Long
 use Rattle.octet_fields.specs.declared.defect.Defect.TheVariants as defects
 use Rattle.octet_fields.specs.Kinds.{Size, One, Two, Four, Eight, Kind, Number, Text, Counted, Parameters, Part, Content, Contents, number_octets, spelling, spellings, IsWithin, AreWithin, is_delimited, are_closed}
 use Rattle.octet_fields.proofs.Octets.{bind_ok}
-use Rattle.octet_fields.proofs.Records.{whole_takes, whole_again}
+use Rattle.octet_fields.specs.Laws.{IsFirstFault}
+use Rattle.octet_fields.proofs.Records.{whole_takes, whole_again, first_fault}
 use Rattle.pdu_codec.specs.declared.fault.PduFault.{PduFault}
 use Rattle.pdu_codec.specs.declared.fault.PduFault.TheVariants.{Extra, Memory}
 use Rattle.pdu_codec.specs.Text.{IsOctets}
 use Rattle.pdu_codec.specs.Grammar.{Parts, ◌>>=◌, contents_at}
-use Rattle.pdu_codec.specs.Forms.{Form, Has, MayHave, Filling, filling_octets, FillingFits, filling_at}
+use Rattle.pdu_codec.specs.Forms.{Form, Has, MayHave, parts_of, Filling, filling_octets, FillingFits, filling_at}
 
 -- the most octets that a field and fields may have
 abbrev width : Size → ℕ
@@ -99,10 +100,6 @@ silent-fault part silent defect =
 
 -- ---- forms
 
-abbrev pub parts_of : Form → Parts
-parts_of (Has parts) = parts
-parts_of (MayHave parts) = parts
-
 pub record TakesForm (octets : List ℕ) (form : Form) (filling : Filling form) : Type 0 where
   pub spelled : octets ≡ filling_octets form filling
   pub fits : FillingFits form filling
@@ -162,3 +159,20 @@ form-short (MayHave parts) None sound fits = omega arith
 form-short (MayHave parts) (Some c) sound fits =
     let both = and_parts (has_octet parts) (are_closed parts && leb (most_in parts) 7400) sound in
     omega (arith, spellings-short parts c fits, leb-true (most_in parts) 7400 (and_parts (are_closed parts) (leb (most_in parts) 7400) both.1).1)
+
+-- ---- the first fault
+
+pub bind_err : {A B : Type 0} (r : Result A PduFault) (f : A → B) (fault : PduFault) → (r >>= λ x. Ok (f x)) ≡ Err fault → r ≡ Err fault
+bind_err (Ok x) f fault e = absurd cc
+bind_err (Err d) f fault e = cc
+
+pub form_first_fault : (form : Form) (octets : List ℕ) (fault : PduFault) → IsOctets octets → is_sound form ≡ true → filling_at form octets ≡ Err fault → IsFirstFault Extra (parts_of form) octets fault
+form_first_fault (Has parts) octets fault are sound e =
+    first_fault Extra parts octets fault are (and_parts (are_closed parts) (leb (most_in parts) 7400) sound).0 e
+form_first_fault (MayHave parts) octets fault are sound e = by (eqb (length octets) 0) e
+  where
+    by : (b : Bool) → ◌≡◌ {A = Result (Option (Contents parts)) PduFault} (cond b (Ok None) (contents_at parts octets >>= λ c. Ok (Some c))) (Err fault) → IsFirstFault Extra parts octets fault
+    by true e = absurd cc
+    by false e =
+        let both = and_parts (has_octet parts) (are_closed parts && leb (most_in parts) 7400) sound in
+        first_fault Extra parts octets fault are (and_parts (are_closed parts) (leb (most_in parts) 7400) both.1).0 (bind_err (contents_at parts octets) (λ c. Some c) fault e)

@@ -11,10 +11,10 @@ use Rattle.pdu_codec.specs.declared.fault.PduFault.TheVariants as faults
 use Rattle.pdu_codec.specs.declared.pdu.Pdu.{Pdu}
 use Rattle.pdu_codec.specs.declared.pdu.Body.{Body}
 use Rattle.pdu_codec.specs.Grammar.{Parts, Contents, ◌>>=◌, contents_at, front_at, word_at}
-use Rattle.pdu_codec.specs.Forms.{Form, Has, MayHave, form_of, Filling, filling_at}
+use Rattle.pdu_codec.specs.Forms.{Form, Has, MayHave, form_of, parts_of, Filling, filling_at}
 use Rattle.pdu_codec.specs.Bodies.{body_from, body_at}
 use Rattle.pdu_codec.specs.Pdu.{has_wrong_length, read_pdu}
-use Rattle.pdu_codec.proofs.FormLaws.{parts_of, is_memory, is_silent, are_silent, silent-fault}
+use Rattle.pdu_codec.proofs.FormLaws.{is_memory, is_silent, are_silent, silent-fault}
 use Rattle.pdu_codec.proofs.PduLaws.{with_body}
 use Rattle.pdu_codec.proofs.PduSpelling.{served}
 

@@ -15,11 +15,12 @@ use Rattle.pdu_codec.specs.declared.pdu.Body.{Body}
 use Rattle.pdu_codec.specs.declared.pdu.Body.TheVariants as bodies
 use Rattle.pdu_codec.specs.Text.{IsOctets}
 use Rattle.pdu_codec.specs.Grammar.{◌>>=◌, word_at}
-use Rattle.pdu_codec.specs.Forms.{form_of, Filling, filling_octets, FillingFits, filling_at}
+use Rattle.pdu_codec.specs.Forms.{form_of, parts_of, Filling, filling_octets, FillingFits, filling_at}
 use Rattle.pdu_codec.specs.Bodies.{Filled, Fills, filled_command, filled_by, octets_in, FilledFits, command_in, body_from, body_octets, BodyFits, body_at}
 use Rattle.pdu_codec.specs.Pdu.{octets_of, Fits, has_wrong_length, read_pdu, Gives}
 use Rattle.octet_fields.proofs.Octets.{IsOctets-drop, bind_ok, guard_ok, ok_is}
-use Rattle.pdu_codec.proofs.FormLaws.{is_sound, parts_of, are_silent, form_takes, form_again, form-short}
+use Rattle.octet_fields.specs.Laws.{IsFirstFault}
+use Rattle.pdu_codec.proofs.FormLaws.{is_sound, are_silent, form_takes, form_again, form-short, bind_err, form_first_fault}
 use Rattle.pdu_codec.proofs.PduLaws.{with_body, read_pdu-whole, bind_answer_again, message_id_again, query_answer_again}
 
 -- ---- commands
@@ -242,3 +243,8 @@ read-is_spelled octets (Err fault) are gives = tt
 pub read-fits : (octets : List ℕ) (r : Result Pdu PduFault) → IsOctets octets → Gives r (read_pdu octets) → IfOk r Fits
 read-fits octets (Ok pdu) are gives = (read_pdu-takes octets pdu are gives).fits
 read-fits octets (Err fault) are gives = tt
+
+pub body_first_fault : (command : Command) (octets : List ℕ) (fault : PduFault) → IsOctets octets → body_at (Some command) octets ≡ Err fault → IsFirstFault faults.Extra (parts_of (form_of command)) octets fault
+unfolding body_at
+body_first_fault command octets fault are e =
+    form_first_fault (form_of command) octets fault are (served command).form (bind_err (filling_at (form_of command) octets) (body_from command) fault e)

@@ -31,6 +31,10 @@ form_of EnquireLink = Has []
 form_of EnquireLinkResp = Has []
 form_of GenericNack = Has []
 
+abbrev pub parts_of : Form → Parts
+parts_of (Has parts) = parts
+parts_of (MayHave parts) = parts
+
 -- what stands in a form
 abbrev pub Filling : Form → Type 0
 Filling (Has parts) = Contents parts

@@ -1,6 +1,6 @@
 //! The laws of the format: nothing to call, but to cite.
 
-ghost use Rattle.pdu_codec.specs.Laws.{ReadIsWritten, WrittenIsRead};
+ghost use Rattle.pdu_codec.specs.Laws.{ReadIsWritten, WrittenIsRead, FirstFaultIsTold};
 
 /// What is read is spelled so, each octet of it, and its fields are within their limits.
 pub fn read_is_written()
@@ -10,4 +10,9 @@ pub fn read_is_written()
 /// What is spelled so, by fields within their limits, is read.
 pub fn written_is_read()
     ensures { WrittenIsRead }
+{}
+
+/// The fault of a body is its first: the fields before it stand in front of it, and no content of its field does.
+pub fn first_fault_is_told()
+    ensures { FirstFaultIsTold }
 {}

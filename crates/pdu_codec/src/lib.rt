@@ -16,7 +16,7 @@ mod writing;
 pub use fault::{Field, PduFault};
 pub use fields::check_optional;
 pub use header::{Header, read_header};
-pub use laws::{read_is_written, written_is_read};
+pub use laws::{first_fault_is_told, read_is_written, written_is_read};
 pub use pdu::{Address, Bind, BindAnswer, Body, Cancel, Message, Pdu, Query, QueryAnswer};
 pub use reading::decode;
 pub use text::{ShortMessage, Text};
