@@ -1,0 +1,16 @@
+//! Tests of the synod's parts: ballots, the acceptor, stores, the learner, the proposer. The crates tested have none of their
+//! own, so that each is proved once.
+#![tactic(auto)]
+
+#[cfg(test)]
+mod acceptor;
+#[cfg(test)]
+mod ballots;
+#[cfg(test)]
+mod learner;
+#[cfg(test)]
+mod proposer;
+#[cfg(test)]
+mod stores;
+#[cfg(test)]
+mod values;
