@@ -1,75 +1,84 @@
-//! The body that a PDU is expected to have, and what is said of its fields.
+//! Bodies that are written out by hand, and what is asked of their octets.
 
-use pdu_codec::{
-    Address, Bind, BindAnswer, Body, Cancel, Message, Pdu, Query, QueryAnswer, Text, encode,
-};
+use pdu_codec::{Address, Bind, BindAnswer, Body, Pdu, ShortMessage, Text, Tlvs, decode, encode};
 use std::alloc::Global;
 use std::process::Abort;
+use std::test::Fail;
 
 /// These octets stand in the field.
 pub fn assert_field(rt: &impl Abort, field: &str, found: &[u8], wanted: &[u8]) {
     assert_eq!(rt; found, wanted, "{field}");
 }
 
-/// The address has this type of number and this numbering plan, and these digits.
-pub fn assert_address(rt: &impl Abort, address: &Address, kind: [u8; 2], digits: &[u8]) {
-    assert_field(rt, "ton and npi", &[address.ton, address.npi], &kind);
-    assert_field(rt, "address", address.digits.octets(), digits);
-}
-
-/// The PDU has this status and this sequence_number, and is written as these octets.
-pub fn assert_pdu(rt: &impl Abort, alloc: Global, pdu: &Pdu, numbers: [u32; 2], octets: &[u8]) {
-    assert_eq!(rt; [pdu.status, pdu.sequence], numbers);
-    let mut written = Vec::new(alloc);
-    assert!(rt; encode(pdu, &mut written).is_ok());
-    assert_field(rt, "the whole", &written, octets);
-}
-
-pub fn bind_in(pdu: Pdu) -> Option<Bind> {
-    match pdu.body {
-        Body::BindTransceiver(bind) => Some(bind),
-        _other => None,
+fn is_read_as(alloc: Global, octets: &[u8], wanted: &Pdu) -> bool {
+    match decode(alloc, octets) {
+        Ok(pdu) => pdu == *wanted,
+        Err(_fault) => false,
     }
 }
 
-pub fn bind_answer_in(pdu: Pdu) -> Option<BindAnswer> {
-    match pdu.body {
-        Body::BindTransceiverResp(answer) => answer,
-        _other => None,
-    }
+fn is_written_as(alloc: Global, pdu: &Pdu, wanted: &[u8]) -> bool {
+    let mut octets = Vec::new(alloc);
+    encode(pdu, &mut octets).is_ok() && octets.as_slice() == wanted
 }
 
-pub fn message_in(pdu: Pdu) -> Option<Message> {
-    match pdu.body {
-        Body::SubmitSm(message) => Some(message),
-        _other => None,
-    }
+/// The octets are read as the PDU with this status, this sequence_number and this body, which is written as the octets.
+pub fn assert_is(rt: &impl Abort, alloc: Global, octets: &[u8], numbers: [u32; 2], body: Body) {
+    let [status, sequence] = numbers;
+    let wanted = Pdu {
+        status,
+        sequence,
+        body,
+    };
+    assert!(rt; is_read_as(alloc, octets, &wanted));
+    assert!(rt; is_written_as(alloc, &wanted, octets));
 }
 
-pub fn message_id_in(pdu: Pdu) -> Option<Text<65>> {
-    match pdu.body {
-        Body::SubmitSmResp(message_id) => message_id,
-        _other => None,
-    }
+pub fn text<const LIMIT: usize>(alloc: Global, octets: &[u8]) -> Result<Text<LIMIT>, Fail> {
+    Ok(Text::make(alloc, octets)?.ok_or("a text")?)
 }
 
-pub fn query_in(pdu: Pdu) -> Option<Query> {
-    match pdu.body {
-        Body::QuerySm(query) => Some(query),
-        _other => None,
-    }
+pub fn address(alloc: Global, ton: u8, npi: u8, digits: &[u8]) -> Result<Address, Fail> {
+    Ok(Address {
+        ton,
+        npi,
+        digits: text(alloc, digits)?,
+    })
 }
 
-pub fn query_answer_in(pdu: Pdu) -> Option<QueryAnswer> {
-    match pdu.body {
-        Body::QuerySmResp(answer) => answer,
-        _other => None,
-    }
+pub fn short_message(alloc: Global, octets: &[u8]) -> Result<ShortMessage, Fail> {
+    Ok(ShortMessage::make(alloc, octets)?.ok_or("a short_message")?)
 }
 
-pub fn cancel_in(pdu: Pdu) -> Option<Cancel> {
-    match pdu.body {
-        Body::CancelSm(cancel) => Some(cancel),
-        _other => None,
-    }
+/// The bind with this system_id, password, system_type and address_range, and with these numbers in their order.
+pub fn bind(alloc: Global, texts: [&[u8]; 4], numbers: [u8; 3]) -> Result<Bind, Fail> {
+    let [system_id, password, system_type, address_range] = texts;
+    let [interface_version, addr_ton, addr_npi] = numbers;
+    Ok(Bind {
+        system_id: text(alloc, system_id)?,
+        password: text(alloc, password)?,
+        system_type: text(alloc, system_type)?,
+        interface_version,
+        addr_ton,
+        addr_npi,
+        address_range: text(alloc, address_range)?,
+    })
+}
+
+/// The answer with this system_id, whose one optional parameter is an sc_interface_version.
+pub fn bind_answer(
+    alloc: Global,
+    system_id: &[u8],
+    version: u8,
+) -> Result<Option<BindAnswer>, Fail> {
+    let mut tlvs = Tlvs::empty(alloc);
+    tlvs.push(0x0210, &[version])?;
+    Ok(Some(BindAnswer {
+        system_id: text(alloc, system_id)?,
+        tlvs,
+    }))
+}
+
+pub fn message_id(alloc: Global, octets: &[u8]) -> Result<Option<Text<65>>, Fail> {
+    Ok(Some(text(alloc, octets)?))
 }

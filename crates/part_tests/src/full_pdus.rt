@@ -1,178 +1,142 @@
-//! PDUs with no two fields alike, so that a field read or written in another's place shows. Their octets were written by hand
-//! from the tables of SMPP 3.4, section 4: a line for the header and a line for each field or two.
+//! PDUs with no two fields alike are read as the values that are written out here, and written back.
 
 use crate::bodies::*;
-use pdu_codec::{Message, decode};
-use std::process::Abort;
+use crate::full_vectors::*;
+use pdu_codec::{Body, Cancel, Message, Query, QueryAnswer, Tlvs};
 use std::test::Fail;
 
-const BIND: &[u8] = b"\
-    \x00\x00\x00\x32\x00\x00\x00\x09\x00\x00\x00\x0a\x00\x00\x00\x0b\
-    SMPP3TEST\0\
-    secret08\0\
-    SUBMIT1\0\
-    \x34\
-    \x05\x09\
-    ^44\0";
-
-const BIND_ANSWER: &[u8] = b"\
-    \x00\x00\x00\x1a\x80\x00\x00\x09\x00\x00\x00\x0d\x00\x00\x00\x0c\
-    SMSC\0\
-    \x02\x10\x00\x01\x34";
-
-const SUBMIT: &[u8] = b"\
-    \x00\x00\x00\x50\x00\x00\x00\x04\x00\x00\x00\x0e\x01\x02\x03\x0f\
-    CMT\0\
-    \x01\x084477\0\
-    \x02\x09155\0\
-    \x43\x7f\x03\
-    240131000000000+\0\
-    000007000000000R\0\
-    \x11\x06\xf5\x63\
-    \x05Hello";
-
-const SUBMIT_WITH_TLVS: &[u8] = b"\
-    \x00\x00\x00\x5b\x00\x00\x00\x04\x00\x00\x00\x00\x00\x00\x00\x10\
-    CMT\0\
-    \x01\x084477\0\
-    \x02\x09155\0\
-    \x43\x7f\x03\
-    240131000000000+\0\
-    000007000000000R\0\
-    \x11\x06\xf5\x63\
-    \x05Hello\
-    \x02\x04\x00\x02\xab\xcd\
-    \x04\x27\x00\x01\x07";
-
-const QUERY: &[u8] = b"\
-    \x00\x00\x00\x22\x00\x00\x00\x03\x00\x00\x00\x00\x00\x00\x00\x11\
-    2000300004\0\
-    \x01\x084477\0";
-
-const QUERY_ANSWER: &[u8] = b"\
-    \x00\x00\x00\x2e\x80\x00\x00\x03\x00\x00\x00\x07\x00\x00\x00\x08\
-    2000300004\0\
-    240131000000000+\0\
-    \x05\x09";
-
-const CANCEL: &[u8] = b"\
-    \x00\x00\x00\x2c\x00\x00\x00\x08\x00\x00\x00\x00\x00\x00\x00\x12\
-    CMT\0\
-    2000300004\0\
-    \x01\x084477\0\
-    \x02\x09155\0";
-
 #[test]
-fn a_bind_has_its_fields(rt: HostRuntime) -> Result<(), Fail> {
-    let pdu = decode(rt.alloc(), BIND)?;
-    assert_pdu(&rt, rt.alloc(), &pdu, [10, 11], BIND);
-    let bind = bind_in(pdu).ok_or("a bind_transceiver")?;
-    assert_field(&rt, "system_id", bind.system_id.octets(), b"SMPP3TEST");
-    assert_field(&rt, "password", bind.password.octets(), b"secret08");
-    assert_field(&rt, "system_type", bind.system_type.octets(), b"SUBMIT1");
-    let numbers = [bind.interface_version, bind.addr_ton, bind.addr_npi];
-    assert_field(&rt, "interface_version to npi", &numbers, &[0x34, 5, 9]);
-    assert_field(&rt, "address_range", bind.address_range.octets(), b"^44");
+fn binds(rt: HostRuntime) -> Result<(), Fail> {
+    let alloc = rt.alloc();
+    let texts: [&[u8]; 4] = [b"RECEIVER1", b"hidden07", b"PULL", b"^155"];
+    let body = Body::BindReceiver(bind(alloc, texts, [0x33, 6, 0x12])?);
+    assert_is(&rt, alloc, BIND_RECEIVER, [0x15, 0x16], body);
+    let texts: [&[u8]; 4] = [b"TRANSMIT2", b"opaque06", b"PUSH", b"^166"];
+    let body = Body::BindTransmitter(bind(alloc, texts, [0x35, 3, 0x0e])?);
+    assert_is(&rt, alloc, BIND_TRANSMITTER, [0x19, 0x1a], body);
+    let texts: [&[u8]; 4] = [b"SMPP3TEST", b"secret08", b"SUBMIT1", b"^44"];
+    let body = Body::BindTransceiver(bind(alloc, texts, [0x34, 5, 9])?);
+    assert_is(&rt, alloc, BIND_TRANSCEIVER, [0x0a, 0x0b], body);
     Ok(())
 }
 
 #[test]
-fn a_bind_answer_has_its_fields(rt: HostRuntime) -> Result<(), Fail> {
-    let pdu = decode(rt.alloc(), BIND_ANSWER)?;
-    assert_pdu(&rt, rt.alloc(), &pdu, [13, 12], BIND_ANSWER);
-    let answer = bind_answer_in(pdu).ok_or("a bind_transceiver_resp")?;
-    assert_field(&rt, "system_id", answer.system_id.octets(), b"SMSC");
-    let [version] = answer.tlvs.as_slice() else {
-        return Err("one optional parameter")?;
+fn bind_answers(rt: HostRuntime) -> Result<(), Fail> {
+    let alloc = rt.alloc();
+    let body = Body::BindReceiverResp(bind_answer(alloc, b"NORTH", 0x33)?);
+    assert_is(&rt, alloc, BIND_RECEIVER_ANSWER, [0, 0x18], body);
+    let body = Body::BindTransmitterResp(bind_answer(alloc, b"SOUTH", 0x35)?);
+    assert_is(&rt, alloc, BIND_TRANSMITTER_ANSWER, [0, 0x1c], body);
+    let body = Body::BindTransceiverResp(bind_answer(alloc, b"SMSC", 0x34)?);
+    assert_is(&rt, alloc, BIND_TRANSCEIVER_ANSWER, [0x0d, 0x0c], body);
+    Ok(())
+}
+
+#[test]
+fn submit(rt: HostRuntime) -> Result<(), Fail> {
+    let alloc = rt.alloc();
+    let message = Message {
+        service_type: text(alloc, b"CMT")?,
+        source: address(alloc, 1, 8, b"4477")?,
+        destination: address(alloc, 2, 9, b"155")?,
+        esm_class: 0x43,
+        protocol_id: 0x7f,
+        priority_flag: 3,
+        schedule_delivery_time: text(alloc, b"240131000000000+")?,
+        validity_period: text(alloc, b"000007000000000R")?,
+        registered_delivery: 0x11,
+        replace_if_present_flag: 6,
+        data_coding: 0xf5,
+        sm_default_msg_id: 99,
+        short_message: short_message(alloc, b"Hello")?,
+        tlvs: Tlvs::empty(alloc),
     };
-    assert_eq!(rt; version.tag, 0x0210);
-    assert_field(&rt, "sc_interface_version", &version.value, b"\x34");
-    Ok(())
-}
-
-/// The fields that the two messages above share.
-fn assert_message(rt: &impl Abort, message: &Message) {
-    assert_field(rt, "service_type", message.service_type.octets(), b"CMT");
-    assert_address(rt, &message.source, [1, 8], b"4477");
-    assert_address(rt, &message.destination, [2, 9], b"155");
-    let first = [
-        message.esm_class,
-        message.protocol_id,
-        message.priority_flag,
-    ];
-    assert_field(rt, "esm_class to priority_flag", &first, &[0x43, 0x7f, 3]);
-    let schedule = message.schedule_delivery_time.octets();
-    assert_field(rt, "schedule_delivery_time", schedule, b"240131000000000+");
-    let validity = message.validity_period.octets();
-    assert_field(rt, "validity_period", validity, b"000007000000000R");
-    let second = [message.registered_delivery, message.replace_if_present_flag];
-    assert_field(rt, "registered_delivery and replace", &second, &[0x11, 6]);
-    let third = [message.data_coding, message.sm_default_msg_id];
-    assert_field(rt, "data_coding and sm_default", &third, &[0xf5, 0x63]);
-    assert_field(
-        rt,
-        "short_message",
-        message.short_message.octets(),
-        b"Hello",
-    );
-}
-
-#[test]
-fn a_submit_has_its_fields(rt: HostRuntime) -> Result<(), Fail> {
-    let pdu = decode(rt.alloc(), SUBMIT)?;
-    assert_pdu(&rt, rt.alloc(), &pdu, [14, 0x0102030f], SUBMIT);
-    let message = message_in(pdu).ok_or("a submit_sm")?;
-    assert_message(&rt, &message);
-    assert!(rt; message.tlvs.as_slice().is_empty());
+    let body = Body::SubmitSm(message);
+    assert_is(&rt, alloc, SUBMIT, [0x0e, 0x0102_030f], body);
     Ok(())
 }
 
 #[test]
-fn optional_parameters_stand_behind_a_submit(rt: HostRuntime) -> Result<(), Fail> {
-    let pdu = decode(rt.alloc(), SUBMIT_WITH_TLVS)?;
-    assert_pdu(&rt, rt.alloc(), &pdu, [0, 16], SUBMIT_WITH_TLVS);
-    let message = message_in(pdu).ok_or("a submit_sm")?;
-    assert_message(&rt, &message);
-    let [reference, state] = message.tlvs.as_slice() else {
-        return Err("two optional parameters")?;
+fn deliver(rt: HostRuntime) -> Result<(), Fail> {
+    let alloc = rt.alloc();
+    let mut tlvs = Tlvs::empty(alloc);
+    tlvs.push(0x001e, b"3000400005\0")?;
+    tlvs.push(0x0427, &[2])?;
+    let message = Message {
+        service_type: text(alloc, b"WAP")?,
+        source: address(alloc, 1, 8, b"4477")?,
+        destination: address(alloc, 2, 9, b"155")?,
+        esm_class: 0x84,
+        protocol_id: 0x3f,
+        priority_flag: 4,
+        schedule_delivery_time: text(alloc, b"250131000000000+")?,
+        validity_period: text(alloc, b"000008000000000R")?,
+        registered_delivery: 0x12,
+        replace_if_present_flag: 7,
+        data_coding: 0xf6,
+        sm_default_msg_id: 100,
+        short_message: short_message(alloc, b"Answer")?,
+        tlvs,
     };
-    assert_eq!(rt; [reference.tag, state.tag], [0x0204, 0x0427]);
-    assert_field(&rt, "user_message_reference", &reference.value, b"\xab\xcd");
-    assert_field(&rt, "message_state", &state.value, b"\x07");
+    let body = Body::DeliverSm(message);
+    assert_is(&rt, alloc, DELIVER, [0x1f, 0x20], body);
     Ok(())
 }
 
 #[test]
-fn a_query_has_its_fields(rt: HostRuntime) -> Result<(), Fail> {
-    let pdu = decode(rt.alloc(), QUERY)?;
-    assert_pdu(&rt, rt.alloc(), &pdu, [0, 17], QUERY);
-    let query = query_in(pdu).ok_or("a query_sm")?;
-    assert_field(&rt, "message_id", query.message_id.octets(), b"2000300004");
-    assert_address(&rt, &query.source, [1, 8], b"4477");
+fn message_ids(rt: HostRuntime) -> Result<(), Fail> {
+    let alloc = rt.alloc();
+    let body = Body::SubmitSmResp(message_id(alloc, b"3000400005")?);
+    assert_is(&rt, alloc, SUBMIT_ANSWER, [0, 0x1e], body);
+    let body = Body::DeliverSmResp(message_id(alloc, b"4000500006")?);
+    assert_is(&rt, alloc, DELIVER_ANSWER, [0, 0x22], body);
     Ok(())
 }
 
 #[test]
-fn a_query_answer_has_its_fields(rt: HostRuntime) -> Result<(), Fail> {
-    let pdu = decode(rt.alloc(), QUERY_ANSWER)?;
-    assert_pdu(&rt, rt.alloc(), &pdu, [7, 8], QUERY_ANSWER);
-    let answer = query_answer_in(pdu).ok_or("a query_sm_resp")?;
-    assert_field(&rt, "message_id", answer.message_id.octets(), b"2000300004");
-    let final_date = answer.final_date.octets();
-    assert_field(&rt, "final_date", final_date, b"240131000000000+");
-    let numbers = [answer.message_state, answer.error_code];
-    assert_field(&rt, "message_state and error_code", &numbers, &[5, 9]);
+fn queries(rt: HostRuntime) -> Result<(), Fail> {
+    let alloc = rt.alloc();
+    let query = Query {
+        message_id: text(alloc, b"2000300004")?,
+        source: address(alloc, 1, 8, b"4477")?,
+    };
+    assert_is(&rt, alloc, QUERY, [0, 0x11], Body::QuerySm(query));
+    let answer = QueryAnswer {
+        message_id: text(alloc, b"2000300004")?,
+        final_date: text(alloc, b"240131000000000+")?,
+        message_state: 5,
+        error_code: 9,
+    };
+    let body = Body::QuerySmResp(Some(answer));
+    assert_is(&rt, alloc, QUERY_ANSWER, [7, 8], body);
     Ok(())
 }
 
 #[test]
-fn a_cancel_has_its_fields(rt: HostRuntime) -> Result<(), Fail> {
-    let pdu = decode(rt.alloc(), CANCEL)?;
-    assert_pdu(&rt, rt.alloc(), &pdu, [0, 18], CANCEL);
-    let cancel = cancel_in(pdu).ok_or("a cancel_sm")?;
-    assert_field(&rt, "service_type", cancel.service_type.octets(), b"CMT");
-    assert_field(&rt, "message_id", cancel.message_id.octets(), b"2000300004");
-    assert_address(&rt, &cancel.source, [1, 8], b"4477");
-    assert_address(&rt, &cancel.destination, [2, 9], b"155");
+fn cancel(rt: HostRuntime) -> Result<(), Fail> {
+    let alloc = rt.alloc();
+    let cancel = Cancel {
+        service_type: text(alloc, b"CMT")?,
+        message_id: text(alloc, b"2000300004")?,
+        source: address(alloc, 1, 8, b"4477")?,
+        destination: address(alloc, 2, 9, b"155")?,
+    };
+    assert_is(&rt, alloc, CANCEL, [0, 0x12], Body::CancelSm(cancel));
+    Ok(())
+}
+
+#[test]
+fn headers_alone(rt: HostRuntime) -> Result<(), Fail> {
+    let alloc = rt.alloc();
+    let body = Body::CancelSmResp;
+    assert_is(&rt, alloc, CANCEL_ANSWER, [0x11, 0x23], body);
+    assert_is(&rt, alloc, UNBIND, [0x24, 0x25], Body::Unbind);
+    let body = Body::UnbindResp;
+    assert_is(&rt, alloc, UNBIND_ANSWER, [0x26, 0x27], body);
+    let body = Body::EnquireLink;
+    assert_is(&rt, alloc, ENQUIRE_LINK, [0x28, 0x29], body);
+    let body = Body::EnquireLinkResp;
+    assert_is(&rt, alloc, ENQUIRE_LINK_ANSWER, [0x2a, 0x2b], body);
+    assert_is(&rt, alloc, GENERIC_NACK, [3, 0x2c], Body::GenericNack);
     Ok(())
 }

@@ -5,9 +5,13 @@
 #[cfg(test)]
 mod bodies;
 #[cfg(test)]
+mod damaged_pdus;
+#[cfg(test)]
 mod frames;
 #[cfg(test)]
 mod full_pdus;
+#[cfg(test)]
+mod full_vectors;
 #[cfg(test)]
 mod ids;
 #[cfg(test)]
