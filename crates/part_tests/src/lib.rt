@@ -1,30 +1,11 @@
-//! The tests of `mc_types`, `octet_fields`, `pdu_tables`, `pdu_codec`, `pdu_frames`, `script_lines` and `smpp_time`, in a crate without code so that
-//! each of those is proved once.
+//! The tests of `mc_types`, `script_lines` and `smpp_time`, in a crate without code so that each of those is proved once.
 #![tactic(auto)]
 
-#[cfg(test)]
-mod bodies;
-#[cfg(test)]
-mod fields;
-#[cfg(test)]
-mod frames;
-#[cfg(test)]
-mod full_pdus;
 #[cfg(test)]
 mod ids;
 #[cfg(test)]
 mod lines;
 #[cfg(test)]
-mod pdu_faults;
-#[cfg(test)]
-mod pdus;
-#[cfg(test)]
-mod tables;
-#[cfg(test)]
-mod texts;
-#[cfg(test)]
 mod time_rows;
 #[cfg(test)]
 mod times;
-#[cfg(test)]
-mod vectors;

@@ -2,9 +2,8 @@
 
 use crate::bodies::*;
 use crate::vectors::*;
-use pdu_codec::{Field, Message, PduFault, decode};
+use pdu_codec::{Body, Field, Message, PduFault, Tlvs, decode};
 use std::alloc::Global;
-use std::process::Abort;
 use std::test::Fail;
 
 /// The fault of the octets and those after them, once command_length says how many they are.
@@ -100,72 +99,57 @@ fn longest_submit(alloc: Global) -> Result<Vec<u8>, Fail> {
     put_long(&mut octets, 16)?;
     put_long(&mut octets, 16)?;
     octets.extend_from_slice(b"\x08\x09\x0a\x0b\xfe")?;
-    put_counting(&mut octets, 254)?;
+    octets.extend_from_slice(&counting::<254>())?;
     octets.extend_from_slice(b"\x04\x24\x1b\x54")?;
-    put_counting(&mut octets, 6996)?;
+    octets.extend_from_slice(&counting::<6996>())?;
     Ok(octets)
 }
 
-/// Appends so many octets: 0, 1, 2 and so on up to 250, and again.
-fn put_counting(octets: &mut Vec<u8>, count: usize) -> Result<(), Fail> {
-    for place in 0..count {
-        octets.push((place % 251) as u8)?;
+/// Octets 0, 1, 2 and so on up to 250, and again.
+fn counting<const COUNT: usize>() -> [u8; COUNT] {
+    let mut octets = [0; COUNT];
+    for place in 0..COUNT {
+        octets[place] = (place % 251) as u8;
     }
-    Ok(())
+    octets
 }
 
-/// The fields of the message above.
-fn assert_longest(rt: &impl Abort, message: &Message) {
+/// The message above.
+fn longest(alloc: Global) -> Result<Message, Fail> {
     let long = b"aaaaaaaaaaaaaaaaaaaa";
-    assert_field(
-        rt,
-        "service_type",
-        message.service_type.octets(),
-        &long[..5],
-    );
-    assert_address(rt, &message.source, [1, 2], long);
-    assert_address(rt, &message.destination, [3, 4], long);
-    let first = [
-        message.esm_class,
-        message.protocol_id,
-        message.priority_flag,
-    ];
-    assert_field(rt, "esm_class to priority_flag", &first, &[5, 6, 7]);
-    let schedule = message.schedule_delivery_time.octets();
-    assert_field(rt, "schedule_delivery_time", schedule, &long[..16]);
-    let validity = message.validity_period.octets();
-    assert_field(rt, "validity_period", validity, &long[..16]);
-    let second = [message.registered_delivery, message.replace_if_present_flag];
-    assert_field(rt, "registered_delivery and replace", &second, &[8, 9]);
-    let third = [message.data_coding, message.sm_default_msg_id];
-    assert_field(rt, "data_coding and sm_default", &third, &[10, 11]);
+    let mut tlvs = Tlvs::empty(alloc);
+    tlvs.push(0x0424, &counting::<6996>())?;
+    Ok(Message {
+        service_type: text(alloc, &long[..5])?,
+        source: address(alloc, 1, 2, long)?,
+        destination: address(alloc, 3, 4, long)?,
+        esm_class: 5,
+        protocol_id: 6,
+        priority_flag: 7,
+        schedule_delivery_time: text(alloc, &long[..16])?,
+        validity_period: text(alloc, &long[..16])?,
+        registered_delivery: 8,
+        replace_if_present_flag: 9,
+        data_coding: 10,
+        sm_default_msg_id: 11,
+        short_message: short_message(alloc, &counting::<254>())?,
+        tlvs,
+    })
 }
 
 #[test]
 fn a_submit_of_7364_octets_is_read_and_written(rt: HostRuntime) -> Result<(), Fail> {
     let octets = longest_submit(rt.alloc())?;
     assert_eq!(rt; octets.len(), 7364);
-    let pdu = decode(rt.alloc(), &octets)?;
-    assert_pdu(&rt, rt.alloc(), &pdu, [0, 1], &octets);
-    let message = message_in(pdu).ok_or("a submit_sm")?;
-    assert_longest(&rt, &message);
-    let mut text = Vec::new(rt.alloc());
-    put_counting(&mut text, 254)?;
-    assert_field(&rt, "short_message", message.short_message.octets(), &text);
-    let mut value = Vec::new(rt.alloc());
-    put_counting(&mut value, 6996)?;
-    let [payload] = message.tlvs.as_slice() else {
-        return Err("one optional parameter")?;
-    };
-    assert_eq!(rt; payload.tag, 0x0424);
-    assert_field(&rt, "message_payload", &payload.value, &value);
+    let body = Body::SubmitSm(longest(rt.alloc())?);
+    assert_is(&rt, rt.alloc(), &octets, [0, 1], body);
     Ok(())
 }
 
 #[test]
 fn optional_parameters_have_7000_octets_at_most(rt: HostRuntime) -> Result<(), Fail> {
     let mut tlvs = Vec::from_slice(rt.alloc(), b"\x04\x24\x1b\x55")?;
-    put_counting(&mut tlvs, 6997)?;
+    tlvs.extend_from_slice(&counting::<6997>())?;
     let fault = fault_of(rt.alloc(), &SUBMIT, &tlvs)?;
     assert_eq!(rt; fault, Some(PduFault::Tlvs));
     Ok(())

@@ -50,3 +50,30 @@ fn optional_parameters_are_checked(rt: HostRuntime) -> Result<(), Fail> {
     assert_eq!(rt; check_optional(&octets[..5]), Err(PduFault::Tlvs));
     Ok(())
 }
+
+#[test]
+fn texts_are_equal_by_their_octets(rt: HostRuntime) -> Result<(), Fail> {
+    let text: Text<5> = Text::of(rt.alloc(), b"sme1")?;
+    let other: Text<5> = Text::of(rt.alloc(), b"sme2")?;
+    assert!(rt; text == text.copy()?);
+    assert!(rt; text != other);
+    let message = ShortMessage::of(rt.alloc(), b"Hi")?;
+    let other = ShortMessage::of(rt.alloc(), b"Hi!")?;
+    assert!(rt; message == message.copy()?);
+    assert!(rt; message != other);
+    Ok(())
+}
+
+#[test]
+fn optional_parameters_are_equal_by_tags_and_values(rt: HostRuntime) -> Result<(), Fail> {
+    let mut tlvs = Tlvs::empty(rt.alloc());
+    tlvs.push(0x0204, &[0, 7])?;
+    let mut tagged = Tlvs::empty(rt.alloc());
+    tagged.push(0x020c, &[0, 7])?;
+    let mut valued = Tlvs::empty(rt.alloc());
+    valued.push(0x0204, &[0, 8])?;
+    assert!(rt; tlvs == tlvs.copy()?);
+    assert!(rt; tlvs != tagged);
+    assert!(rt; tlvs != valued);
+    Ok(())
+}

@@ -1,0 +1,61 @@
+//! Octets that are cut or changed anywhere: they are a PDU that is written as the same octets, or a fault is told.
+
+use crate::full_vectors::FULL_PDUS;
+use pdu_codec::{Pdu, PduFault, decode, encode};
+use std::alloc::Global;
+use std::test::Fail;
+
+fn is_written_as(alloc: Global, pdu: Pdu, wanted: &[u8]) -> bool {
+    let mut octets = Vec::new(alloc);
+    encode(&pdu, &mut octets).is_ok() && octets.as_slice() == wanted
+}
+
+/// The octets are a PDU that is written as them, or a fault of theirs is told.
+fn is_either(alloc: Global, octets: &[u8]) -> bool {
+    match decode(alloc, octets) {
+        Ok(pdu) => is_written_as(alloc, pdu, octets),
+        Err(fault) => fault != PduFault::Memory,
+    }
+}
+
+/// The octets, with their number in the place of command_length if they have one.
+fn framed(alloc: Global, octets: &[u8]) -> Result<Vec<u8>, Fail> {
+    let length = u32::try_from(octets.len())?.to_be_bytes();
+    let mut framed = Vec::from_slice(alloc, octets)?;
+    if let [a, b, c, d, ..] = framed.as_mut_slice() {
+        [*a, *b, *c, *d] = length;
+    }
+    Ok(framed)
+}
+
+#[test]
+fn prefixes(rt: HostRuntime) -> Result<(), Fail> {
+    let alloc = rt.alloc();
+    for whole in FULL_PDUS {
+        for length in 0..whole.len() {
+            let octets = framed(alloc, &whole[..length])?;
+            assert!(rt; is_either(alloc, &octets), "{length}");
+            assert_eq!(rt;
+                decode(alloc, &whole[..length]).err(),
+                Some(PduFault::Length)
+            );
+        }
+    }
+    Ok(())
+}
+
+#[test]
+fn changed_octets(rt: HostRuntime) -> Result<(), Fail> {
+    let alloc = rt.alloc();
+    for whole in FULL_PDUS {
+        let mut octets = Vec::from_slice(alloc, whole)?;
+        for place in 0..whole.len() {
+            for octet in [0x00, 0x7f, 0x80, 0xff] {
+                octets[place] = octet;
+                assert!(rt; is_either(alloc, &octets), "{place}");
+            }
+            octets[place] = whole[place];
+        }
+    }
+    Ok(())
+}

@@ -1,0 +1,26 @@
+//! The tests of `octet_fields`, `pdu_tables`, `pdu_codec` and `pdu_frames`, in a crate without code so that each of those is
+//! proved once.
+#![tactic(auto)]
+
+#[cfg(test)]
+mod bodies;
+#[cfg(test)]
+mod damaged_pdus;
+#[cfg(test)]
+mod fields;
+#[cfg(test)]
+mod frames;
+#[cfg(test)]
+mod full_pdus;
+#[cfg(test)]
+mod full_vectors;
+#[cfg(test)]
+mod pdu_faults;
+#[cfg(test)]
+mod pdus;
+#[cfg(test)]
+mod tables;
+#[cfg(test)]
+mod texts;
+#[cfg(test)]
+mod vectors;
