@@ -16,11 +16,19 @@ fn proposer(number: u8, nodes: u8) -> Result<Proposer, Fail> {
     Ok(Proposer::make(me, nodes))
 }
 
+// The round of a Prepare; 0 of any other packet.
+fn round_of(packet: &Packet) -> u32 {
+    match packet {
+        Packet::Prepare { ballot, .. } => ballot.round(),
+        _ => 0,
+    }
+}
+
 // The round of the Prepare with which a round for this chain starts; 0 if none does.
 fn started(proposer: &mut Proposer, chain: Chain, own: u32) -> u32 {
     match proposer.start(chain, own) {
-        Ok(Packet::Prepare { ballot, .. }) => ballot.round(),
-        Ok(_) | Err(ProposerFault::Rounds) => 0,
+        Ok(packet) => round_of(&packet),
+        Err(ProposerFault::Rounds) => 0,
     }
 }
 
