@@ -3,7 +3,7 @@
 
     python3 bench/codec.py
 
-It builds bench/codec/main.rt with the crates of HEAD in a folder of its own, which proves pdu_codec first and takes minutes, and
+It builds bench/codec/main.rt.in with the crates of HEAD in a folder of its own, which proves pdu_codec first and takes minutes, and
 bench/codec/smpp34.c with gcc, if Debian's libsmpp34-dev is there; else it says so. Both run on one PDU in one run of the script,
 each five times, and the best counts. A run of no turns is taken off, so that the start of a process does not count. GNU time
 (Debian's `time`) measures, since the peak memory of a process that Python starts begins at Python's own.
@@ -27,7 +27,7 @@ def built_here(work):
     subprocess.run(["git", "clone", "-q", str(TOP), str(clone)], check=True)
     crate = clone / "crates" / "codec_bench"
     (crate / "src").mkdir(parents=True)
-    shutil.copy(TOP / "bench" / "codec" / "main.rt", crate / "src" / "main.rt")
+    shutil.copy(TOP / "bench" / "codec" / "main.rt.in", crate / "src" / "main.rt")
     lines = (clone / "crates.txt").read_text().splitlines()
     below = next(line for line in lines if line.startswith("pdu_codec:")).split(":")[1]
     with (clone / "crates.txt").open("a") as crates:
