@@ -13,11 +13,10 @@ use Rattle.octet_fields.specs.Reading.{◌>>=◌, front_at}
 use Rattle.octet_fields.proofs.Octets.{bind_ok, ok_is}
 use Rattle.octet_fields.proofs.Fields.{is_between-tells}
 use Rattle.octet_fields.proofs.Records.{front_takes, front_again}
-use Rattle.pdu_codec.specs.Text.{AreOptional, optional_octets}
-use Rattle.pdu_codec.proofs.Optional.{IsOptional, optional-given, optional-again}
+use Rattle.pdu_codec.proofs.Optional.{tlvs-given, tlvs_in-octets}
 use Rattle.pdu_codec.proofs.PduSpelling.{find-passes}
 use Rattle.fate_chain.specs.States.{final_code, finals, final_in}
-use Rattle.fate_chain.specs.Bytes.{octet, error, party_fields, parties_in, handling_fields, handling_in, text_fields, texts_in, kind_code, head_fields, head_in, submission_octets, kind_octets, decree_octets, decrees_octets, chain_fields, chain_octets, MessageFits, KindFits, DecreeFits, DecreesFit, Fits, first_of, tlvs_in, message_of, message_at, found, kind_at, decree_of, decree_at, decrees_at, chain_from, chain_at, read_chain}
+use Rattle.fate_chain.specs.Bytes.{octet, error, party_fields, parties_in, handling_fields, handling_in, text_fields, texts_in, kind_code, head_fields, head_in, submission_octets, kind_octets, decree_octets, decrees_octets, chain_fields, chain_octets, MessageFits, KindFits, DecreeFits, DecreesFit, Fits, message_of, message_at, found, kind_at, decree_of, decree_at, decrees_at, chain_from, chain_at, read_chain}
 
 abbrev done : {A : Type 0} → A → Result A Defect
 done x = Ok x
@@ -28,18 +27,6 @@ record TakesMessage (octets : List ℕ) (x : Submission × List ℕ) : Type 0 wh
   parts : octets ≡ submission_octets x.0 ++ x.1
   rest : IsOctets x.1
   fits : MessageFits x.0
-
-tlvs_in-octets : (tlvs : List (ℕ × List ℕ)) → AreOptional tlvs → tlvs_in (optional_octets tlvs) ≡ tlvs
-unfolding tlvs_in
-tlvs_in-octets tlvs are = ap first_of (optional-again tlvs are)
-
-octets-tlvs_in : (octets : List ℕ) → IsOptional octets → optional_octets (tlvs_in octets) ≡ octets
-octets-tlvs_in octets is =
-    ap optional_octets (ap tlvs_in is.spelled ∙ tlvs_in-octets is.tlvs is.limits) ∙ sym is.spelled
-
-AreOptional-tlvs_in : (octets : List ℕ) → IsOptional octets → AreOptional (tlvs_in octets)
-AreOptional-tlvs_in octets is =
-    subst AreOptional (sym (ap tlvs_in is.spelled ∙ tlvs_in-octets is.tlvs is.limits)) is.limits
 
 apart : (a b c rest : List ℕ) → (a ++ b ++ c) ++ rest ≡ a ++ (b ++ (c ++ rest))
 apart a b c rest = append_assoc (a ++ b) c rest ∙ append_assoc a b (c ++ rest)
@@ -54,14 +41,14 @@ message_takes octets x are e =
     let handling = front_takes handling_fields a.0.1 b.0 parties.rest b.1 in
     let texts = front_takes text_fields b.0.1 c.0 handling.rest c.1 in
     let made : Submission × List ℕ = (message_of a.0.0 b.0.0 c.0.0, c.0.1) in
-    let passed = optional-given c.0.0.1.0 texts.octets.1.0 texts.within.1.0.1 in
-    let texts_are : texts_in made.0 ≡ c.0.0 = ap (λ (o : List ℕ). (c.0.0.0, (o, tt))) (octets-tlvs_in c.0.0.1.0 passed) in
+    let passed = tlvs-given c.0.0.1.0 texts.octets.1.0 texts.within.1.0.1 in
+    let texts_are : texts_in made.0 ≡ c.0.0 = ap (λ (o : List ℕ). (c.0.0.0, (o, tt))) (sym passed.spelled) in
     let whole : octets ≡ spellings party_fields a.0.0 ++ (spellings handling_fields b.0.0 ++ (spellings text_fields c.0.0 ++ c.0.1)) =
     parties.parts ∙ ap (λ (r : List ℕ). spellings party_fields a.0.0 ++ r) (handling.parts ∙ ap (λ (r : List ℕ). spellings handling_fields b.0.0 ++ r) texts.parts) in
     subst (λ (y : Submission × List ℕ). TakesMessage octets y) (ok_is made x c.2) (record {
       parts = whole ∙ sym (apart (spellings party_fields a.0.0) (spellings handling_fields b.0.0) (spellings text_fields c.0.0) c.0.1) ∙ ap (λ (t : Contents text_fields). (spellings party_fields a.0.0 ++ spellings handling_fields b.0.0 ++ spellings text_fields t) ++ c.0.1) (sym texts_are);
       rest = texts.rest;
-      fits = record { parties = parties.within; handling = handling.within; texts = subst (λ (t : Contents text_fields). AreWithin text_fields t) (sym texts_are) texts.within; passed = AreOptional-tlvs_in c.0.0.1.0 passed };
+      fits = record { parties = parties.within; handling = handling.within; texts = subst (λ (t : Contents text_fields). AreWithin text_fields t) (sym texts_are) texts.within; passed = passed.limits };
     })
 
 message_again : (m : Submission) (rest : List ℕ) → MessageFits m → message_at (submission_octets m ++ rest) ≡ Ok (m, rest)

@@ -12,6 +12,7 @@ use Rattle.octet_fields.specs.Kinds.{Kind as FieldKind, Size, One, Two, Four, Ei
 use Rattle.octet_fields.specs.Reading.{◌>>=◌, front_at, nothing_at}
 use Rattle.pdu_codec.specs.Text.{AreOptional, optional_octets}
 use Rattle.pdu_codec.specs.Grammar.{optional_at}
+use Rattle.pdu_codec.specs.Tlv.{tlvs_in}
 use Rattle.fate_chain.specs.declared.fault.ChainFault.{ChainFault}
 use Rattle.fate_chain.specs.declared.fault.ChainFault.TheVariants.{NotPermitted, NotBytes, Memory}
 use Rattle.fate_chain.specs.States.{final_code, final_in}
@@ -147,14 +148,6 @@ abbrev pub OctetsAreOfOneChain : Type 0
 OctetsAreOfOneChain = (octets : List ℕ) (one other : Chain) → IsSpelled octets one → IsSpelled octets other → one ≡ other
 
 -- ---- reading
-
--- the optional parameters that octets are
-abbrev pub first_of : {E : Type 0} → Result (List (ℕ × List ℕ) × List ℕ) E → List (ℕ × List ℕ)
-first_of (Ok x) = x.0
-first_of (Err e) = []
-
-unfoldable pub tlvs_in : List ℕ → List (ℕ × List ℕ)
-tlvs_in octets = first_of (optional_at octets)
 
 abbrev pub message_of : Contents party_fields → Contents handling_fields → Contents text_fields → Submission
 message_of p h t = record {

@@ -1,13 +1,12 @@
 //! What was taken.
 
 ghost use Rattle.std.specs.Prelude.{◌≡◌, ◌↔◌, IfOk, IsTrue};
-ghost use Rattle.pdu_codec.specs.Tlv.{pair_of, pairs_of};
 ghost use Rattle.fate_chain.specs.Submissions.{address_of};
 ghost use Rattle.fate_chain.specs.Same.{SameHandling, SameParties};
 
 use crate::marks::Term;
 use mc_types::Moment;
-use pdu_codec::{Address, ShortMessage, Text, Tlv, Tlvs};
+use pdu_codec::{Address, ShortMessage, Text, Tlvs};
 use std::alloc::AllocError;
 use std::marker::Model;
 
@@ -100,7 +99,7 @@ impl Submission {
         self.has_parties_of(other)
             && self.is_handled_as(other)
             && self.text.octets() == other.text.octets()
-            && are_same(self.passed.as_slice(), other.passed.as_slice())
+            && are_same(&self.passed, &other.passed)
     }
 
     /// Whether its accounts, its service_type and its addresses are those of the other.
@@ -146,24 +145,9 @@ fn is_same(one: &Address, other: &Address) -> bool
     one.ton == other.ton && one.npi == other.npi && one.digits.octets() == other.digits.octets()
 }
 
-/// Whether both have the same optional parameters, in the same order.
-fn are_same(one: &[Tlv], other: &[Tlv]) -> bool
-    ensures { IsTrue result ↔ (pairs_of one.now ≡ pairs_of other.now) }
+/// Whether both are the same optional parameters, in the same order.
+fn are_same(one: &Tlvs, other: &Tlvs) -> bool
+    ensures { IsTrue result ↔ (one.now ≡ other.now) }
 {
-    if one.len() != other.len() {
-        return false;
-    }
-    for place in 0..one.len() {
-        if !is_same_parameter(&one[place], &other[place]) {
-            return false;
-        }
-    }
-    true
-}
-
-/// Whether both optional parameters are the same.
-fn is_same_parameter(one: &Tlv, other: &Tlv) -> bool
-    ensures { IsTrue result ↔ (pair_of one.now ≡ pair_of other.now) }
-{
-    one.tag == other.tag && one.value.as_slice() == other.value.as_slice()
+    one.octets() == other.octets()
 }

@@ -12,7 +12,7 @@ use crate::decree::{Author, Decree, Kind};
 use crate::submission::Submission;
 use mc_types::{Moment, MsgId};
 use octet_fields::{put_counted, put_long_counted, put_octets};
-use pdu_codec::{Address, ShortMessage, Text, Tlvs, put_tlvs};
+use pdu_codec::{Address, ShortMessage, Text, Tlvs};
 use std::alloc::AllocError;
 
 /// A text behind the number of its octets.
@@ -38,10 +38,7 @@ fn put_optional(out: &mut Vec<u8>, tlvs: &Tlvs) -> Result<(), AllocError>
         ≡ out.old.items ++ (to_be_bytes w16 (length (optional_octets tlvs.now)) ++ optional_octets tlvs.now)) }
     ensures limits { OnOk result (AreOptional tlvs.now) }
 {
-    let mut octets = Vec::new(*out.allocator());
-    put_tlvs(&mut octets, tlvs)?;
-    put_long_counted(out, &octets)?;
-    Ok(())
+    put_long_counted(out, tlvs.octets())
 }
 
 /// TON, NPI and digits.

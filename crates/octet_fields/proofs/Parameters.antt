@@ -1,7 +1,6 @@
 -- Optional parameters, read one after the other.
-use Rattle.std.proofs.Common.{◌≡◌, ℕ, zero, suc, ◌+◌, ◌^◌, ◌<◌, ◌≤◌, Bool, true, false, cond, ltb, List, [], ◌∷◌, ◌++◌, length, take, drop, Option, Some, None, IsSome, is_some, IsOk, option_map, option_and_then, Ok, Err, eqb, inl, inr, refl, sym, ap, subst, ◌∙◌, arith, append_assoc, length-append, length-take, length-drop}
+use Rattle.std.proofs.Common.{◌≡◌, ℕ, zero, suc, ◌+◌, ◌^◌, ◌<◌, ◌≤◌, Bool, true, false, cond, ltb, List, [], ◌∷◌, ◌++◌, length, take, drop, Option, Some, None, IsSome, is_some, option_map, option_and_then, Ok, Err, eqb, inl, inr, refl, sym, ap, subst, ◌∙◌, arith, length-append, length-take, length-drop}
 use Rattle.std.proofs.lemmas.Bool.{ltb-false, le-ltb, eqb-true, false≢true, cases_Bool}
-use Rattle.std.proofs.lemmas.List.Concat.{flat_map-append}
 use Rattle.std.proofs.lemmas.List.{append-nil, nil_from_length, take_at, drop_at, take-append-drop}
 use Rattle.std.proofs.lemmas.Nat.{be_bytes_2, from_be_bytes-to_be_bytes_2}
 use Rattle.std.specs.Int.{w16, from_be_bytes, to_be_bytes}
@@ -95,50 +94,6 @@ parameters-whole most octets rest few same empty =
     ok-some None e = absurd cc
     ok-some (Some tlvs) e = (tlvs, refl)
 
--- what a whole list of them has
-pub record IsWhole (most : ℕ) (octets : List ℕ) : Type 0 where
-  pub few : length octets ≤ most
-  pub some : is_some (tlvs_in octets) ≡ true
-
-pub whole-from_ok : (most : ℕ) (octets : List ℕ) → IsOk (parameters_at most octets) → IsWhole most octets
-unfolding parameters_at
-whole-from_ok most octets ok = from_test (ltb most (length octets)) (tlvs_in octets) refl refl ok
-  where
-    from_test : (long : Bool) (tlvs : Option (List (ℕ × List ℕ))) → ltb most (length octets) ≡ long → tlvs_in octets ≡ tlvs → IsOk (cond long (Err Long) (tlvs_or_defect tlvs)) → IsWhole most octets
-    from_test true tlvs test is given = absurd (false≢true given)
-    from_test false None test is given = absurd (false≢true given)
-    from_test false (Some tlvs) test is given = record { few = ltb-false _ _ test; some = ap is_some is }
-
--- Of the octets these optional parameters are read, and the rest is to be.
-pub record SoFar (octets : List ℕ) (tlvs : List (ℕ × List ℕ)) (rest : List ℕ) : Type 0 where
-  pub whole : tlvs_in octets ≡ option_map (λ others. tlvs ++ others) (tlvs_in rest)
-  pub count : length (optional_octets tlvs) + length rest ≡ length octets
-
-pub SoFar-none : (octets : List ℕ) → SoFar octets [] octets
-SoFar-none octets = record { whole = same (tlvs_in octets); count = omega arith }
-  where
-    same : (o : Option (List (ℕ × List ℕ))) → o ≡ option_map (λ others. [] ++ others) o
-    same None = refl
-    same (Some tlvs) = refl
-
-pub SoFar-more : (octets rest : List ℕ) (tlvs : List (ℕ × List ℕ)) (x : (ℕ × List ℕ) × List ℕ) → SoFar octets tlvs rest → tlv_at rest ≡ Some x → SoFar octets (tlvs ++ x.0 ∷ []) x.1
-SoFar-more octets rest tlvs x before e = record {
-  whole = before.whole ∙ ap (option_map (λ others. tlvs ++ others)) (tlvs_in-next rest x e) ∙ joined (tlvs_in x.1);
-  count = omega (arith, before.count, tlv-length rest x e, ap length (flat_map-append tlv_octets tlvs (x.0 ∷ [])), length-append (optional_octets tlvs) (optional_octets (x.0 ∷ [])), length-append (tlv_octets x.0) []);
-}
-  where
-    joined : (o : Option (List (ℕ × List ℕ))) → option_map (λ others. tlvs ++ others) (tlv_before x.0 o) ≡ option_map (λ others. (tlvs ++ x.0 ∷ []) ++ others) o
-    joined None = refl
-    joined (Some others) = ap Some (sym (append_assoc tlvs (x.0 ∷ []) others))
-
-pub SoFar-all : (most : ℕ) (octets rest : List ℕ) (tlvs : List (ℕ × List ℕ)) → SoFar octets tlvs rest → IsOk (parameters_at most octets) → tlv_at rest ≡ None → parameters_at most octets ≡ Ok (tlvs, [])
-unfolding parameters_at tlvs_from
-SoFar-all most octets rest tlvs before ok end =
-    let whole = whole-from_ok most octets ok in
-    let some : IsSome (tlvs_in rest) = sym (is_some-map (λ (others : List (ℕ × List ℕ)). tlvs ++ others) (tlvs_in rest)) ∙ sym (ap is_some before.whole) ∙ whole.some in
-    let all : tlvs_in octets ≡ Some tlvs = before.whole ∙ ap (λ (r : List ℕ). option_map (λ others. tlvs ++ others) (tlvs_in r)) (tlvs_in-end rest end some) ∙ ap Some (append-nil tlvs) in
-    rw (le-ltb most (length octets) whole.few, all) refl
-
 -- ---- what is read is spelled so, and what is spelled so is read
 
 two_octets : (a b : ℕ) → a < 256 → b < 256 → IsOctets (a ∷ b ∷ [])
@@ -175,7 +130,7 @@ tlv_takes (a ∷ b ∷ c ∷ d ∷ octets) x are e =
     let tagged : tag < 2 ^ 16 = omega (arith, two_octets a b (are 0) (are 1) 0, two_octets a b (are 0) (are 1) 1) in
     subst (λ (y : (ℕ × List ℕ) × List ℕ). TakesTlv (a ∷ b ∷ c ∷ d ∷ octets) y) g.1 (record { parts = whole; rest = IsOctets-drop count octets (λ i. are (suc (suc (suc (suc i))))); tag = tagged })
 
-tlv_again : (tlv : ℕ × List ℕ) (rest : List ℕ) → IsTagged tlv → length tlv.1 < 2 ^ 16 → tlv_at (tlv_octets tlv ++ rest) ≡ Some (tlv, rest)
+pub tlv_again : (tlv : ℕ × List ℕ) (rest : List ℕ) → IsTagged tlv → length tlv.1 < 2 ^ 16 → tlv_at (tlv_octets tlv ++ rest) ≡ Some (tlv, rest)
 unfolding tlv_at
 tlv_again tlv rest tagged short =
     let value = tlv.1 in

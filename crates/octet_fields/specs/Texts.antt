@@ -1,4 +1,5 @@
 -- Octets, texts and optional parameters, within their limits.
+use Rattle.std.specs.Borrow.{Bor}
 use Rattle.std.specs.Prelude.{ℕ, ◌<◌, ◌≤◌, ◌^◌, ◌++◌, List, length, slice_index, All}
 use Rattle.std.specs.List.{AllByRecursion, flat_map}
 use Rattle.std.specs.Int.{w16, to_be_bytes}
@@ -6,6 +7,13 @@ use Rattle.std.specs.Int.{w16, to_be_bytes}
 -- each octet is below 256
 abbrev pub IsOctets : List ℕ → Type 0
 IsOctets octets = (place : ℕ) → slice_index octets place < 256
+
+-- octets that lie in pieces, one after another
+abbrev pub joined : List (Bor (List ℕ)) → List ℕ
+joined pieces = flat_map (λ piece. piece.now) pieces
+
+abbrev pub AreOctets : List (Bor (List ℕ)) → Type 0
+AreOctets pieces = AllByRecursion (λ piece. IsOctets piece.now) pieces
 
 -- a C-octet string (SMPP 3.4, 3.1), without the zero octet that ends it: fewer octets than the limit, none zero
 pub record IsText (limit : ℕ) (octets : List ℕ) : Type 0 where

@@ -12,4 +12,4 @@ pub use reading::{
     check_parameters, counted_at, long_counted_at, nothing_at, octet_at, text_at, tlv_at, u16_at,
     u32_at, u64_at,
 };
-pub use writing::{put_counted, put_long_counted, put_octets, put_text};
+pub use writing::{length_of, put_counted, put_long_counted, put_octets, put_pieces};

@@ -1,9 +1,9 @@
 //! Fields behind octets. An `Err` is want of memory: the octets that were there are there still, and some may follow them.
 
-ghost use Rattle.std.specs.Prelude.{◌≡◌, ◌<◌, ◌^◌, ◌++◌, ◌∷◌, [], length, OnOk, OnErr};
+ghost use Rattle.std.specs.Prelude.{◌≡◌, ◌<◌, ◌≤◌, ◌+◌, ◌^◌, ◌++◌, ◌∷◌, [], length, vec_capacity, OnOk, OnErr};
 ghost use Rattle.std.specs.Int.{w16, to_be_bytes};
 ghost use Rattle.std.specs.Io.{StartsWith};
-ghost use Rattle.octet_fields.specs.Texts.{IsOctets};
+ghost use Rattle.octet_fields.specs.Texts.{IsOctets, AreOctets, joined};
 
 use std::alloc::AllocError;
 
@@ -14,16 +14,6 @@ pub fn put_octets(out: &mut Vec<u8>, octets: &[u8]) -> Result<(), AllocError>
     ensures octets { IsOctets octets.now }
 {
     out.extend_from_slice(octets)
-}
-
-/// A text and the zero octet that ends it.
-pub fn put_text(out: &mut Vec<u8>, text: &[u8]) -> Result<(), AllocError>
-    ensures ok { OnOk result (out.new.items ≡ out.old.items ++ (text.now ++ 0 ∷ [])) }
-    ensures err { OnErr result (StartsWith out.new.items out.old.items) }
-{
-    out.extend_from_slice(text)?;
-    out.push(0)?;
-    Ok(())
 }
 
 /// Octets behind their number, which has one octet.
@@ -47,4 +37,36 @@ pub fn put_long_counted(out: &mut Vec<u8>, octets: &[u8]) -> Result<(), AllocErr
     out.extend_from_slice(&(octets.len() as u16).to_be_bytes())?;
     out.extend_from_slice(octets)?;
     Ok(())
+}
+
+/// How many octets a piece has.
+fn count_of(piece: &[u8]) -> usize
+    ensures count { result ≡ length piece.now }
+    ensures octets { IsOctets piece.now }
+{
+    piece.len()
+}
+
+/// How many octets the pieces have together.
+pub fn length_of(pieces: &[&[u8]]) -> usize
+    requires { length (joined pieces.now) < 2 ^ 64 }
+    ensures count { result ≡ length (joined pieces.now) }
+    ensures octets { AreOctets pieces.now }
+{
+    let mut count = 0;
+    for piece in pieces {
+        count += count_of(piece);
+    }
+    count
+}
+
+/// The octets of pieces, one after another, for which there is room. It takes no memory.
+pub fn put_pieces(out: &mut Vec<u8>, pieces: &[&[u8]])
+    requires { length out.old.items + length (joined pieces.now) ≤ vec_capacity out.old }
+    ensures octets { out.new.items ≡ out.old.items ++ joined pieces.now }
+    ensures room { vec_capacity out.old ≤ vec_capacity out.new }
+{
+    for piece in pieces {
+        out.extend_from_slice(piece).unwrap();
+    }
 }

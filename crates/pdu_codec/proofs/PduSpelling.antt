@@ -17,7 +17,7 @@ use Rattle.pdu_codec.specs.Text.{IsOctets}
 use Rattle.pdu_codec.specs.Grammar.{◌>>=◌, word_at}
 use Rattle.pdu_codec.specs.Forms.{form_of, parts_of, Filling, filling_octets, FillingFits, filling_at}
 use Rattle.pdu_codec.specs.Bodies.{Filled, Fills, filled_command, filled_by, octets_in, FilledFits, command_in, body_from, body_octets, BodyFits, body_at}
-use Rattle.pdu_codec.specs.Pdu.{octets_of, Fits, has_wrong_length, read_pdu, Gives}
+use Rattle.pdu_codec.specs.Pdu.{framed, octets_of, Fits, has_wrong_length, read_pdu, Gives}
 use Rattle.octet_fields.proofs.Octets.{IsOctets-drop, bind_ok, guard_ok, ok_is}
 use Rattle.octet_fields.specs.Laws.{IsFirstFault}
 use Rattle.pdu_codec.proofs.FormLaws.{is_sound, are_silent, form_takes, form_again, form-short, bind_err, form_first_fault}
@@ -190,7 +190,7 @@ pub record TakesPdu (octets : List ℕ) (pdu : Pdu) : Type 0 where
   pub fits : Fits pdu
 
 pub read_pdu-takes : (octets : List ℕ) (pdu : Pdu) → IsOctets octets → read_pdu octets ≡ Ok pdu → TakesPdu octets pdu
-unfolding read_pdu octets_of
+unfolding read_pdu octets_of framed
 read_pdu-takes octets pdu are e =
     let command = command_of (word_at 4 octets) in
     let g = guard_ok (has_wrong_length octets) faults.Length (body_at command (drop 16 octets) >>= λ b. Ok (with_body octets b)) pdu e in
@@ -218,7 +218,7 @@ read_pdu-takes octets pdu are e =
     })
 
 pub read_pdu-again : (pdu : Pdu) → Fits pdu → read_pdu (octets_of pdu) ≡ Ok pdu
-unfolding octets_of
+unfolding octets_of framed
 read_pdu-again pdu fits =
     let octets = octets_of pdu in
     let body : List ℕ = body_octets pdu.body in

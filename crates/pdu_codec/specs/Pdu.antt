@@ -8,14 +8,14 @@ use Rattle.pdu_codec.specs.declared.pdu.Pdu.{Pdu}
 use Rattle.pdu_codec.specs.Grammar.{word_at, ◌>>=◌}
 use Rattle.pdu_codec.specs.Bodies.{command_in, body_octets, BodyFits, body_at}
 
--- The octets of a PDU: command_length, command_id, command_status and sequence_number, then those of its body.
+-- The octets of a PDU of a command with this body: command_length, command_id, command_status and sequence_number, then
+-- those of the body.
+unfoldable pub framed : ℕ → ℕ → ℕ → List ℕ → List ℕ
+framed command status sequence body =
+    to_be_bytes w32 (16 + length body) ++ to_be_bytes w32 command ++ to_be_bytes w32 status ++ to_be_bytes w32 sequence ++ body
+
 unfoldable pub octets_of : Pdu → List ℕ
-octets_of pdu =
-    to_be_bytes w32 (16 + length (body_octets pdu.body))
-    ++ to_be_bytes w32 (command_code (command_in pdu.body))
-    ++ to_be_bytes w32 pdu.status
-    ++ to_be_bytes w32 pdu.sequence
-    ++ body_octets pdu.body
+octets_of pdu = framed (command_code (command_in pdu.body)) pdu.status pdu.sequence (body_octets pdu.body)
 
 -- what each PDU of the program is: its numbers have four octets, and its fields are within their limits
 pub record Fits (pdu : Pdu) : Type 0 where

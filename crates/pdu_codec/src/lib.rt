@@ -20,5 +20,5 @@ pub use laws::{first_fault_is_told, read_is_written, written_is_read};
 pub use pdu::{Address, Bind, BindAnswer, Body, Cancel, Message, Pdu, Query, QueryAnswer};
 pub use reading::decode;
 pub use text::{ShortMessage, Text};
-pub use tlv::{Tlv, Tlvs};
-pub use writing::{encode, put_tlvs};
+pub use tlv::Tlvs;
+pub use writing::encode;

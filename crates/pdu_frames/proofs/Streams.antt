@@ -1,6 +1,6 @@
 -- The laws of frames, by recursion on the frames of a stream and on calls.
-use Rattle.std.proofs.Common.{◌≡◌, ℕ, true, false, zero, suc, nat_le, ◌≤◌, ◌⊎◌, inl, inr, List, [], ◌∷◌, ◌++◌, length, take, drop, refl, sym, ap, ◌∙◌, subst, arith, append_assoc}
-use Rattle.std.proofs.lemmas.List.{append-nil, length-append, length-drop, take-append-drop}
+use Rattle.std.proofs.Common.{◌≡◌, ℕ, false, zero, suc, nat_le, ◌≤◌, ◌⊎◌, inl, inr, List, [], ◌∷◌, ◌++◌, length, drop, refl, sym, ap, ◌∙◌, subst, arith, append_assoc}
+use Rattle.std.proofs.lemmas.List.{append-nil, length-drop, take-append-drop}
 use Rattle.std.proofs.lemmas.Bool.{cases_Bool, and_parts, leb-true}
 use Rattle.pdu_frames.specs.Frames.{command_length, is_pdu_length, IsPart, HasWrongLength, AreFrames, begins_with_frame, cut, cut_within}
 use Rattle.pdu_frames.specs.Calls.{Call, Run, taken_in, given_out}

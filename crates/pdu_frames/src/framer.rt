@@ -73,6 +73,28 @@ impl Framer {
         Ok(of_length + of_frame)
     }
 
+    /// The frame that is held; none if it is not whole yet. `Err(Length)` if a wrong command_length stands next.
+    pub fn frame(&self) -> Result<Option<&[u8]>, PduFault>
+        ensures frame { IfOk result (λ held. IfSome held (λ frame. IsFrame self.now × (frame.now ≡ self.now))) }
+        ensures part { IsPart self.now ↔ (result ≡ Ok None) }
+        ensures wrong { HasWrongLength self.now ↔ (result ≡ Err Length) }
+        ensures fault { IfErr result (λ fault. fault ≡ Length) }
+    {
+        match self.wanted() {
+            0 if has_wrong_length(&self.octets) => Err(PduFault::Length),
+            0 => Ok(Some(&self.octets)),
+            _ => Ok(None),
+        }
+    }
+
+    /// Lets go of the frame that is held, and holds nothing then. It takes no memory.
+    pub fn let_go(&mut self)
+        requires { IsFrame self.old }
+        ensures { Leads self.old (GivesOut self.old) self.new }
+    {
+        self.octets.clear();
+    }
+
     /// Puts the frame that is held in the place of the vector's content, if it is whole, and holds nothing then; `false` if
     /// it is not whole yet. `Err(Length)` if a wrong command_length stands next, and `Err(Memory)` for want of memory for
     /// the vector. Without a frame both the Framer and the vector stay as they were.
@@ -87,15 +109,12 @@ impl Framer {
         ensures waits { result ≡ Ok false → (self.new ≡ self.old) × (into.new.items ≡ into.old.items) }
         ensures kept { OnErr result ((self.new ≡ self.old) × (into.new.items ≡ into.old.items)) }
     {
-        match self.wanted() {
-            0 if has_wrong_length(&self.octets) => Err(PduFault::Length),
-            0 => {
-                replace(into, &self.octets)?;
-                self.octets.clear();
-                Ok(true)
-            }
-            _ => Ok(false),
-        }
+        let Some(frame) = self.frame()? else {
+            return Ok(false);
+        };
+        replace(into, frame)?;
+        self.let_go();
+        Ok(true)
     }
 
     /// How many octets are missing: up to the end of command_length, then up to the end of the frame; 0 if the frame is

@@ -1,8 +1,8 @@
 //! Fields at the front of octets and behind octets.
 
 use octet_fields::{
-    Defect, check_parameters, counted_at, long_counted_at, nothing_at, octet_at, put_counted,
-    put_long_counted, put_octets, put_text, text_at, tlv_at, u16_at, u32_at, u64_at,
+    Defect, check_parameters, counted_at, length_of, long_counted_at, nothing_at, octet_at,
+    put_counted, put_long_counted, put_octets, put_pieces, text_at, tlv_at, u16_at, u32_at, u64_at,
 };
 use std::test::Fail;
 
@@ -66,12 +66,18 @@ fn parameters_up_to_the_end(rt: HostRuntime) -> Result<(), Fail> {
 fn fields_are_written(rt: HostRuntime) -> Result<(), Fail> {
     let mut octets = Vec::new(rt.alloc());
     put_octets(&mut octets, &[7])?;
-    put_text(&mut octets, b"sme1")?;
     put_counted(&mut octets, b"Hi")?;
     put_long_counted(&mut octets, b"Ho")?;
-    assert_eq!(rt;
-        octets.as_slice(),
-        b"\x07sme1\x00\x02Hi\x00\x02Ho".as_slice()
-    );
+    assert_eq!(rt; octets.as_slice(), b"\x07\x02Hi\x00\x02Ho".as_slice());
+    Ok(())
+}
+
+#[test]
+fn pieces_are_written(rt: HostRuntime) -> Result<(), Fail> {
+    let pieces: &[&[u8]] = &[b"sme1", b"", b"\0", b"Hi"];
+    assert_eq!(rt; length_of(pieces), 7);
+    let mut octets = Vec::with_capacity(rt.alloc(), 7)?;
+    put_pieces(&mut octets, pieces);
+    assert_eq!(rt; octets.as_slice(), b"sme1\0Hi".as_slice());
     Ok(())
 }

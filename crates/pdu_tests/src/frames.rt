@@ -198,3 +198,16 @@ fn lengths_have_limits(rt: HostRuntime) -> Result<(), Fail> {
     assert_eq!(rt; zero, Ok(4));
     Ok(())
 }
+
+#[test]
+fn a_frame_is_shown_where_it_lies(rt: HostRuntime) -> Result<(), Fail> {
+    let mut framer = Framer::make(rt.alloc())?;
+    assert_eq!(rt; framer.feed(&BIND_TRANSCEIVER)?, BIND_TRANSCEIVER.len());
+    let Some(frame) = framer.frame()? else {
+        return Err(Fail::from("the frame is whole"));
+    };
+    assert_eq!(rt; frame, BIND_TRANSCEIVER.as_slice());
+    framer.let_go();
+    assert_eq!(rt; framer.frame(), Ok(None));
+    Ok(())
+}

@@ -154,3 +154,12 @@ fn optional_parameters_have_7000_octets_at_most(rt: HostRuntime) -> Result<(), F
     assert_eq!(rt; fault, Some(PduFault::Tlvs));
     Ok(())
 }
+
+#[test]
+fn faults_are_told(rt: HostRuntime) -> Result<(), Fail> {
+    let told = PduFault::Cut(Field::DestinationAddr).to_string(rt.alloc())?;
+    assert_eq!(rt; told.as_str(), "the PDU ends before destination_addr does");
+    let told = PduFault::TextLength.to_string(rt.alloc())?;
+    assert_eq!(rt; told.as_str(), "sm_length is above 254");
+    Ok(())
+}

@@ -1,6 +1,6 @@
 //! Texts, short messages and optional parameters.
 
-use pdu_codec::{PduFault, ShortMessage, Text, Tlvs, check_optional, put_tlvs};
+use pdu_codec::{PduFault, ShortMessage, Text, Tlvs, check_optional};
 use std::test::Fail;
 
 #[test]
@@ -31,15 +31,17 @@ fn short_messages(rt: HostRuntime) -> Result<(), Fail> {
 fn optional_parameters(rt: HostRuntime) -> Result<(), Fail> {
     let mut tlvs = Tlvs::empty(rt.alloc());
     tlvs.push(0x0204, &[0, 7])?;
+    tlvs.push(0x0204, &[0, 8])?;
+    tlvs.push(0x0427, &[2])?;
     let tlvs = tlvs.copy()?;
-    assert_eq!(rt; tlvs.with_tags(&[0x0204])?.as_slice().len(), 1);
-    assert_eq!(rt; tlvs.with_tags(&[0x0427])?.as_slice().len(), 0);
-    let mut octets = Vec::from_slice(rt.alloc(), b"before")?;
-    put_tlvs(&mut octets, &tlvs)?;
-    assert_eq!(rt;
-        octets.as_slice(),
-        b"before\x02\x04\x00\x02\x00\x07".as_slice()
-    );
+    let octets = b"\x02\x04\x00\x02\x00\x07\x02\x04\x00\x02\x00\x08\x04\x27\x00\x01\x02";
+    assert_eq!(rt; tlvs.octets(), octets.as_slice());
+    assert_eq!(rt; tlvs.get(0x0204), Some([0, 7].as_slice()));
+    assert_eq!(rt; tlvs.get(0x0427), Some([2].as_slice()));
+    assert_eq!(rt; tlvs.get(0x020c), None);
+    assert_eq!(rt; tlvs.with_tags(&[0x0204])?.octets(), &octets[..12]);
+    assert_eq!(rt; tlvs.with_tags(&[0x0427, 0x020c])?.octets(), &octets[12..]);
+    assert_eq!(rt; tlvs.with_tags(&[0x020c])?.octets(), b"".as_slice());
     Ok(())
 }
 

@@ -6,3 +6,4 @@ pub mod Running
 pub mod Settling
 pub mod Steps
 pub mod StreamLemmas
+pub mod Digits

@@ -92,7 +92,6 @@ impl Centre {
     ) -> Result<(), AllocError>
         ensures { OnOk result (IsDone (on_cut self.old session (cut (framer ++ octets.now))) self.new text.old.items text.new.items) }
     {
-        let mut frame = Vec::new(alloc);
         let mut rest = octets;
         loop {
             let taken = match framer.feed(rest) {
@@ -100,12 +99,12 @@ impl Centre {
                 Err(_) => return self.wrong_length(alloc, session, text),
             };
             rest = &rest[taken..];
-            match framer.take(&mut frame) {
-                Ok(true) => self.frame(alloc, session, &frame, text)?,
-                Ok(false) => return self.streams.put_back(session, framer),
-                Err(PduFault::Length) => return self.wrong_length(alloc, session, text),
-                Err(_) => return Err(AllocError),
+            match framer.frame() {
+                Ok(Some(frame)) => self.frame(alloc, session, frame, text)?,
+                Ok(None) => return self.streams.put_back(session, framer),
+                Err(_) => return self.wrong_length(alloc, session, text),
             }
+            framer.let_go();
         }
     }
 
@@ -297,7 +296,7 @@ impl Centre {
     {
         let nack = Response::Nack(Status::InvalidCommandLength);
         write_response(alloc, text, session, 0, Some(nack))?;
-        write_gone(alloc, text, session)?;
+        write_gone(text, session)?;
         self.bound.leave(session);
         self.pending.forget(session);
         Ok(())

@@ -24,6 +24,7 @@ pub fn run_script<R: Read, W: Write>(
     lines_are_read();
     spelled_so();
     let mut buffer = LineBuffer::make(alloc)?;
+    let mut text = Vec::new(alloc);
     let mut stage = None;
     let mut number = 0u64;
     'lines: loop {
@@ -32,11 +33,11 @@ pub fn run_script<R: Read, W: Write>(
             Found::TooLong => return Err(ScriptFault::BadLine(number + 1)),
             Found::Last(count) => {
                 let line = &buffer.octets()[..count];
-                return write_line(alloc, &mut stage, line, number + 1, writer);
+                return write_line(alloc, &mut stage, line, number + 1, &mut text, writer);
             }
             Found::Line(count) => {
                 let line = &buffer.octets()[..count];
-                write_line(alloc, &mut stage, line, number + 1, writer)?;
+                write_line(alloc, &mut stage, line, number + 1, &mut text, writer)?;
                 buffer.take_off(count + 1);
                 number += 1;
             }
@@ -44,21 +45,22 @@ pub fn run_script<R: Read, W: Write>(
     }
 }
 
-/// Does what the line of this number says, and writes its output.
+/// Does what the line of this number says, and writes its output, which is made in the place of what the text holds.
 fn write_line<W: Write>(
     alloc: Global,
     stage: &mut Option<Centre>,
     line: &[u8],
     number: u64,
+    text: &mut Vec<u8>,
     writer: &mut W,
 ) -> Result<(), ScriptFault>
     ensures { WritesLine result stage.old line.now number stage.new (W.contents writer.old) (W.contents writer.new) }
 {
-    let mut text = Vec::new(alloc);
-    if !step(alloc, stage, line, &mut text)? {
+    text.clear();
+    if !step(alloc, stage, line, text)? {
         return Err(ScriptFault::BadLine(number));
     }
-    writer.write_all(&text).map_err(|_| ScriptFault::Write)
+    writer.write_all(text).map_err(|_| ScriptFault::Write)
 }
 
 /// Does what a line says: adds its output to the text, and answers whether the line is good.

@@ -1,13 +1,15 @@
-use Rattle.std.proofs.Common.{arith}
-use Rattle.pdu_codec.specs.Tlv.{pair_of}
-use Rattle.fate_chain.proofs.Sameness.{same_at}
+use Rattle.std.proofs.Common.{sym, ap, ◌∙◌}
+use Rattle.std.proofs.lemmas.Bool.Decides.{Decides-eqb}
+use Rattle.std.proofs.lemmas.Slice.Eq.{slice_eq-Decides}
+use Rattle.pdu_codec.specs.Text.{optional_octets}
+use Rattle.pdu_codec.proofs.Optional.{octets-same}
 use Rattle.fate_chain.proofs.submission.are_same.Goals as goal
 
-pub returns-then-not-is_same_parameter : goal.returns-then-not-is_same_parameter
-returns-then-not-is_same_parameter c =
-    let to = c.is_same_parameter.ensures.1 in (
-      λ never. absurd (cc),
-      λ same.
-          let is = to (same_at pair_of c.args.one.now c.args.other.now c.loop-place.place c.index-one-place.result c.index-other-place.result (omega arith) (omega arith) c.index-one-place.is c.index-other-place.is same) in
-          cc,
+pub returns : goal.returns
+returns c =
+    let one = c.octets.ensures in
+    let other = c.octets-2.ensures in
+    let same = slice_eq-Decides Decides-eqb c.octets.result.now c.octets-2.result.now c.eq.result c.eq.ensures in (
+      λ true. octets-same c.args.one.now c.args.other.now one.limits other.limits (sym one.octets ∙ same.0 true ∙ other.octets),
+      λ e. same.1 (one.octets ∙ ap optional_octets e ∙ sym other.octets),
     )

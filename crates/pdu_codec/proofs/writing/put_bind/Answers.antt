@@ -3,5 +3,5 @@ use Rattle.pdu_codec.proofs.writing.put_bind.Goals as goal
 
 pub returns-clause-limits : goal.returns-clause-limits
 returns-clause-limits c =
-    let octets = c.put_octets.ensures.octets in
-    (c.put_text.ensures.text, (c.put_text-2.ensures.text, (c.put_text-3.ensures.text, ((octets 0, refl), ((octets 1, refl), ((octets 2, refl), (c.put_text-4.ensures.text, tt)))))))
+    let octets = c.put_framed.ensures.octets.1.1.1.1.1.0 in
+    (c.octets.ensures.text, (c.octets-2.ensures.text, (c.octets-3.ensures.text, ((octets 1, refl), ((octets 2, refl), ((octets 3, refl), (c.octets-4.ensures.text, tt)))))))

@@ -3,5 +3,5 @@ use Rattle.pdu_codec.proofs.writing.put_query_answer.Goals as goal
 
 pub returns-clause-limits : goal.returns-clause-limits
 returns-clause-limits c =
-    let octets = c.put_octets.ensures.octets in
-    (c.put_text.ensures.text, (c.put_text-2.ensures.text, ((octets 0, refl), ((octets 1, refl), tt))))
+    let octets = c.put_framed.ensures.octets.1.1.1.0 in
+    (c.octets.ensures.text, (c.octets-2.ensures.text, ((octets 1, refl), ((octets 2, refl), tt))))

@@ -11,22 +11,21 @@ returns-in-Err c =
 
 pub loop-count-preserved : goal.loop-count-preserved
 loop-count-preserved c =
-    let gave = c.take.ensures.frame (c.in-Ok-true.is ∙ ap Ok c.in-Ok-true.field-0-test) in
-    after_take c.args.session c.args.self.now c.loop-count.self c.frame.new.self (c.args.framer ++ c.args.octets.now) c.args.text.now.items c.loop-count.framer c.loop-count.rest.now c.feed.new.self c.take.new.into.items c.take.new.self c.loop-count.text.items c.frame.new.text.items c.in-Ok.count
-    c.loop-count.invariant c.in-Ok.ensures.taken gave (rw c.deref.ensures.value at c.in_ok-frame-in-Ok-true.ensures)
+    let held = rw c.in-Ok-Some.field-0-is at c.in-Ok-Some.ensures.frame in
+    after_take c.args.session c.args.self.now c.loop-count.self c.frame-in-Ok-Some.new.self (c.args.framer ++ c.args.octets.now) c.args.text.now.items c.loop-count.framer c.loop-count.rest.now c.feed.new.self c.feed.new.self c.let_go.new.self c.loop-count.text.items c.frame-in-Ok-Some.new.text.items c.in-Ok.count
+    c.loop-count.invariant c.in-Ok.ensures.taken c.let_go.ensures (rw held.1 at c.in_ok-frame-in-Ok-Some.ensures)
 
-pub returns-in-Ok-false : goal.returns-in-Ok-false
-returns-in-Ok-false c =
-    let none = c.in-Ok-false.is ∙ ap Ok c.in-Ok-false.field-0-test in
-    let part = c.take.ensures.part.1 none in
+pub returns-in-Ok-None : goal.returns-in-Ok-None
+returns-in-Ok-None c =
+    let part = c.frame.ensures.part.1 (c.in-Ok-None.is ∙ ap Ok c.in-Ok-None.field-0-is) in
     let all = all_taken c.loop-count.framer c.loop-count.rest.now c.feed.new.self c.in-Ok.count c.in-Ok.ensures.taken (c.in-Ok.ensures.all part) in
-    after_kept c.args.session c.args.self.now c.loop-count.self (c.args.framer ++ c.args.octets.now) c.args.text.now.items (c.loop-count.framer ++ c.loop-count.rest.now) c.loop-count.text.items c.take.new.self c.put_back.new.self c.put_back.result
-    c.loop-count.invariant (subst (λ s. IsPart s) all part) ((c.take.ensures.waits none).0 ∙ all) c.put_back.ensures
+    after_kept c.args.session c.args.self.now c.loop-count.self (c.args.framer ++ c.args.octets.now) c.args.text.now.items (c.loop-count.framer ++ c.loop-count.rest.now) c.loop-count.text.items c.feed.new.self c.put_back.new.self c.put_back.result
+    c.loop-count.invariant (subst (λ s. IsPart s) all part) all c.put_back.ensures
 
-pub returns-in-Err-Length : goal.returns-in-Err-Length
-returns-in-Err-Length c =
-    let wrong = c.take.ensures.wrong.1 (c.in-Err-Length.is ∙ ap Err c.in-Err-Length.field-0-is) in
+pub returns-in-Err-frame : goal.returns-in-Err-frame
+returns-in-Err-frame c =
+    let wrong = c.frame.ensures.wrong.1 (c.in-Err-frame.is ∙ ap Err c.in-Err-frame.ensures.fault) in
     let rest = take (length c.loop-count.rest.now - c.in-Ok.count) (drop c.in-Ok.count c.loop-count.rest.now) in
     let parts = joined c.loop-count.framer c.loop-count.rest.now c.feed.new.self c.in-Ok.count c.in-Ok.ensures.taken in
-    after_wrong c.args.session c.args.self.now c.loop-count.self c.wrong_length-in-Err-Length.new.self (c.args.framer ++ c.args.octets.now) c.args.text.now.items (c.loop-count.framer ++ c.loop-count.rest.now) c.loop-count.text.items c.wrong_length-in-Err-Length.new.text.items c.wrong_length-in-Err-Length.result
-    c.loop-count.invariant (subst (λ s. HasWrongLength s) parts (wrong_in_front c.feed.new.self rest wrong)) c.wrong_length-in-Err-Length.ensures
+    after_wrong c.args.session c.args.self.now c.loop-count.self c.wrong_length-in-Err-frame.new.self (c.args.framer ++ c.args.octets.now) c.args.text.now.items (c.loop-count.framer ++ c.loop-count.rest.now) c.loop-count.text.items c.wrong_length-in-Err-frame.new.text.items c.wrong_length-in-Err-frame.result
+    c.loop-count.invariant (subst (λ s. HasWrongLength s) parts (wrong_in_front c.feed.new.self rest wrong)) c.wrong_length-in-Err-frame.ensures
