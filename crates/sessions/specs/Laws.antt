@@ -1,12 +1,14 @@
 -- Laws of sessions.
 use Rattle.std.specs.Prelude.{◌≡◌, ℕ, ◌<◌, ◌==◌, ◌⊎◌, List, [], ◌∷◌, find, false, Option, Some, None}
 use Rattle.accounts.specs.declared.account.Account.{Account}
+use Rattle.pdu_tables.specs.declared.status.Status.{Status}
 use Rattle.pdu_codec.specs.declared.fault.PduFault.{PduFault}
 use Rattle.pdu_codec.specs.declared.pdu.Pdu.{Pdu}
 use Rattle.sessions.specs.declared.pushed.PushRefusal.TheVariants.{NotReceiving}
-use Rattle.sessions.specs.declared.reaction.Reaction.TheVariants.{Nothing}
+use Rattle.sessions.specs.declared.reaction.Reaction.TheVariants.{Nothing, Respond}
 use Rattle.sessions.specs.declared.request.OpenRequest.{OpenRequest}
 use Rattle.sessions.specs.declared.requested.Requested.{Requested}
+use Rattle.sessions.specs.declared.response.Response.TheVariants.{Refused}
 use Rattle.sessions.specs.declared.state.SessionState.TheVariants.{Gone}
 use Rattle.sessions.specs.Session.{Session, IsSession}
 use Rattle.sessions.specs.Steps.{Reacts, can_wait, gone, on_fault, on_pdu, on_reply, on_wait, push_refusal}
@@ -16,6 +18,13 @@ abbrev pub NoPduTakesAPlace : Type 0
 NoPduTakesAPlace =
     (accounts : List Account) (session : Session) (pdu : Pdu)
     → ((on_pdu accounts session pdu).next.requests ≡ session.requests) ⊎ ((on_pdu accounts session pdu).next ≡ gone session)
+
+-- A request that is refused leaves the session as it was, and its windows with it.
+abbrev pub RefusalChangesNothing : Type 0
+RefusalChangesNothing =
+    (accounts : List Account) (session : Session) (pdu : Pdu) (requested : Requested) (status : Status)
+    → (on_pdu accounts session pdu).reaction ≡ Respond (record { sequence = pdu.sequence; response = Refused requested status })
+    → (on_pdu accounts session pdu).next ≡ session
 
 -- a session that is gone drops each PDU and each fault
 abbrev pub NothingLeavesGone : Type 0

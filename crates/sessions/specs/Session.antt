@@ -1,5 +1,5 @@
 -- A session, as contracts see it.
-use Rattle.std.specs.Prelude.{◌≡◌, ℕ, ◌+◌, ◌≤◌, ◌==◌, false, List, [], length, Option, is_some, if◌then◌else◌}
+use Rattle.std.specs.Prelude.{◌≡◌, ℕ, ◌+◌, ◌≤◌, nat_le, false, List, [], length, Option, is_some, if◌then◌else◌}
 use Rattle.sessions.specs.declared.state.SessionState.{SessionState}
 use Rattle.sessions.specs.declared.request.OpenRequest.{OpenRequest}
 use Rattle.sessions.specs.declared.pushed.Pushed.{Pushed}
@@ -26,6 +26,6 @@ pub record IsSession (session : Session) : Type 0 where
   pub first : 1 ≤ session.next_sequence
   pub last : session.next_sequence ≤ 0x7FFF_FFFF
 
--- the sequence_number after this one: the first comes again after the last
+-- the sequence_number after this one: after the last the first comes again
 abbrev pub sequence_after : ℕ → ℕ
-sequence_after sequence = if sequence == 0x7FFF_FFFF then 1 else sequence + 1
+sequence_after sequence = if nat_le 0x7FFF_FFFF sequence then 1 else sequence + 1

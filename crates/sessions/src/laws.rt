@@ -1,10 +1,15 @@
 //! What holds of sessions, whatever comes.
 
-ghost use Rattle.sessions.specs.Laws.{NoPduTakesAPlace, NothingLeavesGone, NoFaultIsToldOfGone, NothingBeginsInGone, ReplyToAnotherChangesNothing, RisingTicketsAreApart, TicketsRiseByWaiting, TicketsRiseOverReplies};
+ghost use Rattle.sessions.specs.Laws.{NoPduTakesAPlace, NothingLeavesGone, NoFaultIsToldOfGone, NothingBeginsInGone, RefusalChangesNothing, ReplyToAnotherChangesNothing, RisingTicketsAreApart, TicketsRiseByWaiting, TicketsRiseOverReplies};
 
 /// No PDU takes a place in the window of the ESME's requests, whatever it is answered: only the node gives places.
 pub fn no_pdu_takes_a_place()
     ensures { NoPduTakesAPlace }
+{}
+
+/// A request that is refused, a bind too, changes nothing.
+pub fn refusal_changes_nothing()
+    ensures { RefusalChangesNothing }
 {}
 
 /// A session that is gone answers nothing, and stays as it is.

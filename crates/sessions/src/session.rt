@@ -367,12 +367,11 @@ fn refuse(sequence: u32, requested: Requested, status: Status) -> Reaction
     respond(sequence, Response::Refused(requested, status))
 }
 
-/// The sequence_number of the pushed request after that of this one.
-fn sequence_after(sequence: u32) -> u32
-    requires { sequence ≤ 0x7FFFFFFF }
+/// The sequence_number of the centre after this one: after 0x7FFFFFFF comes 1 again (SMPP 3.4, section 5.1.4).
+pub fn sequence_after(sequence: u32) -> u32
     ensures { result ≡ sequence_after sequence }
 {
-    if sequence == LAST_SEQUENCE {
+    if sequence >= LAST_SEQUENCE {
         return FIRST_SEQUENCE;
     }
     sequence + 1
