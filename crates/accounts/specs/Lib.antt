@@ -1,0 +1,3 @@
+pub mod Accounts
+pub mod Routes
+pub mod Laws

@@ -1,0 +1,4 @@
+pub mod Retained
+pub mod Firsts
+pub mod Tickets
+pub mod Kept
