@@ -1,0 +1,71 @@
+-- What the rows of a document say of its keys.
+use Rattle.std.proofs.Common.{◌≡◌, ◌↔◌, ℕ, ◌+◌, ◌<◌, Bool, true, false, not, ◌||◌, List, ◌∷◌, length, map, drop, get_or, Option, Some, None, MatchOption, IsTrue, is_some, refl, sym, ap, subst, ◌∙◌}
+use Rattle.std.proofs.lemmas.Bool.{false≢true}
+use Rattle.std.proofs.lemmas.List.{drop_more, length-map}
+use Rattle.std.specs.List.{AllByRecursion, list_all, list_any}
+use Rattle.std.specs.declared.net.socket_addr.SocketAddrV4.{SocketAddrV4}
+use Rattle.toml.specs.Data.{Data}
+use Rattle.toml.specs.declared.value.Value.{Value}
+use Rattle.toml.specs.View.{view, items_view}
+use Rattle.config.specs.declared.key.Key.{Key}
+use Rattle.config.specs.Keys.{is_needed, is_unique, name_of, part_of}
+use Rattle.config.specs.Rows.{has_twice, is_table, listed, rows_of, same_value}
+use Rattle.config.specs.Listen.{IsListen}
+use Rattle.config.specs.Faults.{Fits, IsFit, has_key, is_given, is_once}
+use Rattle.config.proofs.Lists.{all_from_map, all_of_map, all_to_map, any_of_map, listed_view}
+
+pub given_here : (document : Data) (key : Key) (rows : List Value) → is_needed key ≡ true → map view rows ≡ rows_of document (part_of key)
+    → list_all (λ row. has_key key (view row)) rows ≡ is_given document key
+given_here document key rows needed are =
+    sym (ap (λ (b : Bool). not b || list_all (has_key key) (rows_of document (part_of key))) needed
+    ∙ ap (λ (ds : List Data). list_all (has_key key) ds) (sym are)
+    ∙ all_of_map (has_key key) view rows)
+
+pub once_here : (document : Data) (key : Key) (rows : List Value) → is_unique key ≡ true → map view rows ≡ rows_of document (part_of key)
+    → not (has_twice (name_of key) (map view rows)) ≡ is_once document key
+once_here document key rows unique are =
+    sym (ap (λ (b : Bool). not b || not (has_twice (name_of key) (rows_of document (part_of key)))) unique
+    ∙ ap (λ (ds : List Data). not (has_twice (name_of key) ds)) (sym are))
+
+pub fit_here : (document : Data) (key : Key) (rows : List Value) (result : Bool) → map view rows ≡ rows_of document (part_of key)
+    → (IsTrue result ↔ AllByRecursion (λ row. Fits document key (view row)) rows) → IsTrue result ↔ IsFit document key
+fit_here document key rows result are is = (
+  λ yes. subst (AllByRecursion (Fits document key)) are (all_from_map (Fits document key) view rows (is.0 yes)),
+  λ fit. is.1 (all_to_map (Fits document key) view rows (subst (AllByRecursion (Fits document key)) (sym are) fit)),
+)
+
+-- ---- what a value may be
+
+pub tables_view : (values : List Value) → list_all is_table (listed (items_view values)) ≡ list_all (λ value. is_table (view value)) values
+tables_view values = ap (λ (ds : List Data). list_all is_table ds) (listed_view values) ∙ all_of_map is_table view values
+
+pub count_view : (values : List Value) → length (listed (items_view values)) ≡ length values
+count_view values = ap (λ (ds : List Data). length ds) (listed_view values) ∙ length-map values view
+
+pub any_here : (p : Data → Bool) (rows : List Value) (all : List Data) → map view rows ≡ all → list_any (λ row. p (view row)) rows ≡ list_any p all
+any_here p rows all are = sym (any_of_map p view rows) ∙ ap (λ (ds : List Data). list_any p ds) are
+
+pub listen_found : (text : List ℕ) (found : Option SocketAddrV4) → MatchOption found ((address : SocketAddrV4) → IsListen text address → ⊥) (λ address. IsListen text address)
+    → IsTrue (is_some found) ↔ ((address : SocketAddrV4) × IsListen text address)
+listen_found text None is = (λ yes. absurd (false≢true yes), λ some. absurd (is some.0 some.1))
+listen_found text (Some address) is = (λ yes. (address, is), λ some. refl)
+
+-- ---- row by row
+
+twice_here : (name : List ℕ) (rows : List Value) (place : ℕ) (first : Value) → place < length rows → first ≡ get_or rows place first
+    → has_twice name (map view (drop place rows)) ≡ (list_any (λ other. same_value name (view first) (view other)) (drop (place + 1) rows) || has_twice name (map view (drop (place + 1) rows)))
+twice_here name rows place first below is =
+    ap (λ (vs : List Value). has_twice name (map view vs)) (drop_more rows place first below ∙ ap (λ (v : Value). v ∷ drop (place + 1) rows) (sym is))
+    ∙ ap (λ (b : Bool). b || has_twice name (map view (drop (place + 1) rows))) (any_of_map (same_value name (view first)) view (drop (place + 1) rows))
+
+pub again_here : (name : List ℕ) (rows : List Value) (place : ℕ) (first : Value) → place < length rows → first ≡ get_or rows place first
+    → has_twice name (map view (drop place rows)) ≡ has_twice name (map view rows)
+    → list_any (λ other. same_value name (view first) (view other)) (drop (place + 1) rows) ≡ true → has_twice name (map view rows) ≡ true
+again_here name rows place first below is so_far again =
+    sym so_far ∙ twice_here name rows place first below is ∙ ap (λ (b : Bool). b || has_twice name (map view (drop (place + 1) rows))) again
+
+pub not_again : (name : List ℕ) (rows : List Value) (place : ℕ) (first : Value) → place < length rows → first ≡ get_or rows place first
+    → has_twice name (map view (drop place rows)) ≡ has_twice name (map view rows)
+    → list_any (λ other. same_value name (view first) (view other)) (drop (place + 1) rows) ≡ false → has_twice name (map view (drop (place + 1) rows)) ≡ has_twice name (map view rows)
+not_again name rows place first below is so_far again =
+    sym (ap (λ (b : Bool). b || has_twice name (map view (drop (place + 1) rows))) again) ∙ sym (twice_here name rows place first below is) ∙ so_far

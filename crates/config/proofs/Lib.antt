@@ -1,0 +1,5 @@
+pub mod Lists
+pub mod Texts
+pub mod Checked
+pub mod Sound
+pub mod Built

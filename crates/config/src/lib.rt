@@ -1,0 +1,17 @@
+//! The configuration of a node of the centre, out of a TOML text.
+#![tactic(auto)]
+
+mod build;
+mod checks;
+mod config;
+mod fault;
+mod key;
+mod listen;
+mod reading;
+mod rows;
+mod values;
+
+pub use config::{Config, NodeConfig};
+pub use fault::ConfigFault;
+pub use key::{Key, Part};
+pub use reading::read_config;

@@ -1,0 +1,52 @@
+//! A configuration out of a text.
+
+ghost use Rattle.std.specs.Prelude.{MatchResult};
+ghost use Rattle.toml.specs.View.{view};
+ghost use Rattle.config.specs.Config as spec;
+
+use crate::build::build;
+use crate::checks::{first_bad, first_missing, first_repeated};
+use crate::config::Config;
+use crate::fault::ConfigFault;
+use crate::key::KEYS;
+use std::alloc::Global;
+use toml::Value;
+
+/// The configuration that a text says (TOML, UTF-8), or the lowest fault that fits, with any one of its keys: `NotToml` only of
+/// what is no TOML; else `Missing`, if a key without a default is not there or there is no node; else `BadValue`, if a value is of
+/// another kind or range, a node is the tenth, or a route leads to no account of the text; else `Repeated`, if two accounts have
+/// one system_id, two routes one prefix, or two nodes one number. Other keys are ignored. `Memory` is want of memory.
+pub fn read_config(alloc: Global, octets: &[u8]) -> Result<Config, ConfigFault>
+    ensures { spec.IsOutcome octets.now result }
+{
+    let document = document_of(alloc, octets)?;
+    check(&document)?;
+    Ok(build(alloc, &document)?)
+}
+
+/// The table of a text.
+fn document_of(alloc: Global, octets: &[u8]) -> Result<Value, ConfigFault>
+    ensures { MatchResult result (λ document. spec.IsDocument octets.now (view document)) (spec.ReadsNone octets.now) }
+{
+    match toml::table_from_slice(alloc, octets) {
+        Ok(members) => Ok(Value::Table(members)),
+        Err(error) if error.is_memory() => Err(ConfigFault::Memory),
+        Err(_) => Err(ConfigFault::NotToml),
+    }
+}
+
+/// Whether a document has no fault.
+fn check(document: &Value) -> Result<(), ConfigFault>
+    ensures { spec.IsChecked (view document.now) result }
+{
+    if let Some(key) = first_missing(document, &KEYS) {
+        return Err(ConfigFault::Missing(key));
+    }
+    if let Some(key) = first_bad(document, &KEYS) {
+        return Err(ConfigFault::BadValue(key));
+    }
+    if let Some(key) = first_repeated(document, &KEYS) {
+        return Err(ConfigFault::Repeated(key));
+    }
+    Ok(())
+}
