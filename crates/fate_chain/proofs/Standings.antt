@@ -54,21 +54,21 @@ abbrev Measures : Kind → ℕ → ℕ → Type 0
 Measures (Taken m) count attempts = (count ≡ 1) × (attempts ≡ 0)
 Measures (Attempt number) count attempts = (count ≡ 2 * attempts) × (attempts ≤ 8)
 Measures (Failed error) count attempts = (count ≡ 2 * attempts + 1) × (attempts ≤ 8)
-Measures (Fate final error) count attempts = count ≤ 18
+Measures (Fate final error) count attempts = (count ≤ 18) × (attempts ≤ 8)
 
 measures-more : (m : Submission) (count attempts : ℕ) (old : Author) (before : ℕ) (kind : Kind) (author : Author) (moment : ℕ) (next : Kind) → MayFollow m attempts old before kind author moment next → Measures kind count attempts → Measures next (count + 1) (attempts_of next + attempts)
 measures-more m count attempts old before (Taken t) author moment (Taken again) may is = absurd may
 measures-more m count attempts old before (Taken t) author moment (Attempt number) may is = (omega (arith, is.0, is.1), omega (arith, is.1))
 measures-more m count attempts old before (Taken t) author moment (Failed error) may is = absurd may
-measures-more m count attempts old before (Taken t) author moment (Fate final error) may is = omega (arith, is.0, is.1)
+measures-more m count attempts old before (Taken t) author moment (Fate final error) may is = (omega (arith, is.0, is.1), omega (arith, is.1))
 measures-more m count attempts old before (Attempt tried) author moment (Taken again) may is = absurd may
 measures-more m count attempts old before (Attempt tried) author moment (Attempt number) may is = absurd may
 measures-more m count attempts old before (Attempt tried) author moment (Failed error) may is = (omega (arith, is.0, is.1), omega (arith, is.1))
-measures-more m count attempts old before (Attempt tried) author moment (Fate final error) may is = omega (arith, is.0, is.1)
+measures-more m count attempts old before (Attempt tried) author moment (Fate final error) may is = (omega (arith, is.0, is.1), omega (arith, is.1))
 measures-more m count attempts old before (Failed cause) author moment (Taken again) may is = absurd may
 measures-more m count attempts old before (Failed cause) author moment (Attempt number) may is = (omega (arith, is.0), omega (arith, may.most))
 measures-more m count attempts old before (Failed cause) author moment (Failed error) may is = absurd may
-measures-more m count attempts old before (Failed cause) author moment (Fate final error) may is = omega (arith, is.0, is.1)
+measures-more m count attempts old before (Failed cause) author moment (Fate final error) may is = (omega (arith, is.0, is.1), omega (arith, is.1))
 measures-more m count attempts old before (Fate last why) author moment (Taken again) may is = absurd may
 measures-more m count attempts old before (Fate last why) author moment (Attempt number) may is = absurd may
 measures-more m count attempts old before (Fate last why) author moment (Failed error) may is = absurd may
@@ -100,7 +100,17 @@ measures-few : (kind : Kind) (count attempts : ℕ) → Measures kind count atte
 measures-few (Taken m) count attempts is = omega (arith, is.0)
 measures-few (Attempt number) count attempts is = omega (arith, is.0, is.1)
 measures-few (Failed error) count attempts is = omega (arith, is.0, is.1)
-measures-few (Fate final error) count attempts is = is
+measures-few (Fate final error) count attempts is = is.0
+
+measures-tried : (kind : Kind) (count attempts : ℕ) → Measures kind count attempts → attempts ≤ 8
+measures-tried (Taken m) count attempts is = omega (arith, is.1)
+measures-tried (Attempt number) count attempts is = is.1
+measures-tried (Failed error) count attempts is = is.1
+measures-tried (Fate final error) count attempts is = is.1
+
+pub tried-few : (id : ℕ) (decrees : List Decree) → IsPermitted id decrees → attempts_in decrees ≤ 8
+tried-few id [] permitted = absurd permitted
+tried-few id (newest ∷ older) permitted = measures-tried newest.kind _ _ (measures-permitted id newest older permitted)
 
 pub permitted-few : (id : ℕ) (decrees : List Decree) → IsPermitted id decrees → length decrees ≤ 18
 permitted-few id [] permitted = absurd permitted

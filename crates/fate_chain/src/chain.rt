@@ -3,7 +3,7 @@
 ghost use Rattle.std.specs.Prelude.{◌≡◌, ◌<◌, ◌≤◌, ◌↔◌, ◌∷◌, [], Some, length, pred, reverse, slice_get, IfOk, IsErrOf, IsTrue};
 ghost use Rattle.mc_model.specs.message.Ids.{node_of, incarnation_of};
 ghost use Rattle.mc_model.specs.message.Decree.{Taken};
-ghost use Rattle.mc_model.specs.message.Chain.{Chain as ChainValue, IsPermitted, MayExtend, taken_in, final_in, error_in};
+ghost use Rattle.mc_model.specs.message.Chain.{Chain as ChainValue, IsPermitted, MayExtend, taken_in, attempts_in, final_in, error_in};
 ghost use Rattle.fate_chain.specs.Bytes.{chain_octets, read_chain, Fits, IsSpelled, Judges};
 ghost use Rattle.fate_chain.specs.Marks.{IsStandingOf};
 ghost use Rattle.fate_chain.specs.States.{state_of};
@@ -128,9 +128,18 @@ impl Chain {
         error
     }
 
+    /// How often it was attempted, 0 to 8.
+    pub fn attempts(&self) -> u8
+        ensures attempts { result ≡ attempts_in self.now.decrees }
+        ensures range { result ≤ 8 }
+    {
+        self.standing().attempts as u8
+    }
+
     /// What decides which decree may come next.
     fn standing(&self) -> Standing
-        ensures { IsStandingOf self.now.decrees result }
+        ensures standing { IsStandingOf self.now.decrees result }
+        ensures attempts { result.attempts ≤ 8 }
     {
         match Progress::of(self.id, &self.decrees) {
             Progress::Stands(standing) => standing,

@@ -1,0 +1,4 @@
+pub mod Due
+pub mod Kept
+pub mod Outcomes
+pub mod Deliveries

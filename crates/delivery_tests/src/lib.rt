@@ -1,0 +1,13 @@
+//! The tests of `delivery` and `receipts`, in a crate without code so that each of those is proved once.
+#![tactic(auto)]
+
+#[cfg(test)]
+mod chains;
+#[cfg(test)]
+mod due;
+#[cfg(test)]
+mod outcomes;
+#[cfg(test)]
+mod pdus;
+#[cfg(test)]
+mod texts;

@@ -1,0 +1,74 @@
+//! What came of an attempt.
+
+use delivery::{Outcome, outcome_of};
+use fate_chain::{Final, Kind};
+use pdu_codec::{Body, Pdu};
+use std::test::Fail;
+
+/// What a PDU with the sequence_number 7 tells of the attempt with that one.
+fn told(status: u32, body: Body) -> Option<Outcome> {
+    let pdu = Pdu {
+        status,
+        sequence: 7,
+        body,
+    };
+    outcome_of(7, &pdu)
+}
+
+/// The error of the failed attempt of which it tells.
+fn failure(outcome: Option<Outcome>) -> Option<u16> {
+    match outcome?.kind() {
+        Kind::Failed(error) => Some(error.number()),
+        _ => None,
+    }
+}
+
+/// The final state of which it tells, and its error.
+fn fate(outcome: Option<Outcome>) -> Option<(Final, u16)> {
+    match outcome?.kind() {
+        Kind::Fate(last, error) => Some((last, error.number())),
+        _ => None,
+    }
+}
+
+#[test]
+fn a_response_concludes_the_message(rt: HostRuntime) -> Result<(), Fail> {
+    let fate_of = |status| fate(told(status, Body::DeliverSmResp(None)));
+    assert_eq!(rt; fate_of(0), Some((Final::Delivered, 0)));
+    assert_eq!(rt; fate_of(0x65), Some((Final::Undeliverable, 101)));
+    assert_eq!(rt; fate_of(0x66), Some((Final::Rejected, 102)));
+    assert_eq!(rt; fate_of(0x64), None);
+    Ok(())
+}
+
+#[test]
+fn any_other_status_is_a_failure(rt: HostRuntime) -> Result<(), Fail> {
+    let error_of = |status| failure(told(status, Body::DeliverSmResp(None)));
+    assert_eq!(rt; error_of(0x64), Some(100));
+    assert_eq!(rt; error_of(900), Some(900));
+    assert_eq!(rt; error_of(0x400), Some(900));
+    assert_eq!(rt; error_of(0xffff_ffff), Some(900));
+    assert_eq!(rt; error_of(0), None);
+    Ok(())
+}
+
+#[test]
+fn a_generic_nack_is_a_failure(rt: HostRuntime) -> Result<(), Fail> {
+    assert_eq!(rt; failure(told(0, Body::GenericNack)), Some(0));
+    assert_eq!(rt; failure(told(0x65, Body::GenericNack)), Some(101));
+    assert_eq!(rt; failure(Some(Outcome::unanswered())), Some(997));
+    Ok(())
+}
+
+#[test]
+fn other_pdus_tell_nothing(rt: HostRuntime) -> Result<(), Fail> {
+    assert_eq!(rt; told(0, Body::CancelSmResp), None);
+    assert_eq!(rt; told(0, Body::SubmitSmResp(None)), None);
+    let pdu = Pdu {
+        status: 0,
+        sequence: 8,
+        body: Body::DeliverSmResp(None),
+    };
+    assert_eq!(rt; outcome_of(7, &pdu), None);
+    Ok(())
+}

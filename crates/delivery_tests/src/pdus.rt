@@ -1,0 +1,102 @@
+//! The octets of deliver_sms, from what was asked of this message centre.
+
+use crate::chains::*;
+use delivery::{DeliverFault, deliver_pdu};
+use fate_chain::Chain;
+use pdu_codec::{Pdu, encode};
+use receipts::{ReceiptFault, receipt_pdu};
+use std::alloc::Global;
+use std::test::Fail;
+
+/// The deliver_sm of an attempt, sequence_number 1: from 144 to 155 with the text Hi.
+const DELIVERY: &[u8] = b"\0\0\0\x29\0\0\0\x05\0\0\0\0\0\0\0\x01\
+\0\x01\x01144\0\x01\x01155\0\0\0\0\0\0\0\0\0\0\x02Hi";
+
+/// The deliver_sm of the receipt, sequence_number 2.
+const RECEIPT: &[u8] = b"\0\0\0\xa3\0\0\0\x05\0\0\0\0\0\0\0\x02\
+\0\x01\x01155\0\x01\x01144\0\x04\0\0\0\0\0\0\0\0\x68\
+id:1000100001 sub:001 dlvrd:001 submit date:2401310000 done date:2401310000 stat:DELIVRD err:000 text:Hi\
+\0\x1e\0\x0b1000100001\0\x04\x27\0\x01\x02";
+
+/// The octets of the deliver_sm of the attempt after these decrees, with the sequence_number 1; none if it is refused.
+fn delivery(alloc: Global, steps: &[Step]) -> Result<Option<Vec<u8>>, Fail> {
+    let chain = chain(alloc, 1, steps)?;
+    Ok(delivery_octets(alloc, &chain))
+}
+
+fn delivery_octets(alloc: Global, chain: &Chain) -> Option<Vec<u8>> {
+    match deliver_pdu(alloc, chain, 1) {
+        Ok(pdu) => octets(alloc, &pdu),
+        Err(_fault) => None,
+    }
+}
+
+/// Those of the deliver_sm of the receipt, with the sequence_number 2.
+fn receipt(alloc: Global, steps: &[Step]) -> Result<Option<Vec<u8>>, Fail> {
+    let chain = chain(alloc, 1, steps)?;
+    Ok(receipt_octets(alloc, &chain))
+}
+
+fn receipt_octets(alloc: Global, chain: &Chain) -> Option<Vec<u8>> {
+    match receipt_pdu(alloc, chain, 2) {
+        Ok(pdu) => octets(alloc, &pdu),
+        Err(_fault) => None,
+    }
+}
+
+fn octets(alloc: Global, pdu: &Pdu) -> Option<Vec<u8>> {
+    let mut octets = Vec::new(alloc);
+    match encode(pdu, &mut octets) {
+        Ok(()) => Some(octets),
+        Err(_error) => None,
+    }
+}
+
+/// Why there is no deliver_sm after these decrees.
+fn delivery_refused(alloc: Global, steps: &[Step]) -> Result<Option<DeliverFault>, Fail> {
+    let chain = chain(alloc, 1, steps)?;
+    Ok(deliver_pdu(alloc, &chain, 1).err())
+}
+
+/// Why there is none of a receipt.
+fn receipt_refused(
+    alloc: Global,
+    registered_delivery: u8,
+    steps: &[Step],
+) -> Result<Option<ReceiptFault>, Fail> {
+    let chain = chain(alloc, registered_delivery, steps)?;
+    Ok(receipt_pdu(alloc, &chain, 2).err())
+}
+
+#[test]
+fn an_attempt_is_delivered(rt: HostRuntime) -> Result<(), Fail> {
+    let octets = delivery(rt.alloc(), &[Step::Attempt(0, 1)])?.ok_or("octets")?;
+    assert_eq!(rt; octets.as_slice(), DELIVERY);
+    Ok(())
+}
+
+#[test]
+fn what_is_no_attempt_is_not_delivered(rt: HostRuntime) -> Result<(), Fail> {
+    let refused = Some(DeliverFault::NoAttempt);
+    assert_eq!(rt; delivery_refused(rt.alloc(), &[])?, refused);
+    assert_eq!(rt; delivery_refused(rt.alloc(), &FAILURES)?, refused);
+    Ok(())
+}
+
+#[test]
+fn a_receipt_goes_back(rt: HostRuntime) -> Result<(), Fail> {
+    let steps = [Step::Attempt(0, 1), Step::Fate(0, DELIVERED, 0)];
+    let octets = receipt(rt.alloc(), &steps)?.ok_or("octets")?;
+    assert_eq!(rt; octets.as_slice(), RECEIPT);
+    Ok(())
+}
+
+#[test]
+fn there_is_no_receipt_of_a_message_on_its_way(rt: HostRuntime) -> Result<(), Fail> {
+    let none = receipt_refused(rt.alloc(), 1, &[])?;
+    assert_eq!(rt; none, Some(ReceiptFault::NoFate));
+    let steps = [Step::Attempt(0, 1), Step::Fate(0, DELIVERED, 0)];
+    let unasked = receipt_refused(rt.alloc(), 2, &steps)?;
+    assert_eq!(rt; unasked, Some(ReceiptFault::NotAsked));
+    Ok(())
+}

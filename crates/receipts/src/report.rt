@@ -1,0 +1,63 @@
+//! What a receipt tells.
+
+ghost use Rattle.std.specs.Prelude.{◌≡◌, ◌↔◌, IfOk, IsErrOf, IsTrue};
+ghost use Rattle.mc_model.specs.node.Phases.{AsksReceipt};
+ghost use Rattle.fate_chain.specs.Kinds.{final_of};
+ghost use Rattle.receipts.specs.Receipts.{HasFate, IsAsked, Reports};
+ghost use Rattle.receipts.specs.Told.{report_of};
+ghost use Rattle.receipts.specs.declared.fault.ReceiptFault.TheVariants.{Memory, NoFate, NotAsked};
+
+use crate::fault::ReceiptFault;
+use fate_chain::{Chain, ErrorCode, Final, Kind, Submission};
+use mc_types::{Moment, MsgId};
+
+/// What the receipt of a message tells.
+#[derive(Clone, Copy)]
+pub struct Report<'a> {
+    pub id: MsgId,
+    pub taken: &'a Submission,
+    pub began: Moment,
+    pub last: Final,
+    pub error: ErrorCode,
+    pub ended: Moment,
+}
+
+impl Report<'_> {
+    /// What the receipt of a chain tells. NoFate if it has no final state, else NotAsked if no receipt of that was asked for.
+    pub fn of(chain: &Chain) -> Result<Report<'_>, ReceiptFault>
+        ensures reports { IfOk result (λ report. Reports chain.now (report_of report)) }
+        ensures asked { IfOk result (λ report. AsksReceipt (report_of report).final (report_of report).taken) }
+        ensures no_fate { IsErrOf result NoFate ↔ (HasFate chain.now.decrees → ⊥) }
+        ensures not_asked { IsErrOf result NotAsked ↔ HasFate chain.now.decrees × (IsAsked chain.now.decrees → ⊥) }
+        ensures memory { IsErrOf result Memory → ⊥ }
+    {
+        let newest = chain.newest();
+        let Kind::Fate(last, error) = newest.kind else {
+            return Err(ReceiptFault::NoFate);
+        };
+        let taken = chain.submission();
+        if !asks_receipt(taken, last) {
+            return Err(ReceiptFault::NotAsked);
+        }
+        let first = &chain.decrees()[0];
+        Ok(Report {
+            id: chain.id(),
+            taken,
+            began: first.moment,
+            last,
+            error,
+            ended: newest.moment,
+        })
+    }
+}
+
+/// Whether a receipt of this final state was asked for: of every one, or of every one but DELIVERED (SMPP 3.4, section 5.2.17).
+fn asks_receipt(taken: &Submission, last: Final) -> bool
+    ensures { IsTrue result ↔ AsksReceipt (final_of last) taken.now }
+{
+    match taken.registered_delivery % 4 {
+        1 => true,
+        2 => last != Final::Delivered,
+        _ => false,
+    }
+}
