@@ -78,8 +78,8 @@ impl Submission {
             submitter: self.submitter.copy()?,
             target: self.target.copy()?,
             service_type: self.service_type.copy()?,
-            source: copy_of(&self.source)?,
-            destination: copy_of(&self.destination)?,
+            source: self.source.copy()?,
+            destination: self.destination.copy()?,
             esm_class: self.esm_class,
             protocol_id: self.protocol_id,
             priority_flag: self.priority_flag,
@@ -125,17 +125,6 @@ impl Submission {
             && self.schedule == other.schedule
             && self.expiry == other.expiry
     }
-}
-
-/// The same address once more.
-fn copy_of(address: &Address) -> Result<Address, AllocError>
-    ensures { IfOk result (λ copied. copied ≡ address.now) }
-{
-    Ok(Address {
-        ton: address.ton,
-        npi: address.npi,
-        digits: address.digits.copy()?,
-    })
 }
 
 /// Whether both addresses are the same.

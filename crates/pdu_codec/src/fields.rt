@@ -4,6 +4,7 @@ ghost use Rattle.std.specs.Prelude.{◌≡◌, [], IfOk, MatchResult, List, ℕ}
 ghost use Rattle.octet_fields.specs.Reading.{content_at, told};
 ghost use Rattle.octet_fields.specs.Reading as fields;
 ghost use Rattle.pdu_codec.specs.Text.{IsText, IsShortMessage};
+ghost use Rattle.pdu_codec.specs.Grammar as grammar;
 ghost use Rattle.pdu_codec.specs.Grammar.{IsRead, text, octet, short_message, optional_at};
 
 use crate::fault::{Field, PduFault};
@@ -18,8 +19,17 @@ pub fn text_at(field: Field, limit: usize, octets: &[u8]) -> Result<(&[u8], &[u8
 {
     match octet_fields::text_at(limit, octets) {
         Ok(text) => Ok(text),
-        Err(Defect::Long) => Err(PduFault::LongText(field)),
-        Err(_) => Err(PduFault::Cut(field)),
+        Err(defect) => Err(text_fault(field, defect)),
+    }
+}
+
+/// The fault that a defect of a text is.
+fn text_fault(field: Field, defect: Defect) -> PduFault
+    ensures { result ≡ grammar.text_fault field defect }
+{
+    match defect {
+        Defect::Long => PduFault::LongText(field),
+        _ => PduFault::Cut(field),
     }
 }
 

@@ -3,6 +3,7 @@
 use crate::text::{ShortMessage, Text};
 use crate::tlv::Tlvs;
 use pdu_tables::Command;
+use std::alloc::AllocError;
 
 /// A PDU: its status, of any number, its sequence_number, of any number, and its body.
 #[derive(Debug, PartialEq, Eq, Drop)]
@@ -99,6 +100,22 @@ pub struct Address {
     pub ton: u8,
     pub npi: u8,
     pub digits: Text<21>,
+}
+
+impl Address {
+    ghost use Rattle.std.specs.Prelude.{◌≡◌, IfOk};
+
+    /// The same address once more. An `Err` is want of memory.
+    pub fn copy(&self) -> Result<Address, AllocError>
+        ensures { IfOk result (λ copy. copy ≡ self.now) }
+    {
+        let digits = self.digits.copy()?;
+        Ok(Address {
+            ton: self.ton,
+            npi: self.npi,
+            digits,
+        })
+    }
 }
 
 /// What a submit_sm and a deliver_sm have (sections 4.4.1 and 4.6.1).

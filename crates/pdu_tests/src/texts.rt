@@ -1,6 +1,6 @@
 //! Texts, short messages and optional parameters.
 
-use pdu_codec::{PduFault, ShortMessage, Text, Tlvs, check_optional};
+use pdu_codec::{Address, PduFault, ShortMessage, Text, Tlvs, check_optional};
 use std::test::Fail;
 
 #[test]
@@ -12,6 +12,19 @@ fn texts(rt: HostRuntime) -> Result<(), Fail> {
     assert!(rt; Text::<5>::make(rt.alloc(), b"s\0e")?.is_none());
     let empty: Text<1> = Text::of(rt.alloc(), b"")?;
     assert!(rt; empty.is_empty());
+    Ok(())
+}
+
+#[test]
+fn addresses(rt: HostRuntime) -> Result<(), Fail> {
+    let address = Address {
+        ton: 1,
+        npi: 8,
+        digits: Text::of(rt.alloc(), b"4477")?,
+    };
+    let copied = address.copy()?;
+    assert_eq!(rt; (copied.ton, copied.npi), (1, 8));
+    assert_eq!(rt; copied.digits.octets(), b"4477".as_slice());
     Ok(())
 }
 
