@@ -8,7 +8,7 @@ ghost use Rattle.delivery.specs.declared.fault.DeliverFault.TheVariants.{NoAttem
 
 use crate::fault::DeliverFault;
 use fate_chain::{Chain, Kind, Submission};
-use pdu_codec::{Address, Body, Message, Pdu, Text};
+use pdu_codec::{Body, Message, Pdu, Text};
 use std::alloc::{AllocError, Global};
 
 /// The features UDHI and reply path of esm_class (SMPP 3.4, section 5.2.12).
@@ -43,8 +43,8 @@ fn delivered(alloc: Global, taken: &Submission) -> Result<Message, AllocError>
 {
     Ok(Message {
         service_type: taken.service_type.copy()?,
-        source: copied(&taken.source)?,
-        destination: copied(&taken.destination)?,
+        source: taken.source.copy()?,
+        destination: taken.destination.copy()?,
         esm_class: taken.esm_class & FEATURES,
         protocol_id: taken.protocol_id,
         priority_flag: taken.priority_flag,
@@ -56,16 +56,5 @@ fn delivered(alloc: Global, taken: &Submission) -> Result<Message, AllocError>
         sm_default_msg_id: 0,
         short_message: taken.text.copy()?,
         tlvs: taken.passed.copy()?,
-    })
-}
-
-/// The same address once more.
-fn copied(address: &Address) -> Result<Address, AllocError>
-    ensures { IfOk result (λ copy. copy ≡ address.now) }
-{
-    Ok(Address {
-        ton: address.ton,
-        npi: address.npi,
-        digits: address.digits.copy()?,
     })
 }

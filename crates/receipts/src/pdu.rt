@@ -9,7 +9,7 @@ use crate::fault::ReceiptFault;
 use crate::report::Report;
 use crate::text::text_of;
 use fate_chain::Chain;
-use pdu_codec::{Address, Body, Message, Pdu, ShortMessage, Text, Tlvs};
+use pdu_codec::{Body, Message, Pdu, ShortMessage, Text, Tlvs};
 use pdu_tables::Tag;
 use std::alloc::{AllocError, Global};
 
@@ -42,8 +42,8 @@ fn message(alloc: Global, report: &Report<'_>) -> Result<Message, AllocError>
     let text = text_of(alloc, report)?;
     Ok(Message {
         service_type: taken.service_type.copy()?,
-        source: copied(&taken.destination)?,
-        destination: copied(&taken.source)?,
+        source: taken.destination.copy()?,
+        destination: taken.source.copy()?,
         esm_class: RECEIPT,
         protocol_id: 0,
         priority_flag: 0,
@@ -70,15 +70,4 @@ fn tlvs(alloc: Global, report: &Report<'_>) -> Result<Tlvs, AllocError>
     )?;
     tlvs.push(Tag::MessageState.code(), &[report.last.state().code()])?;
     Ok(tlvs)
-}
-
-/// The same address once more.
-fn copied(address: &Address) -> Result<Address, AllocError>
-    ensures { IfOk result (λ copy. copy ≡ address.now) }
-{
-    Ok(Address {
-        ton: address.ton,
-        npi: address.npi,
-        digits: address.digits.copy()?,
-    })
 }
