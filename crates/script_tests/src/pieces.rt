@@ -1,8 +1,61 @@
-//! Several PDUs in one line of a script.
+//! Worked scripts whose octets come in pieces, and several PDUs at once.
 
+use crate::rows::ROWS;
 use crate::scripts::BIND;
 use script_runner::run_script;
+use std::alloc::{AllocError, Global};
 use std::test::Fail;
+
+/// The script with each `pdu` line cut into lines of one octet, and so many more, at most.
+fn in_pieces(alloc: Global, script: &str, more: u8) -> Result<Vec<u8>, AllocError> {
+    let mut cut = Vec::new(alloc);
+    for line in script.lines() {
+        match line.rsplit_once(' ') {
+            Some((before, digits)) if before.starts_with("pdu") => {
+                for piece in digits.as_bytes().chunks(2 + 2 * usize::from(more)) {
+                    push_line(&mut cut, before, piece)?;
+                }
+            }
+            _ => push_line(&mut cut, line, b"")?,
+        }
+    }
+    Ok(cut)
+}
+
+/// Adds a line of these words.
+fn push_line(script: &mut Vec<u8>, before: &str, digits: &[u8]) -> Result<(), AllocError> {
+    script.extend_from_slice(before.as_bytes())?;
+    if !digits.is_empty() {
+        script.push(b' ')?;
+        script.extend_from_slice(digits)?;
+    }
+    script.push(b'\n')?;
+    Ok(())
+}
+
+/// A row of good lines in which no session goes: what the line with a wrong length still holds is dropped, and other lines
+/// are a new session's.
+#[test]
+fn pdus_come_in_pieces(rt: HostRuntime) -> Result<(), Fail> {
+    let alloc = rt.alloc();
+    for row in &ROWS {
+        if row.status == 0 && !row.output.contains("gone") {
+            for more in [0, 1, 2, 6] {
+                let script = in_pieces(alloc, row.script, more)?;
+                let mut output = Vec::new(alloc);
+                let outcome = run_script(alloc, &mut script.as_slice(), &mut output);
+                assert_eq!(rt; outcome, Ok(()), "{} cut by 1 + {more}", row.name);
+                assert_eq!(rt;
+                    output.as_slice(),
+                    row.output.as_bytes(),
+                    "{} cut by 1 + {more}",
+                    row.name
+                );
+            }
+        }
+    }
+    Ok(())
+}
 
 /// Two enquire_links in one line, behind which the length of a third is wrong: its octets and those behind it are dropped.
 #[test]

@@ -1,6 +1,6 @@
 //! A store whose device fails, for tests.
 
-ghost use Rattle.std.specs.Prelude.{◌≡◌, ◌↔◌, IsTrue};
+ghost use Rattle.std.specs.Prelude.{◌≡◌, ◌↔◌, false, IsTrue};
 
 use crate::fault::StoreFault;
 use crate::list::ListStore;
@@ -64,6 +64,8 @@ impl StableStore for FailingStore {
     ghost started = { λ s. s.store.started };
 
     ghost failed = { λ s. s.failed };
+
+    ghost is_damaged = { λ _. false };
 
     fn load(&mut self) -> Result<Vec<Record>, StoreFault> {
         self.store.load()

@@ -1,6 +1,6 @@
 //! A store that holds a save up, for tests.
 
-ghost use Rattle.std.specs.Prelude.{◌≡◌};
+ghost use Rattle.std.specs.Prelude.{◌≡◌, false};
 
 use crate::fault::StoreFault;
 use crate::list::ListStore;
@@ -44,6 +44,8 @@ impl<H: Hold> StableStore for HoldingStore<H> {
     ghost started = { λ s. s.store.started };
 
     ghost failed = { λ _. 0 };
+
+    ghost is_damaged = { λ _. false };
 
     fn load(&mut self) -> Result<Vec<Record>, StoreFault> {
         self.store.load()

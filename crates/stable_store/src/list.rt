@@ -1,6 +1,6 @@
 //! A store in memory.
 
-ghost use Rattle.std.specs.Prelude.{◌≡◌, [], reverse, IfOk};
+ghost use Rattle.std.specs.Prelude.{◌≡◌, [], reverse, false, IfOk};
 ghost use Rattle.synod_acceptor.specs.Records.{entries_of, record_at};
 
 use crate::fault::StoreFault;
@@ -59,6 +59,8 @@ impl StableStore for ListStore {
     ghost started = { λ s. s.started };
 
     ghost failed = { λ _. 0 };
+
+    ghost is_damaged = { λ _. false };
 
     fn load(&mut self) -> Result<Vec<Record>, StoreFault> {
         let saved = self.saved()?;

@@ -1,6 +1,6 @@
 //! What every store promises.
 
-ghost use Rattle.std.specs.Prelude.{◌≡◌, ◌≤◌, ◌⊎◌, ◌↔◌, ◌+◌, ℕ, IfOk, IfErr, IsErrOf, OnOk, OnErr};
+ghost use Rattle.std.specs.Prelude.{◌≡◌, ◌≤◌, ◌⊎◌, ◌↔◌, ◌+◌, ℕ, Bool, true, IfOk, IfErr, IsErrOf, OnOk, OnErr};
 ghost use Rattle.mc_model.specs.synod.Packet.{Slot};
 ghost use Rattle.mc_model.specs.synod.Acceptor.{SlotRecord, with_record};
 ghost use Rattle.synod_acceptor.specs.Votes.{record_of, slot_recorded};
@@ -25,14 +25,18 @@ pub trait StableStore {
     /// How often the device failed, up to 2^64 - 1.
     ghost failed: { Self → ℕ };
 
+    /// Whether what is stored is none that was ever saved: somebody else wrote it, or it is spoilt.
+    ghost is_damaged: { Self → Bool };
+
     /// The records that are stored, the newest first: of several of a slot the first counts. It changes nothing that is stored. It
-    /// never answers Incarnations.
+    /// answers Damaged only of what is damaged, and never Incarnations.
     fn load(&mut self) -> Result<Vec<Record>, StoreFault>
         ensures loaded { IfOk result (λ loaded. AreSame (record_at (entries_of loaded.items)) (records self.old)) }
         ensures records { AreSame (records self.new) (records self.old) }
         ensures started { started self.new ≡ started self.old }
         ensures rises { failed self.old ≤ failed self.new }
         ensures device { IsErrOf result Device → HasFailed (failed self.old) (failed self.new) }
+        ensures damaged { IsErrOf result Damaged → is_damaged self.old ≡ true }
         ensures incarnations { IsErrOf result Incarnations → ⊥ };
 
     /// Stores the new record of a slot in the place of the old one. At `Ok` it is stored; at `Memory` nothing changed; at `Device`
@@ -48,7 +52,7 @@ pub trait StableStore {
         ensures faults { IfErr result (λ fault. (fault ≡ Device) ⊎ (fault ≡ Memory)) };
 
     /// Stores the number of the next incarnation, and then answers it. `Incarnations` exactly if 9,999 were used; then, and at
-    /// `Memory`, nothing changed. At any other fault it is stored or nothing changed.
+    /// `Memory`, nothing changed. At any other fault it is stored or nothing changed. It answers Damaged only of what is damaged.
     fn next_incarnation(&mut self) -> Result<Incarnation, StoreFault>
         ensures next { IfOk result (λ next. next ≡ started self.old + 1) }
         ensures stored { OnOk result (started self.new ≡ started self.old + 1) }
@@ -56,6 +60,7 @@ pub trait StableStore {
         ensures kept { IsErrOf result Incarnations → started self.new ≡ started self.old }
         ensures memory { IsErrOf result Memory → started self.new ≡ started self.old }
         ensures device { IsErrOf result Device → HasFailed (failed self.old) (failed self.new) }
+        ensures damaged { IsErrOf result Damaged → is_damaged self.old ≡ true }
         ensures stopped { OnErr result ((started self.new ≡ started self.old) ⊎ (started self.new ≡ started self.old + 1)) }
         ensures records { AreSame (records self.new) (records self.old) }
         ensures rises { failed self.old ≤ failed self.new };
