@@ -25,7 +25,11 @@ pub fn came(
         return Some(session.on_wrong_length());
     };
     match decode(alloc, octets) {
-        Ok(pdu) => served(accounts, session, &pdu),
+        Ok(pdu) => {
+            let reaction = served(accounts, session, &pdu);
+            drop(pdu);
+            reaction
+        }
         Err(fault) => Some(session.on_fault(header, fault)),
     }
 }

@@ -41,12 +41,7 @@ impl Outgoing {
     pub fn octets(self, alloc: Global, system_id: &Text<16>) -> Result<Vec<u8>, AllocError>
         ensures { IfOk result (λ octets. octets.items ≡ octets_of (pdu_of system_id.now self)) }
     {
-        let pdu = self.pdu(alloc, system_id)?;
-        let mut octets = Vec::new(alloc);
-        match encode(&pdu, &mut octets) {
-            Ok(()) => Ok(octets),
-            Err(error) => Err(error),
-        }
+        encoded(alloc, self.pdu(alloc, system_id)?)
     }
 
     /// Its PDU. The centre has this system_id. An `Err` is want of memory, which only a session that was bound needs.
@@ -104,4 +99,15 @@ fn bind_answer(
         tlvs.push(Tag::ScInterfaceVersion.code(), &[KNOWS_OPTIONAL])?;
     }
     Ok(BindAnswer { system_id, tlvs })
+}
+
+/// The octets of a PDU, which is let go by a call: where it ends by itself, its walk is proved in this function.
+fn encoded(alloc: Global, pdu: Pdu) -> Result<Vec<u8>, AllocError>
+    ensures { IfOk result (λ octets. octets.items ≡ octets_of pdu) }
+{
+    let mut octets = Vec::new(alloc);
+    let written = encode(&pdu, &mut octets);
+    drop(pdu);
+    written?;
+    Ok(octets)
 }
