@@ -53,8 +53,7 @@ fn body_of(alloc: Global, command: Option<Command>, octets: &[u8]) -> Result<Bod
 fn bare(body: Body, octets: &[u8]) -> Result<Body, PduFault>
     ensures { IsMade (λ body. body) result (bare_at body octets.now) }
 {
-    nothing_at(octets)?;
-    Ok(body)
+    nothing_at(octets).and(Ok(body))
 }
 
 #[tactic(auto, unfolding(crate::specs::Pdu::read_pdu))]
