@@ -5,6 +5,13 @@ use pdu_codec::{Bind, Text};
 use std::alloc::Global;
 use std::test::Fail;
 
+fn want(holds: bool, what: &'static str) -> Result<(), Fail> {
+    if holds {
+        return Ok(());
+    }
+    Err(Fail::from(what))
+}
+
 fn text<const LIMIT: usize>(alloc: Global, octets: &[u8]) -> Result<Text<LIMIT>, Fail> {
     Text::make(alloc, octets)?.ok_or_else(|| Fail::from("no text"))
 }
@@ -37,27 +44,39 @@ fn bind(alloc: Global, name: &[u8], password: &[u8]) -> Result<Bind, Fail> {
     })
 }
 
+fn fill(alloc: Global, accounts: &mut Accounts) -> Result<(), Fail> {
+    for (name, transmit, receive) in [
+        (b"both".as_slice(), true, true),
+        (b"sends", true, false),
+        (b"gets", false, true),
+    ] {
+        if accounts
+            .add(account(alloc, name, transmit, receive)?)
+            .is_err()
+        {
+            return Err(Fail::from("not added"));
+        }
+    }
+    Ok(())
+}
+
+fn status_of(accounts: &Accounts, role: Role, bind: &Bind) -> u32 {
+    match accounts.bind_refusal(role, bind) {
+        Some(status) => status.code(),
+        None => 0,
+    }
+}
+
 // The command_status, 0 of no refusal.
 fn refused(alloc: Global, role: Role, name: &[u8], password: &[u8]) -> Result<u32, Fail> {
-    let mut accounts = Accounts::make(alloc);
-    accounts
-        .add(account(alloc, b"both", true, true)?)
-        .ok()
-        .ok_or("both")?;
-    accounts
-        .add(account(alloc, b"sends", true, false)?)
-        .ok()
-        .ok_or("sends")?;
-    accounts
-        .add(account(alloc, b"gets", false, true)?)
-        .ok()
-        .ok_or("gets")?;
     let bind = bind(alloc, name, password)?;
-    Ok(
-        accounts
-            .bind_refusal(role, &bind)
-            .map_or(0, |status| status.code()),
-    )
+    let mut accounts = Accounts::make(alloc);
+    let filled = fill(alloc, &mut accounts);
+    let status = status_of(&accounts, role, &bind);
+    drop(accounts);
+    drop(bind);
+    filled?;
+    Ok(status)
 }
 
 #[test]
@@ -88,36 +107,45 @@ fn the_first_refusal_is_told(rt: HostRuntime) -> Result<(), Fail> {
     Ok(())
 }
 
-#[test]
-fn a_name_has_one_account(rt: HostRuntime) -> Result<(), Fail> {
-    let alloc = rt.alloc();
-    let mut accounts = Accounts::make(alloc);
-    assert_eq!(rt; accounts.add(account(alloc, b"sme1", true, false)?), Ok(()));
-    assert_eq!(rt;
-        accounts.add(account(alloc, b"sme1", true, true)?),
-        Err(AccountsFault::Repeated)
-    );
+fn look_at_accounts(alloc: Global, accounts: &mut Accounts) -> Result<(), Fail> {
+    want(
+        accounts.add(account(alloc, b"sme1", true, false)?) == Ok(()),
+        "added",
+    )?;
+    want(
+        accounts.add(account(alloc, b"sme1", true, true)?) == Err(AccountsFault::Repeated),
+        "repeated",
+    )?;
     let found = accounts.find(b"sme1").ok_or("found")?;
-    assert!(rt; found.allows(Role::Transmitter));
-    assert!(rt; !found.allows(Role::Receiver));
-    assert!(rt; accounts.find(b"sme").is_none());
-    Ok(())
+    want(
+        found.allows(Role::Transmitter) && !found.allows(Role::Receiver),
+        "the first one",
+    )?;
+    want(accounts.find(b"sme").is_none(), "the front of a name")
 }
 
 #[test]
-fn the_longest_prefix_leads(rt: HostRuntime) -> Result<(), Fail> {
-    let alloc = rt.alloc();
-    let mut routes = Routes::make(alloc);
-    assert!(rt; routes.target(b"155").is_none());
-    assert_eq!(rt; routes.add(route(alloc, b"2", b"sme2")?), Ok(()));
-    assert_eq!(rt;
-        routes.add(route(alloc, b"2", b"sme1")?),
-        Err(AccountsFault::Repeated)
-    );
-    assert!(rt; routes.target(b"155").is_none());
-    assert_eq!(rt; routes.add(route(alloc, b"255", b"sme3")?), Ok(()));
-    assert_eq!(rt; routes.add(route(alloc, b"", b"sme1")?), Ok(()));
-    for (destination, want) in [
+fn a_name_has_one_account(rt: HostRuntime) -> Result<(), Fail> {
+    let mut accounts = Accounts::make(rt.alloc());
+    let outcome = look_at_accounts(rt.alloc(), &mut accounts);
+    drop(accounts);
+    outcome
+}
+
+fn fill_routes(alloc: Global, routes: &mut Routes) -> Result<(), Fail> {
+    want(routes.target(b"155").is_none(), "no route")?;
+    want(routes.add(route(alloc, b"2", b"sme2")?) == Ok(()), "2")?;
+    want(
+        routes.add(route(alloc, b"2", b"sme1")?) == Err(AccountsFault::Repeated),
+        "repeated",
+    )?;
+    want(routes.target(b"155").is_none(), "no route that fits")?;
+    want(routes.add(route(alloc, b"255", b"sme3")?) == Ok(()), "255")?;
+    want(routes.add(route(alloc, b"", b"sme1")?) == Ok(()), "empty")
+}
+
+fn lead_on(routes: &Routes) -> bool {
+    for (destination, account) in [
         (b"155".as_slice(), b"sme1".as_slice()),
         (b"", b"sme1"),
         (b"2", b"sme2"),
@@ -126,8 +154,20 @@ fn the_longest_prefix_leads(rt: HostRuntime) -> Result<(), Fail> {
         (b"2551", b"sme3"),
         (b"1255", b"sme1"),
     ] {
-        let target = routes.target(destination).ok_or("target")?;
-        assert!(rt; target.octets() == want);
+        match routes.target(destination) {
+            Some(target) if target.octets() == account => {}
+            _ => return false,
+        }
     }
-    Ok(())
+    true
+}
+
+#[test]
+fn the_longest_prefix_leads(rt: HostRuntime) -> Result<(), Fail> {
+    let mut routes = Routes::make(rt.alloc());
+    let filled = fill_routes(rt.alloc(), &mut routes);
+    let lead = lead_on(&routes);
+    drop(routes);
+    filled?;
+    want(lead, "another target")
 }

@@ -11,6 +11,10 @@ const SME1: &str =
 
 const ROUTE: &str = "[[route]]\nprefix = \"2\"\naccount = \"sme1\"\n";
 
+const LOST: &str = "[[route]]\nprefix = \"2\"\naccount = \"sme2\"\n";
+
+const CUT: &str = "[[route]]\naccount = \"sme1\"\n";
+
 // The fault of a text; none of a configuration.
 fn fault_of(alloc: Global, text: &[u8]) -> Option<ConfigFault> {
     match read_config(alloc, text) {
@@ -19,9 +23,12 @@ fn fault_of(alloc: Global, text: &[u8]) -> Option<ConfigFault> {
     }
 }
 
-// The fault of a name, a node and this.
-fn fault_with(alloc: Global, more: &str) -> Result<Option<ConfigFault>, Fail> {
-    let text = format!(in alloc; "system_id = \"CENTRE\"\n{NODE}{more}")?;
+// The fault of a name, a node and these.
+fn fault_with(alloc: Global, more: &[&str]) -> Result<Option<ConfigFault>, Fail> {
+    let mut text = format!(in alloc; "system_id = \"CENTRE\"\n{NODE}")?;
+    for part in more {
+        text.push_str(part)?;
+    }
     Ok(fault_of(alloc, text.as_bytes()))
 }
 
@@ -61,7 +68,10 @@ fn what_is_missing(rt: HostRuntime) -> Result<(), Fail> {
         ),
         ("[[route]]\nprefix = \"2\"\n", Key::RouteAccount),
     ] {
-        assert_eq!(rt; fault_with(alloc, more)?, Some(ConfigFault::Missing(key)));
+        assert_eq!(rt;
+            fault_with(alloc, &[more])?,
+            Some(ConfigFault::Missing(key))
+        );
     }
     Ok(())
 }
@@ -133,24 +143,29 @@ fn bad_values(rt: HostRuntime) -> Result<(), Fail> {
             Key::RouteAccount,
         ),
     ] {
-        assert_eq!(rt; fault_with(alloc, more)?, Some(ConfigFault::BadValue(key)));
+        assert_eq!(rt;
+            fault_with(alloc, &[more])?,
+            Some(ConfigFault::BadValue(key))
+        );
     }
     Ok(())
 }
 
+// The fault of a name and of nodes of the numbers below this.
+fn fault_of_nodes(alloc: Global, end: u64) -> Result<Option<ConfigFault>, Fail> {
+    let mut text = String::from_str(alloc, "system_id = \"C\"\n")?;
+    for number in 1..end {
+        let node = format!(in alloc; "[[node]]\nnumber = {number}\nlisten = \"1.2.3.4:5\"\n")?;
+        text.push_str(node.as_str())?;
+    }
+    Ok(fault_of(alloc, text.as_bytes()))
+}
+
 #[test]
 fn a_tenth_node(rt: HostRuntime) -> Result<(), Fail> {
-    let alloc = rt.alloc();
-    let mut text = String::from_str(alloc, "system_id = \"C\"\n")?;
-    for number in 1..10 {
-        text.push_str(format!(in alloc;
-            "[[node]]\nnumber = {number}\nlisten = \"1.2.3.4:5\"\n"
-        )?.as_str())?;
-    }
-    assert_eq!(rt; fault_of(alloc, text.as_bytes()), None);
-    text.push_str("[[node]]\nnumber = 10\nlisten = \"1.2.3.4:5\"\n")?;
+    assert_eq!(rt; fault_of_nodes(rt.alloc(), 10)?, None);
     assert_eq!(rt;
-        fault_of(alloc, text.as_bytes()),
+        fault_of_nodes(rt.alloc(), 11)?,
         Some(ConfigFault::BadValue(Key::Node))
     );
     Ok(())
@@ -158,40 +173,35 @@ fn a_tenth_node(rt: HostRuntime) -> Result<(), Fail> {
 
 #[test]
 fn what_is_given_twice(rt: HostRuntime) -> Result<(), Fail> {
-    let alloc = rt.alloc();
-    let twice = format!(in alloc; "{SME1}{SME1}")?;
-    let routes = format!(in alloc; "{SME1}{ROUTE}{ROUTE}")?;
     for (more, key) in [
-        (NODE, Key::NodeNumber),
-        (twice.as_str(), Key::AccountSystemId),
-        (routes.as_str(), Key::RoutePrefix),
+        ([NODE, "", ""].as_slice(), Key::NodeNumber),
+        ([SME1, SME1, ""].as_slice(), Key::AccountSystemId),
+        ([SME1, ROUTE, ROUTE].as_slice(), Key::RoutePrefix),
     ] {
-        assert_eq!(rt; fault_with(alloc, more)?, Some(ConfigFault::Repeated(key)));
+        assert_eq!(rt;
+            fault_with(rt.alloc(), more)?,
+            Some(ConfigFault::Repeated(key))
+        );
     }
     Ok(())
 }
 
+// An account is given twice, and a route leads to none; of another route the prefix is not there; behind it there is no TOML.
 #[test]
 fn the_lower_of_two_is_told(rt: HostRuntime) -> Result<(), Fail> {
-    let alloc = rt.alloc();
-    // An account is given twice, and a route leads to none.
-    let bad = format!(in alloc; "{SME1}{SME1}[[route]]\nprefix = \"2\"\naccount = \"sme2\"\n")?;
-    assert_eq!(rt;
-        fault_with(alloc, bad.as_str())?,
-        Some(ConfigFault::BadValue(Key::RouteAccount))
-    );
-    // And of another route the prefix is not there.
-    let missing = format!(in alloc; "{bad}[[route]]\naccount = \"sme1\"\n")?;
-    assert_eq!(rt;
-        fault_with(alloc, missing.as_str())?,
-        Some(ConfigFault::Missing(Key::RoutePrefix))
-    );
-    // And behind it there is no TOML.
-    let none = format!(in alloc; "{missing}route\n")?;
-    assert_eq!(rt;
-        fault_with(alloc, none.as_str())?,
-        Some(ConfigFault::NotToml)
-    );
+    for (more, fault) in [
+        (
+            [SME1, SME1, LOST, "", ""],
+            ConfigFault::BadValue(Key::RouteAccount),
+        ),
+        (
+            [SME1, SME1, LOST, CUT, ""],
+            ConfigFault::Missing(Key::RoutePrefix),
+        ),
+        ([SME1, SME1, LOST, CUT, "route\n"], ConfigFault::NotToml),
+    ] {
+        assert_eq!(rt; fault_with(rt.alloc(), more.as_slice())?, Some(fault));
+    }
     Ok(())
 }
 

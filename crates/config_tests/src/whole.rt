@@ -2,7 +2,6 @@
 
 use accounts::Role;
 use config::{Config, read_config};
-use std::test::Fail;
 
 const WHOLE: &str = r#"
 # keys that nobody asks for are ignored
@@ -48,59 +47,98 @@ system_id = "C"
 node = [{ number = 1, listen = "0.0.0.0:0" }]
 "#;
 
-#[test]
-fn each_key_is_read(rt: HostRuntime) -> Result<(), Fail> {
-    let config = read_config(rt.alloc(), WHOLE.as_bytes())
-        .ok()
-        .ok_or("config")?;
-    assert!(rt; config.system_id.octets() == b"CENTRE".as_slice());
-    assert_eq!(rt; config.default_validity, 3600);
-    assert_eq!(rt; config.first_serial, 42);
-    assert_eq!(rt; config.stop_after, 7);
-    assert_eq!(rt; config.nodes.len(), 2);
-    let first = config.nodes.get(0).ok_or("node 1")?;
-    assert_eq!(rt; first.listen.ip().octets(), [127, 0, 0, 1]);
-    assert_eq!(rt; first.listen.port(), 2775);
-    assert!(rt; first.store.is_none());
-    let second = config.nodes.get(1).ok_or("node 2")?;
-    assert_eq!(rt; second.listen.ip().octets(), [10, 0, 0, 2]);
-    assert_eq!(rt; second.listen.port(), 2776);
-    assert!(rt; second.store.as_ref().ok_or("store")?.as_str() == "/var/centre/2");
-    let sme1 = config.accounts.find(b"sme1").ok_or("sme1")?;
-    assert!(rt; sme1.password.octets() == b"pw1".as_slice());
-    assert!(rt; sme1.allows(Role::Transceiver));
-    let sme2 = config.accounts.find(b"sme2").ok_or("sme2")?;
-    assert!(rt; sme2.password.is_empty());
-    assert!(rt; sme2.allows(Role::Receiver) && !sme2.allows(Role::Transmitter));
-    assert!(rt; config.routes.target(b"255").ok_or("255")?.octets() == b"sme2".as_slice());
-    assert!(rt; config.routes.target(b"155").ok_or("155")?.octets() == b"sme1".as_slice());
-    Ok(())
+fn numbers_of(config: &Config) -> (u32, u32, u64, usize) {
+    (
+        config.default_validity,
+        config.first_serial,
+        config.stop_after,
+        config.nodes.len(),
+    )
 }
 
-#[test]
-fn what_is_absent_has_its_default(rt: HostRuntime) -> Result<(), Fail> {
-    let config = read_config(rt.alloc(), LEAST.as_bytes())
-        .ok()
-        .ok_or("config")?;
-    assert_eq!(rt; config.default_validity, 259_200);
-    assert_eq!(rt; config.first_serial, 1);
-    assert_eq!(rt; config.stop_after, 0);
-    assert_eq!(rt; config.nodes.len(), 1);
-    assert!(rt; config.accounts.find(b"sme1").is_none());
-    assert!(rt; config.routes.target(b"155").is_none());
-    Ok(())
-}
-
-#[test]
-fn a_script_has_two_accounts(rt: HostRuntime) -> Result<(), Fail> {
-    let config = Config::of_scripts(rt.alloc())?;
-    assert!(rt; config.system_id.octets() == b"CENTRE".as_slice());
-    for (name, password) in [(b"sme1".as_slice(), b"pw1".as_slice()), (b"sme2", b"pw2")] {
-        let account = config.accounts.find(name).ok_or("account")?;
-        assert!(rt; account.password.octets() == password);
-        assert!(rt; account.allows(Role::Transceiver));
+fn listens(config: &Config, place: usize, ip: [u8; 4], port: u16) -> bool {
+    match config.nodes.get(place) {
+        Some(node) => node.listen.ip().octets() == ip && node.listen.port() == port,
+        None => false,
     }
-    assert!(rt; config.routes.target(b"255").ok_or("255")?.octets() == b"sme2".as_slice());
-    assert!(rt; config.routes.target(b"155").ok_or("155")?.octets() == b"sme1".as_slice());
-    Ok(())
+}
+
+fn store_of(config: &Config, place: usize) -> Option<&str> {
+    match &config.nodes.get(place)?.store {
+        Some(path) => Some(path.as_str()),
+        None => None,
+    }
+}
+
+fn has_account(config: &Config, name: &[u8], password: &[u8], transmit: bool) -> bool {
+    match config.accounts.find(name) {
+        Some(account) => {
+            account.password.octets() == password
+                && account.allows(Role::Receiver)
+                && account.allows(Role::Transmitter) == transmit
+        }
+        None => false,
+    }
+}
+
+fn leads(config: &Config, destination: &[u8], account: &[u8]) -> bool {
+    match config.routes.target(destination) {
+        Some(target) => target.octets() == account,
+        None => false,
+    }
+}
+
+fn is_whole(config: &Config) -> bool {
+    config.system_id.octets() == b"CENTRE".as_slice()
+        && numbers_of(config) == (3600, 42, 7, 2)
+        && listens(config, 0, [127, 0, 0, 1], 2775)
+        && listens(config, 1, [10, 0, 0, 2], 2776)
+        && store_of(config, 0).is_none()
+        && store_of(config, 1) == Some("/var/centre/2")
+        && has_account(config, b"sme1", b"pw1", true)
+        && has_account(config, b"sme2", b"", false)
+        && leads(config, b"255", b"sme2")
+        && leads(config, b"155", b"sme1")
+}
+
+#[test]
+fn each_key_is_read(rt: HostRuntime) {
+    let holds = match read_config(rt.alloc(), WHOLE.as_bytes()) {
+        Ok(config) => is_whole(&config),
+        Err(_) => false,
+    };
+    assert!(rt; holds);
+}
+
+fn is_least(config: &Config) -> bool {
+    numbers_of(config) == (259_200, 1, 0, 1)
+        && listens(config, 0, [0, 0, 0, 0], 0)
+        && config.accounts.find(b"sme1").is_none()
+        && config.routes.target(b"155").is_none()
+}
+
+#[test]
+fn what_is_absent_has_its_default(rt: HostRuntime) {
+    let holds = match read_config(rt.alloc(), LEAST.as_bytes()) {
+        Ok(config) => is_least(&config),
+        Err(_) => false,
+    };
+    assert!(rt; holds);
+}
+
+fn is_of_scripts(config: &Config) -> bool {
+    config.system_id.octets() == b"CENTRE".as_slice()
+        && has_account(config, b"sme1", b"pw1", true)
+        && has_account(config, b"sme2", b"pw2", true)
+        && leads(config, b"255", b"sme2")
+        && leads(config, b"155", b"sme1")
+}
+
+#[test]
+fn a_script_has_two_accounts(rt: HostRuntime) {
+    let holds = match Config::of_scripts(rt.alloc()) {
+        Ok(config) => is_of_scripts(&config),
+        Err(_) => false,
+    };
+    assert!(rt; holds);
 }
