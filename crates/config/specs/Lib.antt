@@ -4,3 +4,4 @@ pub mod Listen
 pub mod Faults
 pub mod Config
 pub mod Building
+pub mod Scripts

@@ -9,6 +9,7 @@ mod key;
 mod listen;
 mod reading;
 mod rows;
+mod scripts;
 mod values;
 
 pub use config::{Config, NodeConfig};
