@@ -182,13 +182,13 @@ fn final_date(alloc: Global, ended: Option<Moment>) -> Result<Text<17>, AllocErr
     }
 }
 
-/// The octets of a PDU, which is let go at this one exit.
+/// The octets of a PDU. It is let go by a call, since the walk over what it holds is then made once, and not on each way out.
 fn encoded(alloc: Global, pdu: Pdu) -> Result<Vec<u8>, AllocError>
     ensures { IfOk result (λ octets. octets.items ≡ octets_of pdu) }
 {
     let mut octets = Vec::new(alloc);
-    match encode(&pdu, &mut octets) {
-        Ok(()) => Ok(octets),
-        Err(error) => Err(error),
-    }
+    let written = encode(&pdu, &mut octets);
+    drop(pdu);
+    written?;
+    Ok(octets)
 }
