@@ -1,5 +1,5 @@
 #!/usr/bin/env python3
-"""Prints the processor time of decoding and of encoding 200,000 submit_sm, here and by libsmpp34.
+"""Prints the processor time of decoding and of encoding 2,000,000 submit_sm, here and by libsmpp34.
 
     python3 bench/codec.py
 
@@ -15,7 +15,7 @@ import sys
 import tempfile
 
 TOP = pathlib.Path(__file__).resolve().parent.parent
-TURNS = 200_000
+TURNS = 2_000_000
 RUNS = 5
 # The submit_sm of the first script: 41 octets, from 144 to 155, with a receipt, the text Hi.
 PDU = "0000002900000004000000000000000200010131343400010131353500000000000001000000024869"
@@ -32,7 +32,7 @@ def built_here(work):
     below = next(line for line in lines if line.startswith("pdu_codec:")).split(":")[1]
     with (clone / "crates.txt").open("a") as crates:
         crates.write(f"codec_bench:{below} pdu_codec hex\n")
-    built = subprocess.run(["rt", "run", "codec_bench", "--", "decode", "1", PDU], cwd=clone, capture_output=True, text=True)
+    built = subprocess.run(["rt", "run", "--", "decode", "1", PDU], cwd=crate, capture_output=True, text=True)
     if built.returncode != 0:
         sys.exit(built.stdout + built.stderr)
     return crate / "out" / "codec_bench"
