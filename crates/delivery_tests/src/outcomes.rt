@@ -5,14 +5,22 @@ use fate_chain::{Final, Kind};
 use pdu_codec::{Body, Pdu};
 use std::test::Fail;
 
-/// What a PDU with the sequence_number 7 tells of the attempt with that one.
-fn told(status: u32, body: Body) -> Option<Outcome> {
+/// What a PDU with this sequence_number tells of the attempt with the sequence_number 7. It is let go by a call, which makes the
+/// proof shorter.
+fn told_by(sequence: u32, status: u32, body: Body) -> Option<Outcome> {
     let pdu = Pdu {
         status,
-        sequence: 7,
+        sequence,
         body,
     };
-    outcome_of(7, &pdu)
+    let outcome = outcome_of(7, &pdu);
+    drop(pdu);
+    outcome
+}
+
+/// What one with the sequence_number 7 tells.
+fn told(status: u32, body: Body) -> Option<Outcome> {
+    told_by(7, status, body)
 }
 
 /// The error of the failed attempt of which it tells.
@@ -64,11 +72,6 @@ fn a_generic_nack_is_a_failure(rt: HostRuntime) -> Result<(), Fail> {
 fn other_pdus_tell_nothing(rt: HostRuntime) -> Result<(), Fail> {
     assert_eq!(rt; told(0, Body::CancelSmResp), None);
     assert_eq!(rt; told(0, Body::SubmitSmResp(None)), None);
-    let pdu = Pdu {
-        status: 0,
-        sequence: 8,
-        body: Body::DeliverSmResp(None),
-    };
-    assert_eq!(rt; outcome_of(7, &pdu), None);
+    assert_eq!(rt; told_by(8, 0, Body::DeliverSmResp(None)), None);
     Ok(())
 }

@@ -25,10 +25,10 @@ fn delivery(alloc: Global, steps: &[Step]) -> Result<Option<Vec<u8>>, Fail> {
 }
 
 fn delivery_octets(alloc: Global, chain: &Chain) -> Option<Vec<u8>> {
-    match deliver_pdu(alloc, chain, 1) {
-        Ok(pdu) => octets(alloc, &pdu),
-        Err(_fault) => None,
-    }
+    let pdu = deliver_pdu(alloc, chain, 1).ok()?;
+    let octets = octets(alloc, &pdu);
+    drop(pdu);
+    octets
 }
 
 /// Those of the deliver_sm of the receipt, with the sequence_number 2.
@@ -38,10 +38,10 @@ fn receipt(alloc: Global, steps: &[Step]) -> Result<Option<Vec<u8>>, Fail> {
 }
 
 fn receipt_octets(alloc: Global, chain: &Chain) -> Option<Vec<u8>> {
-    match receipt_pdu(alloc, chain, 2) {
-        Ok(pdu) => octets(alloc, &pdu),
-        Err(_fault) => None,
-    }
+    let pdu = receipt_pdu(alloc, chain, 2).ok()?;
+    let octets = octets(alloc, &pdu);
+    drop(pdu);
+    octets
 }
 
 fn octets(alloc: Global, pdu: &Pdu) -> Option<Vec<u8>> {
