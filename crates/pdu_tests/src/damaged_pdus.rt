@@ -7,7 +7,9 @@ use std::test::Fail;
 
 fn is_written_as(alloc: Global, pdu: Pdu, wanted: &[u8]) -> bool {
     let mut octets = Vec::new(alloc);
-    encode(&pdu, &mut octets).is_ok() && octets.as_slice() == wanted
+    let written = encode(&pdu, &mut octets);
+    drop(pdu);
+    written.is_ok() && octets.as_slice() == wanted
 }
 
 /// The octets are a PDU that is written as them, or a fault of theirs is told.
