@@ -14,8 +14,8 @@ pub enum Defect {
     /// The octets of the field are more than may be.
     #[error("the octets of the field are more than may be")]
     Long,
-    /// The number or the octets do not pass the field's test.
-    #[error("the number or the octets do not pass the test of the field")]
+    /// The number or the octets are none that the field may have: they do not pass its test.
+    #[error("the number or the octets are none that the field may have")]
     Unfit,
     /// Octets follow the last field.
     #[error("octets follow the last field")]
