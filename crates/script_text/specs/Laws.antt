@@ -1,0 +1,105 @@
+-- Laws of the texts of scripts.
+use Rattle.std.specs.Prelude.{◌≡◌, ◌≢◌, ◌⊎◌, ℕ, List, [], ◌∷◌, ◌++◌, Option, Some, None}
+use Rattle.std.specs.Fmt.{decimal}
+use Rattle.mc_model.specs.synod.Lists.{In}
+use Rattle.pdu_tables.specs.StateCodes.{state_code}
+use Rattle.pdu_tables.specs.StatusCodes.{status_code}
+use Rattle.pdu_tables.specs.declared.state.State.TheVariants as states
+use Rattle.pdu_tables.specs.declared.status.Status.TheVariants as statuses
+use Rattle.pdu_codec.specs.declared.pdu.Body.TheVariants.{QuerySmResp, CancelSmResp}
+use Rattle.pdu_codec.specs.declared.pdu.Pdu.{Pdu}
+use Rattle.pdu_codec.specs.declared.pdu.QueryAnswer.{QueryAnswer}
+use Rattle.script_text.specs.Settings.{Settings}
+use Rattle.script_text.specs.Node.{Node, Step, after_step}
+use Rattle.script_text.specs.Prints.{Print, AtOnce, Late, Gone}
+use Rattle.script_text.specs.Runner.{Runner}
+use Rattle.script_text.specs.Script.{Stage, Joins, bad_from, bad_line, prints_from, prints_of, text_of}
+use Rattle.script_text.specs.OneNode.{one_node_text}
+use Rattle.script_text.specs.Calm.{IsCalm}
+
+-- ---- a script is its lines, joined
+
+-- Lines that join print what the lines are computed to print, and none of them is bad.
+abbrev pub JoinedLinesArePrinted : Type 0
+JoinedLinesArePrinted =
+    (settings : Settings) (first : Stage) (lines : List (List ℕ)) (steps : List Step) (prints : List Print) (last : Stage) (number : ℕ)
+    → Joins settings first lines steps prints last
+    → (prints ≡ prints_from settings first lines) × (bad_from settings first number lines ≡ None)
+
+-- Lines join if none of them is bad.
+abbrev pub GoodLinesJoin : Type 0
+GoodLinesJoin =
+    (settings : Settings) (first : Stage) (lines : List (List ℕ)) (number : ℕ)
+    → bad_from settings first number lines ≡ None
+    → (steps : List Step) × (last : Stage) × Joins settings first lines steps (prints_from settings first lines) last
+
+-- the node after steps, the oldest first
+unfoldable pub after_steps : Node → List Step → Node
+after_steps node [] = node
+after_steps node (step ∷ steps) = after_steps (after_step node step) steps
+
+-- The node after lines is that of before them, after what was done at it.
+abbrev pub NodeGoesByItsSteps : Type 0
+NodeGoesByItsSteps =
+    (settings : Settings) (first last : Runner) (lines : List (List ℕ)) (steps : List Step) (prints : List Print)
+    → Joins settings (Some first) lines steps prints (Some last)
+    → last.node ≡ after_steps first.node steps
+
+-- ---- calm scripts
+
+-- A calm script has the one-node text.
+abbrev pub CalmTextIsOfOneNode : Type 0
+CalmTextIsOfOneNode = (script : List ℕ) → IsCalm script → (bad_line script ≡ None) × (text_of script ≡ one_node_text script)
+
+-- ---- fates
+
+abbrev pub pdu_in : Print → Option Pdu
+pdu_in (AtOnce session pdu) = Some pdu
+pdu_in (Late session id pdu) = Some pdu
+pdu_in (Gone session) = None
+
+-- A query_sm_resp with ESME_ROK tells that the message of a message_id has this message_state.
+pub record TellsState (print : Print) (message_id : List ℕ) (state : ℕ) : Type 0 where
+  pub pdu : Pdu
+  pub answer : QueryAnswer
+  pub printed : pdu_in print ≡ Some pdu
+  pub status : pdu.status ≡ status_code statuses.Ok
+  pub body : pdu.body ≡ QuerySmResp (Some answer)
+  pub message : answer.message_id ≡ message_id
+  pub state_is : answer.message_state ≡ state
+
+-- A cancel_sm_resp with ESME_ROK tells that the message of a message_id is deleted.
+pub record TellsDeletion (print : Print) (message_id : List ℕ) : Type 0 where
+  pub session : ℕ
+  pub id : ℕ
+  pub pdu : Pdu
+  pub printed : print ≡ Late session id pdu
+  pub status : pdu.status ≡ status_code statuses.Ok
+  pub body : pdu.body ≡ CancelSmResp
+  pub message : decimal id ≡ message_id
+
+-- A print states that a message has a final state, by its message_state.
+abbrev pub StatesFate : Print → List ℕ → ℕ → Type 0
+StatesFate print message_id state =
+    (TellsState print message_id state × (state ≢ state_code states.Enroute))
+    ⊎ (TellsDeletion print message_id × (state ≡ state_code states.Deleted))
+
+-- Two final states that a script prints for one message are equal.
+abbrev pub OneFateIsPrinted : Type 0
+OneFateIsPrinted =
+    (script : List ℕ) (first second : Print) (message_id : List ℕ) (one other : ℕ)
+    → In first (prints_of script)
+    → In second (prints_of script)
+    → StatesFate first message_id one
+    → StatesFate second message_id other
+    → one ≡ other
+
+-- After a cancel_sm that is answered ESME_ROK no query_sm of the message that is answered ESME_ROK tells another state than DELETED.
+abbrev pub DeletedStaysDeleted : Type 0
+DeletedStaysDeleted =
+    (script : List ℕ) (before later : List Print) (cancel query : Print) (message_id : List ℕ) (state : ℕ)
+    → prints_of script ≡ before ++ cancel ∷ later
+    → In query later
+    → TellsDeletion cancel message_id
+    → TellsState query message_id state
+    → state ≡ state_code states.Deleted

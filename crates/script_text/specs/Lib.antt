@@ -1,0 +1,10 @@
+pub mod Settings
+pub mod Node
+pub mod Responses
+pub mod Prints
+pub mod Runner
+pub mod Script
+pub mod Events
+pub mod OneNode
+pub mod Calm
+pub mod Laws

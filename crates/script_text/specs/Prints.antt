@@ -1,0 +1,36 @@
+-- What a script prints, and its octets.
+use Rattle.std.specs.Prelude.{ℕ, List, [], ◌∷◌, ◌++◌, codes}
+use Rattle.std.specs.List.{flat_map}
+use Rattle.std.specs.Fmt.{decimal}
+use Rattle.hex.specs.Hex.{encode_lower}
+use Rattle.pdu_codec.specs.Pdu.{octets_of}
+use Rattle.pdu_codec.specs.declared.pdu.Pdu.{Pdu}
+
+pub data Print : Type 0 where
+  -- on this session a PDU goes out, in the step of what it answers
+  AtOnce : ℕ → Pdu → Print
+  -- on this session a PDU goes out that answers a request that waited, for the message of this id
+  Late : ℕ → ℕ → Pdu → Print
+  -- this session is gone
+  Gone : ℕ → Print
+
+-- the line of octets that go out on a session
+abbrev pub octets_line : ℕ → List ℕ → List ℕ
+octets_line session octets = codes "pdu 1 " ++ decimal session ++ codes " " ++ encode_lower octets ++ 10 ∷ []
+
+-- the line of a PDU
+abbrev pub pdu_line : ℕ → Pdu → List ℕ
+pdu_line session pdu = octets_line session (octets_of pdu)
+
+-- the line of a session that is gone
+abbrev pub gone_line : ℕ → List ℕ
+gone_line session = codes "gone 1 " ++ decimal session ++ 10 ∷ []
+
+abbrev pub line_of : Print → List ℕ
+line_of (AtOnce session pdu) = pdu_line session pdu
+line_of (Late session id pdu) = pdu_line session pdu
+line_of (Gone session) = gone_line session
+
+-- the text of what is printed
+abbrev pub text_of_prints : List Print → List ℕ
+text_of_prints prints = flat_map line_of prints

@@ -1,0 +1,2 @@
+//! The text of a script: its definitions, and their laws.
+#![tactic(auto)]
