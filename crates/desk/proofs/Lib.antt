@@ -1,3 +1,4 @@
 pub mod Expiry
 pub mod Keys
 pub mod Judged
+pub mod Tickets

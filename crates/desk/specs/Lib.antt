@@ -3,3 +3,4 @@ pub mod Fates
 pub mod Due
 pub mod Times
 pub mod Desk
+pub mod Laws

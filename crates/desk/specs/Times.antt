@@ -1,5 +1,5 @@
 -- From when and up to when a message may be delivered (SMPP 3.4, 5.2.15 and 5.2.16).
-use Rattle.std.specs.Prelude.{◌≡◌, ℕ, ◌+◌, ◌<◌, Bool, nat_le, max, min, Option, Some, None, Result, Ok, Err, if◌then◌else◌}
+use Rattle.std.specs.Prelude.{ℕ, ◌+◌, ◌<◌, nat_le, max, min, Option, Some, None, Result, Ok, Err, if◌then◌else◌}
 use Rattle.smpp_time.specs.Texts.{time_said}
 use Rattle.smpp_time.specs.declared.fault.TimeFault.{TimeFault}
 use Rattle.pdu_tables.specs.declared.status.Status.{Status}

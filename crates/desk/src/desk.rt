@@ -5,7 +5,7 @@ ghost use Rattle.fate_chain.specs.Kinds.{author_of};
 ghost use Rattle.desk.specs.Fates.{with_expired};
 ghost use Rattle.desk.specs.Desk.{author_at, begins, is_busy};
 
-use crate::request::{Begun, Request, Waiting};
+use crate::request::{Begun, Request, Reply};
 use crate::table::Chains;
 use fate_chain::Author;
 use mc_types::{Incarnation, Moment, NodeNo};
@@ -31,7 +31,7 @@ pub struct Desk {
     // The tickets given so far.
     pub(crate) given: u64,
     // The oldest first.
-    pub(crate) waiting: VecDeque<Waiting>,
+    pub(crate) waiting: VecDeque<Reply>,
 }
 
 impl Model for Desk {
@@ -121,7 +121,7 @@ impl Desk {
     }
 
     /// Takes off the request that waits longest.
-    pub fn settle(&mut self) -> Option<Waiting>
+    pub fn settle(&mut self) -> Option<Reply>
         ensures waiting { MatchOption result ((self.old.waiting ≡ []) × (self.new ≡ self.old)) (λ first. self.old.waiting ≡ first ∷ self.new.waiting) }
         ensures rest { self.new ≡ record self.old { waiting = self.new.waiting } }
     {

@@ -12,6 +12,8 @@ mod table;
 mod times;
 
 pub use desk::Desk;
-pub use laws::fates_are_permitted;
-pub use request::{Answer, Begun, Request, Waiting};
+pub use laws::{
+    fates_are_permitted, owners_are_those_of_the_rules, tickets_are_distinct, unrouted_are_refused,
+};
+pub use request::{Answer, Begun, Request, Reply};
 pub use table::Chains;

@@ -1,12 +1,11 @@
 //! What is done with a query_sm.
 
 ghost use Rattle.std.specs.Prelude.{◌≡◌, IfOk, OnErr};
-ghost use Rattle.std.specs.Option.{option_copied};
 ghost use Rattle.mc_types.specs.Texts.{id_in};
-ghost use Rattle.desk.specs.Desk.{asked, answer_from, final_moment, is_sent_by};
+ghost use Rattle.desk.specs.Desk.{asked, query_answer, message_at, final_moment, is_sent_by, shown};
 
 use crate::desk::Desk;
-use crate::request::{Answer, Begun, Waiting};
+use crate::request::{Answer, Begun, Reply};
 use crate::table::Chains;
 use fate_chain::{Chain, Kind, Submission};
 use mc_types::{Moment, MsgId};
@@ -16,6 +15,7 @@ use std::alloc::AllocError;
 
 impl Desk {
     /// Lets a query_sm wait with its answer, or refuses it.
+    #[tactic(auto, using(crate::proofs::Tickets::next_ticket))]
     pub(crate) fn ask(
         &mut self,
         chains: &Chains,
@@ -32,28 +32,35 @@ impl Desk {
             return Ok(Begun::Refused(Status::Throttled));
         }
         let ticket = self.given + 1;
-        self.waiting.push_back(Waiting {
+        self.waiting.push_back(Reply {
             ticket,
-            answer: answer(chains.get(id), account, &query.source.digits),
+            id,
+            answer: answer(chains, id, account, &query.source.digits),
         })?;
         self.given = ticket;
         Ok(Begun::Waits(ticket))
     }
 }
 
-/// What a query_sm of an account from a source address is answered about a chain.
-fn answer(chain: Option<&Chain>, account: &Text<16>, source: &Text<21>) -> Answer
-    ensures { result ≡ answer_from account.now source.now (option_copied chain.entry) }
+/// What a query_sm of an account from a source address is answered about the message of an id.
+fn answer(chains: &Chains, id: MsgId, account: &Text<16>, source: &Text<21>) -> Answer
+    ensures { result ≡ query_answer account.now source.now (message_at chains.now id) }
 {
-    let Some(chain) = chain else {
-        return Answer::NotFound(Status::InvalidMessageId);
+    let Some(chain) = chains.get(id) else {
+        return Answer::Unknown;
     };
-    let message = chain.submission();
-    if !is_sent_by(message, account, source) {
-        return Answer::NotFound(Status::QueryFailed);
+    if !is_sent_by(chain.submission(), account, source) {
+        return Answer::NotOwner;
     }
+    shown(chain)
+}
+
+/// What a query_sm is answered that may see the message of this chain.
+fn shown(chain: &Chain) -> Answer
+    ensures { result ≡ shown chain.now }
+{
     let error = chain.error().min(255) as u8;
-    Answer::Found(chain.id(), chain.state(), final_moment(chain), error)
+    Answer::Shown(chain.state(), final_moment(chain), error)
 }
 
 /// The moment of the final state of a chain, if it has one.

@@ -27,23 +27,26 @@ pub enum Begun {
 /// The answer to a request that waited.
 #[derive(Clone, Copy, Debug, PartialEq, Eq)]
 pub enum Answer {
-    /// The message of the submit_sm was taken under this id.
-    Submitted(MsgId),
-    /// The message of the query_sm has this state, since this moment if it is a final one, and this error, which is cut
-    /// to 255.
-    Found(MsgId, State, Option<Moment>, u8),
-    /// The query_sm is refused with this status: no such message is known, or it is not the account's.
-    NotFound(Status),
+    /// The message of the submit_sm was taken.
+    Accepted,
+    /// The message of the query_sm has this state, since this moment if it is a final one, and this error, which is cut to 255.
+    Shown(State, Option<Moment>, u8),
+    /// The message of the query_sm is another account's, or from another source address.
+    NotOwner,
     /// The message of the cancel_sm is deleted, or was before.
-    Cancelled,
-    /// The cancel_sm is refused with this status: no such message is known, it is not the one that is meant, or it
-    /// can't be deleted.
-    NotCancelled(Status),
+    Removed,
+    /// The message of the cancel_sm stays: an attempt of it is under way, or it has another final state.
+    Kept,
+    /// The cancel_sm does not mean the message of its id.
+    NotMatched,
+    /// There is no message of this id.
+    Unknown,
 }
 
-/// A request that waits for the next settle: its ticket and its answer.
+/// What a request that waits is told at the next settle: its ticket, the id of the message that it is about, and the answer.
 #[derive(Clone, Copy, Debug, PartialEq, Eq)]
-pub struct Waiting {
+pub struct Reply {
     pub ticket: u64,
+    pub id: MsgId,
     pub answer: Answer,
 }

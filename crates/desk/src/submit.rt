@@ -4,12 +4,12 @@ ghost use Rattle.std.specs.Prelude.{◌≡◌, ◌<◌, ◌≤◌, ◌+◌, [], 
 ghost use Rattle.mc_model.specs.message.Ids.{node_of, incarnation_of};
 ghost use Rattle.mc_model.specs.message.Decree.{Taken};
 ghost use Rattle.desk.specs.Table.{with_chain};
-ghost use Rattle.desk.specs.Desk.{begins, fields_refusal, submission_of, waits, is_busy, chain_begun, next_id};
+ghost use Rattle.desk.specs.Desk.{author_at, begins, fields_refusal, submission_of, waits, is_busy, chain_begun, next_id};
 ghost use Rattle.desk.specs.declared.request.Request.TheVariants.{Submit};
-ghost use Rattle.desk.specs.declared.request.Answer.TheVariants.{Submitted};
+ghost use Rattle.desk.specs.declared.request.Answer.TheVariants.{Accepted};
 
 use crate::desk::Desk;
-use crate::request::{Answer, Begun, Waiting};
+use crate::request::{Answer, Begun, Reply};
 use crate::table::Chains;
 use crate::times::Times;
 use fate_chain::{Chain, ChainFault, Submission};
@@ -52,7 +52,7 @@ impl Desk {
 
     /// The times of a submit_sm that has a route, or the status with which it is refused at once.
     fn judge(&self, now: Moment, message: &Message) -> Result<Times, Status>
-        ensures judged { result ≡ submit_judged true now message.now self.now }
+        ensures judged { result ≡ submit_judged true now self.now.validity self.now.serial (is_busy self.now) message.now }
         ensures times { IfOk result (λ times. AreToCome now times) }
         ensures room { OnOk result ((self.now.serial ≤ 99999) × (is_busy self.now ≡ false)) }
     {
@@ -75,7 +75,7 @@ impl Desk {
 
     /// The times of a message, if there is a serial for it and room for a request.
     fn with_room(&self, times: Times) -> Result<Times, Status>
-        ensures judged { result ≡ with_room self.now (Ok times) }
+        ensures judged { result ≡ with_room self.now.serial (is_busy self.now) (Ok times) }
         ensures times { IfOk result (λ left. left ≡ times) }
         ensures room { OnOk result ((self.now.serial ≤ 99999) × (is_busy self.now ≡ false)) }
     {
@@ -89,6 +89,7 @@ impl Desk {
     }
 
     /// Takes a message that is not refused.
+    #[tactic(auto, using(crate::proofs::Tickets::next_ticket))]
     fn take(
         &mut self,
         alloc: Global,
@@ -100,7 +101,7 @@ impl Desk {
         requires free { is_busy self.old ≡ false }
         requires expiry { now < message.expiry }
         requires schedule { message.schedule < message.expiry }
-        ensures ok { IfOk result (λ begun. waits (record self.old { serial = self.old.serial + 1 }) (with_chain chains.old (chain_begun self.old now message)) (Submitted (next_id self.old)) ≡ record { begun = begun; desk = self.new; table = chains.new }) }
+        ensures ok { IfOk result (λ begun. waits (record self.old { serial = self.old.serial + 1 }) (with_chain chains.old (chain_begun (author_at self.old) (next_id self.old) now message)) (next_id self.old) Accepted ≡ record { begun = begun; desk = self.new; table = chains.new }) }
         ensures err { OnErr result ((self.new ≡ self.old) × (chains.new ≡ chains.old)) }
     {
         let id = MsgId::make(self.node, self.incarnation, self.serial).unwrap();
@@ -108,9 +109,10 @@ impl Desk {
         self.waiting.reserve(1)?;
         chains.insert(chain)?;
         let ticket = self.given + 1;
-        self.waiting.push_back_reserved(Waiting {
+        self.waiting.push_back_reserved(Reply {
             ticket,
-            answer: Answer::Submitted(id),
+            id,
+            answer: Answer::Accepted,
         });
         self.given = ticket;
         self.serial += 1;

@@ -4,9 +4,9 @@ ghost use Rattle.std.specs.Prelude.{◌≤◌};
 
 use crate::values::{address, text};
 use desk::{Answer, Begun, Chains, Desk, Request, Waiting};
-use fate_chain::Chain;
+use fate_chain::{Chain, Decree, Kind};
 use mc_types::{Incarnation, Moment, MsgId, NodeNo};
-use pdu_codec::{Body, Cancel, Query, decode};
+use pdu_codec::{Body, Cancel, Message, Query, decode};
 use pdu_tables::{State, Status};
 use std::alloc::Global;
 use std::process::Abort;
@@ -22,26 +22,29 @@ const SECOND: &[u8] = b"1000100002";
 
 const NINTH: &[u8] = b"1000100009";
 
-const UNKNOWN: Answer = Answer::NotCancelled(Status::InvalidMessageId);
-
-const NOT_CANCELLED: Answer = Answer::NotCancelled(Status::CancelFailed);
-
 // A request of sme1.
 #[derive(Clone, Copy)]
 enum Asked<'a> {
     // The message above, for sme1, with this registered_delivery.
     Submit(u8),
+    // The same, and no route leads from its destination.
+    Unrouted(u8),
     // By message_id and source.
     Query(&'a [u8], &'a [u8]),
     // By message_id, source and destination.
     Cancel(&'a [u8], &'a [u8], &'a [u8]),
 }
 
-fn submit(alloc: Global, registered_delivery: u8) -> Result<Request, Fail> {
+fn message(alloc: Global, registered_delivery: u8) -> Result<Message, Fail> {
     let Body::SubmitSm(mut message) = decode(alloc, SUBMIT)?.body else {
         return Err("a submit_sm")?;
     };
     message.registered_delivery = registered_delivery;
+    Ok(message)
+}
+
+fn submit(alloc: Global, registered_delivery: u8) -> Result<Request, Fail> {
+    let message = message(alloc, registered_delivery)?;
     Ok(Request::Submit(message, Some(text(alloc, b"sme1")?)))
 }
 
@@ -69,6 +72,9 @@ fn cancel(
 fn request(alloc: Global, asked: Asked<'_>) -> Result<Request, Fail> {
     match asked {
         Asked::Submit(registered_delivery) => submit(alloc, registered_delivery),
+        Asked::Unrouted(registered_delivery) => {
+            Ok(Request::Submit(message(alloc, registered_delivery)?, None))
+        }
         Asked::Query(message_id, source) => query(alloc, message_id, source),
         Asked::Cancel(message_id, source, destination) => {
             cancel(alloc, message_id, source, destination)
@@ -155,11 +161,11 @@ fn tickets_go_up_by_one(rt: HostRuntime) -> Result<(), Fail> {
 fn waits_twice(rt: &impl Abort, alloc: Global, node: &mut Node) -> Result<(), Fail> {
     let id = MsgId::read(FIRST)?;
     for (ticket, asked, answer) in [
-        (1, Asked::Submit(1), Answer::Submitted(id)),
+        (1, Asked::Submit(1), Answer::Accepted(id)),
         (
             2,
             Asked::Query(FIRST, b"144"),
-            Answer::Found(id, State::Enroute, None, 0),
+            Answer::Shown(id, State::Enroute, None, 0),
         ),
     ] {
         assert_eq!(rt; node.begin(alloc, asked)?, Begun::Waits(ticket));
@@ -179,19 +185,13 @@ fn a_message_is_taken_and_found(rt: HostRuntime) -> Result<(), Fail> {
         alloc,
         &mut node,
         &[
-            (Asked::Submit(1), Answer::Submitted(id)),
+            (Asked::Submit(1), Answer::Accepted(id)),
             (
                 Asked::Query(FIRST, b"144"),
-                Answer::Found(id, State::Enroute, None, 0),
+                Answer::Shown(id, State::Enroute, None, 0),
             ),
-            (
-                Asked::Query(FIRST, b"145"),
-                Answer::NotFound(Status::QueryFailed),
-            ),
-            (
-                Asked::Query(NINTH, b"144"),
-                Answer::NotFound(Status::InvalidMessageId),
-            ),
+            (Asked::Query(FIRST, b"145"), Answer::NotOwner),
+            (Asked::Query(NINTH, b"144"), Answer::Unknown),
         ],
     )
 }
@@ -207,6 +207,7 @@ fn requests_are_refused_at_once(rt: HostRuntime) -> Result<(), Fail> {
         &[
             (Asked::Query(b"1", b"144"), Status::InvalidMessageId),
             (Asked::Submit(3), Status::InvalidRegisteredDelivery),
+            (Asked::Unrouted(3), Status::InvalidDestinationAddress),
             (Asked::Cancel(b"", b"144", b""), Status::CancelFailed),
             (
                 Asked::Cancel(b"100010000", b"144", b""),
@@ -221,7 +222,7 @@ fn serials_run_out(rt: HostRuntime) -> Result<(), Fail> {
     let alloc = rt.alloc();
     let id = MsgId::read(b"1000199999")?;
     let mut node = node_from(alloc, 99999);
-    let last = (Asked::Submit(0), Answer::Submitted(id));
+    let last = (Asked::Submit(0), Answer::Accepted(id));
     answers(&rt, alloc, &mut node, &[last])?;
     refuses(
         &rt,
@@ -259,17 +260,17 @@ fn a_message_is_cancelled_twice(rt: HostRuntime) -> Result<(), Fail> {
         alloc,
         &mut node,
         &[
-            (Asked::Submit(0), Answer::Submitted(id)),
-            (Asked::Cancel(NINTH, b"144", b"155"), UNKNOWN),
-            (Asked::Cancel(FIRST, b"145", b"155"), NOT_CANCELLED),
-            (Asked::Cancel(FIRST, b"144", b"156"), NOT_CANCELLED),
-            (Asked::Cancel(FIRST, b"144", b"155"), Answer::Cancelled),
-            (Asked::Cancel(FIRST, b"144", b"155"), Answer::Cancelled),
-            (Asked::Cancel(FIRST, b"145", b"155"), NOT_CANCELLED),
-            (Asked::Cancel(FIRST, b"144", b""), Answer::Cancelled),
+            (Asked::Submit(0), Answer::Accepted(id)),
+            (Asked::Cancel(NINTH, b"144", b"155"), Answer::Unknown),
+            (Asked::Cancel(FIRST, b"145", b"155"), Answer::NotMatched),
+            (Asked::Cancel(FIRST, b"144", b"156"), Answer::NotMatched),
+            (Asked::Cancel(FIRST, b"144", b"155"), Answer::Removed),
+            (Asked::Cancel(FIRST, b"144", b"155"), Answer::Removed),
+            (Asked::Cancel(FIRST, b"145", b"155"), Answer::NotMatched),
+            (Asked::Cancel(FIRST, b"144", b""), Answer::Removed),
             (
                 Asked::Query(FIRST, b"144"),
-                Answer::Found(id, State::Deleted, Some(Moment::least()), 0),
+                Answer::Shown(id, State::Deleted, Some(Moment::least()), 0),
             ),
         ],
     )
@@ -280,9 +281,9 @@ fn expires(rt: &impl Abort, alloc: Global, node: &mut Node) -> Result<(), Fail> 
     let first = MsgId::read(FIRST)?;
     let second = MsgId::read(SECOND)?;
     let taken = [
-        (Asked::Submit(0), Answer::Submitted(first)),
-        (Asked::Submit(0), Answer::Submitted(second)),
-        (Asked::Cancel(SECOND, b"144", b""), Answer::Cancelled),
+        (Asked::Submit(0), Answer::Accepted(first)),
+        (Asked::Submit(0), Answer::Accepted(second)),
+        (Asked::Cancel(SECOND, b"144", b""), Answer::Removed),
     ];
     answers(rt, alloc, node, &taken)?;
     // Three days after it was taken.
@@ -292,21 +293,23 @@ fn expires(rt: &impl Abort, alloc: Global, node: &mut Node) -> Result<(), Fail> 
         let found = [
             (
                 Asked::Query(FIRST, b"144"),
-                Answer::Found(first, state, ended, 0),
+                Answer::Shown(first, state, ended, 0),
             ),
             (
                 Asked::Query(SECOND, b"144"),
-                Answer::Found(second, State::Deleted, Some(Moment::least()), 0),
+                Answer::Shown(second, State::Deleted, Some(Moment::least()), 0),
             ),
         ];
         answers(rt, alloc, node, &found)?;
     }
-    let late = Answer::NotCancelled(Status::CancelFailed);
     answers(
         rt,
         alloc,
         node,
-        &[(Asked::Cancel(FIRST, b"144", b""), late)],
+        &[
+            (Asked::Cancel(FIRST, b"144", b""), Answer::Kept),
+            (Asked::Cancel(FIRST, b"145", b""), Answer::NotMatched),
+        ],
     )
 }
 
@@ -314,6 +317,46 @@ fn expires(rt: &impl Abort, alloc: Global, node: &mut Node) -> Result<(), Fail> 
 fn messages_expire_at_their_expiry(rt: HostRuntime) -> Result<(), Fail> {
     let mut node = node_from(rt.alloc(), 1);
     expires(&rt, rt.alloc(), &mut node)
+}
+
+// The first message is attempted.
+fn attempt(node: &mut Node) -> Result<(), Fail> {
+    let chain = node.chains.get(MsgId::read(FIRST)?).ok_or("a chain")?;
+    let chain = chain.extended(Decree {
+        author: chain.newest().author,
+        moment: Moment::least(),
+        kind: Kind::Attempt(1),
+    })?;
+    Ok(node.chains.insert(chain)?)
+}
+
+// It is not deleted then, and does not expire.
+fn stays(rt: &impl Abort, alloc: Global, node: &mut Node) -> Result<(), Fail> {
+    let first = MsgId::read(FIRST)?;
+    answers(
+        rt,
+        alloc,
+        node,
+        &[(Asked::Submit(0), Answer::Accepted(first))],
+    )?;
+    attempt(node)?;
+    node.tick(alloc, 946944000)?;
+    let enroute = Answer::Shown(first, State::Enroute, None, 0);
+    answers(
+        rt,
+        alloc,
+        node,
+        &[
+            (Asked::Cancel(FIRST, b"144", b""), Answer::Kept),
+            (Asked::Query(FIRST, b"144"), enroute),
+        ],
+    )
+}
+
+#[test]
+fn a_message_stays_while_it_is_attempted(rt: HostRuntime) -> Result<(), Fail> {
+    let mut node = node_from(rt.alloc(), 1);
+    stays(&rt, rt.alloc(), &mut node)
 }
 
 // That each of the first 3,000 messages has this state.
