@@ -1,9 +1,8 @@
-pub mod Frames
+pub mod Digits
 pub mod Ids
-pub mod Requests
-pub mod Retained
+pub mod Keeping
+pub mod Owners
 pub mod Running
+pub mod Serving
 pub mod Settling
 pub mod Steps
-pub mod StreamLemmas
-pub mod Digits

@@ -6,12 +6,19 @@ use Rattle.std.specs.Prelude.{◌⊎◌}
 use Rattle.std.specs.Result.{IsErrAnd}
 use Rattle.std.specs.Io.KnownBytes.{Consumes, Appends, Keeps, IsAtEnd}
 use Rattle.script_lines.specs.Lines.{Held, Grew, NeedsMore, lines_of, BeginsWithLine, IsLastLine, BeginsTooLong, LinesAreRead}
-use Rattle.script_runner.specs.Script.{Stage, Stepped, after, step_of, text_from, bad_from, text_of, bad_line}
+use Rattle.std.proofs.lemmas.Grind.{flat_map-append}
+use Rattle.script_text.specs.Settings.{script_settings}
+use Rattle.script_text.specs.Prints.{Print, line_of, text_of_prints}
+use Rattle.script_text.specs.Script.{Stage, Stepped, after, step_of, prints_from, bad_from, text_of, bad_line}
 use Rattle.script_lines.specs.Said.{Said, said_of}
 use Rattle.script_runner.specs.Outcome.{AreLines, Writes, WritesLine, IsWhole, IsDecided, StopsAt, StopsBetween, StopsInLine, IsOutcome}
 use Rattle.script_runner.specs.declared.fault.ScriptFault.{ScriptFault}
 use Rattle.script_runner.specs.declared.fault.ScriptFault.TheVariants.{BadLine, Read, Write, Memory}
 use Rattle.script_runner.proofs.Steps.{SaysItsSpelling, step_of-said}
+
+-- the text of lines from a stage on
+abbrev pub text_from : Stage → List (List ℕ) → List ℕ
+text_from stage lines = text_of_prints (prints_from script_settings stage lines)
 
 -- Whole lines were done, and what is held follows them; they lead to this stage.
 pub record Progress (before left written out : Option (List ℕ)) (held : Held) (stage : Stage) (number : ℕ) : Type 0 where
@@ -21,7 +28,7 @@ pub record Progress (before left written out : Option (List ℕ)) (held : Held) 
   pub lines : AreLines done
   pub good : bad_line done ≡ None
   pub text_on : (more : List ℕ) → text_of (done ++ more) ≡ text_of done ++ text_from stage (lines_of more)
-  pub bad_on : (more : List ℕ) → bad_line (done ++ more) ≡ bad_from stage (suc number) (lines_of more)
+  pub bad_on : (more : List ℕ) → bad_line (done ++ more) ≡ bad_from script_settings stage (suc number) (lines_of more)
   pub room : length held.octets ≤ 20001
   pub fits : number + (20002 * held.reads_left + length held.octets) ≤ 20002 * 2 ^ 40
 
@@ -56,7 +63,7 @@ appended_none (Some xs) = sym (append-nil xs)
 -- ---- the start
 
 pub started : (before written : Option (List ℕ)) (held : Held) → held.octets ≡ [] → held.reads_left ≡ 2 ^ 40 → Progress before before written written held None 0
-unfolding text_from bad_from
+unfolding prints_from bad_from
 started before written held none reads = record {
   done = [];
   consumed = rw none (consumed_none before);
@@ -133,22 +140,22 @@ pub record BadFirst (held : List ℕ) (stage : Stage) (more : List ℕ) : Type 0
   pub line : List ℕ
   pub lines : List (List ℕ)
   pub first : lines_of (held ++ more) ≡ line ∷ lines
-  pub bad : step_of stage line ≡ None
+  pub bad : step_of script_settings stage line ≡ None
 
 bad_found : (before left written out : Option (List ℕ)) (held : Held) (stage : Stage) (number : ℕ) (p : Progress before left written out held stage number) (more : List ℕ)
     → BadFirst held.octets stage more → bad_line ((p.done ++ held.octets) ++ more) ≡ Some (suc number)
 unfolding bad_from
 bad_found before left written out held stage number p more b =
-    ap bad_line (append_assoc p.done held.octets more) ∙ p.bad_on (held.octets ++ more) ∙ ap (bad_from stage (suc number)) b.first
-    ∙ ap (after (Some (suc number)) (λ done. bad_from done.stage (suc (suc number)) b.lines)) b.bad
+    ap bad_line (append_assoc p.done held.octets more) ∙ p.bad_on (held.octets ++ more) ∙ ap (bad_from script_settings stage (suc number)) b.first
+    ∙ ap (after (Some (suc number)) (λ done. bad_from script_settings done.stage (suc (suc number)) b.lines)) b.bad
 
 text_found : (before left written out : Option (List ℕ)) (held : Held) (stage : Stage) (number : ℕ) (p : Progress before left written out held stage number) (more : List ℕ)
     → BadFirst held.octets stage more → text_of ((p.done ++ held.octets) ++ more) ≡ text_of p.done
-unfolding text_from
+unfolding prints_from
 text_found before left written out held stage number p more b =
     ap text_of (append_assoc p.done held.octets more) ∙ p.text_on (held.octets ++ more)
     ∙ ap (λ lines. text_of p.done ++ text_from stage lines) b.first
-    ∙ ap (λ next. text_of p.done ++ after [] (λ done. done.text ++ text_from done.stage b.lines) next) b.bad
+    ∙ ap (λ next. text_of p.done ++ text_of_prints (after [] (λ done. done.prints ++ prints_from script_settings done.stage b.lines) next)) b.bad
     ∙ append-nil (text_of p.done)
 
 stops : (before left written out : Option (List ℕ)) (held : Held) (stage : Stage) (number : ℕ) (p : Progress before left written out held stage number)
@@ -204,7 +211,7 @@ too_long_first laws spelled held stage long more =
       bad = step_of-said stage first.0 None (not_said spelled first.0 (said_of first.0) refl first.3);
     }
 
-pub line_first : LinesAreRead → (held : List ℕ) (stage : Stage) (count : ℕ) → BeginsWithLine count held → step_of stage (take count held) ≡ None → (more : List ℕ) → BadFirst held stage more
+pub line_first : LinesAreRead → (held : List ℕ) (stage : Stage) (count : ℕ) → BeginsWithLine count held → step_of script_settings stage (take count held) ≡ None → (more : List ℕ) → BadFirst held stage more
 line_first laws held stage count begins bad more = record {
   line = take count held;
   lines = lines_of (drop (count + 1) held ++ more);
@@ -218,7 +225,7 @@ some_octets count held last none = absurd (omega (arith, last.some, last.all, ap
 last_lines : LinesAreRead → (count : ℕ) (held : List ℕ) → IsLastLine count held → lines_of held ≡ held ∷ []
 last_lines laws count held last = laws.last held (some_octets count held last) last.line
 
-pub last_first : LinesAreRead → (held : List ℕ) (stage : Stage) (count : ℕ) → IsLastLine count held → step_of stage held ≡ None → BadFirst held stage []
+pub last_first : LinesAreRead → (held : List ℕ) (stage : Stage) (count : ℕ) → IsLastLine count held → step_of script_settings stage held ≡ None → BadFirst held stage []
 last_first laws held stage count last bad = record {
   line = held;
   lines = [];
@@ -228,19 +235,21 @@ last_first laws held stage count last bad = record {
 
 -- ---- a good line
 
-text_of_first : (stage : Stage) (line : List ℕ) (lines : List (List ℕ)) (done : Stepped) → step_of stage line ≡ Some done → text_from stage (line ∷ lines) ≡ done.text ++ text_from done.stage lines
-unfolding text_from
-text_of_first stage line lines done e = ap (after [] (λ d. d.text ++ text_from d.stage lines)) e
+text_of_first : (stage : Stage) (line : List ℕ) (lines : List (List ℕ)) (done : Stepped) → step_of script_settings stage line ≡ Some done → text_from stage (line ∷ lines) ≡ text_of_prints done.prints ++ text_from done.stage lines
+unfolding prints_from
+text_of_first stage line lines done e =
+    ap (λ next. text_of_prints (after [] (λ d. d.prints ++ prints_from script_settings d.stage lines) next)) e
+    ∙ flat_map-append line_of done.prints (prints_from script_settings done.stage lines)
 
-bad_of_first : (stage : Stage) (number : ℕ) (line : List ℕ) (lines : List (List ℕ)) (done : Stepped) → step_of stage line ≡ Some done → bad_from stage number (line ∷ lines) ≡ bad_from done.stage (suc number) lines
+bad_of_first : (stage : Stage) (number : ℕ) (line : List ℕ) (lines : List (List ℕ)) (done : Stepped) → step_of script_settings stage line ≡ Some done → bad_from script_settings stage number (line ∷ lines) ≡ bad_from script_settings done.stage (suc number) lines
 unfolding bad_from
-bad_of_first stage number line lines done e = ap (after (Some number) (λ d. bad_from d.stage (suc number) lines)) e
+bad_of_first stage number line lines done e = ap (after (Some number) (λ d. bad_from script_settings d.stage (suc number) lines)) e
 
 text_of_nothing : (stage : Stage) → text_from stage [] ≡ []
-unfolding text_from
+unfolding prints_from
 text_of_nothing stage = refl
 
-bad_of_nothing : (stage : Stage) (number : ℕ) → bad_from stage number [] ≡ None
+bad_of_nothing : (stage : Stage) (number : ℕ) → bad_from script_settings stage number [] ≡ None
 unfolding bad_from
 bad_of_nothing stage number = refl
 
@@ -249,15 +258,15 @@ pub whole_with : LinesAreRead → (before left written out now : Option (List �
     → Progress before left written out held stage number → IsLastLine count held.octets → IsAtEnd left → Writes stage held.octets new out now → IsWhole before left written now
 whole_with laws before left written out now held stage new number count p last ended w =
     let lines = last_lines laws count held.octets last in
-    let told : text_of (p.done ++ held.octets) ≡ text_of p.done ++ w.done.text =
+    let told : text_of (p.done ++ held.octets) ≡ text_of p.done ++ (text_of_prints w.done.prints) =
     p.text_on held.octets ∙ ap (λ ls. text_of p.done ++ text_from stage ls) lines
-    ∙ ap (λ t. text_of p.done ++ t) (text_of_first stage held.octets [] w.done w.step ∙ ap (λ t. w.done.text ++ t) (text_of_nothing w.done.stage) ∙ append-nil w.done.text) in
+    ∙ ap (λ t. text_of p.done ++ t) (text_of_first stage held.octets [] w.done w.step ∙ ap (λ t. (text_of_prints w.done.prints) ++ t) (text_of_nothing w.done.stage) ∙ append-nil (text_of_prints w.done.prints)) in
     record {
       read = p.done ++ held.octets;
       consumed = p.consumed;
       ended = ended;
-      good = p.bad_on held.octets ∙ ap (bad_from stage (suc number)) lines ∙ bad_of_first stage (suc number) held.octets [] w.done w.step ∙ bad_of_nothing w.done.stage (suc (suc number));
-      text = subst (λ t. Appends written now t) (sym told) (appended_on written out now (text_of p.done) w.done.text p.text w.text);
+      good = p.bad_on held.octets ∙ ap (bad_from script_settings stage (suc number)) lines ∙ bad_of_first stage (suc number) held.octets [] w.done w.step ∙ bad_of_nothing w.done.stage (suc (suc number));
+      text = subst (λ t. Appends written now t) (sym told) (appended_on written out now (text_of p.done) (text_of_prints w.done.prints) p.text w.text);
     }
 
 -- what is held begins with the line and its line feed
@@ -279,16 +288,16 @@ advanced laws before left written out now held rest stage new number count p beg
     let line = take count held.octets in
     let done = p.done ++ (line ++ 10 ∷ []) in
     let next : (more : List ℕ) → lines_of ((line ++ 10 ∷ []) ++ more) ≡ line ∷ lines_of more = λ more. ap lines_of (append_assoc line (10 ∷ []) more) ∙ laws.next line more begins.line in
-    let text_next : (more : List ℕ) → text_of (done ++ more) ≡ (text_of p.done ++ w.done.text) ++ text_from w.done.stage (lines_of more) =
+    let text_next : (more : List ℕ) → text_of (done ++ more) ≡ (text_of p.done ++ (text_of_prints w.done.prints)) ++ text_from w.done.stage (lines_of more) =
     λ more. ap text_of (append_assoc p.done (line ++ 10 ∷ []) more) ∙ p.text_on ((line ++ 10 ∷ []) ++ more)
     ∙ ap (λ ls. text_of p.done ++ text_from stage ls) (next more)
     ∙ ap (λ t. text_of p.done ++ t) (text_of_first stage line (lines_of more) w.done w.step)
-    ∙ sym (append_assoc (text_of p.done) w.done.text (text_from w.done.stage (lines_of more))) in
-    let bad_next : (more : List ℕ) → bad_line (done ++ more) ≡ bad_from w.done.stage (suc (suc number)) (lines_of more) =
+    ∙ sym (append_assoc (text_of p.done) (text_of_prints w.done.prints) (text_from w.done.stage (lines_of more))) in
+    let bad_next : (more : List ℕ) → bad_line (done ++ more) ≡ bad_from script_settings w.done.stage (suc (suc number)) (lines_of more) =
     λ more. ap bad_line (append_assoc p.done (line ++ 10 ∷ []) more) ∙ p.bad_on ((line ++ 10 ∷ []) ++ more)
-    ∙ ap (bad_from stage (suc number)) (next more) ∙ bad_of_first stage (suc number) line (lines_of more) w.done w.step in
-    let text_done : text_of done ≡ text_of p.done ++ w.done.text =
-    ap text_of (sym (append-nil done)) ∙ text_next [] ∙ ap (λ t. (text_of p.done ++ w.done.text) ++ t) (text_of_nothing w.done.stage) ∙ append-nil (text_of p.done ++ w.done.text) in
+    ∙ ap (bad_from script_settings stage (suc number)) (next more) ∙ bad_of_first stage (suc number) line (lines_of more) w.done w.step in
+    let text_done : text_of done ≡ text_of p.done ++ (text_of_prints w.done.prints) =
+    ap text_of (sym (append-nil done)) ∙ text_next [] ∙ ap (λ t. (text_of p.done ++ (text_of_prints w.done.prints)) ++ t) (text_of_nothing w.done.stage) ∙ append-nil (text_of p.done ++ (text_of_prints w.done.prints)) in
     let whole : p.done ++ held.octets ≡ done ++ rest.octets =
     ap (λ t. p.done ++ t) (parts count held.octets begins ∙ ap (λ t. (line ++ 10 ∷ []) ++ t) (sym dropped)) ∙ sym (append_assoc p.done (line ++ 10 ∷ []) rest.octets) in
     let more = within_held count held.octets begins in
@@ -296,11 +305,11 @@ advanced laws before left written out now held rest stage new number count p beg
     record {
       done = done;
       consumed = subst (λ read. Consumes before left read) whole p.consumed;
-      text = subst (λ t. Appends written now t) (sym text_done) (appended_on written out now (text_of p.done) w.done.text p.text w.text);
+      text = subst (λ t. Appends written now t) (sym text_done) (appended_on written out now (text_of p.done) (text_of_prints w.done.prints) p.text w.text);
       lines = inr (p.done ++ line, sym (append_assoc p.done line (10 ∷ [])));
       good = ap bad_line (sym (append-nil done)) ∙ bad_next [] ∙ bad_of_nothing w.done.stage (suc (suc number));
       text_on = λ more. text_next more ∙ ap (λ t. t ++ text_from w.done.stage (lines_of more)) (sym text_done) ∙ ap (λ s. text_of done ++ text_from s (lines_of more)) (sym w.stage);
-      bad_on = λ more. bad_next more ∙ ap (λ s. bad_from s (suc (suc number)) (lines_of more)) (sym w.stage) ∙ ap (λ n. bad_from new n (lines_of more)) (omega arith);
+      bad_on = λ more. bad_next more ∙ ap (λ s. bad_from script_settings s (suc (suc number)) (lines_of more)) (sym w.stage) ∙ ap (λ n. bad_from script_settings new n (lines_of more)) (omega arith);
       room = omega (arith, p.room, shorter);
       fits = omega (arith, p.fits, shorter, reads);
     }
@@ -308,7 +317,7 @@ advanced laws before left written out now held rest stage new number count p beg
 -- ---- what comes of a line
 
 pub nothing_done : (before written : Option (List ℕ)) → StopsBetween before before written written
-unfolding text_from bad_from
+unfolding prints_from bad_from
 nothing_done before written = record {
   done = [];
   rest = [];
@@ -333,7 +342,7 @@ pub after_last : LinesAreRead → (r : Result (Unit {0}) ScriptFault) (before le
 after_last laws (Ok done) before left written out now held stage new number count octets same p last ended w =
     whole_with laws before left written out now held stage new number count p last ended (subst (λ line. Writes stage line new out now) (ap (take count) same ∙ all_taken count held.octets last.all) w)
 after_last laws (Err (BadLine told)) before left written out now held stage new number count octets same p last ended w =
-    let bad : step_of stage held.octets ≡ None = ap (step_of stage) (sym (ap (take count) same ∙ all_taken count held.octets last.all)) ∙ w.bad in
+    let bad : step_of script_settings stage held.octets ≡ None = ap (step_of script_settings stage) (sym (ap (take count) same ∙ all_taken count held.octets last.all)) ∙ w.bad in
     refused_at number told before left written out now (stops_at_end before left written out held stage number p (last_first laws held.octets stage count last bad) ended) w.counted w.text
 after_last laws (Err Read) before left written out now held stage new number count octets same p last ended w = absurd w
 after_last laws (Err Write) before left written out now held stage new number count octets same p last ended w = tt
@@ -343,7 +352,7 @@ pub after_line : LinesAreRead → (fault : ScriptFault) (before left written out
     → octets ≡ held.octets → Progress before left written out held stage number → BeginsWithLine count held.octets
     → WritesLine (Err fault) stage (take count octets) (number + 1) new out now → IsOutcome (Err fault) before left written now
 after_line laws (BadLine told) before left written out now held stage new number count octets same p begins w =
-    let bad : step_of stage (take count held.octets) ≡ None = ap (λ t. step_of stage (take count t)) (sym same) ∙ w.bad in
+    let bad : step_of script_settings stage (take count held.octets) ≡ None = ap (λ t. step_of script_settings stage (take count t)) (sym same) ∙ w.bad in
     refused_at number told before left written out now (stops_for_good before left written out held stage number p (line_first laws held.octets stage count begins bad)) w.counted w.text
 after_line laws Read before left written out now held stage new number count octets same p begins w = absurd w
 after_line laws Write before left written out now held stage new number count octets same p begins w = tt

@@ -1,12 +1,13 @@
 -- What a line does, by what it says.
 use Rattle.std.proofs.Common.{◌≡◌, ◌↔◌, ℕ, List, Option, Some, ap}
 use Rattle.script_lines.specs.Said.{Said, Skipped, Nodes, Octets, Tick, Settle, Spells, said_of}
-use Rattle.script_runner.specs.Script.{Stage, step_by, step_of}
+use Rattle.script_text.specs.Settings.{script_settings}
+use Rattle.script_text.specs.Script.{Stage, step_by, step_of}
 use Rattle.script_runner.specs.Outcome.{NumberFits}
 
-pub step_of-said : (stage : Stage) (line : List ℕ) (said : Option Said) → said_of line ≡ said → step_of stage line ≡ step_by stage said
+pub step_of-said : (stage : Stage) (line : List ℕ) (said : Option Said) → said_of line ≡ said → step_of script_settings stage line ≡ step_by script_settings stage said
 unfolding step_of
-step_of-said stage line said e = ap (step_by stage) e
+step_of-said stage line said e = ap (step_by script_settings stage) e
 
 -- a line says what it spells
 abbrev pub SaysItsSpelling : Type 0

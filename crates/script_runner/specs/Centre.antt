@@ -1,42 +1,62 @@
--- What a step leaves, and what it writes.
-use Rattle.std.specs.Prelude.{◌≡◌, ℕ, ◌==◌, not, List, ◌++◌, filter, Option}
-use Rattle.std.specs.Ordering.{nat_cmp}
-use Rattle.std.specs.Map.{lookup, remove_entry}
-use Rattle.std.specs.BTreeMap.{is_at, insert_entry}
+-- What the steps of the code leave, in the words of the text of a script.
+use Rattle.std.specs.Prelude.{◌≡◌, ℕ, false, List, [], ◌∷◌, ◌++◌, Option, Some, None, if◌then◌else◌}
+use Rattle.std.specs.Option.{option_map}
+use Rattle.desk.specs.Desk.{Begins}
+use Rattle.desk.specs.declared.request.Begun.{Begun}
+use Rattle.desk.specs.declared.request.Reply.{Reply}
+use Rattle.sessions.specs.Session.{Session}
+use Rattle.sessions.specs.States.{is_gone}
+use Rattle.sessions.specs.Steps.{Done}
+use Rattle.script_text.specs.Settings.{Settings}
+use Rattle.script_text.specs.Node.{Node, with_begun}
+use Rattle.script_text.specs.Prints.{text_of_prints}
+use Rattle.script_text.specs.Runner.{Runner, Acted, Owned, Served, Streamed, holding, reaction_prints}
 use Rattle.script_runner.specs.declared.centre.Centre.{Centre}
-use Rattle.script_runner.specs.declared.response.Response.{Response}
+use Rattle.script_runner.specs.declared.connected.Owner.{Owner}
 
--- the account of a session that is bound
-abbrev pub account_of : Centre → ℕ → Option (List ℕ)
-account_of centre session = lookup (is_at (nat_cmp session)) centre.bound
+-- the runner that a centre is
+abbrev pub runner_of : Centre → Runner
+runner_of centre = record { node = centre.node; sessions = centre.connected; streams = centre.streams }
 
--- the session is bound to the account
-abbrev pub with_bound : Centre → ℕ → List ℕ → Centre
-with_bound centre session account = record centre { bound = insert_entry nat_cmp centre.bound session account }
+-- what is there between lines: nothing yet, or the runner that a centre is
+abbrev pub stage_of : Option Centre → Option Runner
+stage_of stage = option_map runner_of stage
 
--- The session is gone: it is bound no longer, and what it asked is forgotten.
-abbrev pub without_session : Centre → ℕ → Centre
-without_session centre session = record centre {
-  bound = remove_entry (is_at (nat_cmp session)) centre.bound;
-  pending = filter (λ request. not (request.session == session)) centre.pending;
-}
+abbrev pub owned_by : Owner → Owned
+owned_by owner = record { number = owner.number; request = owner.request }
 
--- the centre after a PDU, and what the PDU is answered in its own step, if anything
-pub record Reaction : Type 0 where
-  pub next : Centre
-  pub response : Option Response
+-- A request was begun so at the node.
+pub record IsBegun (begins : Begins) (before : Node) (told : Begun) (after : Node) : Type 0 where
+  pub begun : told ≡ begins.begun
+  pub node : after ≡ with_begun before begins
 
--- The centre reacted so: this one was left, and this went out.
-pub record Reacts (reaction : Reaction) (left : Centre) (out : Option Response) : Type 0 where
-  pub next : left ≡ reaction.next
-  pub response : out ≡ reaction.response
+-- What waited longest is replied to, and waits no longer; or nothing waited, and nothing changed.
+abbrev pub IsReply : Node → Option Reply → Node → Type 0
+IsReply before None after = (before.desk.waiting ≡ []) × (after ≡ before)
+IsReply before (Some reply) after =
+    (before.desk.waiting ≡ reply ∷ after.desk.waiting) × (after ≡ record before { desk = record before.desk { waiting = after.desk.waiting } })
 
--- the centre after a step, and the text that the step wrote
-pub record Done : Type 0 where
-  pub next : Centre
-  pub text : List ℕ
+-- A session was served so, and its lines were added.
+pub record IsServed (served : Served) (left : Node) (remains : Session) (before after : List ℕ) : Type 0 where
+  pub node : left ≡ served.node
+  pub session : remains ≡ served.session
+  pub text : after ≡ before ++ text_of_prints served.prints
 
--- A step did this: it left this centre, and added this text.
-pub record IsDone (done : Done) (left : Centre) (before after : List ℕ) : Type 0 where
-  pub next : left ≡ done.next
-  pub text : after ≡ before ++ done.text
+-- The same of octets: if the session is not gone, these wait for more.
+pub record IsStreamed (streamed : Streamed) (left : Node) (remains : Session) (rest : List ℕ) (before after : List ℕ) : Type 0 where
+  pub served : IsServed streamed.served left remains before after
+  pub held : is_gone remains.state ≡ false → rest ≡ streamed.held
+
+-- An event led to this session, and what goes out of it was added.
+pub record IsLeft (settings : Settings) (number : ℕ) (done : Done) (remains : Session) (before after : List ℕ) : Type 0 where
+  pub session : remains ≡ done.next
+  pub text : after ≡ before ++ text_of_prints (reaction_prints settings number done.reaction)
+
+-- the session is kept with what its stream holds, unless it is gone
+abbrev pub with_kept : Runner → ℕ → Session → List ℕ → Runner
+with_kept runner number session held = if is_gone session.state then runner else holding runner number session held
+
+-- A line did this: it left this runner, and added the text of what it printed.
+pub record IsDone (acted : Acted) (left : Runner) (before after : List ℕ) : Type 0 where
+  pub next : left ≡ acted.next
+  pub text : after ≡ before ++ text_of_prints acted.prints

@@ -4,7 +4,9 @@ use Rattle.std.specs.Io.KnownBytes.{Consumes, Appends, Keeps, IsAtEnd}
 use Rattle.mc_model.specs.message.Ids.{IsMoment}
 use Rattle.script_lines.specs.Lines.{NeedsMore}
 use Rattle.script_lines.specs.Said.{Said, Skipped, Nodes, Octets, Tick, Settle}
-use Rattle.script_runner.specs.Script.{Stage, Stepped, opened, step_of, text_of, bad_line}
+use Rattle.script_text.specs.Settings.{script_settings}
+use Rattle.script_text.specs.Prints.{text_of_prints}
+use Rattle.script_text.specs.Script.{Stage, Stepped, opened, step_of, text_of, bad_line}
 use Rattle.script_runner.specs.declared.fault.ScriptFault.{ScriptFault}
 use Rattle.script_runner.specs.declared.fault.ScriptFault.TheVariants.{BadLine, Read, Write, Memory}
 
@@ -20,27 +22,27 @@ NumberFits Settle = Unit {0}
 
 -- the centre is started once
 abbrev pub IsStarted : Stage → Bool → Stage → ℕ → Type 0
-IsStarted None good new serial = (good ≡ true) × (new ≡ Some (opened serial))
-IsStarted (Some centre) good new serial = (good ≡ false) × (new ≡ Some centre)
+IsStarted None good new serial = (good ≡ true) × (new ≡ Some (opened script_settings serial))
+IsStarted (Some runner) good new serial = (good ≡ false) × (new ≡ Some runner)
 
 -- A line was good, led to this stage and added its text; or it was bad.
 abbrev pub IsStepBy : Option Stepped → Bool → Stage → List ℕ → List ℕ → Type 0
 IsStepBy None good new before after = good ≡ false
-IsStepBy (Some done) good new before after = (good ≡ true) × (new ≡ done.stage) × (after ≡ before ++ done.text)
+IsStepBy (Some done) good new before after = (good ≡ true) × (new ≡ done.stage) × (after ≡ before ++ text_of_prints done.prints)
 
 abbrev pub IsStep : Stage → List ℕ → Bool → Stage → List ℕ → List ℕ → Type 0
-IsStep old line good new before after = IsStepBy (step_of old line) good new before after
+IsStep old line good new before after = IsStepBy (step_of script_settings old line) good new before after
 
 -- A good line led to this stage, and its text was written.
 pub record Writes (old : Stage) (line : List ℕ) (new : Stage) (written out : Option (List ℕ)) : Type 0 where
   pub done : Stepped
-  pub step : step_of old line ≡ Some done
+  pub step : step_of script_settings old line ≡ Some done
   pub stage : new ≡ done.stage
-  pub text : Appends written out done.text
+  pub text : Appends written out (text_of_prints done.prints)
 
 -- the line of this number is bad, and nothing was written
 pub record Refuses (old : Stage) (line : List ℕ) (number told : ℕ) (written out : Option (List ℕ)) : Type 0 where
-  pub bad : step_of old line ≡ None
+  pub bad : step_of script_settings old line ≡ None
   pub counted : told ≡ number
   pub text : Keeps written out
 

@@ -1,17 +1,16 @@
 //! Runs a script: octets read to octets written.
 #![tactic(auto)]
 
-mod accounts;
-mod bound;
 mod centre;
-mod checks;
 mod clock;
+mod connected;
 mod fault;
+mod node;
 mod output;
-mod pending;
 mod program;
 mod response;
 mod run;
+mod serve;
 mod streams;
 
 pub use fault::{ScriptFault, exit_status};

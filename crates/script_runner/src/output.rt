@@ -1,49 +1,47 @@
 //! The lines that are written.
 
 ghost use Rattle.std.specs.Prelude.{◌≡◌, ◌++◌, OnOk};
-ghost use Rattle.script_runner.specs.Lines.{octets_line, pdu_line, response_text, gone_line};
-ghost use Rattle.script_runner.specs.Responses.{answer_pdu};
+ghost use Rattle.sessions.specs.Responses.{pdu_of};
+ghost use Rattle.script_text.specs.Prints.{octets_line, pdu_line, gone_line};
+ghost use Rattle.script_text.specs.Responses.{answer_pdu};
 ghost use Rattle.hex.specs.Hex.{encode_lower};
 
-use crate::response::{Response, answer_octets};
-use desk::Answer;
+use crate::connected::Owner;
+use crate::response::answer_octets;
+use desk::Reply;
 use itoa::Buffer;
+use pdu_codec::Text;
+use sessions::Outgoing;
 use std::alloc::{AllocError, Global};
 
 /// What of a line is no digit of an octet: the words, a session of three digits and the line feed.
 const LINE_WORDS: usize = 11;
 
-/// Adds the line of the response that goes out on a session, if there is one.
-pub fn write_response(
+/// Adds the line of what goes out on a session, of a centre with this system_id.
+pub fn write_outgoing(
     alloc: Global,
     text: &mut Vec<u8>,
     session: u8,
-    sequence: u32,
-    response: Option<Response>,
+    system_id: &Text<16>,
+    outgoing: Outgoing,
 ) -> Result<(), AllocError>
-    ensures { OnOk result (text.new.items ≡ text.old.items ++ response_text session sequence response) }
+    ensures { OnOk result (text.new.items ≡ text.old.items ++ pdu_line session (pdu_of system_id.now outgoing)) }
 {
-    match response {
-        None => Ok(()),
-        Some(response) => {
-            let octets = response.octets(alloc, sequence)?;
-            write_octets(text, session, &octets)
-        }
-    }
+    let octets = outgoing.octets(alloc, system_id)?;
+    write_octets(text, session, &octets)
 }
 
-/// Adds the line of the answer to a request that waited.
-pub fn write_answer(
+/// Adds the line of the reply to a request that waited.
+pub fn write_reply(
     alloc: Global,
     text: &mut Vec<u8>,
-    session: u8,
-    sequence: u32,
-    answer: Answer,
+    owner: Owner,
+    reply: Reply,
 ) -> Result<(), AllocError>
-    ensures { OnOk result (text.new.items ≡ text.old.items ++ pdu_line session (answer_pdu sequence answer)) }
+    ensures { OnOk result (text.new.items ≡ text.old.items ++ pdu_line owner.number (answer_pdu owner.request.requested owner.request.sequence reply.id reply.answer)) }
 {
-    let octets = answer_octets(alloc, sequence, answer)?;
-    write_octets(text, session, &octets)
+    let octets = answer_octets(alloc, owner.request, reply)?;
+    write_octets(text, owner.number, &octets)
 }
 
 /// Adds the line of a PDU of these octets. It makes room for the line once.

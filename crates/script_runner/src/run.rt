@@ -2,11 +2,14 @@
 
 ghost use Rattle.std.specs.Prelude.{◌≡◌, ◌≤◌, IfOk, Some};
 ghost use Rattle.script_lines.specs.Said.{said_by};
-ghost use Rattle.script_runner.specs.Script.{step_by};
+ghost use Rattle.script_text.specs.Settings.{script_settings, settings_of};
+ghost use Rattle.script_text.specs.Script.{step_by};
 ghost use Rattle.script_runner.specs.Outcome.{IsStep, IsStepBy, NumberFits, IsStarted, WritesLine, IsOutcome};
+ghost use Rattle.script_runner.specs.Centre.{stage_of};
 
 use crate::centre::Centre;
 use crate::fault::ScriptFault;
+use config::Config;
 use mc_types::Moment;
 use script_lines::{Found, Line, LineBuffer, lines_are_read, read_line, spelled_so};
 use std::alloc::{AllocError, Global};
@@ -23,6 +26,7 @@ pub fn run_script<R: Read, W: Write>(
     // What the proof takes of lines and of what they say; neither call does anything.
     lines_are_read();
     spelled_so();
+    let config = script_config(alloc)?;
     let mut buffer = LineBuffer::make(alloc)?;
     let mut text = Vec::new(alloc);
     let mut stage = None;
@@ -33,11 +37,11 @@ pub fn run_script<R: Read, W: Write>(
             Found::TooLong => return Err(ScriptFault::BadLine(number + 1)),
             Found::Last(count) => {
                 let line = &buffer.octets()[..count];
-                return write_line(alloc, &mut stage, line, number + 1, &mut text, writer);
+                return write_line(alloc, &config, &mut stage, line, number + 1, &mut text, writer);
             }
             Found::Line(count) => {
                 let line = &buffer.octets()[..count];
-                write_line(alloc, &mut stage, line, number + 1, &mut text, writer)?;
+                write_line(alloc, &config, &mut stage, line, number + 1, &mut text, writer)?;
                 buffer.take_off(count + 1);
                 number += 1;
             }
@@ -48,16 +52,18 @@ pub fn run_script<R: Read, W: Write>(
 /// Does what the line of this number says, and writes its output, which is made in the place of what the text holds.
 fn write_line<W: Write>(
     alloc: Global,
+    config: &Config,
     stage: &mut Option<Centre>,
     line: &[u8],
     number: u64,
     text: &mut Vec<u8>,
     writer: &mut W,
 ) -> Result<(), ScriptFault>
-    ensures { WritesLine result stage.old line.now number stage.new (W.contents writer.old) (W.contents writer.new) }
+    requires { settings_of config.now ≡ script_settings }
+    ensures { WritesLine result (stage_of stage.old) line.now number (stage_of stage.new) (W.contents writer.old) (W.contents writer.new) }
 {
     text.clear();
-    if !step(alloc, stage, line, text)? {
+    if !step(alloc, config, stage, line, text)? {
         return Err(ScriptFault::BadLine(number));
     }
     writer.write_all(text).map_err(|_| ScriptFault::Write)
@@ -66,36 +72,40 @@ fn write_line<W: Write>(
 /// Does what a line says: adds its output to the text, and answers whether the line is good.
 fn step(
     alloc: Global,
+    config: &Config,
     stage: &mut Option<Centre>,
     line: &[u8],
     text: &mut Vec<u8>,
 ) -> Result<bool, AllocError>
-    ensures { IfOk result (λ good. IsStep stage.old line.now good stage.new text.old.items text.new.items) }
+    requires { settings_of config.now ≡ script_settings }
+    ensures { IfOk result (λ good. IsStep (stage_of stage.old) line.now good (stage_of stage.new) text.old.items text.new.items) }
 {
     spelled_so();
     match read_line(alloc, line)? {
         None => Ok(false),
-        Some(said) => act(alloc, stage, said, text),
+        Some(said) => act(alloc, config, stage, said, text),
     }
 }
 
 /// Does what a good line says, if it may stand there.
 fn act(
     alloc: Global,
+    config: &Config,
     stage: &mut Option<Centre>,
     said: Line,
     text: &mut Vec<u8>,
 ) -> Result<bool, AllocError>
-    requires { NumberFits (said_by said) }
-    ensures { IfOk result (λ good. IsStepBy (step_by stage.old (Some (said_by said))) good stage.new text.old.items text.new.items) }
+    requires settings { settings_of config.now ≡ script_settings }
+    requires number { NumberFits (said_by said) }
+    ensures { IfOk result (λ good. IsStepBy (step_by script_settings (stage_of stage.old) (Some (said_by said))) good (stage_of stage.new) text.old.items text.new.items) }
 {
     match said {
         Line::Skipped => Ok(true),
-        Line::Nodes(serial) => Ok(start(alloc, stage, serial)),
+        Line::Nodes(serial) => Ok(start(alloc, config, stage, serial)),
         Line::Octets(session, octets) => match stage {
             None => Ok(false),
             Some(centre) => {
-                centre.octets(alloc, session, &octets, text)?;
+                centre.octets(alloc, config, session, &octets, text)?;
                 Ok(true)
             }
         },
@@ -117,14 +127,22 @@ fn act(
 }
 
 /// Starts the centre, unless one is there.
-fn start(alloc: Global, stage: &mut Option<Centre>, serial: u32) -> bool
+fn start(alloc: Global, config: &Config, stage: &mut Option<Centre>, serial: u32) -> bool
+    requires settings { settings_of config.now ≡ script_settings }
     requires least { 1 ≤ serial }
     requires most { serial ≤ 99999 }
-    ensures { IsStarted stage.old result stage.new serial }
+    ensures { IsStarted (stage_of stage.old) result (stage_of stage.new) serial }
 {
     if stage.is_some() {
         return false;
     }
-    *stage = Some(Centre::start(alloc, serial));
+    *stage = Some(Centre::start(alloc, config, serial));
     true
+}
+
+/// The configuration of a script. An `Err` is want of memory.
+fn script_config(alloc: Global) -> Result<Config, AllocError>
+    ensures { IfOk result (λ config. settings_of config ≡ script_settings) }
+{
+    Config::of_scripts(alloc)
 }

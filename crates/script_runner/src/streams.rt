@@ -4,7 +4,7 @@ ghost use Rattle.std.specs.Prelude.{◌≡◌, [], OnOk, IfOk};
 ghost use Rattle.std.specs.Ordering.{nat_cmp};
 ghost use Rattle.std.specs.Map.{remove_entry};
 ghost use Rattle.std.specs.BTreeMap.{is_at, insert_entry};
-ghost use Rattle.script_runner.specs.Streams.{held_in};
+ghost use Rattle.script_text.specs.Runner.{held_in};
 
 use pdu_codec::PduFault;
 use pdu_frames::Framer;

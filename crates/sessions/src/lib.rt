@@ -19,6 +19,6 @@ pub use pushed::{Abandoned, Delivery, PushRefusal, Pushed};
 pub use reaction::{EsmeAnswer, Reaction};
 pub use request::OpenRequest;
 pub use requested::Requested;
-pub use response::{Outgoing, Response};
+pub use response::{Outgoing, Response, encoded, pdu_with};
 pub use session::{Session, sequence_after};
 pub use state::SessionState;

@@ -53,7 +53,7 @@ impl Requested {
     }
 
     /// The body of the response that refuses it: none behind the header.
-    pub(crate) fn refusal_body(self) -> Body
+    pub fn refusal_body(self) -> Body
         ensures { result ≡ refusal_body self }
     {
         match self {

@@ -63,8 +63,8 @@ impl Outgoing {
     }
 }
 
-/// A PDU with this status and body.
-fn pdu_with(status: Status, sequence: u32, body: Body) -> Pdu
+/// A PDU with this status, sequence_number and body.
+pub fn pdu_with(status: Status, sequence: u32, body: Body) -> Pdu
     ensures { result ≡ pdu_with status sequence body }
 {
     Pdu {
@@ -101,8 +101,9 @@ fn bind_answer(
     Ok(BindAnswer { system_id, tlvs })
 }
 
-/// The octets of a PDU, which is let go by a call: where it ends by itself, its walk is proved in this function.
-fn encoded(alloc: Global, pdu: Pdu) -> Result<Vec<u8>, AllocError>
+/// The octets of a PDU. It is let go by a call, since the walk over what it holds is then made once, and not on each way out. An
+/// `Err` is want of memory.
+pub fn encoded(alloc: Global, pdu: Pdu) -> Result<Vec<u8>, AllocError>
     ensures { IfOk result (λ octets. octets.items ≡ octets_of pdu) }
 {
     let mut octets = Vec::new(alloc);

@@ -1,9 +1,10 @@
 use Rattle.std.proofs.Common.{length}
+use Rattle.script_runner.specs.Centre.{runner_of}
 use Rattle.script_runner.proofs.Settling.{Settles}
 use Rattle.script_runner.proofs.centre.Centre.settle.Given as goal
 
-abbrev pub invariant-loop-waiting : goal.invariant-loop-waiting
-invariant-loop-waiting l = Settles l.fn.self l.self l.fn.text.items l.text.items
+abbrev pub invariant-loop-reply : goal.invariant-loop-reply
+invariant-loop-reply l = Settles (runner_of l.fn.self) (runner_of l.self) l.fn.text.items l.text.items
 
-abbrev pub decreases-loop-waiting : goal.decreases-loop-waiting
-decreases-loop-waiting l = length l.self.desk.waiting
+abbrev pub decreases-loop-reply : goal.decreases-loop-reply
+decreases-loop-reply l = length l.self.node.desk.waiting

@@ -1,0 +1,227 @@
+//! Serving a session: what its octets do at the node, and what goes out.
+
+ghost use Rattle.std.specs.Prelude.{◌≡◌, ◌++◌, None, IfOk, OnOk, IsErr};
+ghost use Rattle.pdu_frames.specs.Frames.{cut};
+ghost use Rattle.accounts.specs.Routes.{target_of};
+ghost use Rattle.pdu_tables.specs.CommandCodes.{command_of};
+ghost use Rattle.sessions.specs.Responses.{requested_by};
+ghost use Rattle.sessions.specs.Steps.{on_fault, on_pdu, on_wrong_length};
+ghost use Rattle.script_text.specs.Settings.{settings_of};
+ghost use Rattle.script_text.specs.Prints.{text_of_prints};
+ghost use Rattle.script_text.specs.Runner.{on_cut, on_done, on_frame, on_request, reaction_prints, request_of};
+ghost use Rattle.script_runner.specs.Centre.{IsLeft, IsServed, IsStreamed};
+
+use crate::node::TableNode;
+use crate::output::{write_gone, write_outgoing};
+use accounts::Routes;
+use config::Config;
+use desk::{Begun, Request};
+use pdu_codec::{Body, Header, Pdu, PduFault, Text, decode, read_header};
+use pdu_frames::Framer;
+use sessions::{OpenRequest, Outgoing, Reaction, Requested, Response, Session};
+use std::alloc::{AllocError, Global};
+
+/// The octets that a Framer of a session holds, and these behind them: each frame is served in its turn, until one ends the session.
+/// After an `Err`, which is want of memory, nothing is said.
+pub fn serve(
+    alloc: Global,
+    config: &Config,
+    number: u8,
+    node: &mut TableNode,
+    session: &mut Session,
+    framer: &mut Framer,
+    octets: &[u8],
+    text: &mut Vec<u8>,
+) -> Result<(), AllocError>
+    ensures { OnOk result (IsStreamed (on_cut (settings_of config.now) number node.old session.old (cut (framer.old ++ octets.now))) node.new session.new framer.new text.old.items text.new.items) }
+{
+    let mut rest = octets;
+    loop {
+        let taken = match framer.feed(rest) {
+            Ok(count) => count,
+            Err(_) => return wrong_length(alloc, config, number, session, text),
+        };
+        rest = &rest[taken..];
+        match framer.frame() {
+            Ok(Some(frame)) => serve_frame(alloc, config, number, node, session, frame, text)?,
+            Ok(None) => return Ok(()),
+            Err(_) => return wrong_length(alloc, config, number, session, text),
+        }
+        if session.state().is_gone() {
+            return Ok(());
+        }
+        framer.let_go();
+    }
+}
+
+/// A wrong length ends the session.
+fn wrong_length(
+    alloc: Global,
+    config: &Config,
+    number: u8,
+    session: &mut Session,
+    text: &mut Vec<u8>,
+) -> Result<(), AllocError>
+    ensures { OnOk result (IsLeft (settings_of config.now) number (on_wrong_length session.old) session.new text.old.items text.new.items) }
+{
+    let reaction = session.on_wrong_length();
+    write_reaction(alloc, config, number, reaction, text)
+}
+
+/// The octets of one frame came on a session.
+fn serve_frame(
+    alloc: Global,
+    config: &Config,
+    number: u8,
+    node: &mut TableNode,
+    session: &mut Session,
+    octets: &[u8],
+    text: &mut Vec<u8>,
+) -> Result<(), AllocError>
+    ensures { OnOk result (IsServed (on_frame (settings_of config.now) number node.old session.old octets.now) node.new session.new text.old.items text.new.items) }
+{
+    let Some(header) = read_header(octets) else {
+        return wrong_length(alloc, config, number, session, text);
+    };
+    match decode(alloc, octets) {
+        Ok(pdu) => serve_pdu(alloc, config, number, node, session, pdu, text),
+        Err(fault) => serve_fault(alloc, config, number, session, header, fault, text),
+    }
+}
+
+/// The octets of a frame with this header are no PDU.
+fn serve_fault(
+    alloc: Global,
+    config: &Config,
+    number: u8,
+    session: &mut Session,
+    header: Header,
+    fault: PduFault,
+    text: &mut Vec<u8>,
+) -> Result<(), AllocError>
+    ensures done { OnOk result (IsLeft (settings_of config.now) number (on_fault session.old fault (requested_by (command_of header.command)) header.sequence) session.new text.old.items text.new.items) }
+    ensures memory { fault ≡ PduFault.Memory → IsErr result }
+{
+    if let PduFault::Memory = fault {
+        return Err(AllocError);
+    }
+    let reaction = session.on_fault(header, fault);
+    write_reaction(alloc, config, number, reaction, text)
+}
+
+/// A PDU came on a session.
+fn serve_pdu(
+    alloc: Global,
+    config: &Config,
+    number: u8,
+    node: &mut TableNode,
+    session: &mut Session,
+    pdu: Pdu,
+    text: &mut Vec<u8>,
+) -> Result<(), AllocError>
+    ensures { OnOk result (IsServed (on_done (settings_of config.now) number node.old pdu.sequence (request_of (settings_of config.now) pdu.body) (on_pdu config.now.accounts session.old pdu)) node.new session.new text.old.items text.new.items) }
+{
+    let sequence = pdu.sequence;
+    let Ok(reaction) = session.on_pdu(&config.accounts, &pdu) else {
+        drop(pdu);
+        return Err(AllocError);
+    };
+    match reaction {
+        Reaction::Ask(requested) => {
+            ask(alloc, config, number, node, session, requested, sequence, pdu.body, text)
+        }
+        other => {
+            drop(pdu);
+            write_reaction(alloc, config, number, other, text)
+        }
+    }
+}
+
+/// A request goes to the node: what it answers at once goes out, and what waits takes its place in the window.
+fn ask(
+    alloc: Global,
+    config: &Config,
+    number: u8,
+    node: &mut TableNode,
+    session: &mut Session,
+    requested: Requested,
+    sequence: u32,
+    body: Body,
+    text: &mut Vec<u8>,
+) -> Result<(), AllocError>
+    ensures { OnOk result (IsServed (on_request number node.old session.old requested sequence session.old.account (request_of (settings_of config.now) body)) node.new session.new text.old.items text.new.items) }
+{
+    let Some(account) = session.account() else {
+        drop(body);
+        return Ok(());
+    };
+    let Some(request) = request_in(config, body)? else {
+        return Ok(());
+    };
+    match node.begin(alloc, account, request)? {
+        Begun::Refused(status) => {
+            let response = Response::Refused(requested, status);
+            write_outgoing(alloc, text, number, &config.system_id, Outgoing { sequence, response })
+        }
+        Begun::Waits(ticket) => {
+            let _ = session.on_wait(OpenRequest {
+                ticket,
+                requested,
+                sequence,
+            });
+            Ok(())
+        }
+    }
+}
+
+/// The request for the node that a body is, if it is one. An `Err` is want of memory.
+fn request_in(config: &Config, body: Body) -> Result<Option<Request>, AllocError>
+    ensures { IfOk result (λ request. request ≡ request_of (settings_of config.now) body) }
+{
+    match body {
+        Body::SubmitSm(message) => {
+            match target(&config.routes, message.destination.digits.octets()) {
+                Ok(target) => Ok(Some(Request::Submit(message, target))),
+                Err(fault) => {
+                    drop(message);
+                    Err(fault)
+                }
+            }
+        }
+        Body::QuerySm(query) => Ok(Some(Request::Ask(query))),
+        Body::CancelSm(cancel) => Ok(Some(Request::Cancel(cancel))),
+        _ => Ok(None),
+    }
+}
+
+/// The account that a route leads to, if one does. An `Err` is want of memory.
+fn target(routes: &Routes, destination: &[u8]) -> Result<Option<Text<16>>, AllocError>
+    ensures { IfOk result (λ account. account ≡ target_of routes.now destination.now) }
+{
+    match routes.target(destination) {
+        None => Ok(None),
+        Some(account) => Ok(Some(account.copy()?)),
+    }
+}
+
+/// Adds the lines of what goes out by a reaction that is no request for the node.
+fn write_reaction(
+    alloc: Global,
+    config: &Config,
+    number: u8,
+    reaction: Reaction,
+    text: &mut Vec<u8>,
+) -> Result<(), AllocError>
+    ensures { OnOk result (text.new.items ≡ text.old.items ++ text_of_prints (reaction_prints (settings_of config.now) number reaction)) }
+{
+    match reaction {
+        Reaction::Respond(outgoing) => {
+            write_outgoing(alloc, text, number, &config.system_id, outgoing)
+        }
+        Reaction::Leave(outgoing, _) => {
+            write_outgoing(alloc, text, number, &config.system_id, outgoing)?;
+            write_gone(text, number)
+        }
+        Reaction::Nothing | Reaction::Ask(_) | Reaction::Answered(_, _) => Ok(()),
+    }
+}
