@@ -3,7 +3,7 @@
 ghost use Rattle.std.specs.Prelude.{◌≤◌};
 
 use crate::values::{address, text};
-use desk::{Answer, Begun, Chains, Desk, Request, Waiting};
+use desk::{Answer, Begun, Chains, Desk, Reply, Request};
 use fate_chain::{Chain, Decree, Kind};
 use mc_types::{Incarnation, Moment, MsgId, NodeNo};
 use pdu_codec::{Body, Cancel, Message, Query, decode};
@@ -106,14 +106,14 @@ impl Node {
         Ok(self.desk.begin(alloc, &mut self.chains, &account, Moment::least(), request)?)
     }
 
-    // What a request is answered that waits.
-    fn answer(&mut self, alloc: Global, asked: Asked<'_>) -> Result<Answer, Fail> {
+    // What a request is answered that waits, and about which message.
+    fn answer(&mut self, alloc: Global, asked: Asked<'_>) -> Result<(MsgId, Answer), Fail> {
         let begun = self.begin(alloc, asked)?;
-        let waiting = self.desk.settle().ok_or("a request that waits")?;
-        if begun != Begun::Waits(waiting.ticket) {
+        let reply = self.desk.settle().ok_or("a request that waits")?;
+        if begun != Begun::Waits(reply.ticket) {
             return Err("another ticket")?;
         }
-        Ok(waiting.answer)
+        Ok((reply.id, reply.answer))
     }
 
     fn tick(&mut self, alloc: Global, seconds: u32) -> Result<(), Fail> {
@@ -124,15 +124,15 @@ impl Node {
     }
 }
 
-// That requests are answered so, one after another.
+// That requests are answered so, each about the message of this id, one after another.
 fn answers(
     rt: &impl Abort,
     alloc: Global,
     node: &mut Node,
-    cases: &[(Asked<'_>, Answer)],
+    cases: &[(Asked<'_>, &[u8], Answer)],
 ) -> Result<(), Fail> {
-    for (asked, answer) in cases {
-        assert_eq!(rt; node.answer(alloc, *asked)?, *answer);
+    for (asked, id, answer) in cases {
+        assert_eq!(rt; node.answer(alloc, *asked)?, (MsgId::read(id)?, *answer));
     }
     Ok(())
 }
@@ -161,15 +161,15 @@ fn tickets_go_up_by_one(rt: HostRuntime) -> Result<(), Fail> {
 fn waits_twice(rt: &impl Abort, alloc: Global, node: &mut Node) -> Result<(), Fail> {
     let id = MsgId::read(FIRST)?;
     for (ticket, asked, answer) in [
-        (1, Asked::Submit(1), Answer::Accepted(id)),
+        (1, Asked::Submit(1), Answer::Accepted),
         (
             2,
             Asked::Query(FIRST, b"144"),
-            Answer::Shown(id, State::Enroute, None, 0),
+            Answer::Shown(State::Enroute, None, 0),
         ),
     ] {
         assert_eq!(rt; node.begin(alloc, asked)?, Begun::Waits(ticket));
-        assert_eq!(rt; node.desk.settle(), Some(Waiting { ticket, answer }));
+        assert_eq!(rt; node.desk.settle(), Some(Reply { ticket, id, answer }));
         assert!(rt; node.chains.get(id).is_some());
     }
     Ok(())
@@ -178,20 +178,20 @@ fn waits_twice(rt: &impl Abort, alloc: Global, node: &mut Node) -> Result<(), Fa
 #[test]
 fn a_message_is_taken_and_found(rt: HostRuntime) -> Result<(), Fail> {
     let alloc = rt.alloc();
-    let id = MsgId::read(FIRST)?;
     let mut node = node_from(alloc, 1);
     answers(
         &rt,
         alloc,
         &mut node,
         &[
-            (Asked::Submit(1), Answer::Accepted(id)),
+            (Asked::Submit(1), FIRST, Answer::Accepted),
             (
                 Asked::Query(FIRST, b"144"),
-                Answer::Shown(id, State::Enroute, None, 0),
+                FIRST,
+                Answer::Shown(State::Enroute, None, 0),
             ),
-            (Asked::Query(FIRST, b"145"), Answer::NotOwner),
-            (Asked::Query(NINTH, b"144"), Answer::Unknown),
+            (Asked::Query(FIRST, b"145"), FIRST, Answer::NotOwner),
+            (Asked::Query(NINTH, b"144"), NINTH, Answer::Unknown),
         ],
     )
 }
@@ -220,9 +220,8 @@ fn requests_are_refused_at_once(rt: HostRuntime) -> Result<(), Fail> {
 #[test]
 fn serials_run_out(rt: HostRuntime) -> Result<(), Fail> {
     let alloc = rt.alloc();
-    let id = MsgId::read(b"1000199999")?;
     let mut node = node_from(alloc, 99999);
-    let last = (Asked::Submit(0), Answer::Accepted(id));
+    let last = (Asked::Submit(0), b"1000199999".as_slice(), Answer::Accepted);
     answers(&rt, alloc, &mut node, &[last])?;
     refuses(
         &rt,
@@ -253,24 +252,24 @@ fn a_thousand_requests_wait(rt: HostRuntime) -> Result<(), Fail> {
 #[test]
 fn a_message_is_cancelled_twice(rt: HostRuntime) -> Result<(), Fail> {
     let alloc = rt.alloc();
-    let id = MsgId::read(FIRST)?;
     let mut node = node_from(alloc, 1);
     answers(
         &rt,
         alloc,
         &mut node,
         &[
-            (Asked::Submit(0), Answer::Accepted(id)),
-            (Asked::Cancel(NINTH, b"144", b"155"), Answer::Unknown),
-            (Asked::Cancel(FIRST, b"145", b"155"), Answer::NotMatched),
-            (Asked::Cancel(FIRST, b"144", b"156"), Answer::NotMatched),
-            (Asked::Cancel(FIRST, b"144", b"155"), Answer::Removed),
-            (Asked::Cancel(FIRST, b"144", b"155"), Answer::Removed),
-            (Asked::Cancel(FIRST, b"145", b"155"), Answer::NotMatched),
-            (Asked::Cancel(FIRST, b"144", b""), Answer::Removed),
+            (Asked::Submit(0), FIRST, Answer::Accepted),
+            (Asked::Cancel(NINTH, b"144", b"155"), NINTH, Answer::Unknown),
+            (Asked::Cancel(FIRST, b"145", b"155"), FIRST, Answer::NotMatched),
+            (Asked::Cancel(FIRST, b"144", b"156"), FIRST, Answer::NotMatched),
+            (Asked::Cancel(FIRST, b"144", b"155"), FIRST, Answer::Removed),
+            (Asked::Cancel(FIRST, b"144", b"155"), FIRST, Answer::Removed),
+            (Asked::Cancel(FIRST, b"145", b"155"), FIRST, Answer::NotMatched),
+            (Asked::Cancel(FIRST, b"144", b""), FIRST, Answer::Removed),
             (
                 Asked::Query(FIRST, b"144"),
-                Answer::Shown(id, State::Deleted, Some(Moment::least()), 0),
+                FIRST,
+                Answer::Shown(State::Deleted, Some(Moment::least()), 0),
             ),
         ],
     )
@@ -278,12 +277,10 @@ fn a_message_is_cancelled_twice(rt: HostRuntime) -> Result<(), Fail> {
 
 // The first message of two expires, and the second was cancelled before.
 fn expires(rt: &impl Abort, alloc: Global, node: &mut Node) -> Result<(), Fail> {
-    let first = MsgId::read(FIRST)?;
-    let second = MsgId::read(SECOND)?;
     let taken = [
-        (Asked::Submit(0), Answer::Accepted(first)),
-        (Asked::Submit(0), Answer::Accepted(second)),
-        (Asked::Cancel(SECOND, b"144", b""), Answer::Removed),
+        (Asked::Submit(0), FIRST, Answer::Accepted),
+        (Asked::Submit(0), SECOND, Answer::Accepted),
+        (Asked::Cancel(SECOND, b"144", b""), SECOND, Answer::Removed),
     ];
     answers(rt, alloc, node, &taken)?;
     // Three days after it was taken.
@@ -293,11 +290,13 @@ fn expires(rt: &impl Abort, alloc: Global, node: &mut Node) -> Result<(), Fail> 
         let found = [
             (
                 Asked::Query(FIRST, b"144"),
-                Answer::Shown(first, state, ended, 0),
+                FIRST,
+                Answer::Shown(state, ended, 0),
             ),
             (
                 Asked::Query(SECOND, b"144"),
-                Answer::Shown(second, State::Deleted, Some(Moment::least()), 0),
+                SECOND,
+                Answer::Shown(State::Deleted, Some(Moment::least()), 0),
             ),
         ];
         answers(rt, alloc, node, &found)?;
@@ -307,8 +306,8 @@ fn expires(rt: &impl Abort, alloc: Global, node: &mut Node) -> Result<(), Fail> 
         alloc,
         node,
         &[
-            (Asked::Cancel(FIRST, b"144", b""), Answer::Kept),
-            (Asked::Cancel(FIRST, b"145", b""), Answer::NotMatched),
+            (Asked::Cancel(FIRST, b"144", b""), FIRST, Answer::Kept),
+            (Asked::Cancel(FIRST, b"145", b""), FIRST, Answer::NotMatched),
         ],
     )
 }
@@ -332,23 +331,22 @@ fn attempt(node: &mut Node) -> Result<(), Fail> {
 
 // It is not deleted then, and does not expire.
 fn stays(rt: &impl Abort, alloc: Global, node: &mut Node) -> Result<(), Fail> {
-    let first = MsgId::read(FIRST)?;
     answers(
         rt,
         alloc,
         node,
-        &[(Asked::Submit(0), Answer::Accepted(first))],
+        &[(Asked::Submit(0), FIRST, Answer::Accepted)],
     )?;
     attempt(node)?;
     node.tick(alloc, 946944000)?;
-    let enroute = Answer::Shown(first, State::Enroute, None, 0);
+    let enroute = Answer::Shown(State::Enroute, None, 0);
     answers(
         rt,
         alloc,
         node,
         &[
-            (Asked::Cancel(FIRST, b"144", b""), Answer::Kept),
-            (Asked::Query(FIRST, b"144"), enroute),
+            (Asked::Cancel(FIRST, b"144", b""), FIRST, Answer::Kept),
+            (Asked::Query(FIRST, b"144"), FIRST, enroute),
         ],
     )
 }

@@ -13,7 +13,8 @@ pub enum ScriptFault {
     /// 1: this line, counted from 1, is bad. The output of the lines before it was written, and nothing else.
     #[error("bad line {0}")]
     BadLine(u64),
-    /// 2: the script could not be read, or had no end within 2^40 reads. The output of some whole lines was written.
+    /// 2: the script could not be read, or had no end within 2^40 reads. The output of the lines before the one that was being read was
+    /// written.
     #[error("the script could not be read")]
     Read,
     /// 3: the output could not be written. Of what was written nothing is said.

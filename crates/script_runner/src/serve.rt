@@ -164,11 +164,12 @@ fn ask(
             write_outgoing(alloc, text, number, &config.system_id, Outgoing { sequence, response })
         }
         Begun::Waits(ticket) => {
-            let _ = session.on_wait(OpenRequest {
+            let open = OpenRequest {
                 ticket,
                 requested,
                 sequence,
-            });
+            };
+            let _ = session.on_wait(open);
             Ok(())
         }
     }

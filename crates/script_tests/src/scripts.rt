@@ -9,7 +9,14 @@ use std::test::Fail;
 pub const BIND: &[u8] =
     b"nodes 1\npdu 1 1 0000001e000000090000000000000001736d653100707731000034000000\n";
 
+const BIND_LINE: &[u8] =
+    b"pdu 1 1 0000001e000000090000000000000001736d653100707731000034000000\n";
+
 const BOUND: &[u8] = b"pdu 1 1 0000001c80000009000000000000000143454e545245000210000134\n";
+
+const UNBIND: &[u8] = b"pdu 1 1 00000010000000060000000000000004\n";
+
+const UNBOUND: &[u8] = b"pdu 1 1 00000010800000060000000000000004\ngone 1 1\n";
 
 const SUBMIT: &[u8] =
     b"pdu 1 1 0000002900000004000000000000000200010131343400010131353500000000000000000000024869\n";
@@ -65,21 +72,24 @@ fn failing_ends_are_told(rt: HostRuntime) -> Result<(), Fail> {
     Ok(())
 }
 
-/// More than a thousand requests before a settle: the one after the thousandth is answered at once, ESME_RTHROTTLED,
-/// and the others in their order.
+/// A thousand requests wait, of sessions that are gone, each with ten: the next one is answered at once, ESME_RTHROTTLED, and
+/// nothing of theirs is printed.
 #[test]
 fn a_thousand_requests_wait(rt: HostRuntime) -> Result<(), Fail> {
     let alloc = rt.alloc();
-    let queries = times(alloc, QUERY, 1001)?;
-    let script = joined(alloc, &[BIND, &queries, b"settle\n"])?;
+    let queries = times(alloc, QUERY, 10)?;
+    let session = joined(alloc, &[BIND_LINE, &queries, UNBIND])?;
+    let sessions = times(alloc, &session, 100)?;
+    let script = joined(alloc, &[b"nodes 1\n", &sessions, BIND_LINE, QUERY, b"settle\n"])?;
     let mut output = Vec::new(alloc);
     assert_eq!(rt;
         run_script(alloc, &mut script.as_slice(), &mut output),
         Ok(())
     );
-    let unknown = times(alloc, b"pdu 1 1 00000010800000030000000c00000003\n", 1000)?;
+    let gone = joined(alloc, &[BOUND, UNBOUND])?;
+    let all_gone = times(alloc, &gone, 100)?;
     let throttled = b"pdu 1 1 00000010800000030000005800000003\n";
-    let wanted = joined(alloc, &[BOUND, throttled, &unknown])?;
+    let wanted = joined(alloc, &[&all_gone, BOUND, throttled])?;
     assert!(rt; output == wanted);
     Ok(())
 }
@@ -88,12 +98,13 @@ fn a_thousand_requests_wait(rt: HostRuntime) -> Result<(), Fail> {
 #[test]
 fn many_messages_expire(rt: HostRuntime) -> Result<(), Fail> {
     let alloc = rt.alloc();
-    let submits = times(alloc, SUBMIT, 500)?;
+    let ten = times(alloc, SUBMIT, 10)?;
+    let submits = times(alloc, &joined(alloc, &[&ten, b"settle\n"])?, 50)?;
     let query =
         b"pdu 1 1 000000210000000300000000000000033130303031303035303000010131343400\nsettle\n";
     let script = joined(
         alloc,
-        &[BIND, &submits, b"settle\ntick 1 946944000\n", query],
+        &[BIND, &submits, b"tick 1 946944000\n", query],
     )?;
     let mut output = Vec::new(alloc);
     assert_eq!(rt;

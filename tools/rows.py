@@ -1,0 +1,80 @@
+#!/usr/bin/env python3
+"""The worked scripts of `crates/centre/data/rows`: NAME.script with NAME.expected, and, if they are not 0 and empty, NAME.status
+and NAME.stderr.
+
+    python3 tools/rows.py --write            # writes the tests' crates/script_tests/src/rows.rt
+    python3 tools/rows.py --check            # says if that file is not what the folder says
+    python3 tools/rows.py --run PROGRAM      # runs a built program, as crates/centre/out/centre, on each script
+
+A script of more than 8,000 octets is left out of the file, and is run by `--run` alone.
+"""
+import pathlib
+import subprocess
+import sys
+
+ROOT = pathlib.Path(__file__).resolve().parent.parent
+FOLDER = ROOT / "crates/centre/data/rows"
+FILE = ROOT / "crates/script_tests/src/rows.rt"
+LONGEST = 8_000
+
+HEAD = '''//! The worked scripts of `crates/centre/data/rows`, with what they write. Written by `tools/rows.py`.
+
+/// A script, its output, its exit status, and its line on standard error.
+pub struct Row {
+    pub name: &'static str,
+    pub script: &'static str,
+    pub output: &'static str,
+    pub status: u8,
+    pub told: &'static str,
+}
+'''
+
+
+def rows():
+    for path in sorted(FOLDER.glob("*.script")):
+        def text(kind):
+            other = path.with_suffix(kind)
+            return other.read_text() if other.exists() else ""
+
+        yield path.stem, path.read_text(), text(".expected"), int(text(".status") or 0), text(".stderr")
+
+
+def quoted(text):
+    return '"' + text.replace("\\", "\\\\").replace('"', '\\"').replace("\n", "\\n") + '"'
+
+
+def rust():
+    short = [row for row in rows() if len(row[1]) <= LONGEST]
+    out = [HEAD, f"pub const ROWS: [Row; {len(short)}] = ["]
+    for name, script, output, status, told in short:
+        out += ["    Row {", f"        name: {quoted(name)},", f"        script: {quoted(script)},", f"        output: {quoted(output)},"]
+        out += [f"        status: {status},", f"        told: {quoted(told)},", "    },"]
+    return "\n".join(out + ["];"]) + "\n"
+
+
+def run(program):
+    wrong = 0
+    for name, script, output, status, told in rows():
+        ran = subprocess.run([program, "script"], input=script, capture_output=True, text=True)
+        if (ran.stdout, ran.returncode, ran.stderr.strip()) != (output, status, told.strip()):
+            wrong += 1
+            print(f"{name}: status {ran.returncode}, {ran.stderr.strip()!r}\n{ran.stdout}")
+    print(f"{len(list(rows()))} scripts, {wrong} wrong")
+    return wrong == 0
+
+
+def main():
+    match sys.argv[1:]:
+        case ["--write"]:
+            FILE.write_text(rust())
+        case ["--check"]:
+            if FILE.read_text() != rust():
+                sys.exit(f"{FILE.relative_to(ROOT)} is not what {FOLDER.relative_to(ROOT)} says: python3 tools/rows.py --write")
+        case ["--run", program]:
+            sys.exit(0 if run(program) else 1)
+        case _:
+            sys.exit(__doc__)
+
+
+if __name__ == "__main__":
+    main()
