@@ -110,46 +110,32 @@ pub bind-same : {A B E : Type 0} (r : Result A E) (f g : A → Result B E) → (
 bind-same (Ok x) f g same = same x
 bind-same (Err e) f g same = refl
 
-bind-ok : {A E : Type 0} (r : Result A E) → r ≡ (r >>= λ x. Ok x)
-bind-ok (Ok x) = refl
-bind-ok (Err e) = refl
-
 abbrev ended : {A E : Type 0} → E → A × List ℕ → Result A E
 ended extra x = nothing_at extra x.1 >>= λ _. Ok x.0
 
 abbrev first_of_all : {E : Type 0} (first : Part E) (others : List (Part E)) → Content first.kind → Contents others × List ℕ → Result (Contents (first ∷ others) × List ℕ) E
 first_of_all first others c z = Ok ((c, z.0), z.1)
 
-abbrev with_first : {E : Type 0} (first : Part E) (others : List (Part E)) → Content first.kind → Contents others → Result (Contents (first ∷ others)) E
-with_first first others x c = Ok (x, c)
-
-module _ {E : Type 0} (extra : E) (first : Part E) (others back : List (Part E)) where
-  -- the fields behind the first, to the end
-  ended-more : (x : Content first.kind) (r : Result (Contents (others ++ back) × List ℕ) E) → ((r >>= first_of_all first (others ++ back) x) >>= ended extra) ≡ ((r >>= ended extra) >>= λ c. with_first first (others ++ back) x c)
-  ended-more x (Ok (z, [])) = refl
-  ended-more x (Ok (z, octet ∷ octets)) = refl
-  ended-more x (Err e) = refl
-
-  by_last : (x : Content first.kind) (z : Contents others) (r : Result (Contents back) E) → ((r >>= λ y. Ok (join others back z y)) >>= λ c. with_first first (others ++ back) x c) ≡ (r >>= λ y. with_first first (others ++ back) x (join others back z y))
-  by_last x z (Ok y) = refl
-  by_last x z (Err e) = refl
-
-  by_others : (x : Content first.kind) (r : Result (Contents others × List ℕ) E) → ((r >>= λ z. contents_at extra back z.1 >>= λ y. Ok (join others back z.0 y)) >>= λ c. with_first first (others ++ back) x c) ≡ ((r >>= first_of_all first others x) >>= λ w. contents_at extra back w.1 >>= λ y. with_first first (others ++ back) w.0.0 (join others back w.0.1 y))
-  by_others x (Ok z) = by_last x z.0 (contents_at extra back z.1)
-  by_others x (Err e) = refl
-
-  by_first : ((rest : List ℕ) → contents_at extra (others ++ back) rest ≡ (front_at others rest >>= λ x. contents_at extra back x.1 >>= λ y. Ok (join others back x.0 y))) → (r : Result (Content first.kind × List ℕ) E) → ((r >>= λ x. front_at (others ++ back) x.1 >>= first_of_all first (others ++ back) x.0) >>= ended extra) ≡ ((r >>= λ x. front_at others x.1 >>= first_of_all first others x.0) >>= λ w. contents_at extra back w.1 >>= λ y. with_first first (others ++ back) w.0.0 (join others back w.0.1 y))
-  by_first others_are (Ok x) =
-      ended-more x.0 (front_at (others ++ back) x.1)
-      ∙ ap (λ (s : Result (Contents (others ++ back)) E). s >>= λ c. with_first first (others ++ back) x.0 c) (others_are x.1)
-      ∙ by_others x.0 (front_at others x.1)
-  by_first others_are (Err e) = refl
+module _ {B E : Type 0} (first : Part E) (others back : List (Part E)) (next : Contents (first ∷ (others ++ back)) × List ℕ → Result B E) where
+  -- the fields behind the first
+  by_first : ((rest : List ℕ) (more : Contents (others ++ back) × List ℕ → Result B E) → (front_at (others ++ back) rest >>= more) ≡ (front_at others rest >>= λ y. front_at back y.1 >>= λ z. more (join others back y.0 z.0, z.1))) → (r : Result (Content first.kind × List ℕ) E) → ((r >>= λ x. front_at (others ++ back) x.1 >>= first_of_all first (others ++ back) x.0) >>= next) ≡ ((r >>= λ x. front_at others x.1 >>= first_of_all first others x.0) >>= λ y. front_at back y.1 >>= λ z. next ((y.0.0, join others back y.0.1 z.0), z.1))
+  by_first behind (Ok x) =
+      bind-assoc (front_at (others ++ back) x.1) (first_of_all first (others ++ back) x.0) next
+      ∙ behind x.1 (λ y. next ((x.0, y.0), y.1))
+      ∙ sym (bind-assoc (front_at others x.1) (first_of_all first others x.0) (λ y. front_at back y.1 >>= λ z. next ((y.0.0, join others back y.0.1 z.0), z.1)))
+  by_first behind (Err e) = refl
 
 -- Fields are read front first, then those behind it.
-pub contents_at-join : {E : Type 0} (extra : E) (front back : List (Part E)) (octets : List ℕ) → contents_at extra (front ++ back) octets ≡ (front_at front octets >>= λ x. contents_at extra back x.1 >>= λ y. Ok (join front back x.0 y))
-contents_at-join extra [] back octets = bind-ok (contents_at extra back octets)
-contents_at-join extra (first ∷ others) back octets =
-    by_first extra first others back (contents_at-join extra others back) (told first.fault (content_at first.kind octets))
+pub front_at-join : {B E : Type 0} (front back : List (Part E)) (octets : List ℕ) (next : Contents (front ++ back) × List ℕ → Result B E) → (front_at (front ++ back) octets >>= next) ≡ (front_at front octets >>= λ x. front_at back x.1 >>= λ y. next (join front back x.0 y.0, y.1))
+front_at-join [] back octets next = bind-same (front_at back octets) next (λ y. next (y.0, y.1)) (λ y. refl)
+front_at-join (first ∷ others) back octets next =
+    by_first first others back next (front_at-join others back) (told first.fault (content_at first.kind octets))
+
+-- And so are all fields, in three pieces.
+pub contents_at-join : {E : Type 0} (extra : E) (front middle back : List (Part E)) (octets : List ℕ) → contents_at extra (front ++ (middle ++ back)) octets ≡ (front_at front octets >>= λ x. front_at middle x.1 >>= λ y. front_at back y.1 >>= λ z. ended extra (join front (middle ++ back) x.0 (join middle back y.0 z.0), z.1))
+contents_at-join extra front middle back octets =
+    front_at-join front (middle ++ back) octets (ended extra)
+    ∙ bind-same (front_at front octets) (λ x. front_at (middle ++ back) x.1 >>= λ y. ended extra (join front (middle ++ back) x.0 y.0, y.1)) (λ x. front_at middle x.1 >>= λ y. front_at back y.1 >>= λ z. ended extra (join front (middle ++ back) x.0 (join middle back y.0 z.0), z.1)) (λ x. front_at-join middle back x.1 (λ y. ended extra (join front (middle ++ back) x.0 y.0, y.1)))
 
 -- ---- the first fault
 

@@ -69,17 +69,19 @@ bind_parts =
 abbrev pub bind_answer_parts : Parts
 bind_answer_parts = text SystemId 16 ∷ parameters ∷ []
 
+-- an address: its type of number, its numbering plan and its digits
+abbrev pub address_parts : Field → Field → Field → Parts
+address_parts ton npi digits = octet ton ∷ octet npi ∷ text digits 21 ∷ []
+
+abbrev pub source_parts : Parts
+source_parts = address_parts SourceAddrTon SourceAddrNpi SourceAddr
+
+abbrev pub destination_parts : Parts
+destination_parts = address_parts DestAddrTon DestAddrNpi DestinationAddr
+
 -- a message: who it is from and to, how it is to be handled, and its text
 abbrev pub envelope_parts : Parts
-envelope_parts =
-    text ServiceType 6
-    ∷ octet SourceAddrTon
-    ∷ octet SourceAddrNpi
-    ∷ text SourceAddr 21
-    ∷ octet DestAddrTon
-    ∷ octet DestAddrNpi
-    ∷ text DestinationAddr 21
-    ∷ []
+envelope_parts = text ServiceType 6 ∷ (source_parts ++ destination_parts)
 
 abbrev pub handling_parts : Parts
 handling_parts =
@@ -104,12 +106,7 @@ abbrev pub message_id_parts : Parts
 message_id_parts = text MessageId 65 ∷ []
 
 abbrev pub query_parts : Parts
-query_parts =
-    text MessageId 65
-    ∷ octet SourceAddrTon
-    ∷ octet SourceAddrNpi
-    ∷ text SourceAddr 21
-    ∷ []
+query_parts = text MessageId 65 ∷ source_parts
 
 abbrev pub query_answer_parts : Parts
 query_answer_parts =
@@ -120,16 +117,7 @@ query_answer_parts =
     ∷ []
 
 abbrev pub cancel_parts : Parts
-cancel_parts =
-    text ServiceType 6
-    ∷ text MessageId 65
-    ∷ octet SourceAddrTon
-    ∷ octet SourceAddrNpi
-    ∷ text SourceAddr 21
-    ∷ octet DestAddrTon
-    ∷ octet DestAddrNpi
-    ∷ text DestinationAddr 21
-    ∷ []
+cancel_parts = text ServiceType 6 ∷ text MessageId 65 ∷ (source_parts ++ destination_parts)
 
 -- ---- reading, up to the first field that has no spelling at its place
 
