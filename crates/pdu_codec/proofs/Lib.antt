@@ -1,5 +1,5 @@
 pub mod Optional
-pub mod MessageLaws
+pub mod PieceLaws
 pub mod PduLaws
 pub mod NoMemory
 pub mod FormLaws

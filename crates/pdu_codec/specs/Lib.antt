@@ -5,5 +5,5 @@ pub mod Contents
 pub mod Forms
 pub mod Bodies
 pub mod Pdu
-pub mod Message
+pub mod Pieces
 pub mod Laws

@@ -5,10 +5,12 @@ ghost use Rattle.pdu_codec.specs.Grammar.{contents_at, bind_parts, bind_answer_p
 ghost use Rattle.pdu_codec.specs.Contents.{bind_contents, bind_answer_contents, message_id_contents, query_contents, query_answer_contents, cancel_contents};
 ghost use Rattle.pdu_codec.specs.Forms.{MayHave, filling_at};
 ghost use Rattle.pdu_codec.specs.Pdu.{IsMade};
+ghost use Rattle.pdu_codec.specs.Pieces as pieces;
 
+use crate::address::{destination_at, source_at};
 use crate::fault::{Field, PduFault};
 use crate::fields::{check_optional, nothing_at, octet_at, text_at};
-use crate::pdu::{Address, Bind, BindAnswer, Cancel, Query, QueryAnswer};
+use crate::pdu::{Bind, BindAnswer, Cancel, Query, QueryAnswer};
 use crate::text::Text;
 use crate::tlv::Tlvs;
 use pdu_tables::limits;
@@ -66,21 +68,16 @@ pub fn message_id_of(alloc: Global, octets: &[u8]) -> Result<Option<Text<65>>, P
 }
 
 /// What a query_sm has (section 4.8.1).
+#[tactic(auto, unfolding(crate::specs::Pieces::address_at))]
 pub fn query_of(alloc: Global, octets: &[u8]) -> Result<Query, PduFault>
     ensures { IsMade query_contents result (contents_at query_parts octets.now) }
 {
     let (message_id, rest) = text_at(Field::MessageId, limits::MESSAGE_ID, octets)?;
-    let (ton, rest) = octet_at(Field::SourceAddrTon, rest)?;
-    let (npi, rest) = octet_at(Field::SourceAddrNpi, rest)?;
-    let (digits, rest) = text_at(Field::SourceAddr, limits::ADDRESS, rest)?;
+    let (source, rest) = source_at(rest)?;
     nothing_at(rest)?;
     Ok(Query {
         message_id: Text::of(alloc, message_id)?,
-        source: Address {
-            ton,
-            npi,
-            digits: Text::of(alloc, digits)?,
-        },
+        source: source.address(alloc)?,
     })
 }
 
@@ -108,27 +105,21 @@ pub fn query_answer_of(alloc: Global, octets: &[u8]) -> Result<Option<QueryAnswe
 pub fn cancel_of(alloc: Global, octets: &[u8]) -> Result<Cancel, PduFault>
     ensures { IsMade cancel_contents result (contents_at cancel_parts octets.now) }
 {
+    cancel_in_pieces(alloc, octets)
+}
+
+fn cancel_in_pieces(alloc: Global, octets: &[u8]) -> Result<Cancel, PduFault>
+    ensures { IsMade cancel_contents result (pieces.cancel_in_pieces octets.now) }
+{
     let (service_type, rest) = text_at(Field::ServiceType, limits::SERVICE_TYPE, octets)?;
     let (message_id, rest) = text_at(Field::MessageId, limits::MESSAGE_ID, rest)?;
-    let (source_ton, rest) = octet_at(Field::SourceAddrTon, rest)?;
-    let (source_npi, rest) = octet_at(Field::SourceAddrNpi, rest)?;
-    let (source, rest) = text_at(Field::SourceAddr, limits::ADDRESS, rest)?;
-    let (destination_ton, rest) = octet_at(Field::DestAddrTon, rest)?;
-    let (destination_npi, rest) = octet_at(Field::DestAddrNpi, rest)?;
-    let (destination, rest) = text_at(Field::DestinationAddr, limits::ADDRESS, rest)?;
+    let (source, rest) = source_at(rest)?;
+    let (destination, rest) = destination_at(rest)?;
     nothing_at(rest)?;
     Ok(Cancel {
         service_type: Text::of(alloc, service_type)?,
         message_id: Text::of(alloc, message_id)?,
-        source: Address {
-            ton: source_ton,
-            npi: source_npi,
-            digits: Text::of(alloc, source)?,
-        },
-        destination: Address {
-            ton: destination_ton,
-            npi: destination_npi,
-            digits: Text::of(alloc, destination)?,
-        },
+        source: source.address(alloc)?,
+        destination: destination.address(alloc)?,
     })
 }

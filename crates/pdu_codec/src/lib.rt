@@ -1,6 +1,7 @@
 //! PDUs of SMPP 3.4, from octets and to octets.
 #![tactic(auto)]
 
+mod address;
 mod bodies;
 mod fault;
 mod fields;
@@ -13,6 +14,7 @@ mod text;
 mod tlv;
 mod writing;
 
+pub use address::AddressOctets;
 pub use fault::{Field, PduFault};
 pub use fields::check_optional;
 pub use header::{Header, read_header};

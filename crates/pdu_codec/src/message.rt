@@ -1,45 +1,24 @@
 //! The body of a submit_sm or a deliver_sm (SMPP 3.4, sections 4.4.1 and 4.6.1), read to its last octet in three pieces. Memory is taken once
 //! the whole body is found to be one.
 
-ghost use Rattle.std.specs.Prelude.{◌≡◌, IfOk};
+ghost use Rattle.std.specs.Prelude.{IfOk};
 ghost use Rattle.pdu_codec.specs.Text.{IsText};
-ghost use Rattle.pdu_codec.specs.Grammar.{envelope_parts, handling_parts, message_parts, front_at, contents_at, IsRead};
+ghost use Rattle.pdu_codec.specs.Grammar.{message_parts, contents_at, IsRead};
 ghost use Rattle.pdu_codec.specs.Contents.{message_contents};
 ghost use Rattle.pdu_codec.specs.Pdu.{IsMade};
-ghost use Rattle.pdu_codec.specs.Message.{envelope_contents, handling_contents, message_in_pieces};
+ghost use Rattle.pdu_codec.specs.Pieces as pieces;
 
+use crate::address::{AddressOctets, destination_at, source_at};
 use crate::fault::{Field, PduFault};
 use crate::fields::{check_optional, counted_at, octet_at, text_at};
-use crate::pdu::{Address, Message};
+use crate::pdu::Message;
 use crate::text::{ShortMessage, Text};
 use crate::tlv::Tlvs;
 use pdu_tables::limits;
-use std::alloc::{AllocError, Global};
-
-/// An address, its digits as they stand in octets.
-#[derive(Drop)]
-struct AddressOctets<'a> {
-    ton: u8,
-    npi: u8,
-    digits: &'a [u8],
-}
-
-impl AddressOctets<'_> {
-    fn address(&self, alloc: Global) -> Result<Address, AllocError>
-        requires { IsText 21 self.now.digits.now }
-        ensures { IfOk result (λ address.
-            address ≡ record { ton = self.now.ton; npi = self.now.npi; digits = self.now.digits.now }) }
-    {
-        Ok(Address {
-            ton: self.ton,
-            npi: self.npi,
-            digits: Text::of(alloc, self.digits)?,
-        })
-    }
-}
+use std::alloc::Global;
 
 /// From whom a message is and to whom, as it stands in octets.
-#[derive(Drop)]
+#[derive(Clone, Copy)]
 struct Envelope<'a> {
     service_type: &'a [u8],
     source: AddressOctets<'a>,
@@ -47,7 +26,7 @@ struct Envelope<'a> {
 }
 
 /// How a message is to be handled, as it stands in octets.
-#[derive(Drop)]
+#[derive(Clone, Copy)]
 struct Handling<'a> {
     esm_class: u8,
     protocol_id: u8,
@@ -60,39 +39,27 @@ struct Handling<'a> {
     sm_default_msg_id: u8,
 }
 
+#[tactic(auto, unfolding(crate::specs::Pieces::envelope_at))]
 fn envelope_at(octets: &[u8]) -> Result<(Envelope<'_>, &[u8]), PduFault>
-    ensures read { IsRead (λ x. (envelope_contents x.0, x.1.now)) result
-        (front_at envelope_parts octets.now) }
+    ensures read { IsRead (λ x. (pieces.envelope_contents x.0, x.1.now)) result (pieces.envelope_at octets.now) }
     ensures service_type { IfOk result (λ x. IsText 6 x.0.service_type.now) }
     ensures source { IfOk result (λ x. IsText 21 x.0.source.digits.now) }
     ensures destination { IfOk result (λ x. IsText 21 x.0.destination.digits.now) }
 {
     let (service_type, rest) = text_at(Field::ServiceType, limits::SERVICE_TYPE, octets)?;
-    let (source_ton, rest) = octet_at(Field::SourceAddrTon, rest)?;
-    let (source_npi, rest) = octet_at(Field::SourceAddrNpi, rest)?;
-    let (source_digits, rest) = text_at(Field::SourceAddr, limits::ADDRESS, rest)?;
-    let (destination_ton, rest) = octet_at(Field::DestAddrTon, rest)?;
-    let (destination_npi, rest) = octet_at(Field::DestAddrNpi, rest)?;
-    let (destination_digits, rest) = text_at(Field::DestinationAddr, limits::ADDRESS, rest)?;
+    let (source, rest) = source_at(rest)?;
+    let (destination, rest) = destination_at(rest)?;
     let envelope = Envelope {
         service_type,
-        source: AddressOctets {
-            ton: source_ton,
-            npi: source_npi,
-            digits: source_digits,
-        },
-        destination: AddressOctets {
-            ton: destination_ton,
-            npi: destination_npi,
-            digits: destination_digits,
-        },
+        source,
+        destination,
     };
     Ok((envelope, rest))
 }
 
+#[tactic(auto, unfolding(crate::specs::Pieces::handling_at))]
 fn handling_at(octets: &[u8]) -> Result<(Handling<'_>, &[u8]), PduFault>
-    ensures read { IsRead (λ x. (handling_contents x.0, x.1.now)) result
-        (front_at handling_parts octets.now) }
+    ensures read { IsRead (λ x. (pieces.handling_contents x.0, x.1.now)) result (pieces.handling_at octets.now) }
     ensures schedule { IfOk result (λ x. IsText 17 x.0.schedule_delivery_time.now) }
     ensures validity { IfOk result (λ x. IsText 17 x.0.validity_period.now) }
 {
@@ -127,7 +94,7 @@ pub fn message_of(alloc: Global, octets: &[u8]) -> Result<Message, PduFault>
 }
 
 fn message_in_pieces(alloc: Global, octets: &[u8]) -> Result<Message, PduFault>
-    ensures { IsMade message_contents result (message_in_pieces octets.now) }
+    ensures { IsMade message_contents result (pieces.message_in_pieces octets.now) }
 {
     let (envelope, rest) = envelope_at(octets)?;
     let (handling, rest) = handling_at(rest)?;

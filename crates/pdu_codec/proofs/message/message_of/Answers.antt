@@ -1,4 +1,4 @@
-use Rattle.pdu_codec.proofs.MessageLaws.{message-in_pieces}
+use Rattle.pdu_codec.proofs.PieceLaws.{message-in_pieces}
 use Rattle.pdu_codec.proofs.message.message_of.Goals as goal
 
 pub returns : goal.returns

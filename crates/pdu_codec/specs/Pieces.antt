@@ -1,0 +1,55 @@
+-- The bodies that have addresses, read piece after piece, as they stand in octets.
+use Rattle.std.specs.Prelude.{ℕ, List, [], ◌∷◌, ◌++◌, Result, Ok}
+use Rattle.octet_fields.specs.Kinds.{join}
+use Rattle.octet_fields.specs.Reading.{content_at, told, nothing_at}
+use Rattle.pdu_codec.specs.declared.fault.Field.{Field}
+use Rattle.pdu_codec.specs.declared.fault.Field.TheVariants.{ServiceType, MessageId, SourceAddrTon, SourceAddrNpi, SourceAddr, DestAddrTon, DestAddrNpi, DestinationAddr}
+use Rattle.pdu_codec.specs.declared.fault.PduFault.{PduFault}
+use Rattle.pdu_codec.specs.declared.fault.PduFault.TheVariants.{Extra}
+use Rattle.pdu_codec.specs.declared.address.AddressOctets.{AddressOctets}
+use Rattle.pdu_codec.specs.declared.message.Envelope.{Envelope}
+use Rattle.pdu_codec.specs.declared.message.Handling.{Handling}
+use Rattle.pdu_codec.specs.Grammar.{Parts, Contents, ◌>>=◌, text, address_parts, source_parts, destination_parts, envelope_parts, handling_parts, text_parts, message_parts, cancel_parts, front_at}
+
+-- ---- what stands in a piece
+
+abbrev pub address_contents : AddressOctets → Contents source_parts
+address_contents a = (a.ton, (a.npi, (a.digits.now, tt)))
+
+abbrev pub envelope_contents : Envelope → Contents envelope_parts
+envelope_contents e =
+    (e.service_type.now, join source_parts destination_parts (address_contents e.source) (address_contents e.destination))
+
+abbrev pub handling_contents : Handling → Contents handling_parts
+handling_contents h =
+    (h.esm_class, (h.protocol_id, (h.priority_flag, (h.schedule_delivery_time.now, (h.validity_period.now, (h.registered_delivery, (h.replace_if_present_flag, (h.data_coding, (h.sm_default_msg_id, tt)))))))))
+
+-- ---- reading
+
+unfoldable pub address_at : (ton npi digits : Field) → List ℕ → Result (Contents (address_parts ton npi digits) × List ℕ) PduFault
+address_at ton npi digits octets = front_at (address_parts ton npi digits) octets
+
+abbrev pub source_at : List ℕ → Result (Contents source_parts × List ℕ) PduFault
+source_at octets = address_at SourceAddrTon SourceAddrNpi SourceAddr octets
+
+abbrev pub destination_at : List ℕ → Result (Contents destination_parts × List ℕ) PduFault
+destination_at octets = address_at DestAddrTon DestAddrNpi DestinationAddr octets
+
+unfoldable pub envelope_at : List ℕ → Result (Contents envelope_parts × List ℕ) PduFault
+envelope_at octets =
+    told (text ServiceType 6).fault (content_at (text ServiceType 6).kind octets) >>= λ x. source_at x.1 >>= λ y. destination_at y.1 >>= λ z. Ok ((x.0, join source_parts destination_parts y.0 z.0), z.1)
+
+unfoldable pub handling_at : List ℕ → Result (Contents handling_parts × List ℕ) PduFault
+handling_at octets = front_at handling_parts octets
+
+abbrev pub message_in_pieces : List ℕ → Result (Contents message_parts) PduFault
+message_in_pieces octets =
+    envelope_at octets >>= λ x. handling_at x.1 >>= λ y. front_at text_parts y.1 >>= λ z. nothing_at Extra z.1 >>= λ _. Ok (join envelope_parts (handling_parts ++ text_parts) x.0 (join handling_parts text_parts y.0 z.0))
+
+-- of a cancel_sm what stands in front of the addresses
+abbrev pub cancelled_parts : Parts
+cancelled_parts = text ServiceType 6 ∷ text MessageId 65 ∷ []
+
+abbrev pub cancel_in_pieces : List ℕ → Result (Contents cancel_parts) PduFault
+cancel_in_pieces octets =
+    front_at cancelled_parts octets >>= λ x. source_at x.1 >>= λ y. destination_at y.1 >>= λ z. nothing_at Extra z.1 >>= λ _. Ok (join cancelled_parts (source_parts ++ destination_parts) x.0 (join source_parts destination_parts y.0 z.0))
