@@ -51,6 +51,16 @@ fn submits(rt: HostRuntime) -> Result<(), Fail> {
     Ok(())
 }
 
+#[test]
+fn deliveries(rt: HostRuntime) -> Result<(), Fail> {
+    let alloc = rt.alloc();
+    let body = Body::DeliverSm(message(alloc, 0)?);
+    assert_is(&rt, alloc, &DELIVER, [0, 1], body);
+    let body = Body::DeliverSmResp(message_id(alloc, b"")?);
+    assert_is(&rt, alloc, &DELIVER_ANSWER, [0, 1], body);
+    Ok(())
+}
+
 /// The answer for the message 1000100001, whose error_code is 0.
 fn found(alloc: Global, final_date: &[u8], message_state: u8) -> Result<Option<QueryAnswer>, Fail> {
     Ok(Some(QueryAnswer {
