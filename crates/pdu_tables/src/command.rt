@@ -1,6 +1,8 @@
 ghost use Rattle.std.specs.Prelude.{◌≡◌, ◌↔◌, ◌≤◌, ◌^◌, IsTrue, IfSome, Some};
 ghost use Rattle.pdu_tables.specs.CommandCodes.{command_code, command_of};
 
+use crate::codes::{code_of, one_of};
+
 /// A command of SMPP 3.4 (section 5.1.2.1) that the centre knows, by its command_id. The rest are answered by a
 /// generic_nack.
 #[derive(Clone, Copy, Debug, PartialEq, Eq)]
@@ -45,6 +47,32 @@ pub enum Command {
     EnquireLinkResp,
 }
 
+/// The command_ids.
+macro_rules! commands {
+    ($way:ident, $what:expr) => {
+        $way!($what;
+            Command::GenericNack = 0x8000_0000,
+            Command::BindReceiver = 0x0000_0001,
+            Command::BindReceiverResp = 0x8000_0001,
+            Command::BindTransmitter = 0x0000_0002,
+            Command::BindTransmitterResp = 0x8000_0002,
+            Command::QuerySm = 0x0000_0003,
+            Command::QuerySmResp = 0x8000_0003,
+            Command::SubmitSm = 0x0000_0004,
+            Command::SubmitSmResp = 0x8000_0004,
+            Command::DeliverSm = 0x0000_0005,
+            Command::DeliverSmResp = 0x8000_0005,
+            Command::Unbind = 0x0000_0006,
+            Command::UnbindResp = 0x8000_0006,
+            Command::CancelSm = 0x0000_0008,
+            Command::CancelSmResp = 0x8000_0008,
+            Command::BindTransceiver = 0x0000_0009,
+            Command::BindTransceiverResp = 0x8000_0009,
+            Command::EnquireLink = 0x0000_0015,
+            Command::EnquireLinkResp = 0x8000_0015)
+    };
+}
+
 impl Command {
     ghost use Rattle.pdu_tables.specs.declared.command.Command.{Command};
 
@@ -52,27 +80,7 @@ impl Command {
     pub fn code(self) -> u32
         ensures { result ≡ command_code self }
     {
-        match self {
-            Command::GenericNack => 0x8000_0000,
-            Command::BindReceiver => 0x0000_0001,
-            Command::BindReceiverResp => 0x8000_0001,
-            Command::BindTransmitter => 0x0000_0002,
-            Command::BindTransmitterResp => 0x8000_0002,
-            Command::QuerySm => 0x0000_0003,
-            Command::QuerySmResp => 0x8000_0003,
-            Command::SubmitSm => 0x0000_0004,
-            Command::SubmitSmResp => 0x8000_0004,
-            Command::DeliverSm => 0x0000_0005,
-            Command::DeliverSmResp => 0x8000_0005,
-            Command::Unbind => 0x0000_0006,
-            Command::UnbindResp => 0x8000_0006,
-            Command::CancelSm => 0x0000_0008,
-            Command::CancelSmResp => 0x8000_0008,
-            Command::BindTransceiver => 0x0000_0009,
-            Command::BindTransceiverResp => 0x8000_0009,
-            Command::EnquireLink => 0x0000_0015,
-            Command::EnquireLinkResp => 0x8000_0015,
-        }
+        commands!(code_of, self)
     }
 
     /// Whether it answers a request; generic_nack does.
@@ -88,27 +96,6 @@ impl Command {
         ensures known { IfSome result (λ command. command_code command ≡ code) }
         ensures only { (command : Command) → command_code command ≡ code → result ≡ Some command }
     {
-        match code {
-            0x8000_0000 => Some(Command::GenericNack),
-            0x0000_0001 => Some(Command::BindReceiver),
-            0x8000_0001 => Some(Command::BindReceiverResp),
-            0x0000_0002 => Some(Command::BindTransmitter),
-            0x8000_0002 => Some(Command::BindTransmitterResp),
-            0x0000_0003 => Some(Command::QuerySm),
-            0x8000_0003 => Some(Command::QuerySmResp),
-            0x0000_0004 => Some(Command::SubmitSm),
-            0x8000_0004 => Some(Command::SubmitSmResp),
-            0x0000_0005 => Some(Command::DeliverSm),
-            0x8000_0005 => Some(Command::DeliverSmResp),
-            0x0000_0006 => Some(Command::Unbind),
-            0x8000_0006 => Some(Command::UnbindResp),
-            0x0000_0008 => Some(Command::CancelSm),
-            0x8000_0008 => Some(Command::CancelSmResp),
-            0x0000_0009 => Some(Command::BindTransceiver),
-            0x8000_0009 => Some(Command::BindTransceiverResp),
-            0x0000_0015 => Some(Command::EnquireLink),
-            0x8000_0015 => Some(Command::EnquireLinkResp),
-            _ => None,
-        }
+        commands!(one_of, code)
     }
 }

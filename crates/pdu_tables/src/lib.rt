@@ -2,6 +2,7 @@
 //! of fields.
 #![tactic(auto)]
 
+mod codes;
 mod command;
 pub mod limits;
 mod state;

@@ -1,6 +1,8 @@
 ghost use Rattle.std.specs.Prelude.{◌≡◌, IfSome, Some};
 ghost use Rattle.pdu_tables.specs.StatusCodes.{status_code, status_of};
 
+use crate::codes::{code_of, one_of};
+
 /// A command_status that the centre gives or understands (SMPP 3.4, section 5.1.3).
 #[derive(Clone, Copy, Debug, PartialEq, Eq)]
 pub enum Status {
@@ -58,6 +60,39 @@ pub enum Status {
     InvalidOptionalParameters,
 }
 
+/// The numbers of command_status.
+macro_rules! statuses {
+    ($way:ident, $what:expr) => {
+        $way!($what;
+            Status::Ok = 0x0000_0000,
+            Status::InvalidMessageLength = 0x0000_0001,
+            Status::InvalidCommandLength = 0x0000_0002,
+            Status::InvalidCommandId = 0x0000_0003,
+            Status::InvalidBindStatus = 0x0000_0004,
+            Status::AlreadyBound = 0x0000_0005,
+            Status::InvalidRegisteredDelivery = 0x0000_0007,
+            Status::SystemError = 0x0000_0008,
+            Status::InvalidSourceAddress = 0x0000_000a,
+            Status::InvalidDestinationAddress = 0x0000_000b,
+            Status::InvalidMessageId = 0x0000_000c,
+            Status::BindFailed = 0x0000_000d,
+            Status::InvalidPassword = 0x0000_000e,
+            Status::InvalidSystemId = 0x0000_000f,
+            Status::CancelFailed = 0x0000_0011,
+            Status::MessageQueueFull = 0x0000_0014,
+            Status::InvalidServiceType = 0x0000_0015,
+            Status::InvalidSystemType = 0x0000_0053,
+            Status::Throttled = 0x0000_0058,
+            Status::InvalidSchedule = 0x0000_0061,
+            Status::InvalidExpiry = 0x0000_0062,
+            Status::TemporaryApplicationError = 0x0000_0064,
+            Status::PermanentApplicationError = 0x0000_0065,
+            Status::RejectedByApplication = 0x0000_0066,
+            Status::QueryFailed = 0x0000_0067,
+            Status::InvalidOptionalParameters = 0x0000_00c0)
+    };
+}
+
 impl Status {
     ghost use Rattle.pdu_tables.specs.declared.status.Status.{Status};
 
@@ -65,34 +100,7 @@ impl Status {
     pub fn code(self) -> u32
         ensures { result ≡ status_code self }
     {
-        match self {
-            Status::Ok => 0x0000_0000,
-            Status::InvalidMessageLength => 0x0000_0001,
-            Status::InvalidCommandLength => 0x0000_0002,
-            Status::InvalidCommandId => 0x0000_0003,
-            Status::InvalidBindStatus => 0x0000_0004,
-            Status::AlreadyBound => 0x0000_0005,
-            Status::InvalidRegisteredDelivery => 0x0000_0007,
-            Status::SystemError => 0x0000_0008,
-            Status::InvalidSourceAddress => 0x0000_000a,
-            Status::InvalidDestinationAddress => 0x0000_000b,
-            Status::InvalidMessageId => 0x0000_000c,
-            Status::BindFailed => 0x0000_000d,
-            Status::InvalidPassword => 0x0000_000e,
-            Status::InvalidSystemId => 0x0000_000f,
-            Status::CancelFailed => 0x0000_0011,
-            Status::MessageQueueFull => 0x0000_0014,
-            Status::InvalidServiceType => 0x0000_0015,
-            Status::InvalidSystemType => 0x0000_0053,
-            Status::Throttled => 0x0000_0058,
-            Status::InvalidSchedule => 0x0000_0061,
-            Status::InvalidExpiry => 0x0000_0062,
-            Status::TemporaryApplicationError => 0x0000_0064,
-            Status::PermanentApplicationError => 0x0000_0065,
-            Status::RejectedByApplication => 0x0000_0066,
-            Status::QueryFailed => 0x0000_0067,
-            Status::InvalidOptionalParameters => 0x0000_00c0,
-        }
+        statuses!(code_of, self)
     }
 
     /// What a command_status stands for; none where it is not in the table.
@@ -101,34 +109,6 @@ impl Status {
         ensures known { IfSome result (λ status. status_code status ≡ code) }
         ensures only { (status : Status) → status_code status ≡ code → result ≡ Some status }
     {
-        match code {
-            0x0000_0000 => Some(Status::Ok),
-            0x0000_0001 => Some(Status::InvalidMessageLength),
-            0x0000_0002 => Some(Status::InvalidCommandLength),
-            0x0000_0003 => Some(Status::InvalidCommandId),
-            0x0000_0004 => Some(Status::InvalidBindStatus),
-            0x0000_0005 => Some(Status::AlreadyBound),
-            0x0000_0007 => Some(Status::InvalidRegisteredDelivery),
-            0x0000_0008 => Some(Status::SystemError),
-            0x0000_000a => Some(Status::InvalidSourceAddress),
-            0x0000_000b => Some(Status::InvalidDestinationAddress),
-            0x0000_000c => Some(Status::InvalidMessageId),
-            0x0000_000d => Some(Status::BindFailed),
-            0x0000_000e => Some(Status::InvalidPassword),
-            0x0000_000f => Some(Status::InvalidSystemId),
-            0x0000_0011 => Some(Status::CancelFailed),
-            0x0000_0014 => Some(Status::MessageQueueFull),
-            0x0000_0015 => Some(Status::InvalidServiceType),
-            0x0000_0053 => Some(Status::InvalidSystemType),
-            0x0000_0058 => Some(Status::Throttled),
-            0x0000_0061 => Some(Status::InvalidSchedule),
-            0x0000_0062 => Some(Status::InvalidExpiry),
-            0x0000_0064 => Some(Status::TemporaryApplicationError),
-            0x0000_0065 => Some(Status::PermanentApplicationError),
-            0x0000_0066 => Some(Status::RejectedByApplication),
-            0x0000_0067 => Some(Status::QueryFailed),
-            0x0000_00c0 => Some(Status::InvalidOptionalParameters),
-            _ => None,
-        }
+        statuses!(one_of, code)
     }
 }

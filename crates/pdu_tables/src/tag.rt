@@ -1,6 +1,8 @@
 ghost use Rattle.std.specs.Prelude.{◌≡◌, IfSome, Some};
 ghost use Rattle.pdu_tables.specs.TagCodes.{tag_code, tag_of};
 
+use crate::codes::{code_of, one_of};
+
 /// The tag of an optional parameter that the centre gives or understands (SMPP 3.4, section 5.3.2).
 #[derive(Clone, Copy, Debug, PartialEq, Eq)]
 pub enum Tag {
@@ -22,6 +24,21 @@ pub enum Tag {
     MessageState,
 }
 
+/// The tags.
+macro_rules! tags {
+    ($way:ident, $what:expr) => {
+        $way!($what;
+            Tag::ReceiptedMessageId = 0x001e,
+            Tag::UserMessageReference = 0x0204,
+            Tag::SarMsgRefNum = 0x020c,
+            Tag::SarTotalSegments = 0x020e,
+            Tag::SarSegmentSeqnum = 0x020f,
+            Tag::ScInterfaceVersion = 0x0210,
+            Tag::MessagePayload = 0x0424,
+            Tag::MessageState = 0x0427)
+    };
+}
+
 impl Tag {
     ghost use Rattle.pdu_tables.specs.declared.tag.Tag.{Tag};
 
@@ -29,16 +46,7 @@ impl Tag {
     pub fn code(self) -> u16
         ensures { result ≡ tag_code self }
     {
-        match self {
-            Tag::ReceiptedMessageId => 0x001e,
-            Tag::UserMessageReference => 0x0204,
-            Tag::SarMsgRefNum => 0x020c,
-            Tag::SarTotalSegments => 0x020e,
-            Tag::SarSegmentSeqnum => 0x020f,
-            Tag::ScInterfaceVersion => 0x0210,
-            Tag::MessagePayload => 0x0424,
-            Tag::MessageState => 0x0427,
-        }
+        tags!(code_of, self)
     }
 
     /// What a tag stands for; none where it is not in the table.
@@ -47,16 +55,6 @@ impl Tag {
         ensures known { IfSome result (λ tag. tag_code tag ≡ code) }
         ensures only { (tag : Tag) → tag_code tag ≡ code → result ≡ Some tag }
     {
-        match code {
-            0x001e => Some(Tag::ReceiptedMessageId),
-            0x0204 => Some(Tag::UserMessageReference),
-            0x020c => Some(Tag::SarMsgRefNum),
-            0x020e => Some(Tag::SarTotalSegments),
-            0x020f => Some(Tag::SarSegmentSeqnum),
-            0x0210 => Some(Tag::ScInterfaceVersion),
-            0x0424 => Some(Tag::MessagePayload),
-            0x0427 => Some(Tag::MessageState),
-            _ => None,
-        }
+        tags!(one_of, code)
     }
 }
