@@ -1,7 +1,6 @@
 //! Decrees as they stand in octets. Only what makes a decree of one takes memory.
 
 ghost use Rattle.std.specs.Prelude.{◌≡◌, IfOk};
-ghost use Rattle.pdu_codec.specs.Text.{IsText};
 ghost use Rattle.fate_chain.specs.Bytes.{party_fields, handling_fields, text_fields, message_at, kind_at, decree_at};
 ghost use Rattle.octet_fields.specs.Reading.{IsRead, front_at};
 ghost use Rattle.fate_chain.specs.Kinds.{kind_of};
@@ -16,7 +15,7 @@ use crate::marks::{Act, Mark, Term};
 use crate::submission::Submission;
 use mc_types::Moment;
 use octet_fields::{Defect, counted_at, octet_at};
-use pdu_codec::{Address, ShortMessage, Text, Tlvs};
+use pdu_codec::{AddressOctets, ShortMessage, Text, Tlvs};
 use std::alloc::{AllocError, Global};
 
 /// What was read, or its defect for the caller. The proof of `?` does not cover a value that holds one with an invariant.
@@ -27,28 +26,6 @@ macro_rules! read {
             Err(defect) => return Err(defect),
         }
     };
-}
-
-/// An address.
-#[derive(Clone, Copy)]
-pub struct AddressOctets<'a> {
-    ton: u8,
-    npi: u8,
-    digits: &'a [u8],
-}
-
-impl AddressOctets<'_> {
-    fn address(&self, alloc: Global) -> Result<Address, AllocError>
-        requires { IsText 21 self.now.digits.now }
-        ensures { IfOk result (λ address.
-            address ≡ record { ton = self.now.ton; npi = self.now.npi; digits = self.now.digits.now }) }
-    {
-        Ok(Address {
-            ton: self.ton,
-            npi: self.npi,
-            digits: Text::of(alloc, self.digits)?,
-        })
-    }
 }
 
 /// Between whom a message goes.
