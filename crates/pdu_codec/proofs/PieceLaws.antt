@@ -7,19 +7,19 @@ use Rattle.pdu_codec.specs.declared.fault.Field.TheVariants.{ServiceType}
 use Rattle.pdu_codec.specs.declared.fault.PduFault.{PduFault}
 use Rattle.pdu_codec.specs.declared.fault.PduFault.TheVariants.{Extra}
 use Rattle.pdu_codec.specs.Grammar.{Contents, ◌>>=◌, contents_at, front_at, text, source_parts, destination_parts, envelope_parts, handling_parts, text_parts, message_parts, cancel_parts}
-use Rattle.pdu_codec.specs.Pieces.{address_at, source_at, destination_at, envelope_at, handling_at, message_in_pieces, cancelled_parts, cancel_in_pieces}
+use Rattle.pdu_codec.specs.Pieces.{address_at, source_at, destination_at, envelope_at, handling_at, message_at, cancelled_parts, cancel_at}
 
 envelope-in_pieces : (octets : List ℕ) → front_at envelope_parts octets ≡ envelope_at octets
 unfolding address_at envelope_at
 envelope-in_pieces octets =
     bind-same (told (text ServiceType 6).fault (content_at (text ServiceType 6).kind octets)) (λ x. front_at (source_parts ++ destination_parts) x.1 >>= λ y. Ok ((x.0, y.0), y.1)) (λ x. source_at x.1 >>= λ y. destination_at y.1 >>= λ z. Ok ((x.0, join source_parts destination_parts y.0 z.0), z.1)) (λ x. front_at-join source_parts destination_parts x.1 (λ y. Ok ((x.0, y.0), y.1)))
 
-pub message-in_pieces : (octets : List ℕ) → contents_at message_parts octets ≡ message_in_pieces octets
-unfolding handling_at
+pub message-in_pieces : (octets : List ℕ) → contents_at message_parts octets ≡ message_at octets
+unfolding handling_at message_at
 message-in_pieces octets =
     contents_at-join Extra envelope_parts handling_parts text_parts octets
     ∙ ap (λ (r : Result (Contents envelope_parts × List ℕ) PduFault). r >>= λ x. handling_at x.1 >>= λ y. front_at text_parts y.1 >>= λ z. nothing_at Extra z.1 >>= λ _. Ok (join envelope_parts (handling_parts ++ text_parts) x.0 (join handling_parts text_parts y.0 z.0))) (envelope-in_pieces octets)
 
-pub cancel-in_pieces : (octets : List ℕ) → contents_at cancel_parts octets ≡ cancel_in_pieces octets
-unfolding address_at
+pub cancel-in_pieces : (octets : List ℕ) → contents_at cancel_parts octets ≡ cancel_at octets
+unfolding address_at cancel_at
 cancel-in_pieces octets = contents_at-join Extra cancelled_parts source_parts destination_parts octets

@@ -1,5 +1,5 @@
--- The bodies that have addresses, read piece after piece, as they stand in octets.
-use Rattle.std.specs.Prelude.{ℕ, List, [], ◌∷◌, ◌++◌, Result, Ok}
+-- Bodies as they stand in octets, and those that have addresses read piece after piece.
+use Rattle.std.specs.Prelude.{ℕ, List, [], ◌∷◌, ◌++◌, Result, Ok, IsOk}
 use Rattle.octet_fields.specs.Kinds.{join}
 use Rattle.octet_fields.specs.Reading.{content_at, told, nothing_at}
 use Rattle.pdu_codec.specs.declared.fault.Field.{Field}
@@ -7,9 +7,15 @@ use Rattle.pdu_codec.specs.declared.fault.Field.TheVariants.{ServiceType, Messag
 use Rattle.pdu_codec.specs.declared.fault.PduFault.{PduFault}
 use Rattle.pdu_codec.specs.declared.fault.PduFault.TheVariants.{Extra}
 use Rattle.pdu_codec.specs.declared.address.AddressOctets.{AddressOctets}
+use Rattle.pdu_codec.specs.declared.bind.BindOctets.{BindOctets}
+use Rattle.pdu_codec.specs.declared.cancel.CancelOctets.{CancelOctets}
 use Rattle.pdu_codec.specs.declared.message.Envelope.{Envelope}
+use Rattle.pdu_codec.specs.declared.message.MessageOctets.{MessageOctets}
+use Rattle.pdu_codec.specs.declared.message.Parties.{Parties}
 use Rattle.pdu_codec.specs.declared.message.Handling.{Handling}
-use Rattle.pdu_codec.specs.Grammar.{Parts, Contents, ◌>>=◌, text, address_parts, source_parts, destination_parts, envelope_parts, handling_parts, text_parts, message_parts, cancel_parts, front_at}
+use Rattle.pdu_codec.specs.Grammar.{Parts, Contents, ◌>>=◌, text, address_parts, source_parts, destination_parts, envelope_parts, handling_parts, text_parts, message_parts, bind_parts, cancel_parts, front_at, optional_at}
+use Rattle.pdu_codec.specs.Text.{IsText, IsShortMessage}
+use Rattle.pdu_codec.specs.Tlv.{tlvs_in}
 
 -- ---- what stands in a piece
 
@@ -23,6 +29,32 @@ envelope_contents e =
 abbrev pub handling_contents : Handling → Contents handling_parts
 handling_contents h =
     (h.esm_class, (h.protocol_id, (h.priority_flag, (h.schedule_delivery_time.now, (h.validity_period.now, (h.registered_delivery, (h.replace_if_present_flag, (h.data_coding, (h.sm_default_msg_id, tt)))))))))
+
+abbrev pub parties_contents : Parties → Contents envelope_parts
+parties_contents p =
+    (p.service_type, (p.source.ton, (p.source.npi, (p.source.digits, (p.destination.ton, (p.destination.npi, (p.destination.digits, tt)))))))
+
+abbrev pub message_seen : MessageOctets → Contents message_parts
+message_seen m =
+    join envelope_parts (handling_parts ++ text_parts) (envelope_contents m.envelope) (join handling_parts text_parts (handling_contents m.handling) (m.short_message.now, (tlvs_in m.tlvs.now, tt)))
+
+-- what stands where texts and optional parameters are to stand is such
+pub record HasTexts (m : MessageOctets) : Type 0 where
+  pub service_type : IsText 6 m.envelope.service_type.now
+  pub source : IsText 21 m.envelope.source.digits.now
+  pub destination : IsText 21 m.envelope.destination.digits.now
+  pub schedule : IsText 17 m.handling.schedule_delivery_time.now
+  pub validity : IsText 17 m.handling.validity_period.now
+  pub short : IsShortMessage m.short_message.now
+  pub tlvs : IsOk (optional_at m.tlvs.now)
+
+abbrev pub bind_seen : BindOctets → Contents bind_parts
+bind_seen b =
+    (b.system_id.now, (b.password.now, (b.system_type.now, (b.interface_version, (b.addr_ton, (b.addr_npi, (b.address_range.now, tt)))))))
+
+abbrev pub cancel_seen : CancelOctets → Contents cancel_parts
+cancel_seen c =
+    (c.service_type.now, (c.message_id.now, join source_parts destination_parts (address_contents c.source) (address_contents c.destination)))
 
 -- ---- reading
 
@@ -42,14 +74,14 @@ envelope_at octets =
 unfoldable pub handling_at : List ℕ → Result (Contents handling_parts × List ℕ) PduFault
 handling_at octets = front_at handling_parts octets
 
-abbrev pub message_in_pieces : List ℕ → Result (Contents message_parts) PduFault
-message_in_pieces octets =
+unfoldable pub message_at : List ℕ → Result (Contents message_parts) PduFault
+message_at octets =
     envelope_at octets >>= λ x. handling_at x.1 >>= λ y. front_at text_parts y.1 >>= λ z. nothing_at Extra z.1 >>= λ _. Ok (join envelope_parts (handling_parts ++ text_parts) x.0 (join handling_parts text_parts y.0 z.0))
 
 -- of a cancel_sm what stands in front of the addresses
 abbrev pub cancelled_parts : Parts
 cancelled_parts = text ServiceType 6 ∷ text MessageId 65 ∷ []
 
-abbrev pub cancel_in_pieces : List ℕ → Result (Contents cancel_parts) PduFault
-cancel_in_pieces octets =
+unfoldable pub cancel_at : List ℕ → Result (Contents cancel_parts) PduFault
+cancel_at octets =
     front_at cancelled_parts octets >>= λ x. source_at x.1 >>= λ y. destination_at y.1 >>= λ z. nothing_at Extra z.1 >>= λ _. Ok (join cancelled_parts (source_parts ++ destination_parts) x.0 (join source_parts destination_parts y.0 z.0))

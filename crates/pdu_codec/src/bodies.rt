@@ -1,43 +1,19 @@
 //! Bodies of PDUs, read to their last octet. Memory is taken once the whole body is found to be one.
 
 ghost use Rattle.std.specs.Prelude.{option_map};
-ghost use Rattle.pdu_codec.specs.Grammar.{contents_at, bind_parts, bind_answer_parts, message_id_parts, query_parts, query_answer_parts, cancel_parts};
-ghost use Rattle.pdu_codec.specs.Contents.{bind_contents, bind_answer_contents, message_id_contents, query_contents, query_answer_contents, cancel_contents};
+ghost use Rattle.pdu_codec.specs.Grammar.{contents_at, bind_answer_parts, message_id_parts, query_parts, query_answer_parts};
+ghost use Rattle.pdu_codec.specs.Contents.{bind_answer_contents, message_id_contents, query_contents, query_answer_contents};
 ghost use Rattle.pdu_codec.specs.Forms.{MayHave, filling_at};
 ghost use Rattle.pdu_codec.specs.Pdu.{IsMade};
-ghost use Rattle.pdu_codec.specs.Pieces as pieces;
 
-use crate::address::{destination_at, source_at};
+use crate::address::source_at;
 use crate::fault::{Field, PduFault};
 use crate::fields::{check_optional, nothing_at, octet_at, text_at};
-use crate::pdu::{Bind, BindAnswer, Cancel, Query, QueryAnswer};
+use crate::pdu::{BindAnswer, Query, QueryAnswer};
 use crate::text::Text;
 use crate::tlv::Tlvs;
 use pdu_tables::limits;
 use std::alloc::Global;
-
-/// What a bind has (SMPP 3.4, sections 4.1.1, 4.1.3 and 4.1.5).
-pub fn bind_of(alloc: Global, octets: &[u8]) -> Result<Bind, PduFault>
-    ensures { IsMade bind_contents result (contents_at bind_parts octets.now) }
-{
-    let (system_id, rest) = text_at(Field::SystemId, limits::SYSTEM_ID, octets)?;
-    let (password, rest) = text_at(Field::Password, limits::PASSWORD, rest)?;
-    let (system_type, rest) = text_at(Field::SystemType, limits::SYSTEM_TYPE, rest)?;
-    let (interface_version, rest) = octet_at(Field::InterfaceVersion, rest)?;
-    let (addr_ton, rest) = octet_at(Field::AddrTon, rest)?;
-    let (addr_npi, rest) = octet_at(Field::AddrNpi, rest)?;
-    let (address_range, rest) = text_at(Field::AddressRange, limits::ADDRESS_RANGE, rest)?;
-    nothing_at(rest)?;
-    Ok(Bind {
-        system_id: Text::of(alloc, system_id)?,
-        password: Text::of(alloc, password)?,
-        system_type: Text::of(alloc, system_type)?,
-        interface_version,
-        addr_ton,
-        addr_npi,
-        address_range: Text::of(alloc, address_range)?,
-    })
-}
 
 /// What the response to a bind has (sections 4.1.2, 4.1.4 and 4.1.6); none if it has no field.
 pub fn bind_answer_of(alloc: Global, octets: &[u8]) -> Result<Option<BindAnswer>, PduFault>
@@ -99,27 +75,4 @@ pub fn query_answer_of(alloc: Global, octets: &[u8]) -> Result<Option<QueryAnswe
         message_state,
         error_code,
     }))
-}
-
-/// What a cancel_sm has (section 4.9.1).
-pub fn cancel_of(alloc: Global, octets: &[u8]) -> Result<Cancel, PduFault>
-    ensures { IsMade cancel_contents result (contents_at cancel_parts octets.now) }
-{
-    cancel_in_pieces(alloc, octets)
-}
-
-fn cancel_in_pieces(alloc: Global, octets: &[u8]) -> Result<Cancel, PduFault>
-    ensures { IsMade cancel_contents result (pieces.cancel_in_pieces octets.now) }
-{
-    let (service_type, rest) = text_at(Field::ServiceType, limits::SERVICE_TYPE, octets)?;
-    let (message_id, rest) = text_at(Field::MessageId, limits::MESSAGE_ID, rest)?;
-    let (source, rest) = source_at(rest)?;
-    let (destination, rest) = destination_at(rest)?;
-    nothing_at(rest)?;
-    Ok(Cancel {
-        service_type: Text::of(alloc, service_type)?,
-        message_id: Text::of(alloc, message_id)?,
-        source: source.address(alloc)?,
-        destination: destination.address(alloc)?,
-    })
 }

@@ -8,7 +8,7 @@ use std::fmt;
 use thiserror::Error;
 
 /// A field of a PDU's body, by its name in SMPP 3.4 (section 4).
-#[derive(Clone, Copy, Debug, PartialEq, Eq)]
+#[derive(Clone, Copy, PartialEq, Eq)]
 pub enum Field {
     SystemId,
     Password,
@@ -82,6 +82,13 @@ impl Field {
 
 /// The name of the field in SMPP 3.4.
 impl fmt::Display for Field {
+    fn fmt<W: fmt::Write>(&self, f: &mut fmt::Formatter<W>) -> fmt::Result {
+        f.write_str(self.name())
+    }
+}
+
+/// Its name as `Display` writes it.
+impl fmt::Debug for Field {
     fn fmt<W: fmt::Write>(&self, f: &mut fmt::Formatter<W>) -> fmt::Result {
         f.write_str(self.name())
     }

@@ -2,7 +2,9 @@
 #![tactic(auto)]
 
 mod address;
+mod bind;
 mod bodies;
+mod cancel;
 mod fault;
 mod fields;
 mod header;

@@ -1,7 +1,7 @@
 //! The body of a submit_sm or a deliver_sm (SMPP 3.4, sections 4.4.1 and 4.6.1), read to its last octet in three pieces. Memory is taken once
 //! the whole body is found to be one.
 
-ghost use Rattle.std.specs.Prelude.{IfOk};
+ghost use Rattle.std.specs.Prelude.{◌≡◌, IfOk};
 ghost use Rattle.pdu_codec.specs.Text.{IsText};
 ghost use Rattle.pdu_codec.specs.Grammar.{message_parts, contents_at, IsRead};
 ghost use Rattle.pdu_codec.specs.Contents.{message_contents};
@@ -11,11 +11,26 @@ ghost use Rattle.pdu_codec.specs.Pieces as pieces;
 use crate::address::{AddressOctets, destination_at, source_at};
 use crate::fault::{Field, PduFault};
 use crate::fields::{check_optional, counted_at, octet_at, text_at};
-use crate::pdu::Message;
+use crate::pdu::{Address, Message};
 use crate::text::{ShortMessage, Text};
 use crate::tlv::Tlvs;
 use pdu_tables::limits;
-use std::alloc::Global;
+use std::alloc::{AllocError, Global};
+
+/// From whom a message is and to whom.
+#[derive(Drop)]
+struct Parties {
+    service_type: Text<6>,
+    source: Address,
+    destination: Address,
+}
+
+/// When a message is to be delivered, and until when.
+#[derive(Drop)]
+struct Times {
+    schedule_delivery_time: Text<17>,
+    validity_period: Text<17>,
+}
 
 /// From whom a message is and to whom, as it stands in octets.
 #[derive(Clone, Copy)]
@@ -23,6 +38,21 @@ struct Envelope<'a> {
     service_type: &'a [u8],
     source: AddressOctets<'a>,
     destination: AddressOctets<'a>,
+}
+
+impl Envelope<'_> {
+    fn parties(&self, alloc: Global) -> Result<Parties, AllocError>
+        requires service_type { IsText 6 self.now.service_type.now }
+        requires source { IsText 21 self.now.source.digits.now }
+        requires destination { IsText 21 self.now.destination.digits.now }
+        ensures { IfOk result (λ parties. pieces.parties_contents parties ≡ pieces.envelope_contents self.now) }
+    {
+        Ok(Parties {
+            service_type: Text::of(alloc, self.service_type)?,
+            source: self.source.address(alloc)?,
+            destination: self.destination.address(alloc)?,
+        })
+    }
 }
 
 /// How a message is to be handled, as it stands in octets.
@@ -37,6 +67,60 @@ struct Handling<'a> {
     replace_if_present_flag: u8,
     data_coding: u8,
     sm_default_msg_id: u8,
+}
+
+impl Handling<'_> {
+    fn times(&self, alloc: Global) -> Result<Times, AllocError>
+        requires schedule_delivery_time { IsText 17 self.now.schedule_delivery_time.now }
+        requires validity_period { IsText 17 self.now.validity_period.now }
+        ensures schedule { IfOk result (λ times.
+            times.schedule_delivery_time ≡ self.now.schedule_delivery_time.now) }
+        ensures validity { IfOk result (λ times. times.validity_period ≡ self.now.validity_period.now) }
+    {
+        Ok(Times {
+            schedule_delivery_time: Text::of(alloc, self.schedule_delivery_time)?,
+            validity_period: Text::of(alloc, self.validity_period)?,
+        })
+    }
+}
+
+/// A message, as it stands in octets.
+#[derive(Clone, Copy)]
+struct MessageOctets<'a> {
+    envelope: Envelope<'a>,
+    handling: Handling<'a>,
+    short_message: &'a [u8],
+    tlvs: &'a [u8],
+}
+
+impl MessageOctets<'_> {
+    #[tactic(auto, unfolding(crate::specs::Tlv::tlvs_in))]
+    fn message(&self, alloc: Global) -> Result<Message, AllocError>
+        requires { pieces.HasTexts self.now }
+        ensures { IfOk result (λ message. message_contents message ≡ pieces.message_seen self.now) }
+    {
+        let handling = self.handling;
+        let parties = self.envelope.parties(alloc)?;
+        let times = handling.times(alloc)?;
+        let short_message = ShortMessage::of(alloc, self.short_message)?;
+        let tlvs = Tlvs::of(alloc, self.tlvs)?;
+        Ok(Message {
+            service_type: parties.service_type,
+            source: parties.source,
+            destination: parties.destination,
+            esm_class: handling.esm_class,
+            protocol_id: handling.protocol_id,
+            priority_flag: handling.priority_flag,
+            schedule_delivery_time: times.schedule_delivery_time,
+            validity_period: times.validity_period,
+            registered_delivery: handling.registered_delivery,
+            replace_if_present_flag: handling.replace_if_present_flag,
+            data_coding: handling.data_coding,
+            sm_default_msg_id: handling.sm_default_msg_id,
+            short_message,
+            tlvs,
+        })
+    }
 }
 
 #[tactic(auto, unfolding(crate::specs::Pieces::envelope_at))]
@@ -86,6 +170,23 @@ fn handling_at(octets: &[u8]) -> Result<(Handling<'_>, &[u8]), PduFault>
     Ok((handling, rest))
 }
 
+#[tactic(auto, unfolding(crate::specs::Pieces::message_at, crate::specs::Tlv::tlvs_in))]
+fn message_at(octets: &[u8]) -> Result<MessageOctets<'_>, PduFault>
+    ensures read { IsRead pieces.message_seen result (pieces.message_at octets.now) }
+    ensures texts { IfOk result pieces.HasTexts }
+{
+    let (envelope, rest) = envelope_at(octets)?;
+    let (handling, rest) = handling_at(rest)?;
+    let (short_message, tlvs) = counted_at(rest)?;
+    check_optional(tlvs)?;
+    Ok(MessageOctets {
+        envelope,
+        handling,
+        short_message,
+        tlvs,
+    })
+}
+
 /// What a submit_sm and a deliver_sm have.
 pub fn message_of(alloc: Global, octets: &[u8]) -> Result<Message, PduFault>
     ensures { IsMade message_contents result (contents_at message_parts octets.now) }
@@ -94,26 +195,9 @@ pub fn message_of(alloc: Global, octets: &[u8]) -> Result<Message, PduFault>
 }
 
 fn message_in_pieces(alloc: Global, octets: &[u8]) -> Result<Message, PduFault>
-    ensures { IsMade message_contents result (pieces.message_in_pieces octets.now) }
+    ensures { IsMade message_contents result (pieces.message_at octets.now) }
 {
-    let (envelope, rest) = envelope_at(octets)?;
-    let (handling, rest) = handling_at(rest)?;
-    let (short_message, tlvs) = counted_at(rest)?;
-    check_optional(tlvs)?;
-    Ok(Message {
-        service_type: Text::of(alloc, envelope.service_type)?,
-        source: envelope.source.address(alloc)?,
-        destination: envelope.destination.address(alloc)?,
-        esm_class: handling.esm_class,
-        protocol_id: handling.protocol_id,
-        priority_flag: handling.priority_flag,
-        schedule_delivery_time: Text::of(alloc, handling.schedule_delivery_time)?,
-        validity_period: Text::of(alloc, handling.validity_period)?,
-        registered_delivery: handling.registered_delivery,
-        replace_if_present_flag: handling.replace_if_present_flag,
-        data_coding: handling.data_coding,
-        sm_default_msg_id: handling.sm_default_msg_id,
-        short_message: ShortMessage::of(alloc, short_message)?,
-        tlvs: Tlvs::of(alloc, tlvs)?,
-    })
+    let read = message_at(octets)?;
+    let message = read.message(alloc)?;
+    Ok(message)
 }

@@ -5,7 +5,9 @@ ghost use Rattle.pdu_codec.specs.declared.pdu.Pdu.{Pdu};
 ghost use Rattle.pdu_codec.specs.Bodies.{bare_at, body_at};
 ghost use Rattle.pdu_codec.specs.Pdu.{Fits, Gives, IsMade, octets_of, read_pdu};
 
-use crate::bodies::{bind_answer_of, bind_of, cancel_of, message_id_of, query_answer_of, query_of};
+use crate::bind::bind_of;
+use crate::bodies::{bind_answer_of, message_id_of, query_answer_of, query_of};
+use crate::cancel::cancel_of;
 use crate::fault::PduFault;
 use crate::fields::nothing_at;
 use crate::header::read_header;

@@ -130,7 +130,7 @@ impl ShortMessage {
         ensures octets { result.now ≡ self.now }
         ensures short { IsShortMessage self.now }
     {
-        &self.octets
+        self.octets.as_slice()
     }
 
     /// The same message once more.
