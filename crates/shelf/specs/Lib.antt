@@ -1,0 +1,2 @@
+pub mod Shelved
+pub mod Places

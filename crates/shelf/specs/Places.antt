@@ -1,0 +1,39 @@
+-- Where a key stands among entries.
+use Rattle.std.specs.Prelude.{◌≡◌, ℕ, ◌<◌, ◌≤◌, List, length, map, slice_index_or, Result, Ok, Err}
+use Rattle.std.specs.Ordering.{nat_cmp}
+use Rattle.std.specs.Map.{keys_of}
+use Rattle.std.specs.List.Sorted.{IsStrictlySortedBy}
+use Rattle.std.specs.Borrow.{Bor}
+use Rattle.std.specs.Global.{Box}
+use Rattle.std.specs.Box.{box_value}
+
+-- the entries, as contracts see them
+abbrev pub entry_of : {V : Type 0} → ℕ × Box V → ℕ × V
+entry_of entry = (entry.0, box_value entry.1)
+
+abbrev pub entries_of : {V : Type 0} → List (ℕ × Box V) → List (ℕ × V)
+entries_of entries = map entry_of entries
+
+-- a key and a reference to its value
+abbrev pub entry_seen : {V : Type 0} → ℕ × Bor V → ℕ × V
+entry_seen entry = (entry.0, entry.1.now)
+
+-- the key stands there, behind smaller ones
+pub record StandsAt {V : Type 0} (entries : List (ℕ × V)) (key place : ℕ) : Type 0 where
+  pub within : place < length entries
+  pub here : (d : ℕ × V) → (slice_index_or entries place d).0 ≡ key
+  pub before : (k : ℕ) (d : ℕ × V) → k < place → (slice_index_or entries k d).0 < key
+
+-- the key would go there, between smaller and greater ones
+pub record IsGapAt {V : Type 0} (entries : List (ℕ × V)) (key place : ℕ) : Type 0 where
+  pub within : place ≤ length entries
+  pub before : (k : ℕ) (d : ℕ × V) → k < place → (slice_index_or entries k d).0 < key
+  pub behind : (k : ℕ) (d : ℕ × V) → place ≤ k → k < length entries → key < (slice_index_or entries k d).0
+
+abbrev pub IsFoundPlace : {V : Type 0} → List (ℕ × V) → ℕ → Result ℕ ℕ → Type 0
+IsFoundPlace entries key (Ok place) = StandsAt entries key place
+IsFoundPlace entries key (Err place) = IsGapAt entries key place
+
+-- of entries whose keys ascend
+abbrev pub IsPlaceOf : {V : Type 0} → List (ℕ × V) → ℕ → Result ℕ ℕ → Type 0
+IsPlaceOf entries key place = IsStrictlySortedBy nat_cmp (keys_of entries) → IsFoundPlace entries key place

@@ -1,0 +1,8 @@
+//! A table from numbers to values into which a value is put without taking memory: room for it is taken before.
+#![tactic(auto)]
+
+mod room;
+mod shelf;
+
+pub use room::Room;
+pub use shelf::Shelf;

@@ -1,0 +1,171 @@
+//! The shelf.
+
+ghost use Rattle.std.specs.Prelude.{◌≡◌, ◌≤◌, ◌<◌, ◌+◌, ◌-◌, ◌++◌, [], None, Some, length, max, IsSome, IfOk, OnErr, option_map};
+ghost use Rattle.std.specs.Option.{option_copied};
+ghost use Rattle.std.specs.List.{insert, slice_get};
+ghost use Rattle.std.specs.Vec.{vec_capacity, vec_len};
+ghost use Rattle.std.specs.Box.{box_value};
+ghost use Rattle.shelf.specs.Shelved.{Serves, value_at, with_value};
+ghost use Rattle.shelf.specs.Places.{IsPlaceOf, entries_of, entry_seen};
+
+use crate::room::Room;
+use std::alloc::{AllocError, Global};
+use std::marker::Model;
+use std::mem;
+
+/// A table from numbers to values, in the order of the numbers. A value is put into it without taking memory, if there is room.
+///
+/// A look-up costs the logarithm of how many there are. A value under a key above all others is put behind them, at no more cost as
+/// the table grows; one in the middle moves those behind it, 16 octets each.
+#[derive(Drop)]
+pub struct Shelf<V> {
+    entries: Vec<(u64, Box<V>)>,
+}
+
+impl<V> Model for Shelf<V> {
+    ghost use Rattle.std.specs.Prelude.{◌-◌};
+    ghost use Rattle.std.specs.Vec.{vec_capacity, vec_len};
+    ghost use Rattle.std.specs.Ordering.{nat_cmp};
+    ghost use Rattle.std.specs.Map.{keys_of};
+    ghost use Rattle.std.specs.List.Sorted.{IsStrictlySortedBy};
+    ghost use Rattle.shelf.specs.Shelved.{Shelved, shelved_code};
+
+    ghost Value = { Shelved V };
+
+    ghost coded = { shelved_code V.code };
+
+    ghost use Rattle.shelf.specs.Places.{entries_of};
+
+    ghost view = { λ s. record {
+      entries = entries_of s.entries.items;
+      room = vec_capacity s.entries - vec_len s.entries;
+    } };
+
+    ghost invariant = { λ s. IsStrictlySortedBy nat_cmp (keys_of (entries_of s.entries.items)) };
+}
+
+impl<V> Shelf<V> {
+    /// A shelf with nothing on it, and no room. It takes no memory.
+    pub fn empty(alloc: Global) -> Shelf<V>
+        ensures entries { result.entries ≡ [] }
+        ensures room { result.room ≡ 0 }
+    {
+        Shelf {
+            entries: Vec::new(alloc),
+        }
+    }
+
+    /// A shelf with nothing on it, and room for so many values.
+    pub fn with_capacity(alloc: Global, room: usize) -> Result<Shelf<V>, AllocError>
+        ensures entries { IfOk result (λ shelf. shelf.entries ≡ []) }
+        ensures room { IfOk result (λ shelf. shelf.room ≡ room) }
+    {
+        Ok(Shelf {
+            entries: Vec::with_capacity(alloc, room)?,
+        })
+    }
+
+    /// How many values there are.
+    pub fn len(&self) -> usize
+        ensures { result ≡ length self.now.entries }
+    {
+        self.entries.len()
+    }
+
+    /// The value of a key; none if it has none.
+    pub fn get(&self, key: u64) -> Option<&V>
+        ensures { option_copied result ≡ value_at self.now.entries key }
+    {
+        match place_of(&self.entries, key) {
+            Ok(place) => Some(&self.entries[place].1),
+            Err(_) => None,
+        }
+    }
+
+    /// The key at a place in their order, from 0 on, and its value; none from `len` on.
+    pub fn at(&self, place: usize) -> Option<(u64, &V)>
+        ensures { option_map entry_seen result ≡ slice_get self.now.entries place }
+    {
+        let (key, value) = self.entries.get(place)?;
+        Some((*key, value))
+    }
+
+    /// Room for so many more entries, to be handed to `make_room`. It takes memory only if the shelf has no room for them; then
+    /// there is room for all entries, and for twice as many as there are. It changes nothing.
+    pub fn room(&self, alloc: Global, more: usize) -> Result<Room<V>, AllocError>
+        ensures serves { IfOk result (λ room. Serves self.now more room) }
+        ensures none { more ≤ self.now.room → IfOk result (λ room. room ≡ 0) }
+        ensures memory { OnErr result (self.now.room < more) }
+    {
+        let length = self.entries.len();
+        if more <= self.entries.capacity() - length {
+            return Ok(Room::none(alloc));
+        }
+        let Some(least) = length.checked_add(more) else {
+            return Err(AllocError);
+        };
+        Room::of(alloc, least.max(length.saturating_mul(2)))
+    }
+
+    /// Moves the entries into this room, if it is larger than what the shelf has. It takes no memory.
+    pub fn make_room(&mut self, mut room: Room<V>)
+    where
+        V: Drop,
+        ensures entries { self.new.entries ≡ self.old.entries }
+        ensures room { max self.old.room (room - length self.old.entries) ≤ self.new.room }
+    {
+        if room.entries.capacity() <= self.entries.capacity() {
+            return;
+        }
+        append_reserved(&mut room.entries, &mut self.entries);
+        mem::swap(&mut self.entries, &mut room.entries);
+    }
+
+    /// Puts a value under a key, in the place of the one that was there. For a key that has none there is room. It takes no memory.
+    pub fn put(&mut self, key: u64, value: Box<V>)
+    where
+        V: Drop,
+        requires { value_at self.old.entries key ≡ None → 0 < self.old.room }
+        ensures entries { self.new.entries ≡ with_value self.old.entries key (box_value value) }
+        ensures room { self.old.room ≤ self.new.room + 1 }
+        ensures kept { IsSome (value_at self.old.entries key) → self.new.room ≡ self.old.room }
+    {
+        match place_of(&self.entries, key) {
+            Ok(place) => self.entries[place].1 = value,
+            Err(place) => insert_reserved(&mut self.entries, place, (key, value)),
+        }
+    }
+}
+
+/// Where the key stands, or where it would go.
+fn place_of<V>(entries: &[(u64, Box<V>)], key: u64) -> Result<usize, usize>
+    ensures { IsPlaceOf (entries_of entries.now) key result }
+{
+    entries.binary_search_by_key(&key, |entry| entry.0)
+}
+
+/// Puts an item at a place of a vector that has room for it.
+fn insert_reserved<T: Drop>(items: &mut Vec<T>, place: usize, item: T)
+    requires place { place ≤ vec_len items.old }
+    requires room { vec_len items.old < vec_capacity items.old }
+    ensures items { items.new.items ≡ insert items.old.items place item }
+    ensures len { vec_len items.new ≡ vec_len items.old + 1 }
+    ensures capacity { vec_capacity items.new ≡ vec_capacity items.old }
+{
+    if items.insert(place, item).is_err() {
+        unreachable!();
+    }
+}
+
+/// Moves the items of one vector to the end of another that has room for them.
+fn append_reserved<T>(all: &mut Vec<T>, items: &mut Vec<T>)
+    requires { vec_len all.old + vec_len items.old ≤ vec_capacity all.old }
+    ensures all { all.new.items ≡ all.old.items ++ items.old.items }
+    ensures len { vec_len all.new ≡ vec_len all.old + vec_len items.old }
+    ensures capacity { vec_capacity all.old ≤ vec_capacity all.new }
+    ensures items { items.new.items ≡ [] }
+{
+    if all.append(items).is_err() {
+        unreachable!();
+    }
+}
