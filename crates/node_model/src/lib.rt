@@ -1,0 +1,2 @@
+//! The node by what it keeps: the definitions are in `specs/`; there is no code here.
+#![tactic(auto)]
