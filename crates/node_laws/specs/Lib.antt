@@ -1,2 +1,4 @@
 pub mod Scripts
 pub mod Examples
+pub mod Stands
+pub mod Answering

@@ -2,9 +2,16 @@
 #![tactic(auto)]
 
 mod examples;
+mod synod;
+mod tables;
 
 pub use examples::{
     a_message_is_cancelled_alone, a_message_is_delivered_alone, a_message_is_taken_alone,
     a_node_of_three_waits_for_others, a_query_is_answered_alone,
     a_refused_round_is_followed_by_a_greater_one, an_attempt_is_lost_by_a_restart,
 };
+pub use synod::{
+    a_set_decides_a_majority, an_acceptor_answers_as_the_actor, votes_are_compared_exactly,
+    what_is_heard_is_known,
+};
+pub use tables::messages_are_kept_by_their_ids;

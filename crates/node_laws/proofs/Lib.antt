@@ -1,0 +1,4 @@
+pub mod Same
+pub mod Places
+pub mod Learning
+pub mod Accepting
