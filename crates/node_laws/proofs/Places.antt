@@ -11,7 +11,7 @@ use Rattle.node_model.specs.Message.{Message, unseen}
 use Rattle.node_model.specs.Kept.{Kept, message_at, with_message}
 
 module _ {V : Type 0} (key : ℕ) (value : V) where
-  here : (es : List (ℕ × V)) → lookup (is_at (nat_cmp key)) (insert_entry nat_cmp es key value) ≡ Some value
+  pub here : (es : List (ℕ × V)) → lookup (is_at (nat_cmp key)) (insert_entry nat_cmp es key value) ≡ Some value
   here [] = let same : nat_cmp key key ≡ Equal = grind (arith, nat_tests) in rw same refl
   here (e ∷ es) = at_order (nat_cmp key e.0) refl (here es)
     where
@@ -29,7 +29,7 @@ module _ {V : Type 0} (key : ℕ) (value : V) where
       at_order Equal is = absurd (apart (grind (arith, nat_tests)))
       at_order Greater is = refl
 
-  elsewhere : (other : ℕ) → (other ≡ key → ⊥) → (es : List (ℕ × V)) →
+  pub elsewhere : (other : ℕ) → (other ≡ key → ⊥) → (es : List (ℕ × V)) →
       lookup (is_at (nat_cmp other)) (insert_entry nat_cmp es key value) ≡ lookup (is_at (nat_cmp other)) es
   elsewhere other apart [] = rw (skips other apart) refl
   elsewhere other apart (e ∷ es) = at_order (nat_cmp key e.0) refl (elsewhere other apart es)

@@ -2,3 +2,4 @@ pub mod Scripts
 pub mod Examples
 pub mod Stands
 pub mod Answering
+pub mod Steps

@@ -6,7 +6,7 @@ use Rattle.std.specs.List.Sorted.{IsStrictlyIncreasing, IsStrictlySortedBy}
 use Rattle.std.specs.BTreeMap.{is_at}
 use Rattle.mc_model.specs.synod.Lists.{In}
 use Rattle.mc_model.specs.synod.OneSlot.{Vote}
-use Rattle.mc_model.specs.synod.Packet.{Name, Packet, Promise, Propose, Slot, Tell, TopVote, Voted, slot_at, slot_of}
+use Rattle.mc_model.specs.synod.Packet.{Name, Packet, Promise, Propose, Refused, Slot, Tell, TopVote, Voted, slot_at, slot_of}
 use Rattle.mc_model.specs.node.Outcome.{Outcome}
 use Rattle.mc_model.specs.node.Actor.{Actor, id_in, name_of}
 use Rattle.mc_model.specs.node.Alone.{Node, StandsAt}
@@ -32,6 +32,13 @@ pub record HasHeard (nodes : ℕ) (received : List Packet) (id : ℕ) (m : Messa
 -- a packet tells of no vote on a message
 abbrev pub TellsOfNone : Packet → ℕ → Type 0
 TellsOfNone packet id = (voter place : ℕ) (vote : Vote) → Voted voter (slot_at id place) vote ≡ packet → ⊥
+
+-- a packet tells of no vote, no promise, no refusal, and of nothing that was asked
+pub record IsAside (packet : Packet) : Type 0 where
+  pub votes : (voter : ℕ) (slot : Slot) (vote : Vote) → Voted voter slot vote ≡ packet → ⊥
+  pub promises : (acceptor ballot : ℕ) (slot : Slot) (report : Option Vote) → Promise acceptor slot ballot report ≡ packet → ⊥
+  pub refusals : (sender ballot promised : ℕ) (slot : Slot) → Refused sender slot ballot promised ≡ packet → ⊥
+  pub tells : (teller : ℕ) (name : Name) (told : Option TopVote) → Tell teller name told ≡ packet → ⊥
 
 -- the highest round that it saw for a slot, of its own rounds and of refusals of its ballots; 0 where it saw none
 abbrev pub WasSeen : ℕ → Actor → Slot → ℕ → Type 0

@@ -1,0 +1,326 @@
+-- The step of a node to which a Prepare, a Propose or a question comes.
+use Rattle.std.proofs.Common.{◌≡◌, ℕ, Bool, true, false, List, [], ◌∷◌, ◌++◌, Option, Some, None, IsSome, refl, sym, ap, subst, ◌∙◌, inl, inr}
+use Rattle.std.specs.Prelude.{◌==◌, ◌&&◌, if◌then◌else◌, reverse}
+use Rattle.std.specs.Ordering.{nat_cmp}
+use Rattle.std.specs.Map.{lookup}
+use Rattle.std.specs.BTreeMap.{insert_entry, is_at}
+use Rattle.std.proofs.lemmas.Bool.{cases_Bool, eqb-false, eqb-true}
+use Rattle.mc_model.specs.message.Decree.{Decree}
+use Rattle.mc_model.specs.synod.Acceptor.{Records, SlotRecord, with_record}
+use Rattle.mc_model.specs.synod.Lists.{In}
+use Rattle.mc_model.specs.synod.OneSlot.{Vote}
+use Rattle.mc_model.specs.synod.Packet.{Name, Packet, Slot, Tell, TopVote, Voted, same_slot, slot_of}
+use Rattle.mc_model.specs.node.Act.{Act, Asks, Prepares, Proposes, Receives, Replies, Reports, Settles}
+use Rattle.mc_model.specs.node.Actor.{Actor}
+use Rattle.mc_model.specs.node.Alone.{MayAlone, Node, began_by}
+use Rattle.mc_model.specs.node.Causes.{Causes, CausesDelete, CausesFollow}
+use Rattle.mc_model.specs.node.Concerns.{Concerns}
+use Rattle.mc_model.specs.node.Core.{AcceptorReplies, IsCore}
+use Rattle.mc_model.specs.node.Due.{AreDue, AreDueOnce}
+use Rattle.mc_model.specs.node.Effect.{actor_by, did, packets_by, records_by, saved as saved_by}
+use Rattle.mc_model.specs.node.Input.{Delivery}
+use Rattle.mc_model.specs.node.Outputs.{receipts_in, replies_in}
+use Rattle.mc_model.specs.node.Phases.{DueToAbandon, DueToAsk, DueToEnd, DueToPrepare, DueToPropose, DueToReply, DueToReport, DueToSettle}
+use Rattle.mc_model.specs.node.Setup.{Setup}
+use Rattle.mc_model.specs.node.Step.{IsExact}
+use Rattle.mc_parts.proofs.Membership.{slots_same}
+use Rattle.node_model.specs.Acceptor.{Judgement}
+use Rattle.node_model.specs.Kept.{Kept, message_at, saved}
+use Rattle.node_model.specs.Outputs.{leaves, sends}
+use Rattle.node_model.specs.Packets.{judged}
+use Rattle.node_laws.specs.Stands.{IsAside, IsMessage, IsPlaced, Stands}
+use Rattle.node_laws.specs.Steps.{IsAtWork, StepsAs}
+use Rattle.node_laws.proofs.Accepting.{same_record}
+use Rattle.node_laws.proofs.Aside.{held_still, knows_before, later, message_still, promise_before, quiet_still}
+use Rattle.node_laws.proofs.Places.{elsewhere, here, message_elsewhere, message_here}
+use Rattle.shelf.proofs.Entries.{still_ascends}
+
+-- ---- nothing is due
+
+none_due : (Due : Act → Type 0) → ((act : Act) → Due act → ⊥) → AreDue Due []
+none_due Due none = record { each = λ act. ((λ is_in. absurd is_in), (λ due. absurd (none act due))); order = tt }
+
+none_due_once : (Due : Act → Type 0) → ((act : Act) → Due act → ⊥) → AreDueOnce Due []
+none_due_once Due none = record { only = λ act is_in. absurd is_in; all = λ act due. absurd (none act due); order = tt }
+
+follows_none : (nodes node : ℕ) (a : Actor) (packet : Packet) (id place : ℕ) (chain : List Decree) → ((teller : ℕ) (name : Name) (told : Option TopVote) → Tell teller name told ≡ packet → ⊥) → CausesFollow nodes node a (Delivery packet) id place chain → ⊥
+follows_none nodes node a (Tell teller name told) id place chain none follows = none teller name told refl
+follows_none nodes node a packet id place chain none follows = follows
+
+module _ (setup : Setup) (s : Node) (packet : Packet) (aside : IsAside packet) (k : Kept) (stands : Stands setup k s) where
+  abbrev heard : Node
+  heard = later setup s s.records packet aside
+
+  settles_none : (act : Act) → DueToSettle setup.nodes setup.node heard.actor act → ⊥
+  settles_none (Settles ticket) due = (quiet_still setup s s.records packet aside stands.quiet).settled ticket due
+  settles_none act due = due
+
+  ends_none : (act : Act) → DueToEnd (Delivery packet) heard.actor act → ⊥
+  ends_none act due = due
+
+  asks_none : (act : Act) → DueToAsk setup.nodes setup.node s.actor heard.actor (Delivery packet) act → ⊥
+  asks_none (Asks id ticket) due = due
+  asks_none act due = due
+
+  abandons_none : (records : Records) (act : Act) → DueToAbandon setup.nodes setup.node heard.actor records (Delivery packet) act → ⊥
+  abandons_none records act due = due
+
+  deletes_none : (id place : ℕ) (chain : List Decree) → CausesDelete setup.nodes setup.node s.actor heard.actor id place chain → ⊥
+  deletes_none id place chain deletes =
+      let cancelled = deletes.deletes.cancelled in
+      deletes.new
+      (record { waiting = cancelled.waiting; waits = cancelled.waits; ticket_is = refl; settled = cancelled.settled })
+      (knows_before setup.nodes setup.node s.actor packet aside id _ deletes.deletes.further.known)
+
+  causes_none : (id place : ℕ) (chain : List Decree) → Causes setup.nodes setup.node s.actor heard.actor (Delivery packet) id place chain → ⊥
+  causes_none id place chain (inl take) = take
+  causes_none id place chain (inr (inl close)) = close
+  causes_none id place chain (inr (inr (inl follows))) = follows_none setup.nodes setup.node heard.actor packet id place chain aside.tells follows
+  causes_none id place chain (inr (inr (inr deletes))) = deletes_none id place chain deletes
+
+  prepares_none : (records : Records) (act : Act) → DueToPrepare setup.nodes setup.node s.actor heard.actor records (Delivery packet) act → ⊥
+  prepares_none records (Prepares slot ballot chain) due = causes_none slot.id slot.place chain due.0
+  prepares_none records act due = due
+
+  proposes_none : (act : Act) → DueToPropose setup.nodes setup.node s.actor heard.actor act → ⊥
+  proposes_none (Proposes slot vote) due =
+      let promised = due.0.promised in
+      due.0.new (record {
+        test = promised.test;
+        most = promised.most;
+        each = λ acceptor least most passes.
+            let promise = promised.each acceptor least most passes in
+            (promise.0, promise_before setup.nodes setup.node s.actor packet aside acceptor vote.ballot slot promise.0 promise.1);
+      })
+  proposes_none act due = due
+
+  replies_none : (act : Act) → DueToReply setup.nodes setup.node heard.actor act → ⊥
+  replies_none (Replies ticket id answer) due = (quiet_still setup s s.records packet aside stands.quiet).answered ticket id answer due
+  replies_none act due = due
+
+  reports_none : (act : Act) → DueToReport setup.nodes setup.node s.actor heard.actor act → ⊥
+  reports_none (Reports id chain) due =
+      due.new chain due.final (knows_before setup.nodes setup.node s.actor packet aside id chain due.known) due.ends
+  reports_none act due = due
+
+  -- the packet is received, and the acceptor answers by one act that changes nothing else of the actor
+  exact : (core : List Act) → did setup.node s.actor core ≡ heard.actor → IsCore setup s.actor s.records (Delivery packet) core → IsExact setup s.actor s.records (Delivery packet) core
+  exact core is core_is = record {
+    core = core;
+    settles = [];
+    late = [];
+    asks = [];
+    abandons = [];
+    prepares = [];
+    proposes = [];
+    replies = [];
+    reports = [];
+    acts_are = refl;
+    core_is = core_is;
+    settled = subst (λ (x : Actor). AreDue (DueToSettle setup.nodes setup.node x) []) (sym is) (none_due _ settles_none);
+    ended = subst (λ (x : Actor). AreDue (DueToEnd (Delivery packet) x) []) (sym is) (none_due _ ends_none);
+    asked = subst (λ (x : Actor). AreDue (DueToAsk setup.nodes setup.node s.actor x (Delivery packet)) []) (sym is) (none_due _ asks_none);
+    abandoned = subst (λ (x : Actor). AreDue (DueToAbandon setup.nodes setup.node x (saved_by s.records core) (Delivery packet)) []) (sym is) (none_due _ (abandons_none (saved_by s.records core)));
+    prepared = subst (λ (x : Actor). AreDueOnce (DueToPrepare setup.nodes setup.node s.actor x (saved_by s.records core) (Delivery packet)) []) (sym is) (none_due_once _ (prepares_none (saved_by s.records core)));
+    proposed = subst (λ (x : Actor). AreDueOnce (DueToPropose setup.nodes setup.node s.actor x) []) (sym is) (none_due_once _ proposes_none);
+    replied = subst (λ (x : Actor). AreDue (DueToReply setup.nodes setup.node x) []) (sym is) (none_due _ replies_none);
+    reported = subst (λ (x : Actor). AreDue (DueToReport setup.nodes setup.node s.actor x) []) (sym is) (none_due _ reports_none);
+  }
+
+  -- ---- what is kept stands for it then
+
+  same_message : (slot : Slot) (new : SlotRecord) (id : ℕ) → message_at (saved k slot new) id ≡ message_at k id
+  same_message slot new id = elim (cases_Bool (id == slot.id)) [
+    | inl same ↦
+        let is = eqb-true id slot.id same in
+        ap (message_at (saved k slot new)) is ∙ message_here k slot.id (message_at k slot.id) ∙ ap (message_at k) (sym is)
+    | inr differs ↦ message_elsewhere k slot.id id (message_at k slot.id) (λ same. not_same same differs)
+  ]
+    where
+      not_same : id ≡ slot.id → (id == slot.id) ≡ false → ⊥
+      not_same same differs = eqb-false id slot.id differs same
+
+  listed_still : (slot other : Slot) (new : SlotRecord) (vote : Vote) → (with_record k.records slot new other).vote ≡ Some vote →
+      IsSome (lookup (is_at (nat_cmp other.id)) (insert_entry nat_cmp k.messages slot.id (message_at k slot.id)))
+  listed_still slot other new vote voted = by_id (other.id == slot.id) refl
+    where
+      by_id : (same : Bool) → (other.id == slot.id) ≡ same → IsSome (lookup (is_at (nat_cmp other.id)) (insert_entry nat_cmp k.messages slot.id (message_at k slot.id)))
+      by_id true same =
+          let is = eqb-true other.id slot.id same in
+          subst (λ (i : ℕ). IsSome (lookup (is_at (nat_cmp i)) (insert_entry nat_cmp k.messages slot.id (message_at k slot.id)))) (sym is)
+          (subst IsSome (sym (here slot.id (message_at k slot.id) k.messages)) refl)
+      by_id false differs =
+          let apart : other.id ≡ slot.id → ⊥ = eqb-false other.id slot.id differs in
+          subst IsSome (sym (elsewhere slot.id (message_at k slot.id) other.id apart k.messages))
+          (stands.listed other vote (ap (λ (b : Bool). (if b && (other.place == slot.place) then new else k.records other).vote) (sym differs) ∙ voted))
+
+  placed_still : (slot other : Slot) (new : SlotRecord) (vote : Vote) → ((cast : Vote) → new.vote ≡ Some cast → IsPlaced slot cast) →
+      (with_record k.records slot new other).vote ≡ Some vote → IsPlaced other vote
+  placed_still slot other new vote fits = by_slot (same_slot other slot) refl
+    where
+      by_slot : (same : Bool) → same_slot other slot ≡ same → (if same then new else k.records other).vote ≡ Some vote → IsPlaced other vote
+      by_slot true same voted = subst (λ (x : Slot). IsPlaced x vote) (sym (slots_same other slot same)) (fits vote voted)
+      by_slot false differs voted = stands.placed other vote voted
+
+  heard_placed : (voter : ℕ) (slot : Slot) (vote : Vote) → In (Voted voter slot vote) (packet ∷ s.actor.received) → slot ≡ slot_of slot.id vote.chain
+  heard_placed voter slot vote (inl same) = absurd (aside.votes voter slot vote same)
+  heard_placed voter slot vote (inr before) = stands.heard_placed voter slot vote before
+
+  stands_saved : (slot : Slot) (new : SlotRecord) (records : Records) → ((other : Slot) → with_record k.records slot new other ≡ records other) →
+      ((cast : Vote) → new.vote ≡ Some cast → IsPlaced slot cast) → Stands setup (saved k slot new) (later setup s records packet aside)
+  stands_saved slot new records leaves fits = record {
+    up = stands.up;
+    incarnation = stands.incarnation;
+    clock = stands.clock;
+    serial = stands.serial;
+    ticket = stands.ticket;
+    records = leaves;
+    message = λ id. subst (IsMessage setup (later setup s records packet aside) id) (sym (same_message slot new id))
+        (message_still setup s records packet aside id (message_at k id) (stands.message id));
+    waiting = stands.waiting;
+    told = λ h is_in. held_still setup s records packet aside _ h (stands.told h is_in);
+    tickets = stands.tickets;
+    given = stands.given;
+    listed = λ other vote voted. listed_still slot other new vote voted;
+    ascends = still_ascends k.messages slot.id (message_at k slot.id) stands.ascends;
+    placed = λ other vote voted. placed_still slot other new vote fits voted;
+    heard_placed = heard_placed;
+    quiet = quiet_still setup s records packet aside stands.quiet;
+  }
+
+  -- ---- a step by one act that answers
+
+  pub same_with : (slot : Slot) (new other_new : SlotRecord) → new ≡ other_new → (other : Slot) → with_record k.records slot new other ≡ with_record s.records slot other_new other
+  same_with slot new other_new same other = λ i. if same_slot other slot then same i else stands.records other i
+
+  pub unchanged : (slot other : Slot) → with_record k.records slot (k.records slot) other ≡ s.records other
+  unchanged slot other = sym (same_record k.records slot other) ∙ stands.records other
+
+  pub stands_heard : Stands setup k heard
+  stands_heard = record {
+    up = stands.up;
+    incarnation = stands.incarnation;
+    clock = stands.clock;
+    serial = stands.serial;
+    ticket = stands.ticket;
+    records = stands.records;
+    message = λ id. message_still setup s s.records packet aside id (message_at k id) (stands.message id);
+    waiting = stands.waiting;
+    told = λ h is_in. held_still setup s s.records packet aside _ h (stands.told h is_in);
+    tickets = stands.tickets;
+    given = stands.given;
+    listed = stands.listed;
+    ascends = stands.ascends;
+    placed = stands.placed;
+    heard_placed = heard_placed;
+    quiet = quiet_still setup s s.records packet aside stands.quiet;
+  }
+
+  -- the act answers, and leaves nothing else of the actor changed
+  pub record Answers (act : Act) (answer : Packet) : Type 0 where
+    pub works : IsAtWork setup s
+    pub concerned : Concerns setup.nodes setup.node s.actor packet
+    pub stays : (x : Actor) → actor_by setup.node x act ≡ x
+    pub began : began_by heard act ≡ s.began
+    pub no_replies : replies_in (act ∷ Receives packet ∷ []) ≡ []
+    pub no_receipts : receipts_in (act ∷ Receives packet ∷ []) ≡ []
+    pub may : MayAlone setup.nodes setup.node heard act
+    pub replies : AcceptorReplies s.records packet (act ∷ [])
+    pub gives : packets_by setup.node heard.actor s.records act ≡ answer ∷ []
+
+  pub answered_with : (act : Act) (answer : Packet) (kept : Kept) → Answers act answer → Stands setup kept (later setup s (records_by s.records act) packet aside) →
+      StepsAs setup s (Delivery packet) (sends kept (answer ∷ []) [] [])
+  answered_with act answer kept a after = record {
+    acts = act ∷ Receives packet ∷ [];
+    taken = record {
+      run = (a.may, (record { least = a.works.least; most = a.works.most; up = a.works.up; needs = tt }, tt));
+      exact = exact (act ∷ Receives packet ∷ []) (a.stays heard.actor)
+          (inl (a.concerned, record { answer = act ∷ []; answered = a.replies; acts_are = refl }));
+    };
+    stands = subst (Stands setup kept)
+        (λ i. record { actor = sym (a.stays heard.actor) i; records = records_by s.records act; began = sym a.began i })
+        after;
+    outputs = λ i. record {
+      ticket = None;
+      refused = None;
+      packets = reverse (sym a.gives i ++ []);
+      replies = reverse (sym a.no_replies i);
+      receipts = reverse (sym a.no_receipts i);
+      granted = None;
+    };
+  }
+
+  pub answered : (act : Act) (judgement : Judgement) (slot : Slot) → Answers act judgement.answer →
+      ((other : Slot) → with_record k.records slot judgement.after other ≡ records_by s.records act other) →
+      ((cast : Vote) → judgement.after.vote ≡ Some cast → IsPlaced slot cast) →
+      StepsAs setup s (Delivery packet) (judged k slot judgement)
+  answered act judgement slot a leaves fits =
+      answered_with act judgement.answer (saved k slot judgement.after) a (stands_saved slot judgement.after (records_by s.records act) leaves fits)
+
+-- ---- a packet that does not concern the node is ignored
+
+module _ (setup : Setup) (s : Node) (packet : Packet) (k : Kept) (stands : Stands setup k s) (asks_none : (teller : ℕ) (name : Name) (told : Option TopVote) → Tell teller name told ≡ packet → ⊥) where
+  idle_settles : (act : Act) → DueToSettle setup.nodes setup.node s.actor act → ⊥
+  idle_settles (Settles ticket) due = stands.quiet.settled ticket due
+  idle_settles act due = due
+
+  idle_asks : (act : Act) → DueToAsk setup.nodes setup.node s.actor s.actor (Delivery packet) act → ⊥
+  idle_asks (Asks id ticket) due = due
+  idle_asks act due = due
+
+  idle_causes : (id place : ℕ) (chain : List Decree) → Causes setup.nodes setup.node s.actor s.actor (Delivery packet) id place chain → ⊥
+  idle_causes id place chain (inl take) = take
+  idle_causes id place chain (inr (inl close)) = close
+  idle_causes id place chain (inr (inr (inl follows))) = follows_none setup.nodes setup.node s.actor packet id place chain asks_none follows
+  idle_causes id place chain (inr (inr (inr deletes))) =
+      let cancelled = deletes.deletes.cancelled in
+      deletes.new
+      (record { waiting = cancelled.waiting; waits = cancelled.waits; ticket_is = refl; settled = cancelled.settled })
+      deletes.deletes.further.known
+
+  idle_prepares : (act : Act) → DueToPrepare setup.nodes setup.node s.actor s.actor s.records (Delivery packet) act → ⊥
+  idle_prepares (Prepares slot ballot chain) due = idle_causes slot.id slot.place chain due.0
+  idle_prepares act due = due
+
+  idle_proposes : (act : Act) → DueToPropose setup.nodes setup.node s.actor s.actor act → ⊥
+  idle_proposes (Proposes slot vote) due = due.0.new due.0.promised
+  idle_proposes act due = due
+
+  idle_replies : (act : Act) → DueToReply setup.nodes setup.node s.actor act → ⊥
+  idle_replies (Replies ticket id answer) due = stands.quiet.answered ticket id answer due
+  idle_replies act due = due
+
+  idle_reports : (act : Act) → DueToReport setup.nodes setup.node s.actor s.actor act → ⊥
+  idle_reports (Reports id chain) due = due.new chain due.final due.known due.ends
+  idle_reports act due = due
+
+  pub ignored : (Concerns setup.nodes setup.node s.actor packet → ⊥) → StepsAs setup s (Delivery packet) (leaves k)
+  ignored strange = record {
+    acts = [];
+    taken = record {
+      run = tt;
+      exact = record {
+        core = [];
+        settles = [];
+        late = [];
+        asks = [];
+        abandons = [];
+        prepares = [];
+        proposes = [];
+        replies = [];
+        reports = [];
+        acts_are = refl;
+        core_is = inr (strange, refl);
+        settled = none_due _ idle_settles;
+        ended = none_due _ (λ act due. due);
+        asked = none_due _ idle_asks;
+        abandoned = none_due _ (λ act due. due);
+        prepared = none_due_once _ idle_prepares;
+        proposed = none_due_once _ idle_proposes;
+        replied = none_due _ idle_replies;
+        reported = none_due _ idle_reports;
+      };
+    };
+    stands = stands;
+    outputs = refl;
+  }
