@@ -37,10 +37,10 @@ use Rattle.shelf.proofs.Entries.{still_ascends}
 
 -- ---- nothing is due
 
-none_due : (Due : Act → Type 0) → ((act : Act) → Due act → ⊥) → AreDue Due []
+pub none_due : (Due : Act → Type 0) → ((act : Act) → Due act → ⊥) → AreDue Due []
 none_due Due none = record { each = λ act. ((λ is_in. absurd is_in), (λ due. absurd (none act due))); order = tt }
 
-none_due_once : (Due : Act → Type 0) → ((act : Act) → Due act → ⊥) → AreDueOnce Due []
+pub none_due_once : (Due : Act → Type 0) → ((act : Act) → Due act → ⊥) → AreDueOnce Due []
 none_due_once Due none = record { only = λ act is_in. absurd is_in; all = λ act due. absurd (none act due); order = tt }
 
 follows_none : (nodes node : ℕ) (a : Actor) (packet : Packet) (id place : ℕ) (chain : List Decree) → ((teller : ℕ) (name : Name) (told : Option TopVote) → Tell teller name told ≡ packet → ⊥) → CausesFollow nodes node a (Delivery packet) id place chain → ⊥

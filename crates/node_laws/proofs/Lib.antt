@@ -5,3 +5,4 @@ pub mod Accepting
 pub mod Aside
 pub mod AsideSteps
 pub mod AcceptorSteps
+pub mod Opening

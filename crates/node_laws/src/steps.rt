@@ -1,13 +1,13 @@
 //! Steps of what is kept, as steps of the actor.
 
-ghost use Rattle.std.specs.Prelude.{◌≡◌, ℕ};
+ghost use Rattle.std.specs.Prelude.{◌≡◌, ◌+◌, ◌<◌, ◌≤◌, ℕ};
 ghost use Rattle.mc_model.specs.synod.OneSlot.{Vote};
 ghost use Rattle.mc_model.specs.synod.Packet.{Ask, Name, Prepare, Propose, Slot};
-ghost use Rattle.mc_model.specs.node.Alone.{Node};
-ghost use Rattle.mc_model.specs.node.Input.{Delivery};
+ghost use Rattle.mc_model.specs.node.Alone.{Node, opened_new as node_new};
+ghost use Rattle.mc_model.specs.node.Input.{Delivery, Restart};
 ghost use Rattle.mc_model.specs.node.Setup.{Setup};
 ghost use Rattle.node_model.specs.Kept.{Kept};
-ghost use Rattle.node_model.specs.Stepped.{stepped};
+ghost use Rattle.node_model.specs.Stepped.{opened_new, stepped};
 ghost use Rattle.node_laws.specs.Stands.{IsPlaced, Stands};
 ghost use Rattle.node_laws.specs.Steps.{IsAtWork, StepsAs};
 
@@ -23,4 +23,13 @@ pub fn a_step_of_an_acceptor_is_exact()
     ensures ask { (setup : Setup) (k : Kept) (s : Node) → Stands setup k s → IsAtWork setup s →
         (sender id : ℕ) (name : Name) →
         StepsAs setup s (Delivery (Ask sender id name)) (stepped setup k (Delivery (Ask sender id name))) }
+{}
+
+/// What a node keeps that opens with a new store stands for the actor that does; and a restart, which loses all but the records, is
+/// an exact step of every actor, as long as there is an incarnation left.
+pub fn an_opening_is_exact()
+    ensures new { (setup : Setup) → Stands setup (opened_new setup) (node_new setup.first_serial) }
+    ensures restart { (setup : Setup) (k : Kept) (s : Node) (lost : ℕ) → Stands setup k s →
+        1 ≤ setup.node → setup.node ≤ setup.nodes → s.actor.incarnation + lost < 9999 →
+        StepsAs setup s (Restart lost) (stepped setup k (Restart lost)) }
 {}
