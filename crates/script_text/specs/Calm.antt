@@ -1,5 +1,5 @@
 -- Calm scripts: between two settles at most one thing happens that a node tells to other nodes, or waits for.
-use Rattle.std.specs.Prelude.{◌≡◌, ℕ, ◌<◌, ◌≤◌, ◌-◌, ◌^◌, ◌&&◌, Bool, true, false, is_some, List, [], ◌∷◌, length, Option, Some, Result, Ok, Err}
+use Rattle.std.specs.Prelude.{◌≡◌, ℕ, ◌<◌, ◌≤◌, ◌-◌, ◌^◌, ◌&&◌, Bool, true, false, is_some, List, [], ◌∷◌, length, Some, Result, Ok, Err}
 use Rattle.mc_types.specs.Texts.{id_in}
 use Rattle.pdu_codec.specs.Pdu.{read_pdu}
 use Rattle.pdu_codec.specs.declared.fault.PduFault.{PduFault}

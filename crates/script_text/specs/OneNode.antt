@@ -96,7 +96,7 @@ abbrev pub asked : Settings → OneNode → ℕ → Requested → ℕ → List �
 asked settings node session requested sequence account (Submit message None) = refuses node session requested sequence statuses.InvalidDestinationAddress
 asked settings node session requested sequence account (Submit message (Some target)) =
     taken node session requested sequence account target message (id_of 1 1 node.serial)
-      (submit_judged true node.clock settings.validity node.serial false message)
+    (submit_judged true node.clock settings.validity node.serial false message)
 asked settings node session requested sequence account (AskOf query) = queried node session requested sequence account query (id_in query.message_id)
 asked settings node session requested sequence account (Cancel cancel) =
     if bytes_eq cancel.message_id [] then refuses node session requested sequence statuses.CancelFailed

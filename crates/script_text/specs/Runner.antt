@@ -1,5 +1,5 @@
 -- What the lines of a script do today, by one node and the sessions with its ESMEs.
-use Rattle.std.specs.Prelude.{◌≡◌, ℕ, ◌==◌, Bool, true, false, List, [], ◌∷◌, ◌++◌, find, Option, Some, None, Result, Ok, Err, if◌then◌else◌}
+use Rattle.std.specs.Prelude.{ℕ, ◌==◌, List, [], ◌∷◌, ◌++◌, find, Option, Some, None, Result, Ok, Err, if◌then◌else◌}
 use Rattle.std.specs.Ordering.{nat_cmp}
 use Rattle.std.specs.Map.{lookup, remove_entry, set_value}
 use Rattle.std.specs.BTreeMap.{is_at, insert_entry}
@@ -140,7 +140,7 @@ on_frames settings number node session [] rest = on_rest settings number node se
 on_frames settings number node session (frame ∷ frames) rest =
     if is_gone (on_frame settings number node session frame).session.state then record { served = on_frame settings number node session frame; held = [] }
     else behind (on_frame settings number node session frame)
-      (on_frames settings number (on_frame settings number node session frame).node (on_frame settings number node session frame).session frames rest)
+    (on_frames settings number (on_frame settings number node session frame).node (on_frame settings number node session frame).session frames rest)
 
 abbrev pub on_cut : Settings → ℕ → Node → Session → Cut → Streamed
 on_cut settings number node session stream = on_frames settings number node session stream.frames stream.rest
