@@ -121,7 +121,7 @@ frames_go settings number node session (frame ∷ frames) rest = at_test (is_gon
     at_test true others = frame_goes settings number node session frame
     at_test false others = goes_behind node served.node later.served.node served.steps later.served.steps (frame_goes settings number node session frame) others
 
-abbrev ActedGoes : Runner → Acted → Type 0
+abbrev pub ActedGoes : Runner → Acted → Type 0
 ActedGoes runner acted = Goes runner.node acted.steps acted.next.node
 
 kept_node : (others : Runner) (number : ℕ) (streamed : Streamed) → (kept others number streamed).node ≡ streamed.served.node
@@ -131,7 +131,7 @@ kept_node others number streamed = at_test (is_gone streamed.served.session.stat
     at_test true = refl
     at_test false = refl
 
-octets_go : (settings : Settings) (runner : Runner) (number : ℕ) (octets : List ℕ) → ActedGoes runner (on_octets settings runner number octets)
+pub octets_go : (settings : Settings) (runner : Runner) (number : ℕ) (octets : List ℕ) → ActedGoes runner (on_octets settings runner number octets)
 unfolding on_octets
 octets_go settings runner number octets =
     kept_node (without runner number) number (on_cut settings number runner.node (session_in runner.sessions number) stream)
@@ -140,11 +140,11 @@ octets_go settings runner number octets =
     stream : Cut
     stream = cut (held_in runner.streams number ++ octets)
 
-settle_goes : (runner : Runner) → ActedGoes runner (on_settle runner)
+pub settle_goes : (runner : Runner) → ActedGoes runner (on_settle runner)
 unfolding on_settle after_steps
 settle_goes runner = refl
 
-tick_goes : (runner : Runner) (moment : ℕ) → ActedGoes runner (on_tick runner moment)
+pub tick_goes : (runner : Runner) (moment : ℕ) → ActedGoes runner (on_tick runner moment)
 unfolding after_steps
 tick_goes runner moment = refl
 

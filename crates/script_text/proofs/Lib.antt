@@ -1,1 +1,5 @@
 pub mod Joining
+pub mod Chains
+pub mod Fates
+pub mod Telling
+pub mod Printing

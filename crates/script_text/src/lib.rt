@@ -3,4 +3,4 @@
 
 mod laws;
 
-pub use laws::lines_join;
+pub use laws::{deleted_stays_deleted, lines_join, one_fate_is_printed};
