@@ -1,2 +1,3 @@
 pub mod Shelved
 pub mod Places
+pub mod Lends

@@ -1,7 +1,8 @@
 //! The shelf.
 
 ghost use Rattle.std.specs.Prelude.{◌≡◌, ◌≤◌, ◌<◌, ◌+◌, ◌-◌, ◌++◌, [], None, Some, length, max, IsSome, IfOk, OnErr, option_map};
-ghost use Rattle.std.specs.Option.{option_copied};
+ghost use Rattle.std.specs.Option.{option_copied, option_copied_mut};
+ghost use Rattle.std.specs.Borrow.{sem};
 ghost use Rattle.std.specs.List.{insert, slice_get};
 ghost use Rattle.std.specs.Vec.{vec_capacity, vec_len};
 ghost use Rattle.std.specs.Box.{box_value};
@@ -45,6 +46,8 @@ impl<V> Model for Shelf<V> {
 }
 
 impl<V> Shelf<V> {
+    ghost use Rattle.shelf.specs.Lends.{lends_value};
+
     /// A shelf with nothing on it, and no room. It takes no memory.
     pub fn empty(alloc: Global) -> Shelf<V>
         ensures entries { result.entries ≡ [] }
@@ -78,6 +81,17 @@ impl<V> Shelf<V> {
     {
         match place_of(&self.entries, key) {
             Ok(place) => Some(&self.entries[place].1),
+            Err(_) => None,
+        }
+    }
+
+    /// The value of a key, to be changed; none if it has none.
+    pub fn get_mut(&mut self, key: u64) -> Option<&mut V>
+        ensures* writes_back { sem 𝓛 (lends_value V.row self.entry key result) }
+        ensures value { option_copied_mut result ≡ value_at self.old.entries key }
+    {
+        match place_of(&self.entries, key) {
+            Ok(place) => Some(&mut *self.entries[place].1),
             Err(_) => None,
         }
     }

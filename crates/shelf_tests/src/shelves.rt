@@ -53,3 +53,15 @@ fn room_that_was_taken_at_the_start_is_enough(rt: HostRuntime) -> Result<(), Fai
     assert_eq!(rt; shelf.get(2).copied(), Some(20));
     Ok(())
 }
+
+#[test]
+fn a_value_is_changed_where_it_stands(rt: HostRuntime) -> Result<(), Fail> {
+    let mut shelf = Shelf::empty(rt.alloc());
+    put(&mut shelf, rt.alloc(), 2, 20)?;
+    put(&mut shelf, rt.alloc(), 1, 10)?;
+    *shelf.get_mut(2).ok_or("a value")? = 21;
+    assert!(rt; shelf.get_mut(3).is_none());
+    assert_eq!(rt; shelf.get(2).copied(), Some(21));
+    assert_eq!(rt; shelf.get(1).copied(), Some(10));
+    Ok(())
+}
