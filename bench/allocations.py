@@ -3,8 +3,9 @@
 
     python3 bench/allocations.py [PROGRAM]
 
-Of each kind it runs a script of 400 and one of 800 such lines behind a bind, and divides the difference by 400, so that what the start
-takes does not count. A library that is written and built here with gcc counts the calls of malloc and its kin; the dynamic linker puts it
+Of each kind it runs a script that binds 40 sessions and then has ten such lines for each, as many as wait there, and one that only binds
+them, and divides the difference by 400, so that what start and binds take does not count; for an enquire_link also with all lines on the
+one session that there is. A library that is written and built here with gcc counts the calls of malloc and its kin; the dynamic linker puts it
 in front of the C library's. The goals are 8 for a submit_sm and 2 for an enquire_link. With no argument it builds the program from the
 crates of HEAD in a folder of its own, which proves them first and takes many minutes.
 """
@@ -16,7 +17,7 @@ import sys
 import tempfile
 
 TOP = pathlib.Path(__file__).resolve().parent.parent
-LINES = 400
+SESSIONS, EACH = 40, 10
 BIND = "0000001e000000090000000000000001736d653100707731000034000000"
 KINDS = {
     "submit_sm": "0000002900000004000000000000000200010131343400010131353500000000000001000000024869",
@@ -71,12 +72,19 @@ def built_counter(work):
     return counter
 
 
-def blocks(program, counter, pdu, lines):
-    """The blocks of a run of a script with so many lines of this PDU."""
-    script = "\n".join(["nodes 1", f"pdu 1 1 {BIND}", *[f"pdu 1 1 {pdu}"] * lines]) + "\n"
+def blocks(program, counter, pdus):
+    """The blocks of a run of a script with these PDUs, each with its session."""
+    script = "\n".join(["nodes 1", *[f"pdu 1 {session} {pdu}" for session, pdu in pdus]]) + "\n"
     environment = {**os.environ, "LD_PRELOAD": str(counter)}
     run = subprocess.run([program, "script"], input=script, capture_output=True, text=True, env=environment, check=True)
     return int(run.stderr.split()[-1])
+
+
+def blocks_a_line(program, counter, sessions, each, pdu):
+    numbers = range(1, sessions + 1)
+    binds = [(session, BIND) for session in numbers]
+    lines = [(session, pdu) for session in numbers for _ in range(each)]
+    return (blocks(program, counter, binds + lines) - blocks(program, counter, binds)) / len(lines)
 
 
 def main():
@@ -84,8 +92,9 @@ def main():
     program = pathlib.Path(sys.argv[1]).resolve() if len(sys.argv) > 1 else built_program(work)
     counter = built_counter(work)
     for kind, pdu in KINDS.items():
-        more = blocks(program, counter, pdu, 2 * LINES) - blocks(program, counter, pdu, LINES)
-        print(f"{kind}: {more / LINES:.2f} blocks a line")
+        print(f"{kind}: {blocks_a_line(program, counter, SESSIONS, EACH, pdu):.2f} blocks a line")
+    alone = blocks_a_line(program, counter, 1, SESSIONS * EACH, KINDS["enquire_link"])
+    print(f"enquire_link on the one session: {alone:.2f} blocks a line")
     shutil.rmtree(work)
 
 

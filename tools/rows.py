@@ -17,16 +17,11 @@ FOLDER = ROOT / "crates/centre/data/rows"
 FILE = ROOT / "crates/script_tests/src/rows.rt"
 LONGEST = 8_000
 
-HEAD = '''//! The worked scripts of `crates/centre/data/rows`, with what they write. Written by `tools/rows.py`.
+HEAD = '''//! The worked scripts of `crates/centre/data/rows`. Written by `tools/rows.py`.
 
-/// A script, its output, its exit status, and its line on standard error.
-pub struct Row {
-    pub name: &'static str,
-    pub script: &'static str,
-    pub output: &'static str,
-    pub status: u8,
-    pub told: &'static str,
-}
+/// Each with what it writes, a line each: its name, its lines, the lines of its output, its exit status, and its line on standard
+/// error. A semicolon ends a line.
+pub const ROWS: &str = "\\
 '''
 
 
@@ -39,17 +34,14 @@ def rows():
         yield path.stem, path.read_text(), text(".expected"), int(text(".status") or 0), text(".stderr")
 
 
-def quoted(text):
-    return '"' + text.replace("\\", "\\\\").replace('"', '\\"').replace("\n", "\\n") + '"'
-
-
 def rust():
-    short = [row for row in rows() if len(row[1]) <= LONGEST]
-    out = [HEAD, f"pub const ROWS: [Row; {len(short)}] = ["]
-    for name, script, output, status, told in short:
-        out += ["    Row {", f"        name: {quoted(name)},", f"        script: {quoted(script)},", f"        output: {quoted(output)},"]
-        out += [f"        status: {status},", f"        told: {quoted(told)},", "    },"]
-    return "\n".join(out + ["];"]) + "\n"
+    out = [HEAD]
+    for row in rows():
+        if len(row[1]) <= LONGEST:
+            fields = [str(field) for field in row]
+            assert not any(it in field for field in fields for it in ';|"\\'), row[0]
+            out.append("|".join(fields).replace("\n", ";") + "\\n\\\n")
+    return "".join(out) + '";\n'
 
 
 def run(program):

@@ -11,3 +11,5 @@ mod program;
 mod rows;
 #[cfg(test)]
 mod scripts;
+#[cfg(test)]
+mod worked;

@@ -1,29 +1,37 @@
 //! Exit statuses, and the line on standard error.
 
 use crate::ends::{Arguments, Closed, Failing};
-use crate::rows::ROWS;
 use crate::scripts::BIND;
+use crate::worked::{Row, rows};
 use script_runner::{ScriptFault, exit_status, run_program};
+use std::alloc::Global;
+use std::process::Abort;
 use std::test::Fail;
 
 const SCRIPT: &[&[u8]] = &[b"centre", b"script"];
 
+/// That a row writes what it is to write.
+fn is_written(rt: &impl Abort, alloc: Global, row: &Row) -> Result<(), Fail> {
+    let mut output = Vec::new(alloc);
+    let mut errors = Vec::new(alloc);
+    let arguments = (Arguments(SCRIPT), alloc);
+    let status = run_program(
+        &arguments,
+        &mut row.script.as_slice(),
+        &mut output,
+        &mut errors,
+    );
+    assert_eq!(rt; status, row.status, "{}", row.name);
+    assert!(rt; output == row.output, "{}", row.name);
+    assert!(rt; errors == row.told, "{}", row.name);
+    Ok(())
+}
+
 #[test]
 fn rows_are_written(rt: HostRuntime) -> Result<(), Fail> {
     let alloc = rt.alloc();
-    for row in &ROWS {
-        let mut output = Vec::new(alloc);
-        let mut errors = Vec::new(alloc);
-        let arguments = (Arguments(SCRIPT), alloc);
-        let status = run_program(
-            &arguments,
-            &mut row.script.as_bytes(),
-            &mut output,
-            &mut errors,
-        );
-        assert_eq!(rt; status, row.status, "{}", row.name);
-        assert_eq!(rt; output.as_slice(), row.output.as_bytes(), "{}", row.name);
-        assert_eq!(rt; errors.as_slice(), row.told.as_bytes(), "{}", row.name);
+    for row in &rows(alloc)? {
+        is_written(&rt, alloc, row)?;
     }
     Ok(())
 }

@@ -9,8 +9,7 @@ use std::test::Fail;
 pub const BIND: &[u8] =
     b"nodes 1\npdu 1 1 0000001e000000090000000000000001736d653100707731000034000000\n";
 
-const BIND_LINE: &[u8] =
-    b"pdu 1 1 0000001e000000090000000000000001736d653100707731000034000000\n";
+const BIND_LINE: &[u8] = b"pdu 1 1 0000001e000000090000000000000001736d653100707731000034000000\n";
 
 const BOUND: &[u8] = b"pdu 1 1 0000001c80000009000000000000000143454e545245000210000134\n";
 
@@ -80,7 +79,10 @@ fn a_thousand_requests_wait(rt: HostRuntime) -> Result<(), Fail> {
     let queries = times(alloc, QUERY, 10)?;
     let session = joined(alloc, &[BIND_LINE, &queries, UNBIND])?;
     let sessions = times(alloc, &session, 100)?;
-    let script = joined(alloc, &[b"nodes 1\n", &sessions, BIND_LINE, QUERY, b"settle\n"])?;
+    let script = joined(
+        alloc,
+        &[b"nodes 1\n", &sessions, BIND_LINE, QUERY, b"settle\n"],
+    )?;
     let mut output = Vec::new(alloc);
     assert_eq!(rt;
         run_script(alloc, &mut script.as_slice(), &mut output),
@@ -102,10 +104,7 @@ fn many_messages_expire(rt: HostRuntime) -> Result<(), Fail> {
     let submits = times(alloc, &joined(alloc, &[&ten, b"settle\n"])?, 50)?;
     let query =
         b"pdu 1 1 000000210000000300000000000000033130303031303035303000010131343400\nsettle\n";
-    let script = joined(
-        alloc,
-        &[BIND, &submits, b"tick 1 946944000\n", query],
-    )?;
+    let script = joined(alloc, &[BIND, &submits, b"tick 1 946944000\n", query])?;
     let mut output = Vec::new(alloc);
     assert_eq!(rt;
         run_script(alloc, &mut script.as_slice(), &mut output),
