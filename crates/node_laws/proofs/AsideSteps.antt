@@ -15,10 +15,10 @@ use Rattle.mc_model.specs.node.Actor.{Actor}
 use Rattle.mc_model.specs.node.Alone.{MayAlone, Node, began_by}
 use Rattle.mc_model.specs.node.Causes.{Causes, CausesDelete, CausesFollow}
 use Rattle.mc_model.specs.node.Concerns.{Concerns}
-use Rattle.mc_model.specs.node.Core.{AcceptorReplies, IsCore}
+use Rattle.mc_model.specs.node.Core.{AcceptorReplies, IsCore, IsRefusal}
 use Rattle.mc_model.specs.node.Due.{AreDue, AreDueOnce}
 use Rattle.mc_model.specs.node.Effect.{actor_by, did, packets_by, records_by, saved as saved_by}
-use Rattle.mc_model.specs.node.Input.{Delivery}
+use Rattle.mc_model.specs.node.Input.{Delivery, Input, Refusal}
 use Rattle.mc_model.specs.node.Outputs.{receipts_in, replies_in}
 use Rattle.mc_model.specs.node.Phases.{DueToAbandon, DueToAsk, DueToEnd, DueToPrepare, DueToPropose, DueToReply, DueToReport, DueToSettle}
 use Rattle.mc_model.specs.node.Setup.{Setup}
@@ -28,6 +28,7 @@ use Rattle.node_model.specs.Acceptor.{Judgement}
 use Rattle.node_model.specs.Kept.{Kept, message_at, saved}
 use Rattle.node_model.specs.Outputs.{leaves, sends}
 use Rattle.node_model.specs.Packets.{judged}
+use Rattle.node_model.specs.Stepped.{refused_with, stepped, stepped_down, stepped_up}
 use Rattle.node_laws.specs.Stands.{IsAside, IsMessage, IsPlaced, Stands}
 use Rattle.node_laws.specs.Steps.{IsAtWork, StepsAs}
 use Rattle.node_laws.proofs.Accepting.{same_record}
@@ -43,7 +44,11 @@ none_due Due none = record { each = λ act. ((λ is_in. absurd is_in), (λ due. 
 pub none_due_once : (Due : Act → Type 0) → ((act : Act) → Due act → ⊥) → AreDueOnce Due []
 none_due_once Due none = record { only = λ act is_in. absurd is_in; all = λ act due. absurd (none act due); order = tt }
 
-follows_none : (nodes node : ℕ) (a : Actor) (packet : Packet) (id place : ℕ) (chain : List Decree) → ((teller : ℕ) (name : Name) (told : Option TopVote) → Tell teller name told ≡ packet → ⊥) → CausesFollow nodes node a (Delivery packet) id place chain → ⊥
+-- a packet is no Tell
+abbrev TellsNobody : Packet → Type 0
+TellsNobody packet = (teller : ℕ) (name : Name) (told : Option TopVote) → Tell teller name told ≡ packet → ⊥
+
+follows_none : (nodes node : ℕ) (a : Actor) (packet : Packet) (id place : ℕ) (chain : List Decree) → TellsNobody packet → CausesFollow nodes node a (Delivery packet) id place chain → ⊥
 follows_none nodes node a (Tell teller name told) id place chain none follows = none teller name told refl
 follows_none nodes node a packet id place chain none follows = follows
 
@@ -257,30 +262,19 @@ module _ (setup : Setup) (s : Node) (packet : Packet) (aside : IsAside packet) (
   answered act judgement slot a leaves fits =
       answered_with act judgement.answer (saved k slot judgement.after) a (stands_saved slot judgement.after (records_by s.records act) leaves fits)
 
--- ---- a packet that does not concern the node is ignored
+-- ---- a step in which the actor does nothing
 
-module _ (setup : Setup) (s : Node) (packet : Packet) (k : Kept) (stands : Stands setup k s) (asks_none : (teller : ℕ) (name : Name) (told : Option TopVote) → Tell teller name told ≡ packet → ⊥) where
+module _ (setup : Setup) (s : Node) (k : Kept) (stands : Stands setup k s) where
   idle_settles : (act : Act) → DueToSettle setup.nodes setup.node s.actor act → ⊥
   idle_settles (Settles ticket) due = stands.quiet.settled ticket due
   idle_settles act due = due
 
-  idle_asks : (act : Act) → DueToAsk setup.nodes setup.node s.actor s.actor (Delivery packet) act → ⊥
-  idle_asks (Asks id ticket) due = due
-  idle_asks act due = due
-
-  idle_causes : (id place : ℕ) (chain : List Decree) → Causes setup.nodes setup.node s.actor s.actor (Delivery packet) id place chain → ⊥
-  idle_causes id place chain (inl take) = take
-  idle_causes id place chain (inr (inl close)) = close
-  idle_causes id place chain (inr (inr (inl follows))) = follows_none setup.nodes setup.node s.actor packet id place chain asks_none follows
-  idle_causes id place chain (inr (inr (inr deletes))) =
+  idle_deletes : (id place : ℕ) (chain : List Decree) → CausesDelete setup.nodes setup.node s.actor s.actor id place chain → ⊥
+  idle_deletes id place chain deletes =
       let cancelled = deletes.deletes.cancelled in
       deletes.new
       (record { waiting = cancelled.waiting; waits = cancelled.waits; ticket_is = refl; settled = cancelled.settled })
       deletes.deletes.further.known
-
-  idle_prepares : (act : Act) → DueToPrepare setup.nodes setup.node s.actor s.actor s.records (Delivery packet) act → ⊥
-  idle_prepares (Prepares slot ballot chain) due = idle_causes slot.id slot.place chain due.0
-  idle_prepares act due = due
 
   idle_proposes : (act : Act) → DueToPropose setup.nodes setup.node s.actor s.actor act → ⊥
   idle_proposes (Proposes slot vote) due = due.0.new due.0.promised
@@ -294,32 +288,87 @@ module _ (setup : Setup) (s : Node) (packet : Packet) (k : Kept) (stands : Stand
   idle_reports (Reports id chain) due = due.new chain due.final due.known due.ends
   idle_reports act due = due
 
-  pub ignored : (Concerns setup.nodes setup.node s.actor packet → ⊥) → StepsAs setup s (Delivery packet) (leaves k)
-  ignored strange = record {
+  -- by an input that does nothing itself, and asks, prepares, ends and gives up nothing
+  idle_exact : (input : Input) → IsCore setup s.actor s.records input [] →
+      ((act : Act) → DueToEnd input s.actor act → ⊥) →
+      ((act : Act) → DueToAsk setup.nodes setup.node s.actor s.actor input act → ⊥) →
+      ((act : Act) → DueToAbandon setup.nodes setup.node s.actor s.records input act → ⊥) →
+      ((act : Act) → DueToPrepare setup.nodes setup.node s.actor s.actor s.records input act → ⊥) →
+      IsExact setup s.actor s.records input []
+  idle_exact input core ends asks abandons prepares = record {
+    core = [];
+    settles = [];
+    late = [];
+    asks = [];
+    abandons = [];
+    prepares = [];
+    proposes = [];
+    replies = [];
+    reports = [];
+    acts_are = refl;
+    core_is = core;
+    settled = none_due _ idle_settles;
+    ended = none_due _ ends;
+    asked = none_due _ asks;
+    abandoned = none_due _ abandons;
+    prepared = none_due_once _ prepares;
+    proposed = none_due_once _ idle_proposes;
+    replied = none_due _ idle_replies;
+    reported = none_due _ idle_reports;
+  }
+
+  -- ---- a request that is refused at once
+
+  refusal_asks : (status : ℕ) (act : Act) → DueToAsk setup.nodes setup.node s.actor s.actor (Refusal status) act → ⊥
+  refusal_asks status (Asks id ticket) due = due
+  refusal_asks status act due = due
+
+  refusal_causes : (status id place : ℕ) (chain : List Decree) → Causes setup.nodes setup.node s.actor s.actor (Refusal status) id place chain → ⊥
+  refusal_causes status id place chain (inl take) = take
+  refusal_causes status id place chain (inr (inl close)) = close
+  refusal_causes status id place chain (inr (inr (inl follows))) = follows
+  refusal_causes status id place chain (inr (inr (inr deletes))) = idle_deletes id place chain deletes
+
+  refusal_prepares : (status : ℕ) (act : Act) → DueToPrepare setup.nodes setup.node s.actor s.actor s.records (Refusal status) act → ⊥
+  refusal_prepares status (Prepares slot ballot chain) due = refusal_causes status slot.id slot.place chain due.0
+  refusal_prepares status act due = due
+
+  pub refusal_steps : (status : ℕ) → IsAtWork setup s → IsRefusal s.actor status → StepsAs setup s (Refusal status) (stepped setup k (Refusal status))
+  refusal_steps status works refusal = subst (StepsAs setup s (Refusal status)) (sym up) (record {
     acts = [];
     taken = record {
       run = tt;
-      exact = record {
-        core = [];
-        settles = [];
-        late = [];
-        asks = [];
-        abandons = [];
-        prepares = [];
-        proposes = [];
-        replies = [];
-        reports = [];
-        acts_are = refl;
-        core_is = inr (strange, refl);
-        settled = none_due _ idle_settles;
-        ended = none_due _ (λ act due. due);
-        asked = none_due _ idle_asks;
-        abandoned = none_due _ (λ act due. due);
-        prepared = none_due_once _ idle_prepares;
-        proposed = none_due_once _ idle_proposes;
-        replied = none_due _ idle_replies;
-        reported = none_due _ idle_reports;
-      };
+      exact = idle_exact (Refusal status) (refusal, refl) (λ act due. due) (refusal_asks status) (λ act due. due) (refusal_prepares status);
+    };
+    stands = stands;
+    outputs = refl;
+  })
+    where
+      up : stepped setup k (Refusal status) ≡ refused_with k status
+      up = ap (λ (up : Bool). if up then stepped_up setup k (Refusal status) else stepped_down setup k (Refusal status)) (stands.up ∙ works.up)
+
+  -- ---- a packet that does not concern the node is ignored
+
+  idle_asks : (packet : Packet) (act : Act) → DueToAsk setup.nodes setup.node s.actor s.actor (Delivery packet) act → ⊥
+  idle_asks packet (Asks id ticket) due = due
+  idle_asks packet act due = due
+
+  idle_causes : (packet : Packet) → TellsNobody packet → (id place : ℕ) (chain : List Decree) → Causes setup.nodes setup.node s.actor s.actor (Delivery packet) id place chain → ⊥
+  idle_causes packet tells id place chain (inl take) = take
+  idle_causes packet tells id place chain (inr (inl close)) = close
+  idle_causes packet tells id place chain (inr (inr (inl follows))) = follows_none setup.nodes setup.node s.actor packet id place chain tells follows
+  idle_causes packet tells id place chain (inr (inr (inr deletes))) = idle_deletes id place chain deletes
+
+  idle_prepares : (packet : Packet) → TellsNobody packet → (act : Act) → DueToPrepare setup.nodes setup.node s.actor s.actor s.records (Delivery packet) act → ⊥
+  idle_prepares packet tells (Prepares slot ballot chain) due = idle_causes packet tells slot.id slot.place chain due.0
+  idle_prepares packet tells act due = due
+
+  pub ignored : (packet : Packet) → TellsNobody packet → (Concerns setup.nodes setup.node s.actor packet → ⊥) → StepsAs setup s (Delivery packet) (leaves k)
+  ignored packet tells strange = record {
+    acts = [];
+    taken = record {
+      run = tt;
+      exact = idle_exact (Delivery packet) (inr (strange, refl)) (λ act due. due) (idle_asks packet) (λ act due. due) (idle_prepares packet tells);
     };
     stands = stands;
     outputs = refl;

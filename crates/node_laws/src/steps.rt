@@ -4,7 +4,8 @@ ghost use Rattle.std.specs.Prelude.{◌≡◌, ◌+◌, ◌<◌, ◌≤◌, ℕ}
 ghost use Rattle.mc_model.specs.synod.OneSlot.{Vote};
 ghost use Rattle.mc_model.specs.synod.Packet.{Ask, Name, Prepare, Propose, Slot};
 ghost use Rattle.mc_model.specs.node.Alone.{Node, opened_new as node_new};
-ghost use Rattle.mc_model.specs.node.Input.{Delivery, Restart};
+ghost use Rattle.mc_model.specs.node.Core.{IsRefusal};
+ghost use Rattle.mc_model.specs.node.Input.{Delivery, Refusal, Restart};
 ghost use Rattle.mc_model.specs.node.Setup.{Setup};
 ghost use Rattle.node_model.specs.Kept.{Kept};
 ghost use Rattle.node_model.specs.Stepped.{opened_new, stepped};
@@ -32,4 +33,11 @@ pub fn an_opening_is_exact()
     ensures restart { (setup : Setup) (k : Kept) (s : Node) (lost : ℕ) → Stands setup k s →
         1 ≤ setup.node → setup.node ≤ setup.nodes → s.actor.incarnation + lost < 9999 →
         StepsAs setup s (Restart lost) (stepped setup k (Restart lost)) }
+{}
+
+/// A request that is refused at once changes nothing, which is an exact step of every actor; for want of room or of a serial it is
+/// refused only if there is none.
+pub fn a_refusal_is_exact()
+    ensures { (setup : Setup) (k : Kept) (s : Node) → Stands setup k s → (status : ℕ) → IsAtWork setup s → IsRefusal s.actor status →
+        StepsAs setup s (Refusal status) (stepped setup k (Refusal status)) }
 {}
