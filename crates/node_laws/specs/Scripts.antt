@@ -26,7 +26,7 @@ added played step = record {
   receipts = played.receipts ++ step.outputs.receipts;
 }
 
--- the packets that wait are delivered in their order, those that they lead to behind them; so many deliveries are made at most
+-- the packets that wait are delivered in their order, those that they lead to after them; so many deliveries are made at most
 abbrev pub settled : Setup → ℕ → Played → List Packet → Played
 settled setup zero played packets = played
 settled setup (suc most) played [] = played

@@ -40,7 +40,7 @@ pub record IsAside (packet : Packet) : Type 0 where
   pub refusals : (sender ballot promised : ℕ) (slot : Slot) → Refused sender slot ballot promised ≡ packet → ⊥
   pub tells : (teller : ℕ) (name : Name) (told : Option TopVote) → Tell teller name told ≡ packet → ⊥
 
--- the highest round that it saw for a slot, of its own rounds and of refusals of its ballots; 0 where it saw none
+-- the highest round that it saw for a slot, of its own rounds and of refusals of its ballots; 0 if it saw none
 abbrev pub WasSeen : ℕ → Actor → Slot → ℕ → Type 0
 WasSeen node a slot round = WasRefusedFor node a slot round ⊎ WasPrepared node a slot round
 

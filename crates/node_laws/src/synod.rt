@@ -25,7 +25,7 @@ pub fn votes_are_compared_exactly()
 {}
 
 /// A set of nodes is more than half of them exactly if a majority of them told of a vote, promised at a ballot, or told to the
-/// questions of a request, where it is the set of those that did.
+/// questions of a request, if it is the set of those that did.
 pub fn a_set_decides_a_majority()
     ensures votes { (nodes : ℕ) (received : List Packet) (slot : Slot) (vote : Vote) (voters : ℕ → Bool) →
         ((node : ℕ) → (voters node ≡ true) ↔ In (Voted node slot vote) received) →

@@ -91,7 +91,7 @@ abbrev pub had_fate : Option (List Decree) → Bool
 had_fate None = false
 had_fate (Some chain) = not (is_none (final_in chain))
 
--- the node that the id names writes one where it first knows a final state
+-- the node that the id names writes one when it first knows a final state
 abbrev pub receipts_of : ℕ → ℕ → Option (List Decree) → List Decree → List Receipt
 receipts_of node id before chain =
     if (node_of id == node) && not (had_fate before) then receipt_by id chain (final_in chain) (taken_in chain) else []

@@ -1,4 +1,4 @@
--- What a node does where an attempt is asked for, and where its outcome comes.
+-- What a node does if an attempt is asked for, and if its outcome comes.
 use Rattle.std.specs.Prelude.{ℕ, true, ◌==◌, ◌&&◌, not, is_some, List, [], ◌∷◌, length, Option, Some, None, if◌then◌else◌}
 use Rattle.mc_model.specs.message.Decree.{Attempt, Decree, Failed, Fate, Kind, Taken}
 use Rattle.mc_model.specs.message.Chain.{taken_in}
@@ -54,7 +54,7 @@ closed_by k slot outcome = with_message k slot.id (record (message_at k slot.id)
   closed = λ other. if other == slot.place then Some outcome else (message_at k slot.id).closed other;
 })
 
--- its decree is due where the attempt is the newest that is known
+-- its decree is due if the attempt is the newest that is known
 abbrev pub concluded : Setup → Kept → Slot → Outcome → Option (List Decree) → Option Start
 concluded setup k slot outcome None = None
 concluded setup k slot outcome (Some []) = None

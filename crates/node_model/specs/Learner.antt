@@ -14,6 +14,6 @@ abbrev pub is_shorter : Option (List Decree) → List Decree → Bool
 is_shorter None chain = true
 is_shorter (Some old) chain = nat_lt (pred (length old)) (pred (length chain))
 
--- a vote's chain becomes known where a majority told of it, and less was known
+-- a vote's chain becomes known if a majority told of it, and less was known
 abbrev pub makes_known : ℕ → Message → Vote → Bool
 makes_known nodes m vote = is_majority nodes (m.votes vote) && is_shorter m.known vote.chain

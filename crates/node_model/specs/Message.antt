@@ -20,7 +20,7 @@ pub record Message : Type 0 where
   -- the chain that is known to be chosen
   pub known : Option (List Decree)
   pub round : Option Round
-  -- the highest round at each place, of its own rounds and of refusals of its ballots; 0 where there is none
+  -- the highest round at each place, of its own rounds and of refusals of its ballots; 0 if there is none
   pub seen : List ℕ
   -- by place, which attempts of this incarnation were granted, and what came of those that are closed
   pub granted : ℕ → Bool

@@ -34,7 +34,7 @@ pub record Prepared : Type 0 where
   pub kept : Kept
   pub packets : List Packet
 
--- A round starts for a chain, where none of the message runs and there is a round left.
+-- A round starts for a chain, if none of the message runs and there is a round left.
 abbrev pub prepared_at : Setup → Kept → Slot → ℕ → List Decree → Prepared
 prepared_at setup k slot number chain = record {
   kept = with_message k slot.id (started_at (message_at k slot.id) slot number (ballot_of number k.incarnation setup.node) chain);
@@ -85,7 +85,7 @@ offered r = vote_at r.ballot (chain_offered r.highest r.own)
 abbrev pub is_own_ballot : Setup → Kept → ℕ → Bool
 is_own_ballot setup k ballot = (proposer_of ballot == setup.node) && (incarnation_in ballot == k.incarnation)
 
--- a refusal tells a round, and ends its own where it is for a greater ballot
+-- a refusal tells a round, and ends its own if it is for a greater ballot
 abbrev pub refused : Message → Slot → ℕ → ℕ → Message
 refused m slot ballot promised = record m {
   round = (if runs_at m.round slot ballot && nat_lt ballot promised then None else m.round);

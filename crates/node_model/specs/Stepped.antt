@@ -35,7 +35,7 @@ opened_new setup = opened_over (λ slot. blank) [] 1 setup.first_serial
 abbrev pub restarted : Setup → Kept → ℕ → Kept
 restarted setup k lost = opened_over k.records (keys_of k.messages) (suc (k.incarnation + lost)) setup.first_serial
 
--- what a packet leaves, where the node stops once it has saved
+-- what a packet leaves, if the node stops once it has saved
 abbrev pub saved_by : Setup → Kept → Packet → Kept
 saved_by setup k (Prepare sender slot ballot) = saved k slot (prepare_judged setup.node slot ballot (k.records slot)).after
 saved_by setup k (Propose sender slot vote) = saved k slot (propose_judged setup.node slot vote (k.records slot)).after

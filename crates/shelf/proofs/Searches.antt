@@ -80,7 +80,7 @@ module _ {V : Type 0} (xs : List (ℕ × Box V)) (key : ℕ) where
   keys_seen : keys_of (entries_of xs) ≡ keys_of xs
   keys_seen = map-map (λ e. e.0) entry_of xs
 
-  -- where the values stand in boxes
+  -- if the values stand in boxes
   pub searched_in : IsStrictlySortedBy nat_cmp (keys_of (entries_of xs)) → (r : Result ℕ ℕ) → IsSearchInRange r (length xs) →
       IsBinarySearchResult (λ e. nat_cmp e.0 key) xs r → IsFoundPlace (entries_of xs) key r
   searched_in ascends r within found = seen_found r (searched xs (subst (IsStrictlySortedBy nat_cmp) keys_seen ascends) key r within found)

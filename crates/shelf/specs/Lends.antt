@@ -1,4 +1,4 @@
--- What a shelf ends as, where a reference to one of its values is lent for writing.
+-- What a shelf ends as, if a reference to one of its values is lent for writing.
 use Rattle.std.specs.Prelude.{ℕ, Option}
 use Rattle.std.specs.Borrow.{Fml, LendsIf, MutBor, RattleType}
 use Rattle.shelf.specs.Shelved.{Shelved, with_value}

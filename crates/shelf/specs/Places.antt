@@ -18,7 +18,7 @@ entries_of entries = map entry_of entries
 abbrev pub entry_seen : {V : Type 0} → ℕ × Bor V → ℕ × V
 entry_seen entry = (entry.0, entry.1.now)
 
--- the key stands there, behind smaller ones
+-- the key stands there, after smaller ones
 pub record StandsAt {V : Type 0} (entries : List (ℕ × V)) (key place : ℕ) : Type 0 where
   pub within : place < length entries
   pub here : (d : ℕ × V) → (slice_index_or entries place d).0 ≡ key

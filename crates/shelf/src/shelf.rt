@@ -16,8 +16,8 @@ use std::mem;
 
 /// A table from numbers to values, in the order of the numbers. A value is put into it without taking memory, if there is room.
 ///
-/// A look-up costs the logarithm of how many there are. A value under a key above all others is put behind them, at no more cost as
-/// the table grows; one in the middle moves those behind it, 16 octets each.
+/// A look-up costs the logarithm of how many there are. A value under a key above all others is put after them, at no more cost as
+/// the table grows; one in the middle moves those after it, 16 octets each.
 #[derive(Drop)]
 pub struct Shelf<V> {
     entries: Vec<(u64, Box<V>)>,
