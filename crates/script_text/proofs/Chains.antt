@@ -6,7 +6,8 @@ use Rattle.std.specs.Option.{option_map}
 use Rattle.std.specs.Str.Parse.{digits_value}
 use Rattle.std.specs.declared.cmp.Ordering.{Ordering}
 use Rattle.std.specs.declared.cmp.Ordering.TheVariants.{Less, Equal, Greater}
-use Rattle.std.specs.BTreeMap.{insert_entry}
+use Rattle.std.specs.Map.{lookup}
+use Rattle.std.specs.BTreeMap.{insert_entry, is_at}
 use Rattle.std.proofs.lemmas.Bool.{and_parts, cases_order}
 use Rattle.std.proofs.lemmas.Bool.Decides.{nat_tests}
 use Rattle.std.proofs.lemmas.Map.Made.{lookup-map_values}
@@ -17,34 +18,35 @@ use Rattle.mc_types.specs.Texts.{id_in, is_id, is_ten_digits}
 use Rattle.desk.specs.Table.{Table, chain_at}
 use Rattle.desk.specs.Fates.{expired_at, with_expired}
 
-same : (k : ℕ) → is_eq (nat_cmp k k) ≡ true
+pub same : (k : ℕ) → is_eq (nat_cmp k k) ≡ true
 same k = grind (arith, nat_tests)
 
-apart : (j k : ℕ) → (j ≡ k → ⊥) → is_eq (nat_cmp k j) ≡ false
+pub apart : (j k : ℕ) → (j ≡ k → ⊥) → is_eq (nat_cmp k j) ≡ false
 apart j k differ = grind (arith, nat_tests)
 
-equal : (j k : ℕ) → nat_cmp j k ≡ Equal → j ≡ k
+pub equal : (j k : ℕ) → nat_cmp j k ≡ Equal → j ≡ k
 equal j k is = grind (arith, nat_tests)
 
-pub put_here : (table : Table) (id : ℕ) (chain : Chain) → chain_at (insert_entry nat_cmp table id chain) id ≡ Some chain
-put_here [] id chain = rw (same id) refl
-put_here (e ∷ es) id chain = at_order (nat_cmp id e.0) refl (put_here es id chain)
-  where
-    at_order : (o : Ordering) → nat_cmp id e.0 ≡ o → chain_at (insert_entry nat_cmp es id chain) id ≡ Some chain → chain_at (match_ordering o ((id, chain) ∷ e ∷ es) ((e.0, chain) ∷ es) (e ∷ insert_entry nat_cmp es id chain)) id ≡ Some chain
-    at_order Less is behind = rw (same id) refl
-    at_order Equal is behind = rw is refl
-    at_order Greater is behind = rw is behind
+module _ {X : Type 0} where
+  pub put_here : (entries : List (ℕ × X)) (id : ℕ) (value : X) → lookup (is_at (nat_cmp id)) (insert_entry nat_cmp entries id value) ≡ Some value
+  put_here [] id value = rw (same id) refl
+  put_here (e ∷ es) id value = at_order (nat_cmp id e.0) refl (put_here es id value)
+    where
+      at_order : (o : Ordering) → nat_cmp id e.0 ≡ o → lookup (is_at (nat_cmp id)) (insert_entry nat_cmp es id value) ≡ Some value → lookup (is_at (nat_cmp id)) (match_ordering o ((id, value) ∷ e ∷ es) ((e.0, value) ∷ es) (e ∷ insert_entry nat_cmp es id value)) ≡ Some value
+      at_order Less is behind = rw (same id) refl
+      at_order Equal is behind = rw is refl
+      at_order Greater is behind = rw is behind
 
-pub put_elsewhere : (table : Table) (id other : ℕ) (chain : Chain) → (id ≡ other → ⊥) → chain_at (insert_entry nat_cmp table id chain) other ≡ chain_at table other
-put_elsewhere [] id other chain differ = rw (apart id other differ) refl
-put_elsewhere (e ∷ es) id other chain differ = at_order (nat_cmp id e.0) refl (put_elsewhere es id other chain differ)
-  where
-    at_order : (o : Ordering) → nat_cmp id e.0 ≡ o → chain_at (insert_entry nat_cmp es id chain) other ≡ chain_at es other → chain_at (match_ordering o ((id, chain) ∷ e ∷ es) ((e.0, chain) ∷ es) (e ∷ insert_entry nat_cmp es id chain)) other ≡ chain_at (e ∷ es) other
-    at_order Less is behind = rw (apart id other differ) refl
-    at_order Equal is behind =
-        let not_here = apart e.0 other (λ here. differ (equal id e.0 is ∙ here)) in
-        rw not_here refl
-    at_order Greater is behind = ap (λ (found : Option Chain). cond (is_eq (nat_cmp other e.0)) (Some e.1) found) behind
+  pub put_elsewhere : (entries : List (ℕ × X)) (id other : ℕ) (value : X) → (id ≡ other → ⊥) → lookup (is_at (nat_cmp other)) (insert_entry nat_cmp entries id value) ≡ lookup (is_at (nat_cmp other)) entries
+  put_elsewhere [] id other value differ = rw (apart id other differ) refl
+  put_elsewhere (e ∷ es) id other value differ = at_order (nat_cmp id e.0) refl (put_elsewhere es id other value differ)
+    where
+      at_order : (o : Ordering) → nat_cmp id e.0 ≡ o → lookup (is_at (nat_cmp other)) (insert_entry nat_cmp es id value) ≡ lookup (is_at (nat_cmp other)) es → lookup (is_at (nat_cmp other)) (match_ordering o ((id, value) ∷ e ∷ es) ((e.0, value) ∷ es) (e ∷ insert_entry nat_cmp es id value)) ≡ lookup (is_at (nat_cmp other)) (e ∷ es)
+      at_order Less is behind = rw (apart id other differ) refl
+      at_order Equal is behind =
+          let not_here = apart e.0 other (λ here. differ (equal id e.0 is ∙ here)) in
+          rw not_here refl
+      at_order Greater is behind = ap (λ (found : Option X). cond (is_eq (nat_cmp other e.0)) (Some e.1) found) behind
 
 -- where an id is, or is not, by a test
 pub by_id : (one other : ℕ) → (one ≡ other) ⊎ (one ≡ other → ⊥)

@@ -3,3 +3,9 @@ pub mod Chains
 pub mod Fates
 pub mod Telling
 pub mod Printing
+pub mod Reacting
+pub mod Coming
+pub mod Calming
+pub mod NoLength
+pub mod Entries
+pub mod Keeping

@@ -1,11 +1,7 @@
 //! Laws of the texts of scripts: nothing to call, but to cite.
 
 ghost use Rattle.script_text.specs.Laws.{
-  DeletedStaysDeleted,
-  GoodLinesJoin,
-  JoinedLinesArePrinted,
-  NodeGoesByItsSteps,
-  OneFateIsPrinted,
+    CalmTextIsOfOneNode, DeletedStaysDeleted, GoodLinesJoin, JoinedLinesArePrinted, NodeGoesByItsSteps, OneFateIsPrinted
 };
 
 /// A script is its lines, joined: lines that join print what they are computed to print, and none of them is bad; lines of which
@@ -14,6 +10,11 @@ pub fn lines_join()
     ensures printed { JoinedLinesArePrinted }
     ensures joined { GoodLinesJoin }
     ensures nodes { NodeGoesByItsSteps }
+{}
+
+/// No line of a calm script is bad, and its text is the one-node text.
+pub fn calm_text_is_of_one_node()
+    ensures { CalmTextIsOfOneNode }
 {}
 
 /// Two final states that a script prints for one message are equal, by a query_sm_resp (SMPP 3.4, 4.8.2 and 5.2.28) or by a

@@ -3,4 +3,4 @@
 
 mod laws;
 
-pub use laws::{deleted_stays_deleted, lines_join, one_fate_is_printed};
+pub use laws::{calm_text_is_of_one_node, deleted_stays_deleted, lines_join, one_fate_is_printed};
