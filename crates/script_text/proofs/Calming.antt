@@ -1,27 +1,19 @@
 -- The frames of a line of a calm script, the line, and all its lines.
-use Rattle.std.proofs.Common.{◌≡◌, ◌⊎◌, ℕ, suc, ◌+◌, ◌<◌, ◌-◌, ◌^◌, max, Bool, true, false, cond, List, [], ◌∷◌, ◌++◌, length, map, Option, Some, None, Result, Ok, Err, inl, inr, refl, sym, ◌∙◌, ap, subst, arith, append_assoc}
-use Rattle.std.specs.Prelude.{◌==◌, ◌&&◌, find}
+use Rattle.std.proofs.Common.{◌≡◌, ℕ, Bool, true, false, List, [], ◌∷◌, ◌++◌, length, map, Option, Some, None, refl, sym, ◌∙◌, ap, subst, append_assoc}
 use Rattle.std.specs.List.{AllByRecursion}
-use Rattle.std.specs.Ordering.{nat_cmp, is_eq, match_ordering}
-use Rattle.std.specs.declared.cmp.Ordering.{Ordering}
-use Rattle.std.specs.declared.cmp.Ordering.TheVariants.{Less, Equal, Greater}
-use Rattle.std.specs.Map.{lookup, remove_entry, set_value}
-use Rattle.std.specs.BTreeMap.{insert_entry, is_at}
 use Rattle.std.proofs.lemmas.Bool.{and_parts}
 use Rattle.pdu_codec.specs.Pdu.{read_pdu}
-use Rattle.pdu_codec.specs.declared.fault.PduFault.TheVariants as faults
-use Rattle.pdu_frames.specs.Frames.{Cut, IsFrame, AreFrames, begins_wrong, cut}
+use Rattle.pdu_frames.specs.Frames.{IsFrame, AreFrames, begins_wrong, cut}
 use Rattle.pdu_frames.proofs.Streams.{streams_cut}
 use Rattle.sessions.specs.Session.{Session}
 use Rattle.sessions.specs.States.{is_gone}
-use Rattle.sessions.specs.Steps.{on_wrong_length}
 use Rattle.sessions.specs.declared.request.OpenRequest.{OpenRequest}
 use Rattle.script_text.specs.Settings.{Settings}
 use Rattle.script_text.specs.Node.{Node}
 use Rattle.script_text.specs.Prints.{Print}
-use Rattle.script_text.specs.Runner.{Owned, Served, Streamed, behind, on_done, on_frame, on_frames, on_rest}
-use Rattle.script_text.specs.Events.{Event, Comes, Ticks, Settles}
-use Rattle.script_text.specs.OneNode.{Happened, OneNode, account_at, happen, happens}
+use Rattle.script_text.specs.Runner.{Owned, Streamed, on_frame, on_frames}
+use Rattle.script_text.specs.Events.{Event, Comes}
+use Rattle.script_text.specs.OneNode.{OneNode, account_at, happen, happens}
 use Rattle.script_text.specs.Calm.{are_calm, event_stir, may_happen, quiet_after, quiet_by, read_stir}
 use Rattle.script_text.proofs.Reacting.{like}
 use Rattle.script_text.proofs.Coming.{Agree, Came, IsQuiet, frame_comes, requests_at}

@@ -13,7 +13,6 @@ use Rattle.std.proofs.lemmas.Bool.Decides.{nat_tests}
 use Rattle.std.proofs.lemmas.Map.Made.{lookup-map_values}
 use Rattle.mc_model.specs.message.Ids.{id_of, incarnation_of, node_of, serial_of}
 use Rattle.mc_model.specs.message.Decree.{Author}
-use Rattle.mc_model.specs.message.Chain.{Chain}
 use Rattle.mc_types.specs.Texts.{id_in, is_id, is_ten_digits}
 use Rattle.desk.specs.Table.{Table, chain_at}
 use Rattle.desk.specs.Fates.{expired_at, with_expired}

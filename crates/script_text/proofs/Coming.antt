@@ -1,8 +1,7 @@
 -- One frame of a calm script: the runner and the one node answer it alike.
-use Rattle.std.proofs.Common.{◌≡◌, ◌⊎◌, ℕ, suc, ◌+◌, ◌<◌, ◌-◌, ◌^◌, Bool, true, false, cond, List, [], ◌∷◌, ◌++◌, Option, Some, None, Result, Ok, Err, inl, inr, refl, sym, ◌∙◌, ap, subst, arith}
+use Rattle.std.proofs.Common.{◌≡◌, ℕ, suc, ◌+◌, ◌<◌, ◌-◌, ◌^◌, Bool, true, false, cond, List, [], ◌∷◌, ◌++◌, Option, Some, None, Result, Ok, Err, inl, inr, refl, sym, ◌∙◌, ap, subst, arith}
 use Rattle.std.specs.Prelude.{◌==◌, is_some}
 use Rattle.std.specs.Str.{bytes_eq}
-use Rattle.std.proofs.lemmas.Bool.{eq-eqb}
 use Rattle.std.proofs.lemmas.Bool.Decides.{nat_tests}
 use Rattle.mc_model.specs.message.Ids.{id_of}
 use Rattle.mc_types.specs.Texts.{id_in}
@@ -21,12 +20,12 @@ use Rattle.pdu_codec.specs.declared.pdu.Cancel.{Cancel as Cancellation}
 use Rattle.pdu_codec.specs.declared.pdu.Pdu.{Pdu}
 use Rattle.sessions.specs.Session.{Session}
 use Rattle.sessions.specs.Responses.{requested_by}
-use Rattle.sessions.specs.Steps.{Done, on_fault, on_pdu}
+use Rattle.sessions.specs.Steps.{Done, on_pdu}
 use Rattle.sessions.specs.declared.request.OpenRequest.{OpenRequest}
 use Rattle.sessions.specs.declared.requested.Requested.{Requested}
 use Rattle.sessions.specs.declared.requested.Requested.TheVariants as requests
 use Rattle.sessions.specs.declared.response.Outgoing.{Outgoing}
-use Rattle.desk.specs.Desk.{Begins, Desk, asked, begins, cancelled, cancelled_by, chain_begun, is_busy, message_at, query_answer, refused, submission_of, submit_judged, submitted, waits, waits_with}
+use Rattle.desk.specs.Desk.{asked, cancelled, cancelled_by, chain_begun, is_busy, message_at, query_answer, refused, submission_of, submit_judged, submitted}
 use Rattle.desk.specs.Table.{Table, with_chain}
 use Rattle.desk.specs.Times.{Times}
 use Rattle.desk.specs.declared.request.Answer.{Answer}
@@ -36,11 +35,11 @@ use Rattle.desk.specs.declared.request.Reply.{Reply}
 use Rattle.desk.specs.declared.request.Request.{Request}
 use Rattle.desk.specs.declared.request.Request.TheVariants.{Submit, Ask, Cancel}
 use Rattle.script_text.specs.Settings.{Settings}
-use Rattle.script_text.specs.Node.{Node, Step, Arrives, begins_at, with_begun}
-use Rattle.script_text.specs.Prints.{Print, AtOnce, Late}
+use Rattle.script_text.specs.Node.{Node, Step, Arrives, begins_at}
+use Rattle.script_text.specs.Prints.{Print, Late}
 use Rattle.script_text.specs.Responses.{answer_pdu}
 use Rattle.script_text.specs.Runner.{Owned, Served, begun_at, on_begun, on_done, on_frame, on_read, reply_prints, request_of}
-use Rattle.script_text.specs.Events.{Event, Comes}
+use Rattle.script_text.specs.Events.{Comes}
 use Rattle.script_text.specs.OneNode.{Happened, OneNode, account_at, author, came, done_by, happens, owes, refuses, session_of, with_account}
 use Rattle.script_text.specs.OneNode as one_node
 use Rattle.script_text.specs.Calm.{Stir, Still, Stirs, Never, body_stir, may_happen, quiet_by, read_stir, stirs_if}
@@ -196,9 +195,6 @@ RequestComes settings left number one name version given requested sequence requ
     (one_node.asked settings one number requested sequence name request)
 
 module _ (settings : Settings) (left number : ℕ) (one : OneNode) (name : List ℕ) (version given : ℕ) (requested : Requested) (sequence : ℕ) (room : given + suc left < 2 ^ 64 - 1) (owed : one.owed ≡ []) (bound : account_at one number ≡ Some name) where
-  node : Node
-  node = node_of settings one given []
-
   refuses_so : (step : Step) (status : Status) → Came settings left number false one None (on_begun number (node_of settings one given []) (like (Some name) version []) requested sequence step (Refused status)) (refuses one number requested sequence status)
   refuses_so step status = refuse_comes settings left number one (node_of settings one given []) name version requested sequence step status (record { given = given; waiting = []; node_is = refl; room = omega (arith, room); owes = (refl, owed) }) bound
 

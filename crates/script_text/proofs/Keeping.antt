@@ -1,9 +1,9 @@
 -- Line after line of a calm script, the runner goes as the one node does, and prints what it prints.
-use Rattle.std.proofs.Common.{◌≡◌, ◌⊎◌, ℕ, suc, ◌+◌, ◌<◌, ◌-◌, ◌^◌, max, Bool, true, false, cond, List, [], ◌∷◌, ◌++◌, length, map, Option, Some, None, Result, Ok, Err, inl, inr, refl, sym, ◌∙◌, ap, subst, arith, append_assoc, append-nil}
-use Rattle.std.specs.Prelude.{◌==◌, ◌&&◌, find}
+use Rattle.std.proofs.Common.{◌≡◌, ◌⊎◌, ℕ, suc, ◌<◌, ◌-◌, ◌^◌, max, Bool, true, false, cond, List, [], ◌∷◌, ◌++◌, length, map, Option, Some, None, inl, inr, refl, sym, ◌∙◌, ap, subst, arith}
+use Rattle.std.specs.Prelude.{◌==◌, find}
 use Rattle.std.specs.List.{AllByRecursion}
 use Rattle.std.specs.Option.{option_map}
-use Rattle.std.specs.Ordering.{nat_cmp, is_eq}
+use Rattle.std.specs.Ordering.{nat_cmp}
 use Rattle.std.specs.Map.{lookup, remove_entry, set_value}
 use Rattle.std.specs.BTreeMap.{insert_entry, is_at}
 use Rattle.std.proofs.lemmas.Bool.{and_parts}
@@ -18,14 +18,14 @@ use Rattle.desk.specs.declared.request.Reply.{Reply}
 use Rattle.script_text.specs.Settings.{Settings, script_settings}
 use Rattle.script_text.specs.Node.{Node, settled, ticked}
 use Rattle.script_text.specs.Prints.{Print, text_of_prints}
-use Rattle.script_text.specs.Runner.{Acted, Owned, Runner, Streamed, Told, found_at, held_in, holding, in_front, kept, on_cut, on_octets, on_settle, on_tick, or_nothing, owner_of, replied, replied_at, reply_prints, session_in, session_or_opened, told, without}
-use Rattle.script_text.specs.Events.{Event, Comes, Ticks, Settles, Heard, Play, and_then, events_from, heard_by, heard_of, play_from, play_of, play_of_lines}
+use Rattle.script_text.specs.Runner.{Owned, Runner, Streamed, found_at, held_in, holding, kept, on_cut, on_octets, on_settle, or_nothing, owner_of, replied, replied_at, reply_prints, session_in, session_or_opened, told, without}
+use Rattle.script_text.specs.Events.{Event, Comes, Ticks, Settles, Play, and_then, events_from, heard_by, play_from, play_of_lines}
 use Rattle.script_text.specs.OneNode.{OneNode, account_at, at_clock, happen, happens, one_node, one_node_text, played, prints_if}
-use Rattle.script_text.specs.Calm.{IsCalm, are_calm, event_stir, may_happen, quiet_after}
-use Rattle.script_text.specs.Script.{Stage, Stepped, after, bad_from, bad_line, opened, prints_from, prints_of, step_by, step_of, text_of}
+use Rattle.script_text.specs.Calm.{IsCalm, are_calm, event_stir, may_happen}
+use Rattle.script_text.specs.Script.{Stepped, after, bad_from, bad_line, opened, prints_from, step_by, step_of, text_of}
 use Rattle.script_text.proofs.Chains.{apart, by_id, put_elsewhere, put_here}
 use Rattle.script_text.proofs.Reacting.{like}
-use Rattle.script_text.proofs.Coming.{Agree, IsQuiet, Owes, fewer, here, node_of, not_here, requests_at}
+use Rattle.script_text.proofs.Coming.{Agree, IsQuiet, Owes, fewer, here, not_here, requests_at}
 use Rattle.script_text.proofs.Calming.{Went, cut_whole, frames_go, like_stays}
 use Rattle.script_text.proofs.Entries.{AreApart, IsNot, all_to, insert_all, insert_apart, remove_all, remove_apart, remove_elsewhere, set_all, set_apart, set_elsewhere, set_here}
 
@@ -153,16 +153,18 @@ unfolding on_settle
 settle_leaves settings left quiet one streams runner runs =
     let agree = fewer settings left one runs.holds runner.node runs.agree in
     let waits : runner.node.desk.waiting ≡ agree.waiting = ap (λ (node : Node). node.desk.waiting) agree.node_is in
-    let (settled_so, prints) = told_settles one runner.sessions runner.node.desk.waiting runs.holds (subst (λ (w : List Reply). Owes w runs.holds one.owed) (sym waits) agree.owes) runs.sessions runs.entries runs.distinct in
-    (record {
-      holds = None;
-      agree = record { given = agree.given; waiting = []; node_is = ap settled agree.node_is; room = agree.room; owes = (refl, refl) };
-      still = refl;
-      held = runs.held;
-      sessions = settled_so.sessions;
-      entries = settled_so.entries;
-      distinct = settled_so.distinct;
-    }, prints)
+    let (settled_so, prints) = told_settles one runner.sessions runner.node.desk.waiting runs.holds (subst (λ (w : List Reply). Owes w runs.holds one.owed) (sym waits) agree.owes) runs.sessions runs.entries runs.distinct in (
+      record {
+        holds = None;
+        agree = record { given = agree.given; waiting = []; node_is = ap settled agree.node_is; room = agree.room; owes = (refl, refl) };
+        still = refl;
+        held = runs.held;
+        sessions = settled_so.sessions;
+        entries = settled_so.entries;
+        distinct = settled_so.distinct;
+      },
+      prints,
+    )
 
 -- ---- lines
 
@@ -226,9 +228,9 @@ said_calm settings lines behind streams quiet one runner events number (Some (Ti
     tail_of (SaidCalm settings lines streams quiet one runner number (Some (Tick moment))) (Ticks moment ∷ []) (events_from streams lines) events (λ tail tail_is runs calm. behind streams false (at_clock one (max one.clock moment)) (record runner { node = ticked runner.node moment }) tail (suc number) (tick_leaves settings (length tail) quiet one streams runner moment runs) tail_is (and_parts (may_happen quiet (event_stir (Ticks moment))) (are_calm false tail) calm).1) is
 said_calm settings lines behind streams quiet one runner events number (Some Settle) is =
     tail_of (SaidCalm settings lines streams quiet one runner number (Some Settle)) (Settles ∷ []) (events_from streams lines) events (λ tail tail_is runs calm.
-      let (leaves, prints) = settle_leaves settings (length tail) quiet one streams runner runs in
-      let later = behind streams true (record one { owed = [] }) (on_settle runner).next tail (suc number) leaves tail_is (and_parts (may_happen quiet (event_stir Settles)) (are_calm true tail) calm).1 in
-      (ap (λ (first : List Print). first ++ prints_from settings (Some (on_settle runner).next) lines) prints ∙ ap (λ (others : List Print). one.owed ++ others) later.0, later.1)) is
+    let (leaves, prints) = settle_leaves settings (length tail) quiet one streams runner runs in
+    let later = behind streams true (record one { owed = [] }) (on_settle runner).next tail (suc number) leaves tail_is (and_parts (may_happen quiet (event_stir Settles)) (are_calm true tail) calm).1 in
+    (ap (λ (first : List Print). first ++ prints_from settings (Some (on_settle runner).next) lines) prints ∙ ap (λ (others : List Print). one.owed ++ others) later.0, later.1)) is
 said_calm settings lines behind streams quiet one runner events number (Some (Octets session octets)) is = at_wrong (begins_wrong stream.rest) refl is
   where
     stream : Cut

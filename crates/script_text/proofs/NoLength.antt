@@ -19,6 +19,7 @@ use Rattle.pdu_codec.specs.Bodies.{body_from, body_at}
 use Rattle.pdu_codec.specs.Pdu.{has_wrong_length, read_pdu}
 use Rattle.pdu_frames.specs.Frames.{IsFrame}
 use Rattle.std.proofs.lemmas.Bool.{le-ltb, eq-eqb}
+use Rattle.pdu_codec.proofs.PduLaws.{with_body}
 use Rattle.pdu_frames.proofs.Fronts.{within_limits}
 
 abbrev pub IsNoLength : {A : Type 0} → Result A PduFault → Type 0
@@ -132,10 +133,7 @@ not_chosen : {A : Type 0} (b : Bool) (x y : Result A PduFault) → b ≡ false �
 not_chosen true x y is free = absurd cc
 not_chosen false x y is free = free
 
-with_body : List ℕ → Body → Pdu
-with_body octets body = record { status = word_at 8 octets; sequence = word_at 12 octets; body = body }
-
 pub whole_frame : (octets : List ℕ) → IsFrame octets → IsNoLength {A = Pdu} (read_pdu octets)
-unfolding read_pdu with_body
+unfolding read_pdu
 whole_frame octets frame =
     not_chosen (has_wrong_length octets) (Err faults.Length) (body_at (command_of (word_at 4 octets)) (drop 16 octets) >>= λ b. Ok (with_body octets b)) (right_length octets frame) (bind (body_at (command_of (word_at 4 octets)) (drop 16 octets)) (λ b. Ok (with_body octets b)) (body (command_of (word_at 4 octets)) (drop 16 octets)) (λ b. ok (with_body octets b)))

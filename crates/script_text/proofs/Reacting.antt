@@ -1,15 +1,9 @@
 -- What a session of a calm script does when a PDU comes, whatever waits in its window.
-use Rattle.std.proofs.Common.{◌≡◌, ◌⊎◌, ℕ, ◌+◌, ◌<◌, ◌-◌, ◌^◌, Bool, true, false, cond, List, [], ◌∷◌, ◌++◌, Option, Some, None, Result, Ok, Err, inl, inr, refl, sym, ◌∙◌, ap, subst, arith}
-use Rattle.std.specs.Prelude.{◌==◌}
-use Rattle.std.specs.Str.{bytes_eq}
-use Rattle.std.proofs.lemmas.Bool.Decides.{nat_tests}
-use Rattle.mc_model.specs.message.Ids.{id_of}
-use Rattle.mc_types.specs.Texts.{id_in}
+use Rattle.std.proofs.Common.{◌≡◌, ◌⊎◌, ℕ, Bool, true, cond, List, Option, Some, None, inl, inr, refl}
 use Rattle.accounts.specs.Accounts.{account_of, bind_refusal}
 use Rattle.accounts.specs.declared.account.Account.{Account}
 use Rattle.accounts.specs.declared.role.Role.TheVariants as roles
 use Rattle.pdu_tables.specs.declared.status.Status.{Status}
-use Rattle.pdu_tables.specs.declared.status.Status.TheVariants as statuses
 use Rattle.pdu_codec.specs.declared.fault.PduFault.{PduFault}
 use Rattle.pdu_codec.specs.declared.fault.PduFault.TheVariants as faults
 use Rattle.pdu_codec.specs.declared.pdu.Bind.{Bind}
@@ -24,11 +18,10 @@ use Rattle.sessions.specs.declared.reaction.Reaction.{Reaction}
 use Rattle.sessions.specs.declared.reaction.Reaction.TheVariants as reactions
 use Rattle.sessions.specs.declared.request.OpenRequest.{OpenRequest}
 use Rattle.sessions.specs.declared.requested.Requested.{Requested}
-use Rattle.sessions.specs.declared.requested.Requested.TheVariants as requests
 use Rattle.sessions.specs.declared.response.Outgoing.{Outgoing}
 use Rattle.sessions.specs.declared.response.Response.{Response}
 use Rattle.script_text.specs.OneNode.{session_of}
-use Rattle.script_text.specs.Calm.{Stir, Still, Stirs, Never, body_stir, may_happen}
+use Rattle.script_text.specs.Calm.{body_stir, may_happen}
 
 -- a session as the one-node text has it, with another interface_version and with requests that wait
 abbrev pub like : Option (List ℕ) → ℕ → List OpenRequest → Session

@@ -1,7 +1,12 @@
 //! Laws of the texts of scripts: nothing to call, but to cite.
 
 ghost use Rattle.script_text.specs.Laws.{
-    CalmTextIsOfOneNode, DeletedStaysDeleted, GoodLinesJoin, JoinedLinesArePrinted, NodeGoesByItsSteps, OneFateIsPrinted
+  CalmTextIsOfOneNode,
+  DeletedStaysDeleted,
+  GoodLinesJoin,
+  JoinedLinesArePrinted,
+  NodeGoesByItsSteps,
+  OneFateIsPrinted,
 };
 
 /// A script is its lines, joined: lines that join print what they are computed to print, and none of them is bad; lines of which
