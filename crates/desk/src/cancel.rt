@@ -56,7 +56,8 @@ impl Desk {
         self.waiting.reserve(1)?;
         let answer = self.cancelled_by(chains, account, now, cancel, id)?;
         let ticket = self.given + 1;
-        self.waiting.push_back_reserved(Reply { ticket, id, answer });
+        self.waiting
+            .push_back_reserved(Reply { ticket, id, answer });
         self.given = ticket;
         Ok(Begun::Waits(ticket))
     }

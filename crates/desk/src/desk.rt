@@ -5,7 +5,7 @@ ghost use Rattle.fate_chain.specs.Kinds.{author_of};
 ghost use Rattle.desk.specs.Fates.{with_expired};
 ghost use Rattle.desk.specs.Desk.{author_at, begins, is_busy};
 
-use crate::request::{Begun, Request, Reply};
+use crate::request::{Begun, Reply, Request};
 use crate::table::Chains;
 use fate_chain::Author;
 use mc_types::{Incarnation, Moment, NodeNo};

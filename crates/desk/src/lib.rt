@@ -15,5 +15,5 @@ pub use desk::Desk;
 pub use laws::{
     fates_are_permitted, owners_are_those_of_the_rules, tickets_are_distinct, unrouted_are_refused,
 };
-pub use request::{Answer, Begun, Request, Reply};
+pub use request::{Answer, Begun, Reply, Request};
 pub use table::Chains;

@@ -260,11 +260,23 @@ fn a_message_is_cancelled_twice(rt: HostRuntime) -> Result<(), Fail> {
         &[
             (Asked::Submit(0), FIRST, Answer::Accepted),
             (Asked::Cancel(NINTH, b"144", b"155"), NINTH, Answer::Unknown),
-            (Asked::Cancel(FIRST, b"145", b"155"), FIRST, Answer::NotMatched),
-            (Asked::Cancel(FIRST, b"144", b"156"), FIRST, Answer::NotMatched),
+            (
+                Asked::Cancel(FIRST, b"145", b"155"),
+                FIRST,
+                Answer::NotMatched,
+            ),
+            (
+                Asked::Cancel(FIRST, b"144", b"156"),
+                FIRST,
+                Answer::NotMatched,
+            ),
             (Asked::Cancel(FIRST, b"144", b"155"), FIRST, Answer::Removed),
             (Asked::Cancel(FIRST, b"144", b"155"), FIRST, Answer::Removed),
-            (Asked::Cancel(FIRST, b"145", b"155"), FIRST, Answer::NotMatched),
+            (
+                Asked::Cancel(FIRST, b"145", b"155"),
+                FIRST,
+                Answer::NotMatched,
+            ),
             (Asked::Cancel(FIRST, b"144", b""), FIRST, Answer::Removed),
             (
                 Asked::Query(FIRST, b"144"),

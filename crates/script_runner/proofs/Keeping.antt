@@ -11,7 +11,7 @@ use Rattle.sessions.specs.States.{is_gone}
 use Rattle.script_text.specs.Settings.{Settings}
 use Rattle.script_text.specs.Node.{Node}
 use Rattle.script_text.specs.Prints.{text_of_prints}
-use Rattle.script_text.specs.Runner.{Acted, Runner, Streamed, acted, held_in, kept, on_cut, on_octets, session_in, without}
+use Rattle.script_text.specs.Runner.{Runner, Streamed, held_in, kept, on_cut, on_octets, session_in, without}
 use Rattle.script_runner.specs.Centre.{IsDone, IsStreamed, with_kept}
 
 -- what is kept is what serving left

@@ -8,7 +8,7 @@ use Rattle.std.specs.Io.KnownBytes.{Consumes, Appends, Keeps, IsAtEnd}
 use Rattle.script_lines.specs.Lines.{Held, Grew, NeedsMore, lines_of, BeginsWithLine, IsLastLine, BeginsTooLong, LinesAreRead}
 use Rattle.std.proofs.lemmas.Grind.{flat_map-append}
 use Rattle.script_text.specs.Settings.{script_settings}
-use Rattle.script_text.specs.Prints.{Print, line_of, text_of_prints}
+use Rattle.script_text.specs.Prints.{line_of, text_of_prints}
 use Rattle.script_text.specs.Script.{Stage, Stepped, after, step_of, prints_from, bad_from, text_of, bad_line}
 use Rattle.script_lines.specs.Said.{Said, said_of}
 use Rattle.script_runner.specs.Outcome.{AreLines, Writes, WritesLine, IsWhole, IsDecided, StopsAt, StopsBetween, StopsInLine, IsOutcome}

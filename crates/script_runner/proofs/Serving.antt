@@ -17,11 +17,10 @@ use Rattle.pdu_frames.proofs.Streams.{frames_one, streams_cut}
 use Rattle.sessions.specs.Session.{Session}
 use Rattle.sessions.specs.States.{is_gone}
 use Rattle.sessions.specs.Responses.{requested_by}
-use Rattle.sessions.specs.Steps.{Done, Reacts, on_fault, on_pdu, on_wrong_length}
+use Rattle.sessions.specs.Steps.{Done, on_fault, on_pdu, on_wrong_length}
 use Rattle.sessions.specs.declared.reaction.Reaction.{Reaction}
 use Rattle.sessions.specs.declared.requested.Requested.{Requested}
 use Rattle.sessions.specs.declared.reaction.Reaction.TheVariants.{Nothing, Respond, Leave, Ask, Answered}
-use Rattle.desk.specs.declared.request.Request.{Request}
 use Rattle.script_text.specs.Settings.{Settings}
 use Rattle.script_text.specs.Node.{Node}
 use Rattle.script_text.specs.Prints.{line_of, text_of_prints}
@@ -150,10 +149,9 @@ after_frame : (settings : Settings) (number : ℕ) (all : Streamed) (before : Li
     → is_gone remains.state ≡ false → Continues settings number all before left remains after told
 after_frame settings number all before node left session remains frame after text told so is done stays =
     let served = first_frame settings number node session frame after is ∙ frame_stays settings number node session frame (cut after).rest (cut after).frames (ap (λ (s : Session). is_gone s.state) (sym done.session) ∙ stays) in
-    
     rw (done.node, done.session, done.text)
     (let next : Continues settings number all before (on_frame settings number node session frame).node (on_frame settings number node session frame).session after
-          (text ++ text_of_prints (on_frame settings number node session frame).prints) = record {
+    (text ++ text_of_prints (on_frame settings number node session frame).prints) = record {
       left = ap (λ (s : Streamed). s.served.node) (sym served) ∙ so.left;
       remains = ap (λ (s : Streamed). s.served.session) (sym served) ∙ so.remains;
       waits = ap (λ (s : Streamed). s.held) (sym served) ∙ so.waits;
@@ -206,7 +204,7 @@ pub after_wrong : (settings : Settings) (number : ℕ) (all : Streamed) (before 
 unfolding on_frames
 after_wrong settings number all before node session remains octets text told held so wrong done =
     let here : on_cut settings number node session (cut octets) ≡ record { served = on_done settings number node 0 None (on_wrong_length session); held = [] } =
-      rw (rest_cut octets (inr wrong), wrong_begins octets wrong) refl in
+    rw (rest_cut octets (inr wrong), wrong_begins octets wrong) refl in
     let served = left_served settings number node (on_wrong_length session) remains text told done in
     record {
       served = record {

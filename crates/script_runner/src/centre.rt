@@ -56,7 +56,16 @@ impl Centre {
         let Ok(mut framer) = self.streams.take_out(alloc, number) else {
             return Err(AllocError);
         };
-        serve(alloc, config, number, &mut self.node, &mut session, &mut framer, octets, text)?;
+        serve(
+            alloc,
+            config,
+            number,
+            &mut self.node,
+            &mut session,
+            &mut framer,
+            octets,
+            text,
+        )?;
         self.keep(number, session, framer)
     }
 

@@ -37,11 +37,27 @@ pub fn run_script<R: Read, W: Write>(
             Found::TooLong => return Err(ScriptFault::BadLine(number + 1)),
             Found::Last(count) => {
                 let line = &buffer.octets()[..count];
-                return write_line(alloc, &config, &mut stage, line, number + 1, &mut text, writer);
+                return write_line(
+                    alloc,
+                    &config,
+                    &mut stage,
+                    line,
+                    number + 1,
+                    &mut text,
+                    writer,
+                );
             }
             Found::Line(count) => {
                 let line = &buffer.octets()[..count];
-                write_line(alloc, &config, &mut stage, line, number + 1, &mut text, writer)?;
+                write_line(
+                    alloc,
+                    &config,
+                    &mut stage,
+                    line,
+                    number + 1,
+                    &mut text,
+                    writer,
+                )?;
                 buffer.take_off(count + 1);
                 number += 1;
             }

@@ -128,7 +128,9 @@ fn serve_pdu(
     };
     match reaction {
         Reaction::Ask(requested) => {
-            ask(alloc, config, number, node, session, requested, sequence, pdu.body, text)
+            ask(
+                alloc, config, number, node, session, requested, sequence, pdu.body, text,
+            )
         }
         other => {
             drop(pdu);
@@ -161,7 +163,13 @@ fn ask(
     match node.begin(alloc, account, request)? {
         Begun::Refused(status) => {
             let response = Response::Refused(requested, status);
-            write_outgoing(alloc, text, number, &config.system_id, Outgoing { sequence, response })
+            write_outgoing(
+                alloc,
+                text,
+                number,
+                &config.system_id,
+                Outgoing { sequence, response },
+            )
         }
         Begun::Waits(ticket) => {
             let open = OpenRequest {

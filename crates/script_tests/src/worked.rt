@@ -18,12 +18,12 @@ pub struct Row {
 pub fn rows(alloc: Global) -> Result<Vec<Row>, Fail> {
     let mut rows = Vec::new(alloc);
     for line in ROWS.lines() {
-        rows.push(row(alloc, line)?)?;
+        rows.push(row_of(alloc, line)?)?;
     }
     Ok(rows)
 }
 
-fn row(alloc: Global, line: &'static str) -> Result<Row, Fail> {
+fn row_of(alloc: Global, line: &'static str) -> Result<Row, Fail> {
     let (name, rest) = line.split_once('|').ok_or("a name")?;
     let (script, rest) = rest.split_once('|').ok_or("a script")?;
     let (output, rest) = rest.split_once('|').ok_or("an output")?;

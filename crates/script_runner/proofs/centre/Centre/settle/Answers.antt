@@ -1,5 +1,4 @@
-use Rattle.std.proofs.Common.{Some, None, ap, sym, ◌∙◌, ◌++◌}
-use Rattle.std.specs.Option.{option_map}
+use Rattle.std.proofs.Common.{Some}
 use Rattle.script_text.specs.Responses.{answer_pdu}
 use Rattle.script_runner.specs.Centre.{owned_by, runner_of}
 use Rattle.script_runner.proofs.Settling.{all_settled, none_settled, one_settled, one_told}
