@@ -34,13 +34,13 @@ pub record Went (settings : Settings) (number : ℕ) (one : OneNode) (owned : Op
   pub accounts : (other : ℕ) → (number ≡ other → ⊥) → account_at next other ≡ account_at one other
   pub requests : (other : ℕ) → (number ≡ other → ⊥) → requests_at holds other ≡ requests_at owned other
   pub still : IsQuiet quiet holds
-  pub calm : are_calm quiet later ≡ true
+  pub calm : are_calm settings next quiet later ≡ true
 
 pub like_stays : (account : Option (List ℕ)) (version : ℕ) (requests : List OpenRequest) → is_gone (like account version requests).state ≡ false
 like_stays None version requests = refl
 like_stays (Some name) version requests = refl
 
-pub frames_go : (settings : Settings) (number : ℕ) (quiet : Bool) (one : OneNode) (owned : Option Owned) (node : Node) (session : Session) (version : ℕ) (frames : List (List ℕ)) (rest : List ℕ) (later : List Event) → begins_wrong rest ≡ false → AllByRecursion IsFrame frames → Agree settings (length (map (Comes number) frames ++ later)) one owned node → IsQuiet quiet owned → are_calm quiet (map (Comes number) frames ++ later) ≡ true → session ≡ like (account_at one number) version (requests_at owned number) → Went settings number one owned (on_frames settings number node session frames rest) later (map (Comes number) frames ++ later) rest
+pub frames_go : (settings : Settings) (number : ℕ) (quiet : Bool) (one : OneNode) (owned : Option Owned) (node : Node) (session : Session) (version : ℕ) (frames : List (List ℕ)) (rest : List ℕ) (later : List Event) → begins_wrong rest ≡ false → AllByRecursion IsFrame frames → Agree settings (length (map (Comes number) frames ++ later)) one owned node → IsQuiet quiet owned → are_calm settings one quiet (map (Comes number) frames ++ later) ≡ true → session ≡ like (account_at one number) version (requests_at owned number) → Went settings number one owned (on_frames settings number node session frames rest) later (map (Comes number) frames ++ later) rest
 unfolding on_frames are_calm happen
 frames_go settings number quiet one owned node session version [] rest later right all agree still calm is = rw right (record {
   next = one;
@@ -57,11 +57,11 @@ frames_go settings number quiet one owned node session version [] rest later rig
   calm = calm;
 })
 frames_go settings number quiet one owned node session version (frame ∷ frames) rest later right all agree still calm is =
-    let parts = and_parts (may_happen quiet (event_stir (Comes number frame))) (are_calm (quiet_after quiet (Comes number frame)) (map (Comes number) frames ++ later)) calm in
-    let came : Came settings (length (map (Comes number) frames ++ later)) number (quiet_by quiet (read_stir (read_pdu frame))) one owned (on_frame settings number node session frame) (happens settings one (Comes number frame)) = subst (λ (s : Session). Came settings (length (map (Comes number) frames ++ later)) number (quiet_by quiet (read_stir (read_pdu frame))) one owned (on_frame settings number node s frame) (happens settings one (Comes number frame))) (sym is) (frame_comes settings (length (map (Comes number) frames ++ later)) number quiet one owned node version frame (whole_frame frame all.0) agree still parts.0) in
+    let parts = and_parts (may_happen quiet (event_stir settings one (Comes number frame))) (are_calm settings (happens settings one (Comes number frame)).next (quiet_after settings one quiet (Comes number frame)) (map (Comes number) frames ++ later)) calm in
+    let came : Came settings (length (map (Comes number) frames ++ later)) number (quiet_by quiet (read_stir settings.accounts (account_at one number) (read_pdu frame))) one owned (on_frame settings number node session frame) (happens settings one (Comes number frame)) = subst (λ (s : Session). Came settings (length (map (Comes number) frames ++ later)) number (quiet_by quiet (read_stir settings.accounts (account_at one number) (read_pdu frame))) one owned (on_frame settings number node s frame) (happens settings one (Comes number frame))) (sym is) (frame_comes settings (length (map (Comes number) frames ++ later)) number quiet one owned node version frame (whole_frame frame all.0) agree still parts.0) in
     let next = (happens settings one (Comes number frame)).next in
     let served = on_frame settings number node session frame in
-    let went = frames_go settings number (quiet_by quiet (read_stir (read_pdu frame))) next came.holds served.node served.session came.version frames rest later right all.1 came.agree came.still parts.1 came.session in
+    let went = frames_go settings number (quiet_by quiet (read_stir settings.accounts (account_at one number) (read_pdu frame))) next came.holds served.node served.session came.version frames rest later right all.1 came.agree came.still parts.1 came.session in
     let stays : is_gone (on_frame settings number node session frame).session.state ≡ false = ap (λ (s : Session). is_gone s.state) came.session ∙ like_stays (account_at next number) came.version (requests_at came.holds number) in
     rw stays (record {
       next = went.next;

@@ -5,6 +5,7 @@ use Rattle.std.specs.Str.{bytes_eq}
 use Rattle.std.proofs.lemmas.Bool.Decides.{nat_tests}
 use Rattle.mc_model.specs.message.Ids.{id_of}
 use Rattle.mc_types.specs.Texts.{id_in}
+use Rattle.accounts.specs.declared.account.Account.{Account}
 use Rattle.pdu_tables.specs.CommandCodes.{command_of}
 use Rattle.pdu_tables.specs.declared.status.Status.{Status}
 use Rattle.pdu_tables.specs.declared.status.Status.TheVariants as statuses
@@ -232,18 +233,18 @@ quiet_kept quiet Never owned is_quiet = is_quiet
 -- what a PDU of this body comes to, for an account
 abbrev BodyComes : Settings → ℕ → ℕ → Bool → OneNode → Option Owned → Node → Option (List ℕ) → ℕ → Pdu → Body → Type 0
 BodyComes settings left number quiet one owned node account version pdu body =
-    Came settings left number (quiet_by quiet (body_stir body)) one owned
+    Came settings left number (quiet_by quiet (body_stir settings.accounts account body)) one owned
     (on_done settings number node pdu.sequence (request_of settings body) (on_pdu settings.accounts (like account version (requests_at owned number)) (record pdu { body = body })))
     (done_by settings one number pdu.sequence (request_of settings body) (on_pdu settings.accounts (session_of account) (record pdu { body = body })))
 
-asked_now : (settings : Settings) (left number : ℕ) (one : OneNode) (name : List ℕ) (version given : ℕ) (pdu : Pdu) (body : Body) → given + suc left < 2 ^ 64 - 1 → one.owed ≡ [] → account_at one number ≡ Some name → IsAsked (Some name) body → may_happen true (body_stir body) ≡ true → BodyComes settings left number true one None (node_of settings one given []) (Some name) version pdu body
+asked_now : (settings : Settings) (left number : ℕ) (one : OneNode) (name : List ℕ) (version given : ℕ) (pdu : Pdu) (body : Body) → given + suc left < 2 ^ 64 - 1 → one.owed ≡ [] → account_at one number ≡ Some name → IsAsked (Some name) body → may_happen true (body_stir settings.accounts (Some name) body) ≡ true → BodyComes settings left number true one None (node_of settings one given []) (Some name) version pdu body
 asked_now settings left number one name version given pdu (bodies.SubmitSm message) room owed bound asked may = submit_comes settings left number one name version given requests.SubmitSm pdu.sequence room owed bound message _
 asked_now settings left number one name version given pdu (bodies.QuerySm query) room owed bound asked may = at_id (id_in query.message_id) refl may
   where
     at_id : (found : Option ℕ) → id_in query.message_id ≡ found → may_happen true (stirs_if (is_some found)) ≡ true → BodyComes settings left number true one None (node_of settings one given []) (Some name) version pdu (bodies.QuerySm query)
     at_id None is may = absurd cc
     at_id (Some id) is may =
-        let stirs : quiet_by true (body_stir (bodies.QuerySm query)) ≡ false = ap (λ (f : Option ℕ). quiet_by true (stirs_if (is_some f))) is in
+        let stirs : quiet_by true (body_stir settings.accounts (Some name) (bodies.QuerySm query)) ≡ false = ap (λ (f : Option ℕ). quiet_by true (stirs_if (is_some f))) is in
         subst (λ (quiet : Bool). Came settings left number quiet one None (on_done settings number (node_of settings one given []) pdu.sequence (request_of settings (bodies.QuerySm query)) (on_pdu settings.accounts (like (Some name) version []) (record pdu { body = bodies.QuerySm query }))) (done_by settings one number pdu.sequence (request_of settings (bodies.QuerySm query)) (on_pdu settings.accounts (session_of (Some name)) (record pdu { body = bodies.QuerySm query })))) (sym stirs)
         (query_comes settings left number one name version given requests.QuerySm pdu.sequence room owed bound query id is)
 asked_now settings left number one name version given pdu (bodies.CancelSm cancel) room owed bound asked may = at_id (id_in cancel.message_id) refl may
@@ -251,28 +252,28 @@ asked_now settings left number one name version given pdu (bodies.CancelSm cance
     at_id : (found : Option ℕ) → id_in cancel.message_id ≡ found → may_happen true (stirs_if (is_some found)) ≡ true → BodyComes settings left number true one None (node_of settings one given []) (Some name) version pdu (bodies.CancelSm cancel)
     at_id None is may = absurd cc
     at_id (Some id) is may =
-        let stirs : quiet_by true (body_stir (bodies.CancelSm cancel)) ≡ false = ap (λ (f : Option ℕ). quiet_by true (stirs_if (is_some f))) is in
+        let stirs : quiet_by true (body_stir settings.accounts (Some name) (bodies.CancelSm cancel)) ≡ false = ap (λ (f : Option ℕ). quiet_by true (stirs_if (is_some f))) is in
         subst (λ (quiet : Bool). Came settings left number quiet one None (on_done settings number (node_of settings one given []) pdu.sequence (request_of settings (bodies.CancelSm cancel)) (on_pdu settings.accounts (like (Some name) version []) (record pdu { body = bodies.CancelSm cancel }))) (done_by settings one number pdu.sequence (request_of settings (bodies.CancelSm cancel)) (on_pdu settings.accounts (session_of (Some name)) (record pdu { body = bodies.CancelSm cancel })))) (sym stirs)
         (cancel_comes settings left number one name version given requests.CancelSm pdu.sequence room owed bound cancel id is)
 asked_now settings left number one name version given pdu other room owed bound asked may = absurd asked
 
-never_asked : (name : List ℕ) (body : Body) → IsAsked (Some name) body → may_happen false (body_stir body) ≡ true → ⊥
-never_asked name (bodies.SubmitSm message) asked may = cc
-never_asked name (bodies.QuerySm query) asked may = by_id (is_some (id_in query.message_id)) may
+never_asked : (accounts : List Account) (name : List ℕ) (body : Body) → IsAsked (Some name) body → may_happen false (body_stir accounts (Some name) body) ≡ true → ⊥
+never_asked accounts name (bodies.SubmitSm message) asked may = cc
+never_asked accounts name (bodies.QuerySm query) asked may = by_id (is_some (id_in query.message_id)) may
   where
     by_id : (named : Bool) → may_happen false (stirs_if named) ≡ true → ⊥
     by_id true may = cc
     by_id false may = cc
-never_asked name (bodies.CancelSm cancel) asked may = by_id (is_some (id_in cancel.message_id)) may
+never_asked accounts name (bodies.CancelSm cancel) asked may = by_id (is_some (id_in cancel.message_id)) may
   where
     by_id : (named : Bool) → may_happen false (stirs_if named) ≡ true → ⊥
     by_id true may = cc
     by_id false may = cc
-never_asked name other asked may = asked
+never_asked accounts name other asked may = asked
 
-asked_comes : (settings : Settings) (left number : ℕ) (quiet : Bool) (one : OneNode) (owned : Option Owned) (node : Node) (account : Option (List ℕ)) (version : ℕ) (pdu : Pdu) → Agree settings (suc left) one owned node → IsQuiet quiet owned → account_at one number ≡ account → IsAsked account pdu.body → may_happen quiet (body_stir pdu.body) ≡ true → BodyComes settings left number quiet one owned node account version pdu pdu.body
+asked_comes : (settings : Settings) (left number : ℕ) (quiet : Bool) (one : OneNode) (owned : Option Owned) (node : Node) (account : Option (List ℕ)) (version : ℕ) (pdu : Pdu) → Agree settings (suc left) one owned node → IsQuiet quiet owned → account_at one number ≡ account → IsAsked account pdu.body → may_happen quiet (body_stir settings.accounts account pdu.body) ≡ true → BodyComes settings left number quiet one owned node account version pdu pdu.body
 asked_comes settings left number quiet one owned node None version pdu agree is_quiet bound asked may = absurd asked
-asked_comes settings left number false one owned node (Some name) version pdu agree is_quiet bound asked may = absurd (never_asked name pdu.body asked may)
+asked_comes settings left number false one owned node (Some name) version pdu agree is_quiet bound asked may = absurd (never_asked settings.accounts name pdu.body asked may)
 asked_comes settings left number true one owned node (Some name) version pdu agree is_quiet bound asked may =
     let none : Agree settings (suc left) one None node = subst (λ (o : Option Owned). Agree settings (suc left) one o node) is_quiet agree in
     let node_is : node ≡ node_of settings one none.given [] = none.node_is ∙ ap (λ (waiting : List Reply). node_of settings one none.given waiting) none.owes.0 in
@@ -280,17 +281,17 @@ asked_comes settings left number true one owned node (Some name) version pdu agr
     (subst (λ (n : Node). BodyComes settings left number true one None n (Some name) version pdu pdu.body) (sym node_is)
     (asked_now settings left number one name version none.given pdu pdu.body none.room none.owes.1 bound asked may))
 
-pdu_comes : (settings : Settings) (left number : ℕ) (quiet : Bool) (one : OneNode) (owned : Option Owned) (node : Node) (version : ℕ) (pdu : Pdu) → Agree settings (suc left) one owned node → IsQuiet quiet owned → may_happen quiet (body_stir pdu.body) ≡ true → BodyComes settings left number quiet one owned node (account_at one number) version pdu pdu.body
+pdu_comes : (settings : Settings) (left number : ℕ) (quiet : Bool) (one : OneNode) (owned : Option Owned) (node : Node) (version : ℕ) (pdu : Pdu) → Agree settings (suc left) one owned node → IsQuiet quiet owned → may_happen quiet (body_stir settings.accounts (account_at one number) pdu.body) ≡ true → BodyComes settings left number quiet one owned node (account_at one number) version pdu pdu.body
 pdu_comes settings left number quiet one owned node version pdu agree is_quiet may = elim (pdu_alike settings.accounts quiet (account_at one number) version (requests_at owned number) pdu may) [
-  | inl alike ↦ done_comes settings left number (quiet_by quiet (body_stir pdu.body)) one owned node pdu.sequence (request_of settings pdu.body) _ _ (fewer settings left one owned node agree) (quiet_kept quiet (body_stir pdu.body) owned is_quiet) alike
+  | inl alike ↦ done_comes settings left number (quiet_by quiet (body_stir settings.accounts (account_at one number) pdu.body)) one owned node pdu.sequence (request_of settings pdu.body) _ _ (fewer settings left one owned node agree) (quiet_kept quiet (body_stir settings.accounts (account_at one number) pdu.body) owned is_quiet) alike
   | inr asked ↦ asked_comes settings left number quiet one owned node (account_at one number) version pdu agree is_quiet refl asked may
 ]
 
-read_comes : (settings : Settings) (left number : ℕ) (quiet : Bool) (one : OneNode) (owned : Option Owned) (node : Node) (version : ℕ) (octets : List ℕ) (read : Result Pdu PduFault) → (read ≡ Err faults.Length → ⊥) → Agree settings (suc left) one owned node → IsQuiet quiet owned → may_happen quiet (read_stir read) ≡ true → Came settings left number (quiet_by quiet (read_stir read)) one owned (on_read settings number node (like (account_at one number) version (requests_at owned number)) octets read) (came settings one number octets read)
+read_comes : (settings : Settings) (left number : ℕ) (quiet : Bool) (one : OneNode) (owned : Option Owned) (node : Node) (version : ℕ) (octets : List ℕ) (read : Result Pdu PduFault) → (read ≡ Err faults.Length → ⊥) → Agree settings (suc left) one owned node → IsQuiet quiet owned → may_happen quiet (read_stir settings.accounts (account_at one number) read) ≡ true → Came settings left number (quiet_by quiet (read_stir settings.accounts (account_at one number) read)) one owned (on_read settings number node (like (account_at one number) version (requests_at owned number)) octets read) (came settings one number octets read)
 read_comes settings left number quiet one owned node version octets (Ok pdu) whole agree is_quiet may = pdu_comes settings left number quiet one owned node version pdu agree is_quiet may
 read_comes settings left number quiet one owned node version octets (Err fault) whole agree is_quiet may = done_comes settings left number quiet one owned node 0 None _ _ (fewer settings left one owned node agree) is_quiet (fault_alike (account_at one number) version (requests_at owned number) fault (requested_by (command_of (word_at 4 octets))) (word_at 12 octets) (λ is. whole (ap Err is)))
 
 -- a frame comes
-pub frame_comes : (settings : Settings) (left number : ℕ) (quiet : Bool) (one : OneNode) (owned : Option Owned) (node : Node) (version : ℕ) (octets : List ℕ) → (read_pdu octets ≡ Err faults.Length → ⊥) → Agree settings (suc left) one owned node → IsQuiet quiet owned → may_happen quiet (read_stir (read_pdu octets)) ≡ true → Came settings left number (quiet_by quiet (read_stir (read_pdu octets))) one owned (on_frame settings number node (like (account_at one number) version (requests_at owned number)) octets) (happens settings one (Comes number octets))
+pub frame_comes : (settings : Settings) (left number : ℕ) (quiet : Bool) (one : OneNode) (owned : Option Owned) (node : Node) (version : ℕ) (octets : List ℕ) → (read_pdu octets ≡ Err faults.Length → ⊥) → Agree settings (suc left) one owned node → IsQuiet quiet owned → may_happen quiet (read_stir settings.accounts (account_at one number) (read_pdu octets)) ≡ true → Came settings left number (quiet_by quiet (read_stir settings.accounts (account_at one number) (read_pdu octets))) one owned (on_frame settings number node (like (account_at one number) version (requests_at owned number)) octets) (happens settings one (Comes number octets))
 unfolding on_frame happens
 frame_comes settings left number quiet one owned node version octets whole agree is_quiet may = read_comes settings left number quiet one owned node version octets (read_pdu octets) whole agree is_quiet may

@@ -173,12 +173,12 @@ abbrev Prints : Settings → OneNode → List Event → List Print → Option �
 Prints settings one events prints bad = (prints ≡ (happen settings one events).prints) × (bad ≡ None)
 
 LinesCalm : Settings → List (List ℕ) → Type 0
-LinesCalm settings lines = (streams : List (ℕ × List ℕ)) (quiet : Bool) (one : OneNode) (runner : Runner) (events : List Event) (number : ℕ) → Runs settings (length events) quiet one streams runner → events_from streams lines ≡ Some events → are_calm quiet events ≡ true → Prints settings one events (prints_from settings (Some runner) lines) (bad_from settings (Some runner) number lines)
+LinesCalm settings lines = (streams : List (ℕ × List ℕ)) (quiet : Bool) (one : OneNode) (runner : Runner) (events : List Event) (number : ℕ) → Runs settings (length events) quiet one streams runner → events_from streams lines ≡ Some events → are_calm settings one quiet events ≡ true → Prints settings one events (prints_from settings (Some runner) lines) (bad_from settings (Some runner) number lines)
 
 -- what a line prints, and the lines behind it
 abbrev SaidCalm : Settings → List (List ℕ) → List (ℕ × List ℕ) → Bool → OneNode → Runner → ℕ → Option Said → List Event → Type 0
 SaidCalm settings lines streams quiet one runner number said events =
-    Runs settings (length events) quiet one streams runner → are_calm quiet events ≡ true
+    Runs settings (length events) quiet one streams runner → are_calm settings one quiet events ≡ true
     → Prints settings one events (after [] (λ (done : Stepped). done.prints ++ prints_from settings done.stage lines) (step_by settings (Some runner) said)) (after (Some number) (λ (done : Stepped). bad_from settings done.stage (suc number) lines) (step_by settings (Some runner) said))
 
 tail_of : (P : List Event → Type 0) (first : List Event) (later : Option (List Event)) (events : List Event) → ((tail : List Event) → later ≡ Some tail → P (first ++ tail)) → option_map (λ others. first ++ others) later ≡ Some events → P events
@@ -225,11 +225,11 @@ said_calm settings lines behind streams quiet one runner events number (Some (No
 said_calm settings lines behind streams quiet one runner events number (Some Skipped) is =
     tail_of (SaidCalm settings lines streams quiet one runner number (Some Skipped)) [] (events_from streams lines) events (λ tail tail_is runs calm. behind streams quiet one runner tail (suc number) runs tail_is calm) is
 said_calm settings lines behind streams quiet one runner events number (Some (Tick moment)) is =
-    tail_of (SaidCalm settings lines streams quiet one runner number (Some (Tick moment))) (Ticks moment ∷ []) (events_from streams lines) events (λ tail tail_is runs calm. behind streams false (at_clock one (max one.clock moment)) (record runner { node = ticked runner.node moment }) tail (suc number) (tick_leaves settings (length tail) quiet one streams runner moment runs) tail_is (and_parts (may_happen quiet (event_stir (Ticks moment))) (are_calm false tail) calm).1) is
+    tail_of (SaidCalm settings lines streams quiet one runner number (Some (Tick moment))) (Ticks moment ∷ []) (events_from streams lines) events (λ tail tail_is runs calm. behind streams false (at_clock one (max one.clock moment)) (record runner { node = ticked runner.node moment }) tail (suc number) (tick_leaves settings (length tail) quiet one streams runner moment runs) tail_is (and_parts (may_happen quiet (event_stir settings one (Ticks moment))) (are_calm settings (at_clock one (max one.clock moment)) false tail) calm).1) is
 said_calm settings lines behind streams quiet one runner events number (Some Settle) is =
     tail_of (SaidCalm settings lines streams quiet one runner number (Some Settle)) (Settles ∷ []) (events_from streams lines) events (λ tail tail_is runs calm.
     let (leaves, prints) = settle_leaves settings (length tail) quiet one streams runner runs in
-    let later = behind streams true (record one { owed = [] }) (on_settle runner).next tail (suc number) leaves tail_is (and_parts (may_happen quiet (event_stir Settles)) (are_calm true tail) calm).1 in
+    let later = behind streams true (record one { owed = [] }) (on_settle runner).next tail (suc number) leaves tail_is (and_parts (may_happen quiet (event_stir settings one Settles)) (are_calm settings (record one { owed = [] }) true tail) calm).1 in
     (ap (λ (first : List Print). first ++ prints_from settings (Some (on_settle runner).next) lines) prints ∙ ap (λ (others : List Print). one.owed ++ others) later.0, later.1)) is
 said_calm settings lines behind streams quiet one runner events number (Some (Octets session octets)) is = at_wrong (begins_wrong stream.rest) refl is
   where
@@ -264,7 +264,7 @@ opened_runs serial events few = record {
   distinct = tt;
 }
 
-first_calm : (lines : List (List ℕ)) (play : Play) (number : ℕ) → play_of_lines lines ≡ Some play → are_calm true play.events ≡ true → length play.events < 2 ^ 64 - 1 → PlayPrints play (prints_from script_settings None lines) (bad_from script_settings None number lines)
+first_calm : (lines : List (List ℕ)) (play : Play) (number : ℕ) → play_of_lines lines ≡ Some play → are_calm script_settings (one_node play.serial) true play.events ≡ true → length play.events < 2 ^ 64 - 1 → PlayPrints play (prints_from script_settings None lines) (bad_from script_settings None number lines)
 unfolding play_of_lines prints_from bad_from step_of LinesCalm
 first_calm [] play number is calm few = absurd cc
 first_calm (line ∷ lines) play number is calm few = by_said (said_of line) (λ is. first_calm lines play (suc number) is calm few) is
@@ -273,7 +273,7 @@ first_calm (line ∷ lines) play number is calm few = by_said (said_of line) (λ
     nodes_calm serial None found is = absurd cc
     nodes_calm serial (Some events) found is =
         let same : record { serial = serial; events = events } ≡ play = cc in
-        let calm_so : are_calm true events ≡ true = ap (λ (p : Play). are_calm true p.events) same ∙ calm in
+        let calm_so : are_calm script_settings (one_node serial) true events ≡ true = ap (λ (p : Play). are_calm script_settings (one_node p.serial) true p.events) same ∙ calm in
         let few_so : length events < 2 ^ 64 - 1 = subst (λ (p : Play). length p.events < 2 ^ 64 - 1) (sym same) few in
         subst (λ (p : Play). PlayPrints p (prints_from script_settings (Some (opened script_settings serial)) lines) (bad_from script_settings (Some (opened script_settings serial)) (suc number) lines)) same
         (lines_calm script_settings lines [] true (one_node serial) (opened script_settings serial) events (suc number) (opened_runs serial events few_so) found calm_so)

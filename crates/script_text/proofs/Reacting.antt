@@ -2,6 +2,7 @@
 use Rattle.std.proofs.Common.{◌≡◌, ◌⊎◌, ℕ, Bool, true, cond, List, Option, Some, None, inl, inr, refl}
 use Rattle.accounts.specs.Accounts.{account_of, bind_refusal}
 use Rattle.accounts.specs.declared.account.Account.{Account}
+use Rattle.accounts.specs.declared.role.Role.{Role}
 use Rattle.accounts.specs.declared.role.Role.TheVariants as roles
 use Rattle.pdu_tables.specs.declared.status.Status.{Status}
 use Rattle.pdu_codec.specs.declared.fault.PduFault.{PduFault}
@@ -21,7 +22,7 @@ use Rattle.sessions.specs.declared.requested.Requested.{Requested}
 use Rattle.sessions.specs.declared.response.Outgoing.{Outgoing}
 use Rattle.sessions.specs.declared.response.Response.{Response}
 use Rattle.script_text.specs.OneNode.{session_of}
-use Rattle.script_text.specs.Calm.{body_stir, may_happen}
+use Rattle.script_text.specs.Calm.{bind_stir, body_stir, may_happen}
 
 -- a session as the one-node text has it, with another interface_version and with requests that wait
 abbrev pub like : Option (List ℕ) → ℕ → List OpenRequest → Session
@@ -65,10 +66,18 @@ binds_alike None version waiting sequence bind = record {
 }
 binds_alike (Some status) version waiting sequence bind = stays_alike None version waiting (Some _)
 
-body_alike : (accounts : List Account) (quiet : Bool) (account : Option (List ℕ)) (version : ℕ) (waiting : List OpenRequest) (pdu : Pdu) (body : Body) → may_happen quiet (body_stir body) ≡ true → AreAlike account waiting (on_pdu accounts (like account version waiting) (record pdu { body = body })) (on_pdu accounts (session_of account) (record pdu { body = body })) ⊎ IsAsked account body
-body_alike accounts quiet account version waiting pdu (bodies.BindReceiver bind) may = absurd cc
-body_alike accounts quiet account version waiting pdu (bodies.BindTransmitter bind) may = absurd cc
-body_alike accounts quiet account version waiting pdu bodies.Unbind may = absurd cc
+-- a bind in another role that may come is refused
+refused_alike : (quiet : Bool) (role : Role) (refusal : Option Status) (version : ℕ) (waiting : List OpenRequest) (sequence : ℕ) (bind : Bind) → may_happen quiet (bind_stir None refusal) ≡ true → AreAlike None waiting (binds_unless refusal (like None version waiting) sequence role bind) (binds_unless refusal (session_of None) sequence role bind)
+refused_alike quiet role None version waiting sequence bind may = absurd cc
+refused_alike quiet role (Some status) version waiting sequence bind may = stays_alike None version waiting (Some _)
+
+body_alike : (accounts : List Account) (quiet : Bool) (account : Option (List ℕ)) (version : ℕ) (waiting : List OpenRequest) (pdu : Pdu) (body : Body) → may_happen quiet (body_stir accounts account body) ≡ true → AreAlike account waiting (on_pdu accounts (like account version waiting) (record pdu { body = body })) (on_pdu accounts (session_of account) (record pdu { body = body })) ⊎ IsAsked account body
+body_alike accounts quiet None version waiting pdu (bodies.BindReceiver bind) may = inl (refused_alike quiet roles.Receiver (bind_refusal (account_of accounts bind.system_id) roles.Receiver bind) version waiting pdu.sequence bind may)
+body_alike accounts quiet (Some name) version waiting pdu (bodies.BindReceiver bind) may = inl (stays_alike (Some name) version waiting (Some _))
+body_alike accounts quiet None version waiting pdu (bodies.BindTransmitter bind) may = inl (refused_alike quiet roles.Transmitter (bind_refusal (account_of accounts bind.system_id) roles.Transmitter bind) version waiting pdu.sequence bind may)
+body_alike accounts quiet (Some name) version waiting pdu (bodies.BindTransmitter bind) may = inl (stays_alike (Some name) version waiting (Some _))
+body_alike accounts quiet None version waiting pdu bodies.Unbind may = inl (stays_alike None version waiting (Some _))
+body_alike accounts quiet (Some name) version waiting pdu bodies.Unbind may = absurd cc
 body_alike accounts quiet None version waiting pdu (bodies.BindTransceiver bind) may = inl (binds_alike (bind_refusal (account_of accounts bind.system_id) roles.Transceiver bind) version waiting pdu.sequence bind)
 body_alike accounts quiet (Some name) version waiting pdu (bodies.BindTransceiver bind) may = inl (stays_alike (Some name) version waiting (Some _))
 body_alike accounts quiet None version waiting pdu (bodies.SubmitSm message) may = inl (stays_alike None version waiting (Some _))
@@ -95,7 +104,7 @@ body_alike accounts quiet account version waiting pdu bodies.UnbindResp may = in
 body_alike accounts quiet account version waiting pdu bodies.EnquireLinkResp may = inl (stays_alike account version waiting None)
 
 -- a PDU that may come: the sessions answer alike, or the node is asked
-pub pdu_alike : (accounts : List Account) (quiet : Bool) (account : Option (List ℕ)) (version : ℕ) (waiting : List OpenRequest) (pdu : Pdu) → may_happen quiet (body_stir pdu.body) ≡ true → AreAlike account waiting (on_pdu accounts (like account version waiting) pdu) (on_pdu accounts (session_of account) pdu) ⊎ IsAsked account pdu.body
+pub pdu_alike : (accounts : List Account) (quiet : Bool) (account : Option (List ℕ)) (version : ℕ) (waiting : List OpenRequest) (pdu : Pdu) → may_happen quiet (body_stir accounts account pdu.body) ≡ true → AreAlike account waiting (on_pdu accounts (like account version waiting) pdu) (on_pdu accounts (session_of account) pdu) ⊎ IsAsked account pdu.body
 pdu_alike accounts quiet account version waiting pdu may = body_alike accounts quiet account version waiting pdu pdu.body may
 
 out_alike : (account : Option (List ℕ)) (version : ℕ) (waiting : List OpenRequest) (sequence : ℕ) (response : Option Response) → AreAlike account waiting (record { next = like account version waiting; reaction = responds sequence response }) (record { next = session_of account; reaction = responds sequence response })
