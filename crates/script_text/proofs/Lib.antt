@@ -9,3 +9,4 @@ pub mod Calming
 pub mod NoLength
 pub mod Entries
 pub mod Keeping
+pub mod Example

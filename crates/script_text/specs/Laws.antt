@@ -16,6 +16,7 @@ use Rattle.script_text.specs.Runner.{Runner}
 use Rattle.script_text.specs.Script.{Stage, Joins, bad_from, bad_line, prints_from, prints_of, text_of}
 use Rattle.script_text.specs.OneNode.{one_node_text}
 use Rattle.script_text.specs.Calm.{IsCalm}
+use Rattle.script_text.specs.Example.{first_script, first_text}
 
 -- ---- a script is its lines, joined
 
@@ -103,3 +104,10 @@ DeletedStaysDeleted =
     → TellsDeletion cancel message_id
     → TellsState query message_id state
     → state ≡ state_code states.Deleted
+
+-- ---- an example
+
+-- There are calm scripts: this one is, in which a message is submitted and queried, and this is its one-node text.
+pub record FirstScriptIsCalm : Type 0 where
+  pub calm : IsCalm first_script
+  pub text : one_node_text first_script ≡ first_text

@@ -7,4 +7,5 @@ pub mod Script
 pub mod Events
 pub mod OneNode
 pub mod Calm
+pub mod Example
 pub mod Laws

@@ -3,6 +3,7 @@
 ghost use Rattle.script_text.specs.Laws.{
   CalmTextIsOfOneNode,
   DeletedStaysDeleted,
+  FirstScriptIsCalm,
   GoodLinesJoin,
   JoinedLinesArePrinted,
   NodeGoesByItsSteps,
@@ -31,4 +32,10 @@ pub fn one_fate_is_printed()
 /// After a cancel_sm that is answered ESME_ROK each query_sm of the message that is answered ESME_ROK tells DELETED.
 pub fn deleted_stays_deleted()
     ensures { DeletedStaysDeleted }
+{}
+
+/// There are calm scripts: one in which an ESME binds, submits a message and queries it is calm, and its one-node text is the three
+/// responses.
+pub fn first_script_is_calm()
+    ensures { FirstScriptIsCalm }
 {}

@@ -1,0 +1,34 @@
+-- A script that is calm, and its text, computed.
+use Rattle.std.proofs.Common.{◌≡◌, Some, refl, arith}
+use Rattle.std.specs.Fmt.{digits}
+use Rattle.hex.specs.Hex.{decode_pairs, encode_with}
+use Rattle.mc_types.specs.Texts.{id_in}
+use Rattle.octet_fields.specs.Reading.{content_at, number_at, parameters_at, taken_at, text_at, tlv_at, tlvs_from}
+use Rattle.pdu_codec.specs.Bodies.{body_at}
+use Rattle.pdu_codec.specs.Pdu.{framed, octets_of, read_pdu}
+use Rattle.pdu_frames.specs.Frames.{cut_within}
+use Rattle.script_lines.specs.Said.{behind, nodes_said, number_of, octets_parts, octets_said, said_of, settle_said, words_said}
+use Rattle.script_lines.specs.Said as said
+use Rattle.script_text.specs.Events.{Play, events_from, play_of, play_of_lines}
+use Rattle.script_text.specs.OneNode.{happen, happens, one_node_text}
+use Rattle.script_text.specs.Calm.{IsCalm, are_calm}
+use Rattle.script_text.specs.Example.{first_script, first_text}
+
+-- what it says, read
+first_play : (play : Play) × (play_of first_script ≡ Some play)
+unfolding play_of_lines events_from said_of words_said nodes_said octets_said octets_parts settle_said number_of behind said.number_at cut_within decode_pairs
+first_play = (_, refl)
+
+pub first_calm : IsCalm first_script
+unfolding first_play play_of_lines events_from said_of words_said nodes_said octets_said octets_parts settle_said number_of behind said.number_at cut_within decode_pairs are_calm happen happens read_pdu framed body_at content_at number_at parameters_at taken_at text_at tlv_at tlvs_from id_in
+first_calm = record {
+  play = first_play.0;
+  played_by = first_play.1;
+  calm = refl;
+  messages = omega arith;
+  tickets = omega arith;
+}
+
+pub first_told : one_node_text first_script ≡ first_text
+unfolding first_play play_of_lines events_from said_of words_said nodes_said octets_said octets_parts settle_said number_of behind said.number_at cut_within decode_pairs happen happens read_pdu framed body_at content_at number_at parameters_at taken_at text_at tlv_at tlvs_from id_in octets_of digits encode_with
+first_told = refl
