@@ -178,7 +178,7 @@ module _ (message : Submission) where
           by_cause : Causes 1 1 before now (Delivery (told_of_taking message)) slot.id slot.place chain → slot.id ≡ first_id
           by_cause (inl take) = absurd take
           by_cause (inr (inl close)) = absurd close
-          by_cause (inr (inr (inl follow))) = sym follow.about ∙ of_both (λ w. id_in w.request ≡ first_id) (cancelling_at message 1 true) (cancelling_at message 2 true) refl refl follow.waiting follow.waits
+          by_cause (inr (inr (inl follow))) = sym follow.1.about ∙ of_both (λ w. id_in w.request ≡ first_id) (cancelling_at message 1 true) (cancelling_at message 2 true) refl refl follow.1.waiting follow.1.waits
           by_cause (inr (inr (inr delete))) = known_id slot.id _ delete.deletes.further.known
       all act due = absurd due
 

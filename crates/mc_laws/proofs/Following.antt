@@ -15,7 +15,8 @@ use Rattle.mc_model.specs.node.Act.{Act, Receives, Settles, Replies, Asks, Prepa
 use Rattle.mc_model.specs.node.Rounds.{HasSeen, MayPrepare, IsRunning, IsPromised}
 use Rattle.mc_model.specs.node.Rules.{ToldBy}
 use Rattle.mc_model.specs.node.Input.{Delivery, Arrival}
-use Rattle.mc_model.specs.node.Causes.{Causes, CausesFollow, IsCompleted}
+use Rattle.mc_model.specs.node.Causes.{Causes, CausesFollow, IsCompleted, ShowsMore}
+use Rattle.mc_model.specs.node.Concerns.{Concerns}
 use Rattle.mc_model.specs.node.Due.{AreDue, AreDueOnce, key_of}
 use Rattle.mc_model.specs.node.Core.{IsCore}
 use Rattle.mc_model.specs.node.Phases.{IsCancelRequest, DueToSettle, DueToEnd, DueToAsk, DueToAbandon, DueToPrepare, DueToPropose, DueToReply, DueToReport}
@@ -196,7 +197,7 @@ module _ (account source : List ℕ) (vote : Vote) where
   at received sent offers = asking_at account source received sent offers
 
   -- nothing but a Tell starts a round here
-  no_cause : (before : Actor) (packet : Packet) (received sent : List Packet) (offers : List Offer) → NoVotes received → ((id place : ℕ) (chain : List Decree) → CausesFollow 3 1 (at received sent offers) (Delivery packet) id place chain → ⊥) → (act : Act) → DueToPrepare 3 1 before (at received sent offers) no_records (Delivery packet) act → ⊥
+  no_cause : (before : Actor) (packet : Packet) (received sent : List Packet) (offers : List Offer) → NoVotes received → ((id place : ℕ) (chain : List Decree) → CausesFollow 3 1 before (at received sent offers) (Delivery packet) id place chain → ⊥) → (act : Act) → DueToPrepare 3 1 before (at received sent offers) no_records (Delivery packet) act → ⊥
   no_cause before packet received sent offers none no_follow (Prepares slot ballot chain) due = by_cause due.0
     where
       by_cause : Causes 3 1 before (at received sent offers) (Delivery packet) slot.id slot.place chain → ⊥
@@ -265,8 +266,8 @@ module _ (account source : List ℕ) (vote : Vote) where
   few_2 : (settled : IsSettled 3 (Tell 2 question None ∷ []) question None) → ⊥
   few_2 settled = few_told (HasTold (Tell 2 question None ∷ []) question) (λ node heard. from_2 node heard.told heard.heard) settled.majority
 
-  no_follow_2 : (id place : ℕ) (chain : List Decree) → CausesFollow 3 1 (at (Tell 2 question None ∷ []) [] []) (Delivery (Tell 2 question None)) id place chain → ⊥
-  no_follow_2 id place chain follow = few_told (HasTold (Tell 2 question None ∷ []) question) (λ node heard. from_2 node heard.told heard.heard) follow.majority
+  no_follow_2 : (id place : ℕ) (chain : List Decree) → CausesFollow 3 1 (at [] [] []) (at (Tell 2 question None ∷ []) [] []) (Delivery (Tell 2 question None)) id place chain → ⊥
+  no_follow_2 id place chain follow = few_told (HasTold (Tell 2 question None ∷ []) question) (λ node heard. from_2 node heard.told heard.heard) follow.1.majority
 
   told_2_exact : IsExact among_three (at [] [] []) no_records (Delivery (Tell 2 question None)) (Receives (Tell 2 question None) ∷ [])
   told_2_exact = heard_exact account source (Tell 2 question None) [] [] []
@@ -283,7 +284,7 @@ module _ (account source : List ℕ) (vote : Vote) where
     | inr earlier ↦ elim earlier [ inl same ↦ cc | inr none ↦ absurd none ]
   ]
 
-  shows : CausesFollow 3 1 (at (told vote) [] []) (Delivery (told_by_3 vote)) second_id 0 vote.chain
+  shows : ShowsMore 3 1 (at (told vote) [] []) question second_id 0 vote.chain
   shows = record {
     waiting = asked_for account source;
     vote = vote;
@@ -299,6 +300,15 @@ module _ (account source : List ℕ) (vote : Vote) where
     ahead = λ chain known. absurd (none_known 3 (told vote) (no_votes_3 vote) second_id chain known);
     chain_is = refl;
   }
+
+  concerned_3 : Concerns 3 1 (at (Tell 2 question None ∷ []) [] []) (told_by_3 vote)
+  concerned_3 = (
+    record { least = omega arith; most = omega arith },
+    λ mine now. record {
+      given = omega arith;
+      about = λ waiting waits is. sym (only_waiting account source (λ w. id_in w.request ≡ second_id) refl waiting waits);
+    },
+  )
 
   seen_none : (slot : Slot) (round : ℕ) → HasSeen 1 (at (told vote) [] []) no_records slot round → round ≡ 0
   seen_none slot round (inl own) = own
@@ -321,7 +331,7 @@ module _ (account source : List ℕ) (vote : Vote) where
   one_round = record { only = only; all = all; order = tt }
     where
       only : (act : Act) → In act (Prepares second_slot first_ballot vote.chain ∷ []) → DueToPrepare 3 1 (at (Tell 2 question None ∷ []) [] []) (at (told vote) [] []) no_records (Delivery (told_by_3 vote)) act
-      only act (inl same) = subst (DueToPrepare 3 1 (at (Tell 2 question None ∷ []) [] []) (at (told vote) [] []) no_records (Delivery (told_by_3 vote))) (sym same) (inr (inr (inl shows)), prepares_so)
+      only act (inl same) = subst (DueToPrepare 3 1 (at (Tell 2 question None ∷ []) [] []) (at (told vote) [] []) no_records (Delivery (told_by_3 vote))) (sym same) (inr (inr (inl (concerned_3, shows))), prepares_so)
       only act (inr none) = absurd none
 
       all : (act : Act) → DueToPrepare 3 1 (at (Tell 2 question None ∷ []) [] []) (at (told vote) [] []) no_records (Delivery (told_by_3 vote)) act → In (key_of act) (second_id ∷ [])
@@ -330,13 +340,13 @@ module _ (account source : List ℕ) (vote : Vote) where
           by_cause : Causes 3 1 (at (Tell 2 question None ∷ []) [] []) (at (told vote) [] []) (Delivery (told_by_3 vote)) slot.id slot.place chain → In slot.id (second_id ∷ [])
           by_cause (inl take) = absurd take
           by_cause (inr (inl close)) = absurd close
-          by_cause (inr (inr (inl follow))) = inl (sym follow.about ∙ only_waiting account source (λ w. id_in w.request ≡ second_id) refl follow.waiting follow.waits)
+          by_cause (inr (inr (inl follow))) = inl (sym follow.1.about ∙ only_waiting account source (λ w. id_in w.request ≡ second_id) refl follow.1.waiting follow.1.waits)
           by_cause (inr (inr (inr delete))) = absurd (none_known 3 (told vote) (no_votes_3 vote) _ _ delete.deletes.further.known)
       all act due = absurd due
 
   told_3_exact : IsExact among_three (at (Tell 2 question None ∷ []) [] []) no_records (Delivery (told_by_3 vote)) (Prepares second_slot first_ballot vote.chain ∷ Receives (told_by_3 vote) ∷ [])
   told_3_exact = heard_exact account source (told_by_3 vote) (Tell 2 question None ∷ []) [] []
-      (inl ((record { least = omega arith; most = omega arith }, λ mine now. record { given = omega arith; about = λ waiting waits is. sym (only_waiting account source (λ w. id_in w.request ≡ second_id) refl waiting waits) }), record { answer = []; answered = refl; acts_are = refl }))
+      (inl (concerned_3, record { answer = []; answered = refl; acts_are = refl }))
       (no_votes_3 vote) (unsettled_by_3 vote (told vote) (inl refl)) (Prepares second_slot first_ballot vote.chain ∷ []) []
       one_round
       (none_due_once (DueToPropose 3 1 (at (Tell 2 question None ∷ []) [] []) (at (told vote) [] [])) (proposes_none (at (Tell 2 question None ∷ []) [] []) (told vote)))
@@ -349,8 +359,8 @@ module _ (account source : List ℕ) (vote : Vote) where
   few_promised : (slot : Slot) (ballot : ℕ) → IsPromised 3 (at (promised vote) prepared_so (offered_so vote)) slot ballot → ⊥
   few_promised slot ballot majority = few_told _ (promised_by_2 slot ballot) majority
 
-  no_follow_promise : (received : List Packet) (node : ℕ) (id place : ℕ) (chain : List Decree) → CausesFollow 3 1 (at received prepared_so (offered_so vote)) (Delivery (Promise node second_slot first_ballot None)) id place chain → ⊥
-  no_follow_promise received node id place chain follow = follow
+  no_follow_promise : (before : Actor) (received : List Packet) (node : ℕ) (id place : ℕ) (chain : List Decree) → CausesFollow 3 1 before (at received prepared_so (offered_so vote)) (Delivery (Promise node second_slot first_ballot None)) id place chain → ⊥
+  no_follow_promise before received node id place chain follow = follow
 
   proposes_none_yet : (before : Actor) (act : Act) → DueToPropose 3 1 before (at (promised vote) prepared_so (offered_so vote)) act → ⊥
   proposes_none_yet before (Proposes slot other) due = few_promised slot other.ballot due.0.promised
@@ -360,7 +370,7 @@ module _ (account source : List ℕ) (vote : Vote) where
   promised_2_exact = heard_exact account source (Promise 2 second_slot first_ballot None) (told vote) prepared_so (offered_so vote)
       (inl ((record { least = omega arith; most = omega arith }, λ mine. inl refl), record { answer = []; answered = refl; acts_are = refl }))
       (no_votes_4 vote) (unsettled_by_3 vote (promised vote) (inr (inl refl))) [] []
-      (none_due_once _ (no_cause (at (told vote) prepared_so (offered_so vote)) (Promise 2 second_slot first_ballot None) (promised vote) prepared_so (offered_so vote) (no_votes_4 vote) (no_follow_promise (promised vote) 2)))
+      (none_due_once _ (no_cause (at (told vote) prepared_so (offered_so vote)) (Promise 2 second_slot first_ballot None) (promised vote) prepared_so (offered_so vote) (no_votes_4 vote) (no_follow_promise (at (told vote) prepared_so (offered_so vote)) (promised vote) 2)))
       (none_due_once (DueToPropose 3 1 (at (told vote) prepared_so (offered_so vote)) (at (promised vote) prepared_so (offered_so vote))) (proposes_none_yet (at (told vote) prepared_so (offered_so vote))))
       (Receives (Promise 2 second_slot first_ballot None) ∷ []) refl
 
@@ -410,7 +420,7 @@ module _ (account source : List ℕ) (vote : Vote) where
   promised_3_exact = heard_exact account source (Promise 3 second_slot first_ballot None) (promised vote) prepared_so (offered_so vote)
       (inl ((record { least = omega arith; most = omega arith }, λ mine. inl refl), record { answer = []; answered = refl; acts_are = refl }))
       (no_votes_5 vote) (unsettled_by_3 vote all_promised (inr (inr (inl refl)))) [] (Proposes second_slot (vote_at first_ballot vote.chain) ∷ [])
-      (none_due_once _ (no_cause (at (promised vote) prepared_so (offered_so vote)) (Promise 3 second_slot first_ballot None) all_promised prepared_so (offered_so vote) (no_votes_5 vote) (no_follow_promise all_promised 3)))
+      (none_due_once _ (no_cause (at (promised vote) prepared_so (offered_so vote)) (Promise 3 second_slot first_ballot None) all_promised prepared_so (offered_so vote) (no_votes_5 vote) (no_follow_promise (at (promised vote) prepared_so (offered_so vote)) all_promised 3)))
       one_proposal
       (Proposes second_slot (vote_at first_ballot vote.chain) ∷ Receives (Promise 3 second_slot first_ballot None) ∷ []) refl
 

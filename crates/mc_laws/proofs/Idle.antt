@@ -105,8 +105,8 @@ module _ (setup : Setup) (a : Actor) (records : Records) (input : Input) (core :
   pub cause_none : ((id place : ℕ) (chain : List Decree) → CausesClose setup.nodes setup.node b input id place chain → ⊥) → (act : Act) → DueToPrepare setup.nodes setup.node a b (saved records core) input act → ⊥
   cause_none no_close (Prepares slot ballot chain) due = by_input input plain due.0 no_close
     where
-      followed : (packet : Packet) → CausesFollow setup.nodes setup.node b (Delivery packet) slot.id slot.place chain → ⊥
-      followed (Tell sender name told) follow = idle.waits follow.waiting follow.waits
+      followed : (packet : Packet) → CausesFollow setup.nodes setup.node a b (Delivery packet) slot.id slot.place chain → ⊥
+      followed (Tell sender name told) follow = idle.waits follow.1.waiting follow.1.waits
       followed (Prepare sender other at) follow = follow
       followed (Promise sender other at report) follow = follow
       followed (Propose sender other vote) follow = follow
@@ -114,7 +114,7 @@ module _ (setup : Setup) (a : Actor) (records : Records) (input : Input) (core :
       followed (Refused sender other at promised) follow = follow
       followed (Ask sender other name) follow = follow
 
-      no_follow : (input : Input) → CausesFollow setup.nodes setup.node b input slot.id slot.place chain → ⊥
+      no_follow : (input : Input) → CausesFollow setup.nodes setup.node a b input slot.id slot.place chain → ⊥
       no_follow (Delivery packet) follow = followed packet follow
       no_follow (Crash packet after) follow = follow
       no_follow (Arrival request) follow = follow

@@ -104,11 +104,11 @@ module _ (message : Submission) where
       by_cause (inl take) = take
       by_cause (inr (inl close)) = close
       by_cause (inr (inr (inl follow))) =
-          let about = sym (only_asked (λ w. id_in w.request ≡ slot.id → second_id ≡ slot.id) (λ same. same) follow.waiting follow.waits follow.about) in
-          let tops = one_top follow.highest.shown.teller (Some (top_at (slot_at slot.id slot.place) follow.vote)) follow.highest.shown.heard in
-          let same : ◌≡◌ {A = TopVote} (top_at (slot_at slot.id slot.place) follow.vote) (top_at second_slot (second_vote message)) = cc in
+          let about = sym (only_asked (λ w. id_in w.request ≡ slot.id → second_id ≡ slot.id) (λ same. same) follow.1.waiting follow.1.waits follow.1.about) in
+          let tops = one_top follow.1.highest.shown.teller (Some (top_at (slot_at slot.id slot.place) follow.1.vote)) follow.1.highest.shown.heard in
+          let same : ◌≡◌ {A = TopVote} (top_at (slot_at slot.id slot.place) follow.1.vote) (top_at second_slot (second_vote message)) = cc in
           let place : slot.place ≡ 0 = ap (λ (t : TopVote). t.place) same in
-          let ahead = follow.ahead (second_chain message) (subst (λ (i : ℕ). Knows 3 now.received i (second_chain message)) (sym about) known) in
+          let ahead = follow.1.ahead (second_chain message) (subst (λ (i : ℕ). Knows 3 now.received i (second_chain message)) (sym about) known) in
           omega (arith, place, ahead)
       by_cause (inr (inr (inr delete))) = only_asked (λ w. Cancels w.request slot.id delete.deletes.further.taken → ⊥) (λ none. none) delete.deletes.cancelled.waiting delete.deletes.cancelled.waits delete.deletes.cancelled.cancels
   prepares_none act due = due

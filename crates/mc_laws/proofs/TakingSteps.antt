@@ -64,7 +64,7 @@ module _ (message : Submission) where
   asks_none before a packet (Asks id ticket) due = due
   asks_none before a packet act due = due
 
-  prepares_none : (before : Actor) (packet : Packet) (received sent : List Packet) (records : Records) → ((id place : ℕ) (chain : List Decree) (a : Actor) → CausesFollow 1 1 a (Delivery packet) id place chain → ⊥) → (act : Act) → DueToPrepare 1 1 before (taking received sent) records (Delivery packet) act → ⊥
+  prepares_none : (before : Actor) (packet : Packet) (received sent : List Packet) (records : Records) → ((id place : ℕ) (chain : List Decree) (a : Actor) → CausesFollow 1 1 before a (Delivery packet) id place chain → ⊥) → (act : Act) → DueToPrepare 1 1 before (taking received sent) records (Delivery packet) act → ⊥
   prepares_none before packet received sent records no_follow (Prepares slot ballot chain) due = by_cause due.0
     where
       by_cause : Causes 1 1 before (taking received sent) (Delivery packet) slot.id slot.place chain → ⊥

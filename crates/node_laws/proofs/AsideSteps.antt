@@ -48,9 +48,9 @@ none_due_once Due none = record { only = λ act is_in. absurd is_in; all = λ ac
 abbrev TellsNobody : Packet → Type 0
 TellsNobody packet = (teller : ℕ) (name : Name) (told : Option TopVote) → Tell teller name told ≡ packet → ⊥
 
-follows_none : (nodes node : ℕ) (a : Actor) (packet : Packet) (id place : ℕ) (chain : List Decree) → TellsNobody packet → CausesFollow nodes node a (Delivery packet) id place chain → ⊥
-follows_none nodes node a (Tell teller name told) id place chain none follows = none teller name told refl
-follows_none nodes node a packet id place chain none follows = follows
+follows_none : (nodes node : ℕ) (before a : Actor) (packet : Packet) (id place : ℕ) (chain : List Decree) → TellsNobody packet → CausesFollow nodes node before a (Delivery packet) id place chain → ⊥
+follows_none nodes node before a (Tell teller name told) id place chain none follows = none teller name told refl
+follows_none nodes node before a packet id place chain none follows = follows
 
 module _ (setup : Setup) (s : Node) (packet : Packet) (aside : IsAside packet) (k : Kept) (stands : Stands setup k s) where
   abbrev heard : Node
@@ -80,7 +80,7 @@ module _ (setup : Setup) (s : Node) (packet : Packet) (aside : IsAside packet) (
   causes_none : (id place : ℕ) (chain : List Decree) → Causes setup.nodes setup.node s.actor heard.actor (Delivery packet) id place chain → ⊥
   causes_none id place chain (inl take) = take
   causes_none id place chain (inr (inl close)) = close
-  causes_none id place chain (inr (inr (inl follows))) = follows_none setup.nodes setup.node heard.actor packet id place chain aside.tells follows
+  causes_none id place chain (inr (inr (inl follows))) = follows_none setup.nodes setup.node s.actor heard.actor packet id place chain aside.tells follows
   causes_none id place chain (inr (inr (inr deletes))) = deletes_none id place chain deletes
 
   prepares_none : (records : Records) (act : Act) → DueToPrepare setup.nodes setup.node s.actor heard.actor records (Delivery packet) act → ⊥
@@ -356,7 +356,7 @@ module _ (setup : Setup) (s : Node) (k : Kept) (stands : Stands setup k s) where
   idle_causes : (packet : Packet) → TellsNobody packet → (id place : ℕ) (chain : List Decree) → Causes setup.nodes setup.node s.actor s.actor (Delivery packet) id place chain → ⊥
   idle_causes packet tells id place chain (inl take) = take
   idle_causes packet tells id place chain (inr (inl close)) = close
-  idle_causes packet tells id place chain (inr (inr (inl follows))) = follows_none setup.nodes setup.node s.actor packet id place chain tells follows
+  idle_causes packet tells id place chain (inr (inr (inl follows))) = follows_none setup.nodes setup.node s.actor s.actor packet id place chain tells follows
   idle_causes packet tells id place chain (inr (inr (inr deletes))) = idle_deletes id place chain deletes
 
   idle_prepares : (packet : Packet) → TellsNobody packet → (act : Act) → DueToPrepare setup.nodes setup.node s.actor s.actor s.records (Delivery packet) act → ⊥

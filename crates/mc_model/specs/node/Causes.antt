@@ -9,6 +9,7 @@ use Rattle.mc_model.specs.synod.Packet.{Name, Slot, Tell, slot_of}
 use Rattle.mc_model.specs.node.Outcome.{Outcome, decree_of}
 use Rattle.mc_model.specs.node.Actor.{Actor, Cancel, Query, Submit, Waiting, id_in, name_of}
 use Rattle.mc_model.specs.node.Knowledge.{Knows}
+use Rattle.mc_model.specs.node.Concerns.{Concerns}
 use Rattle.mc_model.specs.node.Settling.{HasTold}
 use Rattle.mc_model.specs.node.Proposal.{IsFirst}
 use Rattle.mc_model.specs.node.Rounds.{IsPromised, IsRunning}
@@ -31,7 +32,7 @@ abbrev pub CausesClose : ℕ → ℕ → Actor → Input → ℕ → ℕ → Lis
 CausesClose nodes node a (Response slot outcome) id place chain = IsConcluded nodes node a slot outcome id place chain
 CausesClose nodes node a input id place chain = ⊥
 
--- A Tell comes to a request that waits, of which a majority has told, and shows a vote beyond what the node knows.
+-- A majority has told to a request that waits, and shows a vote beyond what the node knows.
 pub record ShowsMore (nodes node : ℕ) (a : Actor) (name : Name) (id place : ℕ) (chain : List Decree) : Type 0 where
   pub waiting : Waiting
   pub vote : Vote
@@ -43,9 +44,11 @@ pub record ShowsMore (nodes node : ℕ) (a : Actor) (name : Name) (id place : �
   pub ahead : IsAhead nodes a id place
   pub chain_is : chain ≡ vote.chain
 
-abbrev pub CausesFollow : ℕ → ℕ → Actor → Input → ℕ → ℕ → List Decree → Type 0
-CausesFollow nodes node a (Delivery (Tell sender name told)) id place chain = ShowsMore nodes node a name id place chain
-CausesFollow nodes node a input id place chain = ⊥
+-- a Tell that concerns the node comes to such a request
+abbrev pub CausesFollow : ℕ → ℕ → Actor → Actor → Input → ℕ → ℕ → List Decree → Type 0
+CausesFollow nodes node before a (Delivery (Tell sender name told)) id place chain =
+    Concerns nodes node before (Tell sender name told) × ShowsMore nodes node a name id place chain
+CausesFollow nodes node before a input id place chain = ⊥
 
 -- a request was settled before
 pub record WasSettled (before : Actor) (ticket : ℕ) : Type 0 where
@@ -65,7 +68,7 @@ abbrev pub Causes : ℕ → ℕ → Actor → Actor → Input → ℕ → ℕ �
 Causes nodes node before a input id place chain =
     CausesTake input node a id place chain
     ⊎ (CausesClose nodes node a input id place chain
-    ⊎ (CausesFollow nodes node a input id place chain
+    ⊎ (CausesFollow nodes node before a input id place chain
     ⊎ CausesDelete nodes node before a id place chain))
 
 -- ---- questions
