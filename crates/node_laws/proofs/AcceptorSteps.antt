@@ -52,16 +52,16 @@ member_test setup sender is =
 -- a node that is up
 stepped_is : (setup : Setup) (k : Kept) (s : Node) (packet : Packet) → Stands setup k s → IsAtWork setup s → stepped setup k (Delivery packet) ≡ on_packet setup k packet
 stepped_is setup k s packet stands works =
-    ap (λ (up : Bool). if up then stepped_up setup k (Delivery packet) else stepped_down setup k (Delivery packet)) (stands.up ∙ works.up)
+    ap (λ (up : Bool). if up then stepped_up setup k (Delivery packet) else stepped_down setup k (Delivery packet)) (stands.agrees.up ∙ works.up)
 
 module _ (setup : Setup) (k : Kept) (s : Node) (stands : Stands setup k s) (works : IsAtWork setup s) where
   -- what is told of the records that are kept is told of those of the actor
   told_still : (id : ℕ) (told : Option TopVote) → IsTold k.records id told → IsTold s.records id told
-  told_still id None none = λ place. subst (λ (r : SlotRecord). r.vote ≡ None) (stands.records (slot_at id place)) (none place)
+  told_still id None none = λ place. subst (λ (r : SlotRecord). r.vote ≡ None) (stands.agrees.records (slot_at id place)) (none place)
   told_still id (Some told) top = record {
     about = top.about;
-    voted = subst (λ (r : SlotRecord). r.vote ≡ Some told.vote) (stands.records (slot_at id told.place)) top.voted;
-    highest = λ place vote voted. top.highest place vote (subst (λ (r : SlotRecord). r.vote ≡ Some vote) (sym (stands.records (slot_at id place))) voted);
+    voted = subst (λ (r : SlotRecord). r.vote ≡ Some told.vote) (stands.agrees.records (slot_at id told.place)) top.voted;
+    highest = λ place vote voted. top.highest place vote (subst (λ (r : SlotRecord). r.vote ≡ Some vote) (sym (stands.agrees.records (slot_at id place))) voted);
   }
 
   -- ---- a Prepare
@@ -77,21 +77,21 @@ module _ (setup : Setup) (k : Kept) (s : Node) (stands : Stands setup k s) (work
 
       by_test : (test : Bool) → nat_lt (k.records slot).promised ballot ≡ test → StepsAs setup s (Delivery (Prepare sender slot ballot)) (judged k slot (judgement test))
       by_test true below =
-          let same = stands.records slot in
+          let same = stands.agrees.records slot in
           let before : (k.records slot).promised < ballot = grind (arith, nat_tests) in
           let may : (s.records slot).promised < ballot = subst (λ (r : SlotRecord). r.promised < ballot) same before in
           answered setup s (Prepare sender slot ballot) (prepare_aside sender ballot slot) k stands (Promises slot ballot true) (judgement true) slot
           (record { works = works; concerned = member; stays = λ x. refl; began = refl; no_replies = refl; no_receipts = refl; may = record { least = works.least; most = works.most; up = works.up; needs = record { sender = sender; prepared = inl refl; may = may } }; replies = inl (may, refl); gives = (ap (λ (r : SlotRecord). Promise setup.node slot ballot r.vote ∷ []) (sym same)) })
           (same_with setup s (Prepare sender slot ballot) (prepare_aside sender ballot slot) k stands slot _ _ (ap (λ (r : SlotRecord). after_promise r ballot) same))
-          (λ cast voted. stands.placed slot cast voted)
+          (λ cast voted. stands.agrees.placed slot cast voted)
       by_test false above =
-          let same = stands.records slot in
+          let same = stands.agrees.records slot in
           let before : ballot ≤ (k.records slot).promised = grind (arith, nat_tests) in
           let may : ballot ≤ (s.records slot).promised = subst (λ (r : SlotRecord). ballot ≤ r.promised) same before in
           answered setup s (Prepare sender slot ballot) (prepare_aside sender ballot slot) k stands (Refuses slot ballot) (judgement false) slot
           (record { works = works; concerned = member; stays = λ x. refl; began = refl; no_replies = refl; no_receipts = refl; may = record { least = works.least; most = works.most; up = works.up; needs = tt }; replies = inr (may, refl); gives = (ap (λ (r : SlotRecord). Refused setup.node slot ballot r.promised ∷ []) (sym same)) })
           (unchanged setup s (Prepare sender slot ballot) (prepare_aside sender ballot slot) k stands slot)
-          (λ cast voted. stands.placed slot cast voted)
+          (λ cast voted. stands.agrees.placed slot cast voted)
 
   pub prepare_steps : (sender ballot : ℕ) (slot : Slot) → StepsAs setup s (Delivery (Prepare sender slot ballot)) (stepped setup k (Delivery (Prepare sender slot ballot)))
   prepare_steps sender ballot slot =
@@ -114,7 +114,7 @@ module _ (setup : Setup) (k : Kept) (s : Node) (stands : Stands setup k s) (work
 
       by_test : (test : Bool) → nat_le (k.records slot).promised vote.ballot ≡ test → StepsAs setup s (Delivery (Propose sender slot vote)) (judged k slot (judgement test))
       by_test true below =
-          let same = stands.records slot in
+          let same = stands.agrees.records slot in
           let before : (k.records slot).promised ≤ vote.ballot = grind (arith, nat_tests) in
           let may : (s.records slot).promised ≤ vote.ballot = subst (λ (r : SlotRecord). r.promised ≤ vote.ballot) same before in
           answered setup s (Propose sender slot vote) (propose_aside sender slot vote) k stands (Votes slot vote true) (judgement true) slot
@@ -122,13 +122,13 @@ module _ (setup : Setup) (k : Kept) (s : Node) (stands : Stands setup k s) (work
           (same_with setup s (Propose sender slot vote) (propose_aside sender slot vote) k stands slot _ _ refl)
           (λ cast voted. let casts : vote ≡ cast = cc in subst (IsPlaced slot) casts fits)
       by_test false above =
-          let same = stands.records slot in
+          let same = stands.agrees.records slot in
           let before : vote.ballot < (k.records slot).promised = grind (arith, nat_tests) in
           let may : vote.ballot < (s.records slot).promised = subst (λ (r : SlotRecord). vote.ballot < r.promised) same before in
           answered setup s (Propose sender slot vote) (propose_aside sender slot vote) k stands (Refuses slot vote.ballot) (judgement false) slot
           (record { works = works; concerned = member; stays = λ x. refl; began = refl; no_replies = refl; no_receipts = refl; may = record { least = works.least; most = works.most; up = works.up; needs = tt }; replies = inr (may, refl); gives = (ap (λ (r : SlotRecord). Refused setup.node slot vote.ballot r.promised ∷ []) (sym same)) })
           (unchanged setup s (Propose sender slot vote) (propose_aside sender slot vote) k stands slot)
-          (λ cast voted. stands.placed slot cast voted)
+          (λ cast voted. stands.agrees.placed slot cast voted)
 
   pub propose_steps : (sender : ℕ) (slot : Slot) (vote : Vote) → IsPlaced slot vote → StepsAs setup s (Delivery (Propose sender slot vote)) (stepped setup k (Delivery (Propose sender slot vote)))
   propose_steps sender slot vote fits =
@@ -150,7 +150,7 @@ module _ (setup : Setup) (k : Kept) (s : Node) (stands : Stands setup k s) (work
 
   on_ask_steps : (sender id : ℕ) (name : Name) → IsMember setup.nodes sender → StepsAs setup s (Delivery (Ask sender id name)) (on_ask setup k id name)
   on_ask_steps sender id name member =
-      let told = told_is k.records id (λ slot vote voted. (stands.placed slot vote voted).1) in
+      let told = told_is k.records id (λ slot vote voted. (stands.agrees.placed slot vote voted).1) in
       let told_now = told_still id (told_of k.records id) told in
       answered_with setup s (Ask sender id name) (ask_aside sender id name) k stands (Tells id name (told_of k.records id)) (Tell setup.node name (told_of k.records id)) k
       (record {

@@ -29,9 +29,10 @@ use Rattle.node_model.specs.Kept.{Kept, message_at, saved}
 use Rattle.node_model.specs.Outputs.{leaves, sends}
 use Rattle.node_model.specs.Packets.{judged}
 use Rattle.node_model.specs.Stepped.{refused_with, stepped, stepped_down, stepped_up}
-use Rattle.node_laws.specs.Stands.{IsAside, IsMessage, IsPlaced, Stands}
+use Rattle.node_laws.specs.Stands.{IsAside, IsCoherent, IsMessage, IsPlaced, Stands}
 use Rattle.node_laws.specs.Steps.{IsAtWork, StepsAs}
 use Rattle.node_laws.proofs.Accepting.{same_record}
+use Rattle.node_laws.proofs.Coherence.{aside_fits, coherent_heard}
 use Rattle.node_laws.proofs.Aside.{held_still, knows_before, later, message_still, promise_before, quiet_still}
 use Rattle.node_laws.proofs.Places.{elsewhere, here, message_elsewhere, message_here}
 use Rattle.shelf.proofs.Entries.{still_ascends}
@@ -157,7 +158,7 @@ module _ (setup : Setup) (s : Node) (packet : Packet) (aside : IsAside packet) (
       by_id false differs =
           let apart : other.id ≡ slot.id → ⊥ = eqb-false other.id slot.id differs in
           subst IsSome (sym (elsewhere slot.id (message_at k slot.id) other.id apart k.messages))
-          (stands.listed other vote (ap (λ (b : Bool). (if b && (other.place == slot.place) then new else k.records other).vote) (sym differs) ∙ voted))
+          (stands.agrees.listed other vote (ap (λ (b : Bool). (if b && (other.place == slot.place) then new else k.records other).vote) (sym differs) ∙ voted))
 
   placed_still : (slot other : Slot) (new : SlotRecord) (vote : Vote) → ((cast : Vote) → new.vote ≡ Some cast → IsPlaced slot cast) →
       (with_record k.records slot new other).vote ≡ Some vote → IsPlaced other vote
@@ -165,59 +166,62 @@ module _ (setup : Setup) (s : Node) (packet : Packet) (aside : IsAside packet) (
     where
       by_slot : (same : Bool) → same_slot other slot ≡ same → (if same then new else k.records other).vote ≡ Some vote → IsPlaced other vote
       by_slot true same voted = subst (λ (x : Slot). IsPlaced x vote) (sym (slots_same other slot same)) (fits vote voted)
-      by_slot false differs voted = stands.placed other vote voted
+      by_slot false differs voted = stands.agrees.placed other vote voted
 
-  heard_placed : (voter : ℕ) (slot : Slot) (vote : Vote) → In (Voted voter slot vote) (packet ∷ s.actor.received) → slot ≡ slot_of slot.id vote.chain
-  heard_placed voter slot vote (inl same) = absurd (aside.votes voter slot vote same)
-  heard_placed voter slot vote (inr before) = stands.heard_placed voter slot vote before
+  coherent_still : IsCoherent setup.node heard.actor
+  coherent_still = coherent_heard setup.node s.actor packet (aside_fits setup.node s.actor packet aside) stands.agrees.coherent
 
   stands_saved : (slot : Slot) (new : SlotRecord) (records : Records) → ((other : Slot) → with_record k.records slot new other ≡ records other) →
       ((cast : Vote) → new.vote ≡ Some cast → IsPlaced slot cast) → Stands setup (saved k slot new) (later setup s records packet aside)
   stands_saved slot new records leaves fits = record {
-    up = stands.up;
-    incarnation = stands.incarnation;
-    clock = stands.clock;
-    serial = stands.serial;
-    ticket = stands.ticket;
-    records = leaves;
-    message = λ id. subst (IsMessage setup (later setup s records packet aside) id) (sym (same_message slot new id))
-        (message_still setup s records packet aside id (message_at k id) (stands.message id));
-    waiting = stands.waiting;
-    told = λ h is_in. held_still setup s records packet aside _ h (stands.told h is_in);
-    tickets = stands.tickets;
-    given = stands.given;
-    listed = λ other vote voted. listed_still slot other new vote voted;
-    ascends = still_ascends k.messages slot.id (message_at k slot.id) stands.ascends;
-    placed = λ other vote voted. placed_still slot other new vote fits voted;
-    heard_placed = heard_placed;
+    agrees = record {
+      up = stands.agrees.up;
+      incarnation = stands.agrees.incarnation;
+      clock = stands.agrees.clock;
+      serial = stands.agrees.serial;
+      ticket = stands.agrees.ticket;
+      records = leaves;
+      message = λ id. subst (IsMessage setup (later setup s records packet aside) id) (sym (same_message slot new id))
+          (message_still setup s records packet aside id (message_at k id) (stands.agrees.message id));
+      waiting = stands.agrees.waiting;
+      told = λ h is_in. held_still setup s records packet aside _ h (stands.agrees.told h is_in);
+      tickets = stands.agrees.tickets;
+      given = stands.agrees.given;
+      listed = λ other vote voted. listed_still slot other new vote voted;
+      ascends = still_ascends k.messages slot.id (message_at k slot.id) stands.agrees.ascends;
+      placed = λ other vote voted. placed_still slot other new vote fits voted;
+      coherent = coherent_still;
+    };
     quiet = quiet_still setup s records packet aside stands.quiet;
   }
 
   -- ---- a step by one act that answers
 
   pub same_with : (slot : Slot) (new other_new : SlotRecord) → new ≡ other_new → (other : Slot) → with_record k.records slot new other ≡ with_record s.records slot other_new other
-  same_with slot new other_new same other = λ i. if same_slot other slot then same i else stands.records other i
+  same_with slot new other_new same other = λ i. if same_slot other slot then same i else stands.agrees.records other i
 
   pub unchanged : (slot other : Slot) → with_record k.records slot (k.records slot) other ≡ s.records other
-  unchanged slot other = sym (same_record k.records slot other) ∙ stands.records other
+  unchanged slot other = sym (same_record k.records slot other) ∙ stands.agrees.records other
 
   pub stands_heard : Stands setup k heard
   stands_heard = record {
-    up = stands.up;
-    incarnation = stands.incarnation;
-    clock = stands.clock;
-    serial = stands.serial;
-    ticket = stands.ticket;
-    records = stands.records;
-    message = λ id. message_still setup s s.records packet aside id (message_at k id) (stands.message id);
-    waiting = stands.waiting;
-    told = λ h is_in. held_still setup s s.records packet aside _ h (stands.told h is_in);
-    tickets = stands.tickets;
-    given = stands.given;
-    listed = stands.listed;
-    ascends = stands.ascends;
-    placed = stands.placed;
-    heard_placed = heard_placed;
+    agrees = record {
+      up = stands.agrees.up;
+      incarnation = stands.agrees.incarnation;
+      clock = stands.agrees.clock;
+      serial = stands.agrees.serial;
+      ticket = stands.agrees.ticket;
+      records = stands.agrees.records;
+      message = λ id. message_still setup s s.records packet aside id (message_at k id) (stands.agrees.message id);
+      waiting = stands.agrees.waiting;
+      told = λ h is_in. held_still setup s s.records packet aside _ h (stands.agrees.told h is_in);
+      tickets = stands.agrees.tickets;
+      given = stands.agrees.given;
+      listed = stands.agrees.listed;
+      ascends = stands.agrees.ascends;
+      placed = stands.agrees.placed;
+      coherent = coherent_still;
+    };
     quiet = quiet_still setup s s.records packet aside stands.quiet;
   }
 
@@ -345,7 +349,7 @@ module _ (setup : Setup) (s : Node) (k : Kept) (stands : Stands setup k s) where
   })
     where
       up : stepped setup k (Refusal status) ≡ refused_with k status
-      up = ap (λ (up : Bool). if up then stepped_up setup k (Refusal status) else stepped_down setup k (Refusal status)) (stands.up ∙ works.up)
+      up = ap (λ (up : Bool). if up then stepped_up setup k (Refusal status) else stepped_down setup k (Refusal status)) (stands.agrees.up ∙ works.up)
 
   -- ---- a packet that does not concern the node is ignored
 

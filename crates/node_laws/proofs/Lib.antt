@@ -2,6 +2,7 @@ pub mod Same
 pub mod Places
 pub mod Learning
 pub mod Accepting
+pub mod Coherence
 pub mod Aside
 pub mod AsideSteps
 pub mod AcceptorSteps

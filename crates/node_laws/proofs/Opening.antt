@@ -8,6 +8,7 @@ use Rattle.std.specs.Option.{unwrap_or}
 use Rattle.std.specs.List.Sorted.{IsStrictlySortedBy}
 use Rattle.std.proofs.lemmas.Bool.{true≢false}
 use Rattle.mc_model.specs.message.Decree.{Decree}
+use Rattle.mc_model.specs.message.Ids.{IsIncarnation}
 use Rattle.mc_model.specs.synod.Acceptor.{Records, blank}
 use Rattle.mc_model.specs.synod.OneSlot.{Vote, vote_at}
 use Rattle.mc_model.specs.synod.Packet.{Packet, Prepare, Slot, slot_of}
@@ -99,27 +100,29 @@ keys_are (first ∷ others) = ap (λ (rest : List ℕ). first ∷ rest) (keys_ar
 
 -- ---- what is kept then stands for it
 
-pub stands_opened : (setup : Setup) (kept records : Records) (ids : List ℕ) (incarnation serial : ℕ) → ((slot : Slot) → kept slot ≡ records slot) →
+pub stands_opened : (setup : Setup) (kept records : Records) (ids : List ℕ) (incarnation serial : ℕ) → IsIncarnation incarnation → ((slot : Slot) → kept slot ≡ records slot) →
     IsStrictlySortedBy nat_cmp ids →
     ((slot : Slot) (vote : Vote) → (kept slot).vote ≡ Some vote → IsSome (lookup (is_at (nat_cmp slot.id)) (map entry ids))) →
     ((slot : Slot) (vote : Vote) → (kept slot).vote ≡ Some vote → IsPlaced slot vote) →
     Stands setup (opened_over kept ids incarnation serial) (node_over records incarnation serial)
-stands_opened setup kept records ids incarnation serial same ascends listed placed = record {
-  up = refl;
-  incarnation = refl;
-  clock = refl;
-  serial = refl;
-  ticket = refl;
-  records = same;
-  message = λ id. subst (IsMessage setup (node_over records incarnation serial) id) (sym (all_unseen ids id)) (unseen_stands setup records incarnation serial id);
-  waiting = refl;
-  told = λ h none. absurd none;
-  tickets = λ k within. absurd (omega arith);
-  given = λ h none. absurd none;
-  listed = listed;
-  ascends = subst (IsStrictlySortedBy nat_cmp) (sym (keys_are ids)) ascends;
-  placed = placed;
-  heard_placed = λ voter slot vote none. absurd none;
+stands_opened setup kept records ids incarnation serial life same ascends listed placed = record {
+  agrees = record {
+    up = refl;
+    incarnation = refl;
+    clock = refl;
+    serial = refl;
+    ticket = refl;
+    records = same;
+    message = λ id. subst (IsMessage setup (node_over records incarnation serial) id) (sym (all_unseen ids id)) (unseen_stands setup records incarnation serial id);
+    waiting = refl;
+    told = λ h none. absurd none;
+    tickets = λ k within. absurd (omega arith);
+    given = λ h none. absurd none;
+    listed = listed;
+    ascends = subst (IsStrictlySortedBy nat_cmp) (sym (keys_are ids)) ascends;
+    placed = placed;
+    coherent = record { life = life; ticked = omega arith; fits = λ packet none. absurd none; prepared = λ slot vote none. absurd none };
+  };
   quiet = quiet_opened setup.nodes setup.node incarnation serial;
 }
 
@@ -194,9 +197,9 @@ restart_steps setup k s lost stands least most left = subst (StepsAs setup s (Re
       reported = none_due _ (reports_none setup s.actor (suc (s.actor.incarnation + lost)) setup.first_serial lost);
     };
   };
-  stands = subst (λ (incarnation : ℕ). Stands setup (restarted setup k lost) (node_over s.records (suc (incarnation + lost)) setup.first_serial)) stands.incarnation
-      (stands_opened setup k.records s.records (keys_of k.messages) (suc (k.incarnation + lost)) setup.first_serial stands.records stands.ascends
-      (λ slot vote voted. listed_again slot.id k.messages (stands.listed slot vote voted)) stands.placed);
+  stands = subst (λ (incarnation : ℕ). Stands setup (restarted setup k lost) (node_over s.records (suc (incarnation + lost)) setup.first_serial)) stands.agrees.incarnation
+      (stands_opened setup k.records s.records (keys_of k.messages) (suc (k.incarnation + lost)) setup.first_serial (record { least = omega arith; most = let same = stands.agrees.incarnation in omega (arith, same, left) }) stands.agrees.records stands.agrees.ascends
+      (λ slot vote voted. listed_again slot.id k.messages (stands.agrees.listed slot vote voted)) stands.agrees.placed);
   outputs = refl;
 })
 
@@ -205,4 +208,4 @@ unfolding IsStrictlySortedBy
 none_sorted = tt
 
 pub new_stands : (setup : Setup) → Stands setup (opened_new setup) (node_new setup.first_serial)
-new_stands setup = stands_opened setup (λ slot. blank) (λ slot. blank) [] 1 setup.first_serial (λ slot. refl) none_sorted (λ slot vote voted. absurd (cc)) (λ slot vote voted. absurd (cc))
+new_stands setup = stands_opened setup (λ slot. blank) (λ slot. blank) [] 1 setup.first_serial (record { least = omega arith; most = omega arith }) (λ slot. refl) none_sorted (λ slot vote voted. absurd (cc)) (λ slot vote voted. absurd (cc))

@@ -4,12 +4,15 @@ use Rattle.std.specs.Ordering.{nat_cmp}
 use Rattle.std.specs.Map.{keys_of, lookup}
 use Rattle.std.specs.List.Sorted.{IsStrictlyIncreasing, IsStrictlySortedBy}
 use Rattle.std.specs.BTreeMap.{is_at}
+use Rattle.mc_model.specs.message.Chain.{IsPermitted}
+use Rattle.mc_model.specs.message.Ids.{IsIncarnation, node_of}
 use Rattle.mc_model.specs.synod.Lists.{In}
 use Rattle.mc_model.specs.synod.OneSlot.{Vote}
-use Rattle.mc_model.specs.synod.Packet.{Name, Packet, Promise, Propose, Refused, Slot, Tell, TopVote, Voted, slot_at, slot_of}
+use Rattle.mc_model.specs.synod.Packet.{Ask, Name, Packet, Prepare, Promise, Propose, Refused, Slot, Tell, TopVote, Voted, slot_at, slot_of}
 use Rattle.mc_model.specs.node.Outcome.{Outcome}
 use Rattle.mc_model.specs.node.Actor.{Actor, id_in, name_of}
 use Rattle.mc_model.specs.node.Alone.{Node, StandsAt}
+use Rattle.mc_model.specs.node.Concerns.{WasAskedFor, WasGiven}
 use Rattle.mc_model.specs.node.Knowledge.{IsKnown, IsLearned}
 use Rattle.mc_model.specs.node.Phases.{IsDueReply, IsToSettle}
 use Rattle.mc_model.specs.node.Proposal.{IsOwn}
@@ -109,12 +112,42 @@ pub record IsHeld (received : List Packet) (name : Name) (h : Held) : Type 0 whe
 abbrev pub IsPlaced : Slot → Vote → Type 0
 IsPlaced slot vote = (slot ≡ slot_of slot.id vote.chain) × (slot.place < most_places)
 
+-- a vote stands in the slot of its chain, which is permitted
+pub record IsCast (slot : Slot) (vote : Vote) : Type 0 where
+  pub slot_is : slot ≡ slot_of slot.id vote.chain
+  pub permitted : IsPermitted slot.id vote.chain
+
+-- a vote that is told is at one of the places of a chain
+abbrev pub IsWithin : Option TopVote → Type 0
+IsWithin None = Unit {0}
+IsWithin (Some told) = told.place < most_places
+
+-- What holds of a packet that an actor received: a promise at a ballot of its own was asked for, a vote is cast for a permitted
+-- chain of a message that was there, and what is told to its questions is told to a ticket that was given.
+abbrev pub IsFit : ℕ → Actor → Packet → Type 0
+IsFit node a (Promise acceptor slot ballot report) = WasAskedFor node a slot ballot
+IsFit node a (Voted voter slot vote) = IsCast slot vote × (node_of slot.id ≡ node → WasGiven a slot.id)
+IsFit node a (Tell teller name told) = IsWithin told × (name.node ≡ node → name.incarnation ≡ a.incarnation → name.ticket < a.ticket)
+IsFit node a (Prepare sender slot ballot) = Unit {0}
+IsFit node a (Propose sender slot vote) = Unit {0}
+IsFit node a (Refused sender slot ballot promised) = Unit {0}
+IsFit node a (Ask sender id name) = Unit {0}
+
+-- what an actor remembers hangs together
+pub record IsCoherent (node : ℕ) (a : Actor) : Type 0 where
+  pub life : IsIncarnation a.incarnation
+  pub ticked : a.before_tick ≤ length a.sent
+  pub fits : (packet : Packet) → In packet a.received → IsFit node a packet
+  -- what it proposed it had prepared
+  pub prepared : (slot : Slot) (vote : Vote) → In (Propose node slot vote) a.sent → In (Prepare node slot vote.ballot) a.sent
+
 -- nothing is due before a step: each request was settled and answered as soon as it could be
 pub record IsQuiet (nodes node : ℕ) (a : Actor) : Type 0 where
   pub settled : (ticket : ℕ) → IsToSettle nodes node a ticket → ⊥
   pub answered : (ticket id : ℕ) (answer : Answer) → IsDueReply nodes node a ticket id answer → ⊥
 
-pub record Stands (setup : Setup) (k : Kept) (s : Node) : Type 0 where
+-- what is kept agrees with what the actor remembers
+pub record Agrees (setup : Setup) (k : Kept) (s : Node) : Type 0 where
   pub up : k.up ≡ s.actor.up
   pub incarnation : k.incarnation ≡ s.actor.incarnation
   pub clock : k.clock ≡ s.actor.clock
@@ -131,5 +164,8 @@ pub record Stands (setup : Setup) (k : Kept) (s : Node) : Type 0 where
   pub listed : (slot : Slot) (vote : Vote) → (k.records slot).vote ≡ Some vote → IsSome (lookup (is_at (nat_cmp slot.id)) k.messages)
   pub ascends : IsStrictlySortedBy nat_cmp (keys_of k.messages)
   pub placed : (slot : Slot) (vote : Vote) → (k.records slot).vote ≡ Some vote → IsPlaced slot vote
-  pub heard_placed : (voter : ℕ) (slot : Slot) (vote : Vote) → In (Voted voter slot vote) s.actor.received → slot ≡ slot_of slot.id vote.chain
+  pub coherent : IsCoherent setup.node s.actor
+
+pub record Stands (setup : Setup) (k : Kept) (s : Node) : Type 0 where
+  pub agrees : Agrees setup k s
   pub quiet : IsQuiet setup.nodes setup.node s.actor
