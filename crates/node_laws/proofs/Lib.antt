@@ -7,3 +7,8 @@ pub mod Aside
 pub mod AsideSteps
 pub mod AcceptorSteps
 pub mod Opening
+pub mod Held
+pub mod Decided
+pub mod TakeRule
+pub mod FollowRule
+pub mod Cancelling
