@@ -7,9 +7,8 @@ use Rattle.std.specs.BTreeMap.{insert_entry, is_at}
 use Rattle.std.proofs.lemmas.Bool.{cases_Bool, eqb-false, eqb-true}
 use Rattle.mc_model.specs.message.Decree.{Decree}
 use Rattle.mc_model.specs.synod.Acceptor.{Records, SlotRecord, with_record}
-use Rattle.mc_model.specs.synod.Lists.{In}
 use Rattle.mc_model.specs.synod.OneSlot.{Vote}
-use Rattle.mc_model.specs.synod.Packet.{Name, Packet, Slot, Tell, TopVote, Voted, same_slot, slot_of}
+use Rattle.mc_model.specs.synod.Packet.{Name, Packet, Slot, Tell, TopVote, same_slot}
 use Rattle.mc_model.specs.node.Act.{Act, Asks, Prepares, Proposes, Receives, Replies, Reports, Settles}
 use Rattle.mc_model.specs.node.Actor.{Actor}
 use Rattle.mc_model.specs.node.Alone.{MayAlone, Node, began_by}

@@ -1,8 +1,7 @@
 -- What an actor remembers still hangs together after an act.
 use Rattle.std.proofs.Common.{◌≡◌, ℕ, ◌<◌, ◌≤◌, refl, sym, ◌∙◌, subst, inl, inr, arith, ◌∷◌}
-use Rattle.mc_model.specs.message.Ids.{incarnation_of, serial_of}
+use Rattle.mc_model.specs.message.Ids.{incarnation_of}
 use Rattle.mc_model.specs.synod.Lists.{In}
-use Rattle.mc_model.specs.synod.OneSlot.{Vote}
 use Rattle.mc_model.specs.synod.Packet.{Ask, Packet, Prepare, Promise, Propose, Refused, Slot, Tell, Voted}
 use Rattle.mc_model.specs.node.Actor.{Actor}
 use Rattle.mc_model.specs.node.Concerns.{WasGiven}

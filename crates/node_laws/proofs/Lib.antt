@@ -1,8 +1,13 @@
 pub mod Same
 pub mod Places
+pub mod Messages
 pub mod Learning
 pub mod Accepting
 pub mod Coherence
+pub mod Owning
+pub mod Starting
+pub mod Runs
+pub mod Started
 pub mod Aside
 pub mod AsideSteps
 pub mod AcceptorSteps
