@@ -30,7 +30,8 @@ module _ (node : ℕ) (before after : Actor) (later : IsLater node before after)
   fit_later (Ask sender id name) fit = tt
 
 -- one more packet came
-pub coherent_heard : (node : ℕ) (a : Actor) (packet : Packet) → IsFit node a packet → IsCoherent node a → IsCoherent node (record a { received = packet ∷ a.received })
+pub coherent_heard : (node : ℕ) (a : Actor) (packet : Packet) → IsFit node a packet → IsCoherent node a →
+    IsCoherent node (record a { received = packet ∷ a.received })
 coherent_heard node a packet fit is = record {
   life = is.life;
   ticked = is.ticked;

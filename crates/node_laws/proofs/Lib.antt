@@ -17,3 +17,5 @@ pub mod Decided
 pub mod TakeRule
 pub mod FollowRule
 pub mod Cancelling
+pub mod Answered
+pub mod Deciding

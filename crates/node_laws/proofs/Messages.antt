@@ -23,7 +23,8 @@ each_with P k id m now before other = by_id (other == id) refl
         subst (P other) (sym (message_elsewhere k id other m apart)) (before other apart)
 
 -- a message that is listed is listed then
-pub listed_with : (es : List (ℕ × Message)) (id : ℕ) (m : Message) (other : ℕ) → IsSome (lookup (is_at (nat_cmp other)) es) → IsSome (lookup (is_at (nat_cmp other)) (insert_entry nat_cmp es id m))
+pub listed_with : (es : List (ℕ × Message)) (id : ℕ) (m : Message) (other : ℕ) → IsSome (lookup (is_at (nat_cmp other)) es) →
+    IsSome (lookup (is_at (nat_cmp other)) (insert_entry nat_cmp es id m))
 listed_with es id m other some = by_id (other == id) refl
   where
     by_id : (same : Bool) → (other == id) ≡ same → IsSome (lookup (is_at (nat_cmp other)) (insert_entry nat_cmp es id m))

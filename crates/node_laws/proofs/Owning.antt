@@ -21,7 +21,8 @@ pub record IsGround (nodes id : ℕ) (a b : Actor) : Type 0 where
   pub learned : (slot : Slot) (vote : Vote) → IsLearned nodes a.received slot vote → IsLearned nodes b.received slot vote
 
 module _ (nodes node id : ℕ) (a b : Actor) (ground : IsGround nodes id a b) where
-  allows_later : (slot : Slot) → slot.id ≡ id → (taken : Submission) (attempted : Author) (before next : Kind) → Allows a slot taken attempted before next → Allows b slot taken attempted before next
+  allows_later : (slot : Slot) → slot.id ≡ id → (taken : Submission) (attempted : Author) (before next : Kind) → Allows a slot taken attempted before next →
+      Allows b slot taken attempted before next
   allows_later slot about taken attempted (Attempt number) next (inl closed) = inl (record {
     outcome = closed.outcome;
     incarnation = closed.incarnation ∙ sym ground.incarnation;

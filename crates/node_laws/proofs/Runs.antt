@@ -15,7 +15,8 @@ pub saved_more : (records : Records) (newer older : List Act) → saved records 
 saved_more records [] older = refl
 saved_more records (act ∷ newer) older = ap (λ (x : Records). records_by x act) (saved_more records newer older)
 
-pub reached_more : (node : ℕ) (first : Node) (newer older : List Act) → reached_alone node first (newer ++ older) ≡ reached_alone node (reached_alone node first older) newer
+pub reached_more : (node : ℕ) (first : Node) (newer older : List Act) →
+    reached_alone node first (newer ++ older) ≡ reached_alone node (reached_alone node first older) newer
 reached_more node first [] older = refl
 reached_more node first (act ∷ newer) older = ap (λ (x : Node). after_alone node x act) (reached_more node first newer older)
 
@@ -23,7 +24,8 @@ pub reached_actor : (node : ℕ) (first : Node) (acts : List Act) → (reached_a
 reached_actor node first [] = refl
 reached_actor node first (act ∷ older) = ap (λ (x : Actor). actor_by node x act) (reached_actor node first older)
 
-pub run_more : (nodes node : ℕ) (first : Node) (newer older : List Act) → IsRunAlone nodes node (reached_alone node first older) newer → IsRunAlone nodes node first older → IsRunAlone nodes node first (newer ++ older)
+pub run_more : (nodes node : ℕ) (first : Node) (newer older : List Act) → IsRunAlone nodes node (reached_alone node first older) newer →
+    IsRunAlone nodes node first older → IsRunAlone nodes node first (newer ++ older)
 run_more nodes node first [] older run before = before
 run_more nodes node first (act ∷ newer) older run before =
     (subst (λ (x : Node). MayAlone nodes node x act) (sym (reached_more node first newer older)) run.0, run_more nodes node first newer older run.1 before)

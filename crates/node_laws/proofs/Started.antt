@@ -107,7 +107,8 @@ module _ (setup : Setup) (k : Kept) (s : Node) (agrees : Agrees setup k s) (slot
       let beyond : last_round ≤ highest = grind (arith, nat_tests) in
       omega arith
 
-  runs_none : (round : Option Round) → IsRoundOf setup.nodes setup.node s slot.id round → not (is_some round) ≡ true → RunsNone setup.nodes setup.node s.actor slot.id
+  runs_none : (round : Option Round) → IsRoundOf setup.nodes setup.node s slot.id round → not (is_some round) ≡ true →
+      RunsNone setup.nodes setup.node s.actor slot.id
   runs_none None none free = none
   runs_none (Some r) is free = absurd (true≢false (sym free))
 

@@ -23,7 +23,8 @@ use Rattle.node_laws.proofs.Owning.{IsGround, own_later}
 
 -- ---- the packets sent since the last tick
 
-since_more : (packet : Packet) (sent : List Packet) (before : ℕ) → before ≤ length sent → take (length (packet ∷ sent) - before) (packet ∷ sent) ≡ packet ∷ take (length sent - before) sent
+since_more : (packet : Packet) (sent : List Packet) (before : ℕ) → before ≤ length sent →
+    take (length (packet ∷ sent) - before) (packet ∷ sent) ≡ packet ∷ take (length sent - before) sent
 since_more packet sent before within =
     let more : length (packet ∷ sent) - before ≡ suc (length sent - before) = omega arith in
     ap (λ (n : ℕ). take n (packet ∷ sent)) more
@@ -33,7 +34,8 @@ since_more packet sent before within =
 pub round_of : (number incarnation node : ℕ) → IsIncarnation incarnation → IsNode node → round_in (ballot_of number incarnation node) ≡ number
 round_of number incarnation node life is = let most = life.most in let few = is.most in omega arith
 
-pub own_ballot : (number incarnation node : ℕ) → IsIncarnation incarnation → IsNode node → (proposer_of (ballot_of number incarnation node) ≡ node) × (incarnation_in (ballot_of number incarnation node) ≡ incarnation)
+pub own_ballot : (number incarnation node : ℕ) → IsIncarnation incarnation → IsNode node →
+    (proposer_of (ballot_of number incarnation node) ≡ node) × (incarnation_in (ballot_of number incarnation node) ≡ incarnation)
 own_ballot number incarnation node life is = let most = life.most in let few = is.most in (omega arith, omega arith)
 
 -- a node of the cluster prepares at a ballot for a chain
@@ -75,7 +77,8 @@ module _ (setup : Setup) (s : Node) (slot : Slot) (ballot : ℕ) (chain : List D
     | inr before ↦ inr (record { ballot = sent.ballot; sent = before; names = sent.names })
   ]
 
-  highest_other : (other : Slot) → (other ≡ slot → ⊥) → (round : ℕ) → IsHighestSeen setup.node s.actor other round → IsHighestSeen setup.node prepared.actor other round
+  highest_other : (other : Slot) → (other ≡ slot → ⊥) → (round : ℕ) → IsHighestSeen setup.node s.actor other round →
+      IsHighestSeen setup.node prepared.actor other round
   highest_other other differs round highest = record {
     seen = elim highest.seen [ inl none ↦ inl none | inr seen ↦ inr (seen_still other round seen) ];
     most = λ above seen. highest.most above (seen_before other differs above seen);
@@ -108,7 +111,8 @@ module _ (setup : Setup) (s : Node) (slot : Slot) (ballot : ℕ) (chain : List D
     since_is : sent_since_tick prepared.actor ≡ Prepare setup.node slot ballot ∷ sent_since_tick s.actor
     since_is = since_more (Prepare setup.node slot ballot) s.actor.sent s.actor.before_tick coherent.ticked
 
-    running_other : (other : Slot) (above : ℕ) → other.id ≡ id → IsRunning setup.nodes setup.node s.actor other above → IsRunning setup.nodes setup.node prepared.actor other above
+    running_other : (other : Slot) (above : ℕ) → other.id ≡ id → IsRunning setup.nodes setup.node s.actor other above →
+        IsRunning setup.nodes setup.node prepared.actor other above
     running_other other above about runs = record {
       round = record {
         newer = Prepare setup.node slot ballot ∷ runs.round.newer;
@@ -139,14 +143,16 @@ module _ (setup : Setup) (s : Node) (slot : Slot) (ballot : ℕ) (chain : List D
       newest = λ sender at height is_in same. newest sender at height (inr is_in) same;
     }
 
-    running_before : (other : Slot) (above : ℕ) → other.id ≡ id → IsRunning setup.nodes setup.node prepared.actor other above → IsRunning setup.nodes setup.node s.actor other above
+    running_before : (other : Slot) (above : ℕ) → other.id ≡ id → IsRunning setup.nodes setup.node prepared.actor other above →
+        IsRunning setup.nodes setup.node s.actor other above
     running_before other above about runs = record {
       round = round_before runs.round.newer runs.round.older other above about (sym since_is ∙ runs.round.split) runs.round.newest;
       accepted = λ refused. runs.accepted (record { sender = refused.sender; promised = refused.promised; heard = refused.heard; greater = refused.greater });
       short = λ reached. runs.short (record { chain = reached.chain; known = reached.known; far = reached.far });
     }
 
-    own_other : (own : List Decree) → IsOwn (IsLearned setup.nodes s.actor.received) setup.node s.actor id own → IsOwn (IsLearned setup.nodes prepared.actor.received) setup.node prepared.actor id own
+    own_other : (own : List Decree) → IsOwn (IsLearned setup.nodes s.actor.received) setup.node s.actor id own →
+        IsOwn (IsLearned setup.nodes prepared.actor.received) setup.node prepared.actor id own
     own_other own is = own_later setup.nodes setup.node id s.actor prepared.actor (same_ground id) own is
 
     round_other : (round : Option Round) → IsKeptRound setup.nodes setup.node s id round → IsKeptRound setup.nodes setup.node prepared id round
@@ -248,10 +254,12 @@ module _ (setup : Setup) (s : Node) (slot : Slot) (ballot : ℕ) (chain : List D
             omega arith
         most_sent round at (inr before) names = let most = (is.seen slot.place within).most round (inr (record { ballot = at; sent = before; names = names })) in omega arith
 
-    seen_here : (place : ℕ) → place < most_places → IsHighestSeen setup.node prepared.actor (slot_at slot.id place) (get_or (set m.seen slot.place number) place 0)
+    seen_here : (place : ℕ) → place < most_places →
+        IsHighestSeen setup.node prepared.actor (slot_at slot.id place) (get_or (set m.seen slot.place number) place 0)
     seen_here place fits = by_place (place == slot.place) refl
       where
-        by_place : (same : Bool) → (place == slot.place) ≡ same → IsHighestSeen setup.node prepared.actor (slot_at slot.id place) (get_or (set m.seen slot.place number) place 0)
+        by_place : (same : Bool) → (place == slot.place) ≡ same →
+            IsHighestSeen setup.node prepared.actor (slot_at slot.id place) (get_or (set m.seen slot.place number) place 0)
         by_place true same =
             let is_place : place ≡ slot.place = eqb-true place slot.place same in
             let long = is.places in
