@@ -19,3 +19,4 @@ pub mod FollowRule
 pub mod Cancelling
 pub mod Answered
 pub mod Deciding
+pub mod KnownRules
