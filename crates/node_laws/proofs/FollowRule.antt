@@ -224,7 +224,6 @@ module _ (setup : Setup) (a : Actor) (records : Records) (k : Kept) (id : ℕ)
     (waiting : map (λ h. h.waiting) k.held ≡ a.waiting)
     (told : (h : Held) → In h k.held → IsHeld a.received (name_of setup.node a h.waiting) h)
     (known : IsKnown setup.nodes a.received id (message_at k id).known) where
-
   abbrev Shown : ℕ → Vote → Type 0
   Shown = IsShownAt setup.node a records id
 

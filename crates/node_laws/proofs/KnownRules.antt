@@ -69,7 +69,6 @@ expires (Fate final error) message attempt before moment old author = ((λ t. ab
 module _ (setup : Setup) (a : Actor) (k : Kept) (id : ℕ) (incarnation : k.incarnation ≡ a.incarnation) (clock : k.clock ≡ a.clock)
     (newest : Decree) (older : List Decree) (taken : Submission) (known : Knows setup.nodes a.received id (newest ∷ older))
     (message : taken_in (newest ∷ older) ≡ Some taken) where
-
   abbrev Goes : ℕ → List Decree → Kind → Type 0
   Goes place chain kind = GoesFurther setup.nodes setup.node a id place chain kind
 

@@ -20,3 +20,4 @@ pub mod Cancelling
 pub mod Answered
 pub mod Deciding
 pub mod KnownRules
+pub mod FirstRule

@@ -93,13 +93,16 @@ module _ (setup : Setup) (k : Kept) (id : ℕ) where
     } ∷ []
 
     fits : (place : ℕ) (chain : List Decree) → TakesAmong k.held place chain → FitsTake setup.node a id place chain
-    fits place chain it = (it.takes.first, record {
-      waiting = it.request.waiting;
-      message = it.takes.message;
-      waits = subst (λ (ws : List Waiting). In it.request.waiting ws) waiting (waits_among k.held it.request it.among);
-      submits = it.takes.submits;
-      chain_is = it.takes.chain_is ∙ same_chain it.request.waiting it.takes.message;
-    })
+    fits place chain it = (
+      it.takes.first,
+      record {
+        waiting = it.request.waiting;
+        message = it.takes.message;
+        waits = subst (λ (ws : List Waiting). In it.request.waiting ws) waiting (waits_among k.held it.request it.among);
+        submits = it.takes.submits;
+        chain_is = it.takes.chain_is ∙ same_chain it.request.waiting it.takes.message;
+      },
+    )
 
     among : (place : ℕ) (chain : List Decree) → FitsTake setup.node a id place chain → TakesAmong k.held place chain
     among place chain it =
