@@ -7,7 +7,7 @@ use Rattle.mc_model.specs.synod.Acceptor.{IsTold, SlotRecord, after_promise, aft
 use Rattle.mc_model.specs.synod.OneSlot.{Vote}
 use Rattle.mc_model.specs.synod.Packet.{Ask, Name, Packet, Prepare, Promise, Propose, Refused, Slot, Tell, TopVote, Voted, slot_at}
 use Rattle.mc_model.specs.node.Act.{Promises, Refuses, Tells, Votes}
-use Rattle.mc_model.specs.node.Alone.{Node}
+use Rattle.mc_model.specs.node.Alone.{Node, StandsAt}
 use Rattle.mc_model.specs.node.Concerns.{IsMember}
 use Rattle.mc_model.specs.node.Input.{Delivery}
 use Rattle.mc_model.specs.node.Setup.{Setup}
@@ -19,7 +19,7 @@ use Rattle.node_model.specs.Stepped.{stepped, stepped_down, stepped_up}
 use Rattle.node_laws.specs.Stands.{IsAside, IsPlaced, Stands}
 use Rattle.node_laws.specs.Steps.{IsAtWork, StepsAs}
 use Rattle.node_laws.proofs.Accepting.{told_is}
-use Rattle.node_laws.proofs.AsideSteps.{answered, answered_with, ignored, same_with, stands_heard, unchanged}
+use Rattle.node_laws.proofs.AsideSteps.{heard, stands_later, answered, answered_with, ignored, same_with, stands_heard, unchanged}
 
 prepare_aside : (sender ballot : ℕ) (slot : Slot) → IsAside (Prepare sender slot ballot)
 prepare_aside sender ballot slot = record {
@@ -66,6 +66,10 @@ module _ (setup : Setup) (k : Kept) (s : Node) (stands : Stands setup k s) (work
 
   -- ---- a Prepare
 
+  -- what was voted for before the packet came
+  voted_before : (packet : Packet) (aside : IsAside packet) (slot : Slot) (cast : Vote) → (k.records slot).vote ≡ Some cast → IsPlaced slot cast × StandsAt (heard setup s packet aside k stands) slot cast.chain
+  voted_before packet aside slot cast voted = (stands.agrees.placed slot cast voted, stands_later setup s packet aside k stands slot cast.chain (stands.agrees.voted slot cast voted))
+
   on_prepare_steps : (sender ballot : ℕ) (slot : Slot) → IsMember setup.nodes sender → StepsAs setup s (Delivery (Prepare sender slot ballot)) (on_prepare setup k slot ballot)
   on_prepare_steps sender ballot slot member = by_test (nat_lt (k.records slot).promised ballot) refl
     where
@@ -83,7 +87,7 @@ module _ (setup : Setup) (k : Kept) (s : Node) (stands : Stands setup k s) (work
           answered setup s (Prepare sender slot ballot) (prepare_aside sender ballot slot) k stands (Promises slot ballot true) (judgement true) slot
           (record { works = works; concerned = member; stays = λ x. refl; began = refl; no_replies = refl; no_receipts = refl; may = record { least = works.least; most = works.most; up = works.up; needs = record { sender = sender; prepared = inl refl; may = may } }; replies = inl (may, refl); gives = (ap (λ (r : SlotRecord). Promise setup.node slot ballot r.vote ∷ []) (sym same)) })
           (same_with setup s (Prepare sender slot ballot) (prepare_aside sender ballot slot) k stands slot _ _ (ap (λ (r : SlotRecord). after_promise r ballot) same))
-          (λ cast voted. stands.agrees.placed slot cast voted)
+          (voted_before (Prepare sender slot ballot) (prepare_aside sender ballot slot) slot)
       by_test false above =
           let same = stands.agrees.records slot in
           let before : ballot ≤ (k.records slot).promised = grind (arith, nat_tests) in
@@ -91,7 +95,7 @@ module _ (setup : Setup) (k : Kept) (s : Node) (stands : Stands setup k s) (work
           answered setup s (Prepare sender slot ballot) (prepare_aside sender ballot slot) k stands (Refuses slot ballot) (judgement false) slot
           (record { works = works; concerned = member; stays = λ x. refl; began = refl; no_replies = refl; no_receipts = refl; may = record { least = works.least; most = works.most; up = works.up; needs = tt }; replies = inr (may, refl); gives = (ap (λ (r : SlotRecord). Refused setup.node slot ballot r.promised ∷ []) (sym same)) })
           (unchanged setup s (Prepare sender slot ballot) (prepare_aside sender ballot slot) k stands slot)
-          (λ cast voted. stands.agrees.placed slot cast voted)
+          (voted_before (Prepare sender slot ballot) (prepare_aside sender ballot slot) slot)
 
   pub prepare_steps : (sender ballot : ℕ) (slot : Slot) → StepsAs setup s (Delivery (Prepare sender slot ballot)) (stepped setup k (Delivery (Prepare sender slot ballot)))
   prepare_steps sender ballot slot =
@@ -120,7 +124,7 @@ module _ (setup : Setup) (k : Kept) (s : Node) (stands : Stands setup k s) (work
           answered setup s (Propose sender slot vote) (propose_aside sender slot vote) k stands (Votes slot vote true) (judgement true) slot
           (record { works = works; concerned = member; stays = λ x. refl; began = refl; no_replies = refl; no_receipts = refl; may = record { least = works.least; most = works.most; up = works.up; needs = record { sender = sender; proposed = inl refl; may = may } }; replies = inl (may, refl); gives = refl })
           (same_with setup s (Propose sender slot vote) (propose_aside sender slot vote) k stands slot _ _ refl)
-          (λ cast voted. let casts : vote ≡ cast = cc in subst (IsPlaced slot) casts fits)
+          (λ cast voted. let casts : vote ≡ cast = cc in (subst (IsPlaced slot) casts fits, inl (sender, cast.ballot, inl (λ i. Propose sender slot (sym casts i)))))
       by_test false above =
           let same = stands.agrees.records slot in
           let before : vote.ballot < (k.records slot).promised = grind (arith, nat_tests) in
@@ -128,7 +132,7 @@ module _ (setup : Setup) (k : Kept) (s : Node) (stands : Stands setup k s) (work
           answered setup s (Propose sender slot vote) (propose_aside sender slot vote) k stands (Refuses slot vote.ballot) (judgement false) slot
           (record { works = works; concerned = member; stays = λ x. refl; began = refl; no_replies = refl; no_receipts = refl; may = record { least = works.least; most = works.most; up = works.up; needs = tt }; replies = inr (may, refl); gives = (ap (λ (r : SlotRecord). Refused setup.node slot vote.ballot r.promised ∷ []) (sym same)) })
           (unchanged setup s (Propose sender slot vote) (propose_aside sender slot vote) k stands slot)
-          (λ cast voted. stands.agrees.placed slot cast voted)
+          (voted_before (Propose sender slot vote) (propose_aside sender slot vote) slot)
 
   pub propose_steps : (sender : ℕ) (slot : Slot) (vote : Vote) → IsPlaced slot vote → StepsAs setup s (Delivery (Propose sender slot vote)) (stepped setup k (Delivery (Propose sender slot vote)))
   propose_steps sender slot vote fits =

@@ -236,7 +236,7 @@ module _ (setup : Setup) (s : Node) (records : Records) (packet : Packet) (aside
   abbrev pub later : Node
   later = record { actor = record s.actor { received = packet ∷ s.actor.received }; records = records; began = s.began }
 
-  stands_still : (slot : Slot) (chain : List Decree) → StandsAt s slot chain → StandsAt later slot chain
+  pub stands_still : (slot : Slot) (chain : List Decree) → StandsAt s slot chain → StandsAt later slot chain
   stands_still slot chain (inl (sender, ballot, heard)) = inl (sender, ballot, inr heard)
   stands_still slot chain (inr (inl (sender, ballot, heard))) = inr (inl (sender, ballot, inr heard))
   stands_still slot chain (inr (inr (inl (sender, asked, ballot, heard)))) = inr (inr (inl (sender, asked, ballot, inr heard)))

@@ -11,7 +11,7 @@ use Rattle.mc_model.specs.synod.OneSlot.{Vote}
 use Rattle.mc_model.specs.synod.Packet.{Name, Packet, Slot, Tell, TopVote, same_slot}
 use Rattle.mc_model.specs.node.Act.{Act, Asks, Prepares, Proposes, Receives, Replies, Reports, Settles}
 use Rattle.mc_model.specs.node.Actor.{Actor}
-use Rattle.mc_model.specs.node.Alone.{MayAlone, Node, began_by}
+use Rattle.mc_model.specs.node.Alone.{MayAlone, Node, StandsAt, began_by}
 use Rattle.mc_model.specs.node.Causes.{Causes, CausesDelete, CausesFollow}
 use Rattle.mc_model.specs.node.Concerns.{Concerns}
 use Rattle.mc_model.specs.node.Core.{AcceptorReplies, IsCore, IsRefusal}
@@ -32,7 +32,7 @@ use Rattle.node_laws.specs.Stands.{IsAside, IsCoherent, IsMessage, IsPlaced, Sta
 use Rattle.node_laws.specs.Steps.{IsAtWork, StepsAs}
 use Rattle.node_laws.proofs.Accepting.{same_record}
 use Rattle.node_laws.proofs.Coherence.{aside_fits, coherent_heard}
-use Rattle.node_laws.proofs.Aside.{held_still, knows_before, later, message_still, promise_before, quiet_still}
+use Rattle.node_laws.proofs.Aside.{held_still, knows_before, later, message_still, promise_before, quiet_still, stands_still}
 use Rattle.node_laws.proofs.Places.{elsewhere, here, message_elsewhere, message_here}
 use Rattle.shelf.proofs.Entries.{still_ascends}
 
@@ -53,7 +53,7 @@ follows_none nodes node before a (Tell teller name told) id place chain none fol
 follows_none nodes node before a packet id place chain none follows = follows
 
 module _ (setup : Setup) (s : Node) (packet : Packet) (aside : IsAside packet) (k : Kept) (stands : Stands setup k s) where
-  abbrev heard : Node
+  abbrev pub heard : Node
   heard = later setup s s.records packet aside
 
   settles_none : (act : Act) → DueToSettle setup.nodes setup.node heard.actor act → ⊥
@@ -167,11 +167,22 @@ module _ (setup : Setup) (s : Node) (packet : Packet) (aside : IsAside packet) (
       by_slot true same voted = subst (λ (x : Slot). IsPlaced x vote) (sym (slots_same other slot same)) (fits vote voted)
       by_slot false differs voted = stands.agrees.placed other vote voted
 
+  pub stands_later : (slot : Slot) (chain : List Decree) → StandsAt s slot chain → StandsAt heard slot chain
+  stands_later slot chain stood = stands_still setup s s.records packet aside slot chain stood
+
+  voted_still : (slot other : Slot) (new : SlotRecord) (vote : Vote) → ((cast : Vote) → new.vote ≡ Some cast → StandsAt heard slot cast.chain) →
+      (with_record k.records slot new other).vote ≡ Some vote → StandsAt heard other vote.chain
+  voted_still slot other new vote stood = by_slot (same_slot other slot) refl
+    where
+      by_slot : (same : Bool) → same_slot other slot ≡ same → (if same then new else k.records other).vote ≡ Some vote → StandsAt heard other vote.chain
+      by_slot true same voted = subst (λ (x : Slot). StandsAt heard x vote.chain) (sym (slots_same other slot same)) (stood vote voted)
+      by_slot false differs voted = stands_later other vote.chain (stands.agrees.voted other vote voted)
+
   coherent_still : IsCoherent setup.node heard.actor
   coherent_still = coherent_heard setup.node s.actor packet (aside_fits setup.node s.actor packet aside) stands.agrees.coherent
 
   stands_saved : (slot : Slot) (new : SlotRecord) (records : Records) → ((other : Slot) → with_record k.records slot new other ≡ records other) →
-      ((cast : Vote) → new.vote ≡ Some cast → IsPlaced slot cast) → Stands setup (saved k slot new) (later setup s records packet aside)
+      ((cast : Vote) → new.vote ≡ Some cast → IsPlaced slot cast × StandsAt heard slot cast.chain) → Stands setup (saved k slot new) (later setup s records packet aside)
   stands_saved slot new records leaves fits = record {
     agrees = record {
       up = stands.agrees.up;
@@ -188,7 +199,8 @@ module _ (setup : Setup) (s : Node) (packet : Packet) (aside : IsAside packet) (
       given = stands.agrees.given;
       listed = λ other vote voted. listed_still slot other new vote voted;
       ascends = still_ascends k.messages slot.id (message_at k slot.id) stands.agrees.ascends;
-      placed = λ other vote voted. placed_still slot other new vote fits voted;
+      placed = λ other vote voted. placed_still slot other new vote (λ cast is. (fits cast is).0) voted;
+      voted = λ other vote voted. voted_still slot other new vote (λ cast is. (fits cast is).1) voted;
       coherent = coherent_still;
     };
     quiet = quiet_still setup s records packet aside stands.quiet;
@@ -219,6 +231,7 @@ module _ (setup : Setup) (s : Node) (packet : Packet) (aside : IsAside packet) (
       listed = stands.agrees.listed;
       ascends = stands.agrees.ascends;
       placed = stands.agrees.placed;
+      voted = λ other vote voted. stands_later other vote.chain (stands.agrees.voted other vote voted);
       coherent = coherent_still;
     };
     quiet = quiet_still setup s s.records packet aside stands.quiet;
@@ -260,7 +273,7 @@ module _ (setup : Setup) (s : Node) (packet : Packet) (aside : IsAside packet) (
 
   pub answered : (act : Act) (judgement : Judgement) (slot : Slot) → Answers act judgement.answer →
       ((other : Slot) → with_record k.records slot judgement.after other ≡ records_by s.records act other) →
-      ((cast : Vote) → judgement.after.vote ≡ Some cast → IsPlaced slot cast) →
+      ((cast : Vote) → judgement.after.vote ≡ Some cast → IsPlaced slot cast × StandsAt heard slot cast.chain) →
       StepsAs setup s (Delivery packet) (judged k slot judgement)
   answered act judgement slot a leaves fits =
       answered_with act judgement.answer (saved k slot judgement.after) a (stands_saved slot judgement.after (records_by s.records act) leaves fits)

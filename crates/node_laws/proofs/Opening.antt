@@ -1,5 +1,5 @@
 -- A node that opens: what it keeps stands for an actor that remembers nothing.
-use Rattle.std.proofs.Common.{◌≡◌, ℕ, zero, suc, ◌+◌, ◌<◌, ◌≤◌, Bool, true, false, cond, List, [], ◌∷◌, ◌++◌, get_or, map, Some, IsSome, refl, sym, ap, subst, inl, inr, arith}
+use Rattle.std.proofs.Common.{◌≡◌, ℕ, zero, suc, ◌+◌, ◌<◌, ◌≤◌, Bool, true, false, cond, List, [], ◌∷◌, ◌++◌, get_or, map, Some, IsSome, refl, sym, ap, subst, ◌∙◌, inl, inr, arith}
 use Rattle.std.specs.Prelude.{if◌then◌else◌}
 use Rattle.std.specs.Ordering.{nat_cmp}
 use Rattle.std.specs.Map.{keys_of, lookup}
@@ -9,7 +9,7 @@ use Rattle.std.specs.List.Sorted.{IsStrictlySortedBy}
 use Rattle.std.proofs.lemmas.Bool.{true≢false}
 use Rattle.mc_model.specs.message.Decree.{Decree}
 use Rattle.mc_model.specs.message.Ids.{IsIncarnation}
-use Rattle.mc_model.specs.synod.Acceptor.{Records, blank}
+use Rattle.mc_model.specs.synod.Acceptor.{Records, SlotRecord, blank}
 use Rattle.mc_model.specs.synod.OneSlot.{Vote, vote_at}
 use Rattle.mc_model.specs.synod.Packet.{Packet, Prepare, Slot, slot_of}
 use Rattle.mc_model.specs.node.Act.{Act, Asks, Prepares, Proposes, Replies, Reports, Restarts, Settles}
@@ -121,6 +121,7 @@ stands_opened setup kept records ids incarnation serial life same ascends listed
     listed = listed;
     ascends = subst (IsStrictlySortedBy nat_cmp) (sym (keys_are ids)) ascends;
     placed = placed;
+    voted = λ slot vote voted. inr (inr (inr (inr (vote.ballot, ap (λ (r : SlotRecord). r.vote) (sym (same slot)) ∙ voted))));
     coherent = record { life = life; ticked = omega arith; fits = λ packet none. absurd none; prepared = λ slot vote none. absurd none };
   };
   quiet = quiet_opened setup.nodes setup.node incarnation serial;

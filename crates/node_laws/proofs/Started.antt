@@ -183,6 +183,7 @@ module _ (setup : Setup) (k : Kept) (s : Node) (agrees : Agrees setup k s) (mine
       listed = λ other vote voted. listed_with k.messages id new other.id (agrees.listed other vote voted);
       ascends = still_ascends k.messages id new agrees.ascends;
       placed = agrees.placed;
+      voted = agrees.voted;
       coherent = coherent_prepared setup s slot ballot start.chain agrees.coherent;
     }
 

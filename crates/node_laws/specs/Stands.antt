@@ -164,6 +164,8 @@ pub record Agrees (setup : Setup) (k : Kept) (s : Node) : Type 0 where
   pub listed : (slot : Slot) (vote : Vote) → (k.records slot).vote ≡ Some vote → IsSome (lookup (is_at (nat_cmp slot.id)) k.messages)
   pub ascends : IsStrictlySortedBy nat_cmp (keys_of k.messages)
   pub placed : (slot : Slot) (vote : Vote) → (k.records slot).vote ≡ Some vote → IsPlaced slot vote
+  -- what the node itself voted for stands, as a chain that was proposed to it, or that it had when it opened
+  pub voted : (slot : Slot) (vote : Vote) → (k.records slot).vote ≡ Some vote → StandsAt s slot vote.chain
   pub coherent : IsCoherent setup.node s.actor
 
 pub record Stands (setup : Setup) (k : Kept) (s : Node) : Type 0 where
