@@ -21,3 +21,5 @@ pub mod Answered
 pub mod Deciding
 pub mod KnownRules
 pub mod FirstRule
+pub mod Orders
+pub mod LateReplies
