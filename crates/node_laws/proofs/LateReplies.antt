@@ -1,23 +1,22 @@
 -- The requests that waited too long are answered so, by ascending tickets, and wait no more.
 use Rattle.std.proofs.Common.{◌≡◌, ℕ, ◌+◌, ◌<◌, ◌≤◌, Bool, true, false, cond, List, [], ◌∷◌, ◌++◌, map, refl, sym, ap, subst, ◌∙◌, inl, inr, arith}
-use Rattle.std.specs.Prelude.{◌==◌, filter, nat_le, not, reverse}
-use Rattle.std.proofs.lemmas.Bool.{eqb-false, true≢false}
+use Rattle.std.specs.Prelude.{◌==◌, filter, not, reverse}
+use Rattle.std.proofs.lemmas.Bool.{eqb-false}
 use Rattle.std.proofs.Common.{eqb-true}
-use Rattle.std.proofs.lemmas.Bool.Decides.{nat_tests}
 use Rattle.std.proofs.lemmas.Grind.{reverse_onto}
 use Rattle.std.proofs.lemmas.List.{reverse-append}
 use Rattle.mc_model.specs.synod.Acceptor.{Records}
 use Rattle.mc_model.specs.synod.Lists.{In}
 use Rattle.mc_model.specs.synod.Packet.{Packet}
-use Rattle.mc_model.specs.node.Act.{Act, Asks, Replies}
+use Rattle.mc_model.specs.node.Act.{Act, Replies}
 use Rattle.mc_model.specs.node.Actor.{Actor, Waiting, id_in}
 use Rattle.mc_model.specs.node.Alone.{IsRunAlone, Node, after_alone}
-use Rattle.mc_model.specs.node.Due.{AreDue, key_of}
-use Rattle.mc_model.specs.node.Effect.{did, packets_by, saved}
+use Rattle.mc_model.specs.node.Due.{AreDue}
+use Rattle.mc_model.specs.node.Effect.{did, saved}
 use Rattle.mc_model.specs.node.Input.{Tick}
 use Rattle.mc_model.specs.node.Outputs.{Receipt, Reply, packets_in, receipts_in, replies_in}
-use Rattle.mc_model.specs.node.Phases.{DueToEnd, IsTooLate}
-use Rattle.mc_model.specs.node.Replies.{Answer, TooLate, longest_wait}
+use Rattle.mc_model.specs.node.Phases.{DueToEnd}
+use Rattle.mc_model.specs.node.Replies.{TooLate, longest_wait}
 use Rattle.node_model.specs.Kept.{Held}
 use Rattle.node_model.specs.Requests.{id_of, ticket_of}
 use Rattle.node_model.specs.Ticks.{is_late, late_reply}

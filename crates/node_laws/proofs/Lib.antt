@@ -23,3 +23,4 @@ pub mod KnownRules
 pub mod FirstRule
 pub mod Orders
 pub mod LateReplies
+pub mod AskingAgain
