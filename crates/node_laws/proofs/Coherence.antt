@@ -40,6 +40,7 @@ coherent_heard node a packet fit is = record {
     | inr before ↦ fit_now other (is.fits other before)
   ];
   prepared = is.prepared;
+  outcomes = is.outcomes;
 }
   where
     fit_now : (other : Packet) → IsFit node a other → IsFit node (record a { received = packet ∷ a.received }) other

@@ -100,6 +100,7 @@ module _ (setup : Setup) (s : Node) (slot : Slot) (ballot : ℕ) (chain : List D
     ticked = let before = is.ticked in omega arith;
     fits = λ packet came. fit_later setup.node s.actor prepared.actor later packet (is.fits packet came);
     prepared = λ other vote sent. elim sent [ inl now ↦ absurd (cc) | inr before ↦ inr (is.prepared other vote before) ];
+    outcomes = is.outcomes;
   }
     where
       later : IsLater setup.node s.actor prepared.actor

@@ -9,7 +9,7 @@ use Rattle.mc_model.specs.message.Ids.{IsIncarnation, node_of}
 use Rattle.mc_model.specs.synod.Lists.{In}
 use Rattle.mc_model.specs.synod.OneSlot.{Vote}
 use Rattle.mc_model.specs.synod.Packet.{Ask, Name, Packet, Prepare, Promise, Propose, Refused, Slot, Tell, TopVote, Voted, slot_at, slot_of}
-use Rattle.mc_model.specs.node.Outcome.{Outcome}
+use Rattle.mc_model.specs.node.Outcome.{IsOutcome, Outcome, Unanswered, no_session_error}
 use Rattle.mc_model.specs.node.Actor.{Actor, id_in, name_of}
 use Rattle.mc_model.specs.node.Alone.{Node, StandsAt}
 use Rattle.mc_model.specs.node.Concerns.{WasAskedFor, WasGiven}
@@ -133,6 +133,10 @@ IsFit node a (Propose sender slot vote) = Unit {0}
 IsFit node a (Refused sender slot ballot promised) = Unit {0}
 IsFit node a (Ask sender id name) = Unit {0}
 
+-- an attempt is closed by an outcome that may come of one, or given up
+abbrev pub IsClosing : Outcome → Type 0
+IsClosing outcome = IsOutcome outcome ⊎ (outcome ≡ Unanswered no_session_error)
+
 -- what an actor remembers hangs together
 pub record IsCoherent (node : ℕ) (a : Actor) : Type 0 where
   pub life : IsIncarnation a.incarnation
@@ -140,6 +144,7 @@ pub record IsCoherent (node : ℕ) (a : Actor) : Type 0 where
   pub fits : (packet : Packet) → In packet a.received → IsFit node a packet
   -- what it proposed it had prepared
   pub prepared : (slot : Slot) (vote : Vote) → In (Propose node slot vote) a.sent → In (Prepare node slot vote.ballot) a.sent
+  pub outcomes : (slot : Slot) (outcome : Outcome) → In (slot, outcome) a.closed → IsClosing outcome
 
 -- nothing is due before a step: each request was settled and answered as soon as it could be
 pub record IsQuiet (nodes node : ℕ) (a : Actor) : Type 0 where
