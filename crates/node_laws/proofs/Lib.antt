@@ -24,3 +24,4 @@ pub mod FirstRule
 pub mod Orders
 pub mod LateReplies
 pub mod AskingAgain
+pub mod RuleChains
