@@ -45,10 +45,10 @@ pub none_due_once : (Due : Act → Type 0) → ((act : Act) → Due act → ⊥)
 none_due_once Due none = record { only = λ act is_in. absurd is_in; all = λ act due. absurd (none act due); order = tt }
 
 -- a packet is no Tell
-abbrev TellsNobody : Packet → Type 0
+abbrev pub TellsNobody : Packet → Type 0
 TellsNobody packet = (teller : ℕ) (name : Name) (told : Option TopVote) → Tell teller name told ≡ packet → ⊥
 
-follows_none : (nodes node : ℕ) (before a : Actor) (packet : Packet) (id place : ℕ) (chain : List Decree) → TellsNobody packet → CausesFollow nodes node before a (Delivery packet) id place chain → ⊥
+pub follows_none : (nodes node : ℕ) (before a : Actor) (packet : Packet) (id place : ℕ) (chain : List Decree) → TellsNobody packet → CausesFollow nodes node before a (Delivery packet) id place chain → ⊥
 follows_none nodes node before a (Tell teller name told) id place chain none follows = none teller name told refl
 follows_none nodes node before a packet id place chain none follows = follows
 

@@ -39,6 +39,7 @@ coherent_heard node a packet fit is = record {
     | inl same ↦ fit_now other (subst (IsFit node a) (sym same) fit)
     | inr before ↦ fit_now other (is.fits other before)
   ];
+  own = is.own;
   prepared = is.prepared;
   outcomes = is.outcomes;
 }

@@ -122,7 +122,14 @@ stands_opened setup kept records ids incarnation serial life same ascends listed
     ascends = subst (IsStrictlySortedBy nat_cmp) (sym (keys_are ids)) ascends;
     placed = placed;
     voted = λ slot vote voted. inr (inr (inr (inr (vote.ballot, ap (λ (r : SlotRecord). r.vote) (sym (same slot)) ∙ voted))));
-    coherent = record { life = life; ticked = omega arith; fits = λ packet none. absurd none; prepared = λ slot vote none. absurd none; outcomes = λ slot outcome none. absurd none };
+    coherent = record {
+      life = life;
+      ticked = omega arith;
+      fits = λ packet none. absurd none;
+      own = λ slot ballot none. absurd none;
+      prepared = λ slot vote none. absurd none;
+      outcomes = λ slot outcome none. absurd none;
+    };
   };
   quiet = quiet_opened setup.nodes setup.node incarnation serial;
 }

@@ -14,7 +14,7 @@ use Rattle.mc_model.specs.node.Alone.{IsRunAlone, Node, StandsAt, reached_alone}
 use Rattle.mc_model.specs.node.Due.{AreDueOnce, key_of}
 use Rattle.mc_model.specs.node.Knowledge.{IsLearned}
 use Rattle.mc_model.specs.node.Outputs.{packets_in, receipts_in, replies_in}
-use Rattle.mc_model.specs.node.Proposal.{IsOwn}
+use Rattle.mc_model.specs.node.Proposal.{IsOwn, OwnBallot}
 use Rattle.mc_model.specs.node.Rounds.{HasSeen, IsNextBallot, MayPrepare, RunsNone}
 use Rattle.mc_model.specs.node.Rules.{IsAhead}
 use Rattle.mc_model.specs.node.Setup.{Setup}
@@ -166,6 +166,12 @@ module _ (setup : Setup) (k : Kept) (s : Node) (agrees : Agrees setup k s) (mine
         message_here setup s slot ballot start.chain (message_at k id) (agrees.message id) agrees.coherent mine is.within number (omega arith) (omega arith)
         (ap (λ (i : ℕ). ballot_of number i setup.node) agrees.incarnation) is.ahead is.free
 
+    own_now : OwnBallot setup.node s.actor ballot
+    own_now =
+        let own = own_ballot number s.actor.incarnation setup.node agrees.coherent.life mine in
+        let ballot_is : ballot ≡ ballot_of number s.actor.incarnation setup.node = ap (λ (i : ℕ). ballot_of number i setup.node) agrees.incarnation in
+        (ap proposer_of ballot_is ∙ own.0, ap incarnation_in ballot_is ∙ own.1)
+
     agrees_then : Agrees setup (prepared_at setup k slot number start.chain).kept (prepared setup s slot ballot start.chain)
     agrees_then = record {
       up = agrees.up;
@@ -184,17 +190,15 @@ module _ (setup : Setup) (k : Kept) (s : Node) (agrees : Agrees setup k s) (mine
       ascends = still_ascends k.messages id new agrees.ascends;
       placed = agrees.placed;
       voted = agrees.voted;
-      coherent = coherent_prepared setup s slot ballot start.chain agrees.coherent;
+      coherent = coherent_prepared setup s slot ballot start.chain own_now agrees.coherent;
     }
 
     prepares : is_free k slot ≡ true → StartsAs setup k s id Due (prepared_at setup k slot number start.chain)
     prepares free =
         let parts = and_parts (not (is_some (message_at k id).round)) (nat_lt (highest_round k.records (message_at k id) slot) last_round) free in
-        let own = own_ballot number s.actor.incarnation setup.node agrees.coherent.life mine in
-        let ballot_is : ballot ≡ ballot_of number s.actor.incarnation setup.node = ap (λ (i : ℕ). ballot_of number i setup.node) agrees.incarnation in
         record {
           acts = Prepares slot ballot start.chain ∷ [];
-          run = (record { least = works.least; most = works.most; up = works.up; needs = (ap proposer_of ballot_is ∙ own.0, ap incarnation_in ballot_is ∙ own.1) }, tt);
+          run = (record { least = works.least; most = works.most; up = works.up; needs = own_now }, tt);
           due = record {
             only = λ act is_in. of_only (IsToPrepare setup s id Due) (Prepares slot ballot start.chain) act (
               refl,

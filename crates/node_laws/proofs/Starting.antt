@@ -94,11 +94,15 @@ module _ (setup : Setup) (s : Node) (slot : Slot) (ballot : ℕ) (chain : List D
     learned = λ other vote learned. learned;
   }
 
-  pub coherent_prepared : IsCoherent setup.node s.actor → IsCoherent setup.node prepared.actor
-  coherent_prepared is = record {
+  pub coherent_prepared : OwnBallot setup.node s.actor ballot → IsCoherent setup.node s.actor → IsCoherent setup.node prepared.actor
+  coherent_prepared mine is = record {
     life = is.life;
     ticked = let before = is.ticked in omega arith;
     fits = λ packet came. fit_later setup.node s.actor prepared.actor later packet (is.fits packet came);
+    own = λ other above sent. elim sent [
+      | inl now ↦ let same : above ≡ ballot = cc in subst (OwnBallot setup.node s.actor) (sym same) mine
+      | inr before ↦ is.own other above before
+    ];
     prepared = λ other vote sent. elim sent [ inl now ↦ absurd (cc) | inr before ↦ inr (is.prepared other vote before) ];
     outcomes = is.outcomes;
   }

@@ -15,7 +15,7 @@ use Rattle.mc_model.specs.node.Alone.{Node, StandsAt}
 use Rattle.mc_model.specs.node.Concerns.{WasAskedFor, WasGiven}
 use Rattle.mc_model.specs.node.Knowledge.{IsKnown, IsLearned}
 use Rattle.mc_model.specs.node.Phases.{IsDueReply, IsToSettle}
-use Rattle.mc_model.specs.node.Proposal.{IsOwn}
+use Rattle.mc_model.specs.node.Proposal.{IsOwn, OwnBallot}
 use Rattle.mc_model.specs.node.Replies.{Answer}
 use Rattle.mc_model.specs.node.Rounds.{IsRunning, RunsNone, WasPrepared, WasRefusedFor}
 use Rattle.mc_model.specs.node.Settling.{HasTold}
@@ -142,7 +142,8 @@ pub record IsCoherent (node : ℕ) (a : Actor) : Type 0 where
   pub life : IsIncarnation a.incarnation
   pub ticked : a.before_tick ≤ length a.sent
   pub fits : (packet : Packet) → In packet a.received → IsFit node a packet
-  -- what it proposed it had prepared
+  -- it prepared at ballots of its own, and what it proposed it had prepared
+  pub own : (slot : Slot) (ballot : ℕ) → In (Prepare node slot ballot) a.sent → OwnBallot node a ballot
   pub prepared : (slot : Slot) (vote : Vote) → In (Propose node slot vote) a.sent → In (Prepare node slot vote.ballot) a.sent
   pub outcomes : (slot : Slot) (outcome : Outcome) → In (slot, outcome) a.closed → IsClosing outcome
 
