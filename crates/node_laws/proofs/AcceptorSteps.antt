@@ -38,19 +38,19 @@ propose_aside sender slot vote = record {
 }
 
 -- a sender that is one of the nodes, and one that is not
-member_is : (setup : Setup) (sender : ℕ) → is_member setup sender ≡ true → IsMember setup.nodes sender
+pub member_is : (setup : Setup) (sender : ℕ) → is_member setup sender ≡ true → IsMember setup.nodes sender
 member_is setup sender is =
     let parts = and_parts (nat_le 1 sender) (nat_le sender setup.nodes) is in
     record { least = grind (arith, nat_tests); most = grind (arith, nat_tests) }
 
-member_test : (setup : Setup) (sender : ℕ) → IsMember setup.nodes sender → is_member setup sender ≡ true
+pub member_test : (setup : Setup) (sender : ℕ) → IsMember setup.nodes sender → is_member setup sender ≡ true
 member_test setup sender is =
     let least : 1 ≤ sender = is.least in
     let most : sender ≤ setup.nodes = is.most in
     and_from (nat_le 1 sender) (nat_le sender setup.nodes) (grind (arith, nat_tests)) (grind (arith, nat_tests))
 
 -- a node that is up
-stepped_is : (setup : Setup) (k : Kept) (s : Node) (packet : Packet) → Stands setup k s → IsAtWork setup s → stepped setup k (Delivery packet) ≡ on_packet setup k packet
+pub stepped_is : (setup : Setup) (k : Kept) (s : Node) (packet : Packet) → Stands setup k s → IsAtWork setup s → stepped setup k (Delivery packet) ≡ on_packet setup k packet
 stepped_is setup k s packet stands works =
     ap (λ (up : Bool). if up then stepped_up setup k (Delivery packet) else stepped_down setup k (Delivery packet)) (stands.agrees.up ∙ works.up)
 

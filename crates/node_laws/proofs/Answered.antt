@@ -114,7 +114,8 @@ module _ (nodes node : ℕ) (a : Actor) (h : Held) (is : IsHeld a.received (name
     abbrev QueryFits : Answer → Type 0
     QueryFits answer = FitsQuery nodes node a w account source answer
 
-    query_unknown : IsKnown nodes a.received id None → (reached : Bool) → is_settled nodes None h ≡ reached → AnswerIs (if reached then Some Unknown else None) QueryFits
+    query_unknown : IsKnown nodes a.received id None → (reached : Bool) → is_settled nodes None h ≡ reached →
+        AnswerIs (if reached then Some Unknown else None) QueryFits
     query_unknown nothing true settled = record { nothing = nothing; settled = settled_is None settled }
     query_unknown nothing false settled = none
       where
@@ -138,7 +139,8 @@ module _ (nodes node : ℕ) (a : Actor) (h : Held) (is : IsHeld a.received (name
     query_none chain knows none Unknown fits = fits.nothing _ _ knows.learned
     query_none chain knows none answer fits = fits
 
-    query_taken : (chain : List Decree) → Knows nodes a.received id chain → is_settled nodes (Some chain) h ≡ true → (taken : Option Submission) → taken_in chain ≡ taken →
+    query_taken : (chain : List Decree) → Knows nodes a.received id chain → is_settled nodes (Some chain) h ≡ true → (taken : Option Submission) →
+        taken_in chain ≡ taken →
         AnswerIs (query_shown account source chain taken) QueryFits
     query_taken chain knows settled None none = query_none chain knows none
     query_taken chain knows settled (Some taken) message = by_owner (is_owner taken account source) refl
@@ -165,7 +167,8 @@ module _ (nodes node : ℕ) (a : Actor) (h : Held) (is : IsHeld a.received (name
     abbrev CancelFits : Answer → Type 0
     CancelFits answer = FitsCancel nodes node a w account source destination answer
 
-    cancel_unknown : IsKnown nodes a.received id None → (reached : Bool) → is_settled nodes None h ≡ reached → AnswerIs (if reached then Some Unknown else None) CancelFits
+    cancel_unknown : IsKnown nodes a.received id None → (reached : Bool) → is_settled nodes None h ≡ reached →
+        AnswerIs (if reached then Some Unknown else None) CancelFits
     cancel_unknown nothing true settled = record { nothing = nothing; settled = settled_is None settled }
     cancel_unknown nothing false settled = none
       where
@@ -191,7 +194,8 @@ module _ (nodes node : ℕ) (a : Actor) (h : Held) (is : IsHeld a.received (name
     cancel_none chain knows none answer fits = fits
 
     -- it matches, and the message is idle: nothing fits
-    cancel_waits : (newest : Decree) (older : List Decree) (taken : Submission) → Knows nodes a.received id (newest ∷ older) → taken_in (newest ∷ older) ≡ Some taken → IsMatch taken account source destination →
+    cancel_waits : (newest : Decree) (older : List Decree) (taken : Submission) → Knows nodes a.received id (newest ∷ older) →
+        taken_in (newest ∷ older) ≡ Some taken → IsMatch taken account source destination →
         (final_by newest.kind ≡ Some Deleted → ⊥) → (KeepsMessage newest.kind → ⊥) → (answer : Answer) → CancelFits answer → ⊥
     cancel_waits newest older taken knows message matched deleted keeps (Removed other) fits = deleted (ap final_in (sym (one_known (newest ∷ older) other knows fits.known)) ∙ fits.deleted)
     cancel_waits newest older taken knows message matched deleted keeps (Kept other) fits =
@@ -203,7 +207,8 @@ module _ (nodes node : ℕ) (a : Actor) (h : Held) (is : IsHeld a.received (name
     cancel_waits newest older taken knows message matched deleted keeps Unknown fits = fits.nothing _ _ knows.learned
     cancel_waits newest older taken knows message matched deleted keeps answer fits = fits
 
-    cancel_matched : (newest : Decree) (older : List Decree) (taken : Submission) → Knows nodes a.received id (newest ∷ older) → w.settled ≡ true → taken_in (newest ∷ older) ≡ Some taken → IsMatch taken account source destination →
+    cancel_matched : (newest : Decree) (older : List Decree) (taken : Submission) → Knows nodes a.received id (newest ∷ older) → w.settled ≡ true →
+        taken_in (newest ∷ older) ≡ Some taken → IsMatch taken account source destination →
         (kind : Kind) → newest.kind ≡ kind → AnswerIs (cancel_answer kind (newest ∷ older)) CancelFits
     cancel_matched newest older taken knows settled message matched kind is = by_kind kind is
       where

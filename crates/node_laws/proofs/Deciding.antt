@@ -103,10 +103,12 @@ module _ (setup : Setup) (k : Kept) (s : Node) (agrees : Agrees setup k s) where
         ticket_is = ap (λ (w : Waiting). w.ticket) same ∙ due.ticket_is;
         settled = (settles_decides h kept.among (known_for k h)).1 (
           subst (λ (w : Waiting). IsCancelRequest w.request) (sym same) due.cancel,
-          (ap (λ (w : Waiting). w.settled) same ∙ due.unsettled,
-          subst (λ (known : Option (List Decree)). IsSettled setup.nodes s.actor.received (name_of setup.node s.actor h.waiting) known)
-              (one_known h due.known (subst (λ (w : Waiting). IsKnown setup.nodes s.actor.received (id_in w.request) due.known) (sym same) due.knows))
-              (subst (λ (w : Waiting). IsSettled setup.nodes s.actor.received (name_of setup.node s.actor w) due.known) (sym same) due.settled)),
+          (
+            ap (λ (w : Waiting). w.settled) same ∙ due.unsettled,
+            subst (λ (known : Option (List Decree)). IsSettled setup.nodes s.actor.received (name_of setup.node s.actor h.waiting) known)
+                (one_known h due.known (subst (λ (w : Waiting). IsKnown setup.nodes s.actor.received (id_in w.request) due.known) (sym same) due.knows))
+                (subst (λ (w : Waiting). IsSettled setup.nodes s.actor.received (name_of setup.node s.actor w) due.known) (sym same) due.settled),
+          ),
         );
       }
     where
@@ -121,7 +123,8 @@ module _ (setup : Setup) (k : Kept) (s : Node) (agrees : Agrees setup k s) where
 
   -- ---- answered
 
-  fits_of : (h : Held) → In h k.held → AnswerIs (answer_to setup.nodes (known_for k h) h) (FitsRequest setup.nodes setup.node s.actor h.waiting h.waiting.request)
+  fits_of : (h : Held) → In h k.held →
+      AnswerIs (answer_to setup.nodes (known_for k h) h) (FitsRequest setup.nodes setup.node s.actor h.waiting h.waiting.request)
   fits_of h among = answer_is setup.nodes setup.node s.actor h (agrees.told h among) h.waiting.request refl (known_for k h) (known_of h)
 
   pub to_answer : (ticket id : ℕ) (answer : Answer) → AnswersIn setup.nodes k ticket id answer → IsDueReply setup.nodes setup.node s.actor ticket id answer

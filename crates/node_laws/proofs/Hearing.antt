@@ -1,5 +1,5 @@
 -- What a packet leaves as it was of which it tells nothing.
-use Rattle.std.proofs.Common.{◌≡◌, ◌⊎◌, ℕ, ◌<◌, List, [], ◌∷◌, ◌++◌, Option, Some, None, sym, ap, subst, ◌∙◌, inl, inr, arith, refl}
+use Rattle.std.proofs.Common.{◌≡◌, ◌⊎◌, ℕ, zero, suc, ◌-◌, ◌<◌, List, [], ◌∷◌, ◌++◌, length, take, Option, Some, None, sym, ap, subst, ◌∙◌, inl, inr, arith, refl}
 use Rattle.mc_model.specs.message.Decree.{Decree}
 use Rattle.mc_model.specs.synod.Lists.{In}
 use Rattle.mc_model.specs.synod.OneSlot.{Vote}
@@ -12,6 +12,7 @@ use Rattle.mc_model.specs.node.Rounds.{IsReachedBy, IsRefused, IsRoundOf, IsRunn
 use Rattle.mc_model.specs.node.Setup.{Setup}
 use Rattle.mc_model.specs.node.Settling.{HasTold}
 use Rattle.mc_parts.proofs.Learning.{learned_still}
+use Rattle.mc_parts.proofs.Membership.{in_right}
 use Rattle.node_model.specs.Kept.{Held}
 use Rattle.node_model.specs.Message.{Message, Round}
 use Rattle.node_laws.specs.Stands.{IsHeld, IsHighestReport, IsHighestSeen, IsHighestTold, IsMessage, IsRoundOf as IsKeptRound, TellsOfNone, WasSeen}
@@ -30,6 +31,10 @@ PromisesNone packet slot ballot = (acceptor : ℕ) (report : Option Vote) → Pr
 
 abbrev pub RefusesNone : Packet → Slot → ℕ → Type 0
 RefusesNone packet slot ballot = (sender promised : ℕ) → ballot < promised → Refused sender slot ballot promised ≡ packet → ⊥
+
+abbrev pub IsUnrefused : Packet → Option Round → Type 0
+IsUnrefused packet None = Unit {0}
+IsUnrefused packet (Some r) = RefusesNone packet r.slot r.ballot
 
 -- it tells nothing about a message
 pub record IsElsewhere (packet : Packet) (id : ℕ) : Type 0 where
@@ -55,14 +60,28 @@ first_of_both node one other at above (first ∷ newer) older (second ∷ later)
     (λ sender slot ballot is_in. none sender slot ballot (inr is_in))
     (λ sender slot ballot is_in. also sender slot ballot (inr is_in))
 
-pub one_round : (node : ℕ) (a : Actor) (one other : Slot) (at above : ℕ) → one.id ≡ other.id → IsRoundOf node a one at → IsRoundOf node a other above → (one ≡ other) × (at ≡ above)
+pub one_round : (node : ℕ) (a : Actor) (one other : Slot) (at above : ℕ) → one.id ≡ other.id → IsRoundOf node a one at → IsRoundOf node a other above →
+    (one ≡ other) × (at ≡ above)
 one_round node a one other at above ids first second =
     first_of_both node one other at above first.newer first.older second.newer second.older ids (sym first.split ∙ second.split) first.newest second.newest
+
+-- it was prepared
+pub round_sent : (node : ℕ) (a : Actor) (slot : Slot) (ballot : ℕ) → IsRoundOf node a slot ballot → In (Prepare node slot ballot) a.sent
+round_sent node a slot ballot round =
+    in_taken (length a.sent - a.before_tick) a.sent (Prepare node slot ballot)
+    (subst (λ (ps : List Packet). In (Prepare node slot ballot) ps) (sym round.split) (in_right (Prepare node slot ballot) round.newer (Prepare node slot ballot ∷ round.older) (inl refl)))
+  where
+    in_taken : (n : ℕ) (ps : List Packet) (p : Packet) → In p (take n ps) → In p ps
+    in_taken zero ps p is_in = absurd is_in
+    in_taken (suc n) [] p is_in = is_in
+    in_taken (suc n) (first ∷ ps) p (inl same) = inl same
+    in_taken (suc n) (first ∷ ps) p (inr later) = inr (in_taken n ps p later)
 
 -- ---- what was told to a request
 
 module _ (s : Node) (packet : Packet) (tells : TellsNobody packet) where
-  tell_before : (teller : ℕ) (name : Name) (told : Option TopVote) → In (Tell teller name told) (packet ∷ s.actor.received) → In (Tell teller name told) s.actor.received
+  tell_before : (teller : ℕ) (name : Name) (told : Option TopVote) → In (Tell teller name told) (packet ∷ s.actor.received) →
+      In (Tell teller name told) s.actor.received
   tell_before teller name told (inl same) = absurd (tells teller name told same)
   tell_before teller name told (inr before) = before
 
@@ -126,7 +145,8 @@ module _ (setup : Setup) (s : Node) (packet : Packet) where
   })
   seen_heard slot round (inr sent) = inr (record { ballot = sent.ballot; sent = sent.sent; names = sent.names })
 
-  pub highest_heard : (slot : Slot) (round : ℕ) → ((ballot sender promised : ℕ) → OwnBallot setup.node s.actor ballot → Refused sender slot ballot promised ≡ packet → ⊥) →
+  pub highest_heard : (slot : Slot) (round : ℕ) →
+      ((ballot sender promised : ℕ) → OwnBallot setup.node s.actor ballot → Refused sender slot ballot promised ≡ packet → ⊥) →
       IsHighestSeen setup.node s.actor slot round → IsHighestSeen setup.node t.actor slot round
   highest_heard slot round none highest = record {
     seen = elim highest.seen [ inl nothing ↦ inl nothing | inr seen ↦ inr (seen_heard slot round seen) ];
@@ -137,14 +157,14 @@ module _ (setup : Setup) (s : Node) (packet : Packet) where
       before other (inl refused) = elim refused.heard [
         | inl same ↦ absurd (none refused.ballot refused.sender refused.promised (refused.proposer, refused.incarnation) same)
         | inr heard ↦ inl (record {
-            sender = refused.sender;
-            ballot = refused.ballot;
-            promised = refused.promised;
-            heard = heard;
-            proposer = refused.proposer;
-            incarnation = refused.incarnation;
-            names = refused.names;
-          })
+          sender = refused.sender;
+          ballot = refused.ballot;
+          promised = refused.promised;
+          heard = heard;
+          proposer = refused.proposer;
+          incarnation = refused.incarnation;
+          names = refused.names;
+        })
       ]
       before other (inr sent) = inr (record { ballot = sent.ballot; sent = sent.sent; names = sent.names })
 
@@ -157,7 +177,8 @@ module _ (setup : Setup) (s : Node) (packet : Packet) where
     knew : (chain : List Decree) → Knows setup.nodes t.actor.received id chain → Knows setup.nodes s.actor.received id chain
     knew chain knows = subst (IsKnown setup.nodes s.actor.received id) (known_is setup.nodes id t.actor.received known chain now knows) before
 
-    pub running_heard : (slot : Slot) (ballot : ℕ) → slot.id ≡ id → RefusesNone packet slot ballot → IsRunning setup.nodes setup.node s.actor slot ballot → IsRunning setup.nodes setup.node t.actor slot ballot
+    pub running_heard : (slot : Slot) (ballot : ℕ) → slot.id ≡ id → RefusesNone packet slot ballot → IsRunning setup.nodes setup.node s.actor slot ballot →
+        IsRunning setup.nodes setup.node t.actor slot ballot
     running_heard slot ballot about refuses runs = record {
       round = record { newer = runs.round.newer; older = runs.round.older; split = runs.round.split; newest = runs.round.newest };
       accepted = λ refused. elim refused.heard [
@@ -172,7 +193,8 @@ module _ (setup : Setup) (s : Node) (packet : Packet) where
       });
     }
 
-    pub running_before : (slot : Slot) (ballot : ℕ) → slot.id ≡ id → IsRunning setup.nodes setup.node t.actor slot ballot → IsRunning setup.nodes setup.node s.actor slot ballot
+    pub running_before : (slot : Slot) (ballot : ℕ) → slot.id ≡ id → IsRunning setup.nodes setup.node t.actor slot ballot →
+        IsRunning setup.nodes setup.node s.actor slot ballot
     running_before slot ballot about runs = record {
       round = record { newer = runs.round.newer; older = runs.round.older; split = runs.round.split; newest = runs.round.newest };
       accepted = λ refused. runs.accepted (record { sender = refused.sender; promised = refused.promised; heard = inr refused.heard; greater = refused.greater });
@@ -185,13 +207,12 @@ module _ (setup : Setup) (s : Node) (packet : Packet) where
     }
 
     -- the round that is kept, if it was neither promised nor refused
-    pub round_heard : (round : Option Round) → ((slot : Slot) (ballot : ℕ) → slot.id ≡ id → PromisesNone packet slot ballot) →
-        ((slot : Slot) (ballot : ℕ) → slot.id ≡ id → RefusesNone packet slot ballot) →
+    pub round_heard : (round : Option Round) → ((slot : Slot) (ballot : ℕ) → slot.id ≡ id → PromisesNone packet slot ballot) → IsUnrefused packet round →
         IsKeptRound setup.nodes setup.node s id round → IsKeptRound setup.nodes setup.node t id round
     round_heard None promises refuses none = λ slot ballot about runs. none slot ballot about (running_before slot ballot about runs)
     round_heard (Some r) promises refuses is = record {
       about = is.about;
-      running = running_heard r.slot r.ballot is.about (refuses r.slot r.ballot is.about) is.running;
+      running = running_heard r.slot r.ballot is.about refuses is.running;
       promised = λ acceptor. (
         λ passes. let promise = (is.promised acceptor).0 passes in (promise.0, inr promise.1),
         λ promise. (is.promised acceptor).1 (promise.0, promise_before acceptor promise.0 promise.1),
@@ -202,11 +223,13 @@ module _ (setup : Setup) (s : Node) (packet : Packet) where
       unproposed = is.unproposed;
     }
       where
-        promise_before : (acceptor : ℕ) (report : Option Vote) → In (Promise acceptor r.slot r.ballot report) t.actor.received → In (Promise acceptor r.slot r.ballot report) s.actor.received
+        promise_before : (acceptor : ℕ) (report : Option Vote) → In (Promise acceptor r.slot r.ballot report) t.actor.received →
+            In (Promise acceptor r.slot r.ballot report) s.actor.received
         promise_before acceptor report (inl same) = absurd (promises r.slot r.ballot is.about acceptor report same)
         promise_before acceptor report (inr before) = before
 
-        report_still : (highest : Option Vote) → IsHighestReport s.actor.received r.slot r.ballot highest → IsHighestReport t.actor.received r.slot r.ballot highest
+        report_still : (highest : Option Vote) → IsHighestReport s.actor.received r.slot r.ballot highest →
+            IsHighestReport t.actor.received r.slot r.ballot highest
         report_still None none = λ acceptor vote heard. none acceptor vote (promise_before acceptor (Some vote) heard)
         report_still (Some top) highest = record {
           reported = (highest.reported.0, inr highest.reported.1);
@@ -214,6 +237,10 @@ module _ (setup : Setup) (s : Node) (packet : Packet) where
         }
 
   -- ---- a message about which nothing is told
+
+  away_unrefused : (id : ℕ) → IsElsewhere packet id → (round : Option Round) → IsKeptRound setup.nodes setup.node s id round → IsUnrefused packet round
+  away_unrefused id away None none = tt
+  away_unrefused id away (Some r) is = λ sender promised above same. away.refusals r.slot r.ballot sender promised is.about same
 
   pub message_heard : (id : ℕ) (m : Message) → IsElsewhere packet id → IsMessage setup s id m → IsMessage setup t id m
   message_heard id m away is =
@@ -223,6 +250,6 @@ module _ (setup : Setup) (s : Node) (packet : Packet) where
         places = is.places;
         seen = λ place within. highest_heard (slot_at id place) _ (λ ballot sender promised own same. away.refusals (slot_at id place) ballot sender promised refl same) (is.seen place within);
         round = round_heard id m.known is.heard.known heard.known m.round away.promises
-            (λ slot ballot about sender promised above same. away.refusals slot ballot sender promised about same) is.round;
+            (away_unrefused id away m.round is.round) is.round;
         attempts = record { granted = is.attempts.granted; closed = is.attempts.closed };
       }

@@ -28,4 +28,6 @@ pub mod RuleChains
 pub mod Answered
 pub mod Deciding
 pub mod Hearing
+pub mod Agreeing
 pub mod Plain
+pub mod Refusing

@@ -1,0 +1,19 @@
+//! Steps of what is kept to which a packet of another comes, as steps of the actor.
+
+ghost use Rattle.std.specs.Prelude.{ℕ};
+ghost use Rattle.mc_model.specs.synod.Packet.{Refused, Slot};
+ghost use Rattle.mc_model.specs.node.Alone.{Node};
+ghost use Rattle.mc_model.specs.node.Input.{Delivery};
+ghost use Rattle.mc_model.specs.node.Setup.{Setup};
+ghost use Rattle.node_model.specs.Kept.{Kept};
+ghost use Rattle.node_model.specs.Stepped.{stepped};
+ghost use Rattle.node_laws.specs.Stands.{Stands};
+ghost use Rattle.node_laws.specs.Steps.{IsAtWork, StepsAs};
+
+/// A refusal tells the proposer a round, if it is of a ballot of its own, and ends the round that runs, if it is of that one and for a
+/// greater ballot. That is an exact step of every actor for which what is kept stands.
+pub fn a_refused_ballot_is_exact()
+    ensures { (setup : Setup) (k : Kept) (s : Node) → Stands setup k s → IsAtWork setup s →
+        (sender ballot promised : ℕ) (slot : Slot) →
+        StepsAs setup s (Delivery (Refused sender slot ballot promised)) (stepped setup k (Delivery (Refused sender slot ballot promised))) }
+{}
