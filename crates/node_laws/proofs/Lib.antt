@@ -25,8 +25,6 @@ pub mod Orders
 pub mod LateReplies
 pub mod AskingAgain
 pub mod RuleChains
-pub mod Answered
-pub mod Deciding
 pub mod Hearing
 pub mod Agreeing
 pub mod Plain
