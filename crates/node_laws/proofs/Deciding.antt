@@ -52,7 +52,7 @@ is_one (Submit id message) cancel = absurd cancel
 is_one (Query id account source) cancel = absurd cancel
 is_one (Cancel id account source destination) cancel = refl
 
-not_false : (b : Bool) → not b ≡ true → b ≡ false
+pub not_false : (b : Bool) → not b ≡ true → b ≡ false
 not_false true is = absurd (true≢false (sym is))
 not_false false is = refl
 

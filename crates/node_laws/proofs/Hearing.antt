@@ -32,6 +32,10 @@ PromisesNone packet slot ballot = (acceptor : ℕ) (report : Option Vote) → Pr
 abbrev pub RefusesNone : Packet → Slot → ℕ → Type 0
 RefusesNone packet slot ballot = (sender promised : ℕ) → ballot < promised → Refused sender slot ballot promised ≡ packet → ⊥
 
+abbrev pub IsUnpromised : Packet → Option Round → Type 0
+IsUnpromised packet None = Unit {0}
+IsUnpromised packet (Some r) = PromisesNone packet r.slot r.ballot
+
 abbrev pub IsUnrefused : Packet → Option Round → Type 0
 IsUnrefused packet None = Unit {0}
 IsUnrefused packet (Some r) = RefusesNone packet r.slot r.ballot
@@ -207,7 +211,7 @@ module _ (setup : Setup) (s : Node) (packet : Packet) where
     }
 
     -- the round that is kept, if it was neither promised nor refused
-    pub round_heard : (round : Option Round) → ((slot : Slot) (ballot : ℕ) → slot.id ≡ id → PromisesNone packet slot ballot) → IsUnrefused packet round →
+    pub round_heard : (round : Option Round) → IsUnpromised packet round → IsUnrefused packet round →
         IsKeptRound setup.nodes setup.node s id round → IsKeptRound setup.nodes setup.node t id round
     round_heard None promises refuses none = λ slot ballot about runs. none slot ballot about (running_before slot ballot about runs)
     round_heard (Some r) promises refuses is = record {
@@ -225,7 +229,7 @@ module _ (setup : Setup) (s : Node) (packet : Packet) where
       where
         promise_before : (acceptor : ℕ) (report : Option Vote) → In (Promise acceptor r.slot r.ballot report) t.actor.received →
             In (Promise acceptor r.slot r.ballot report) s.actor.received
-        promise_before acceptor report (inl same) = absurd (promises r.slot r.ballot is.about acceptor report same)
+        promise_before acceptor report (inl same) = absurd (promises acceptor report same)
         promise_before acceptor report (inr before) = before
 
         report_still : (highest : Option Vote) → IsHighestReport s.actor.received r.slot r.ballot highest →
@@ -238,6 +242,10 @@ module _ (setup : Setup) (s : Node) (packet : Packet) where
 
   -- ---- a message about which nothing is told
 
+  away_unpromised : (id : ℕ) → IsElsewhere packet id → (round : Option Round) → IsKeptRound setup.nodes setup.node s id round → IsUnpromised packet round
+  away_unpromised id away None none = tt
+  away_unpromised id away (Some r) is = away.promises r.slot r.ballot is.about
+
   away_unrefused : (id : ℕ) → IsElsewhere packet id → (round : Option Round) → IsKeptRound setup.nodes setup.node s id round → IsUnrefused packet round
   away_unrefused id away None none = tt
   away_unrefused id away (Some r) is = λ sender promised above same. away.refusals r.slot r.ballot sender promised is.about same
@@ -249,7 +257,7 @@ module _ (setup : Setup) (s : Node) (packet : Packet) where
         heard = heard;
         places = is.places;
         seen = λ place within. highest_heard (slot_at id place) _ (λ ballot sender promised own same. away.refusals (slot_at id place) ballot sender promised refl same) (is.seen place within);
-        round = round_heard id m.known is.heard.known heard.known m.round away.promises
+        round = round_heard id m.known is.heard.known heard.known m.round (away_unpromised id away m.round is.round)
             (away_unrefused id away m.round is.round) is.round;
         attempts = record { granted = is.attempts.granted; closed = is.attempts.closed };
       }

@@ -29,3 +29,5 @@ pub mod Hearing
 pub mod Agreeing
 pub mod Plain
 pub mod Refusing
+pub mod Proposed
+pub mod Promising

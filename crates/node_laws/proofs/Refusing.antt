@@ -93,7 +93,7 @@ module _ (setup : Setup) (k : Kept) (s : Node) (stands : Stands setup k s) (send
   still_runs : (r : Round) → IsKeptRound setup.nodes setup.node s slot.id (Some r) → ((r.slot ≡ slot) × ((r.ballot ≡ ballot) × (ballot < promised)) → ⊥) →
       IsKeptRound setup.nodes setup.node t slot.id (Some r)
   still_runs r is stays =
-      round_heard setup s packet slot.id m.known old.heard.known (heard_then slot.id).known (Some r) (λ other above about. promises_none other above) refuses is
+      round_heard setup s packet slot.id m.known old.heard.known (heard_then slot.id).known (Some r) (promises_none r.slot r.ballot) refuses is
     where
       refuses : RefusesNone packet r.slot r.ballot
       refuses from of greater same =

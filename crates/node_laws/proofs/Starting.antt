@@ -23,7 +23,7 @@ use Rattle.node_laws.proofs.Owning.{IsGround, own_later}
 
 -- ---- the packets sent since the last tick
 
-since_more : (packet : Packet) (sent : List Packet) (before : ℕ) → before ≤ length sent →
+pub since_more : (packet : Packet) (sent : List Packet) (before : ℕ) → before ≤ length sent →
     take (length (packet ∷ sent) - before) (packet ∷ sent) ≡ packet ∷ take (length sent - before) sent
 since_more packet sent before within =
     let more : length (packet ∷ sent) - before ≡ suc (length sent - before) = omega arith in

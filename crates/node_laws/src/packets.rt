@@ -1,7 +1,8 @@
 //! Steps of what is kept to which a packet of another comes, as steps of the actor.
 
-ghost use Rattle.std.specs.Prelude.{ℕ};
-ghost use Rattle.mc_model.specs.synod.Packet.{Refused, Slot};
+ghost use Rattle.std.specs.Prelude.{ℕ, Option};
+ghost use Rattle.mc_model.specs.synod.OneSlot.{Vote};
+ghost use Rattle.mc_model.specs.synod.Packet.{Promise, Refused, Slot};
 ghost use Rattle.mc_model.specs.node.Alone.{Node};
 ghost use Rattle.mc_model.specs.node.Input.{Delivery};
 ghost use Rattle.mc_model.specs.node.Setup.{Setup};
@@ -16,4 +17,13 @@ pub fn a_refused_ballot_is_exact()
     ensures { (setup : Setup) (k : Kept) (s : Node) → Stands setup k s → IsAtWork setup s →
         (sender ballot promised : ℕ) (slot : Slot) →
         StepsAs setup s (Delivery (Refused sender slot ballot promised)) (stepped setup k (Delivery (Refused sender slot ballot promised))) }
+{}
+
+/// A promise is counted if it is for the round that runs. With the one that completes a majority, and with no other, the chain of the
+/// highest vote that was reported is proposed, or if there is none the one that the round is for. That is an exact step of every actor
+/// for which what is kept stands.
+pub fn a_promise_is_exact()
+    ensures { (setup : Setup) (k : Kept) (s : Node) → Stands setup k s → IsAtWork setup s →
+        (sender ballot : ℕ) (slot : Slot) (report : Option Vote) →
+        StepsAs setup s (Delivery (Promise sender slot ballot report)) (stepped setup k (Delivery (Promise sender slot ballot report))) }
 {}
