@@ -1,6 +1,6 @@
 -- What a packet leaves as it was that tells of no vote, no promise, no refusal and of nothing that a request asked: a Prepare, a
 -- Propose or a question.
-use Rattle.std.proofs.Common.{ℕ, List, ◌∷◌, Option, Some, None, ap, inl, inr}
+use Rattle.std.proofs.Common.{ℕ, List, [], ◌∷◌, Option, Some, None, ap, inl, inr}
 use Rattle.mc_model.specs.message.Submission.{Submission}
 use Rattle.mc_model.specs.message.Decree.{Attempt, Author, Decree, Deleted, Failed, Fate, Kind, Taken}
 use Rattle.mc_model.specs.synod.Lists.{In}
@@ -19,7 +19,7 @@ use Rattle.mc_model.specs.node.Setup.{Setup}
 use Rattle.mc_parts.proofs.Learning.{known_stays, learned_still}
 use Rattle.node_model.specs.Message.{Message, Round}
 use Rattle.node_model.specs.Kept.{Held}
-use Rattle.node_laws.specs.Stands.{IsAside, IsHeld, IsHighestReport, IsHighestSeen, IsHighestTold, IsMessage, IsQuiet, IsRoundOf, WasSeen}
+use Rattle.node_laws.specs.Stands.{IsAside, IsBehind, IsHeld, IsHighestReport, IsHighestSeen, IsHighestTold, IsMessage, IsQuiet, IsRoundOf, WasSeen}
 use Rattle.node_laws.proofs.Learning.{heard_still}
 
 module _ (nodes node : ℕ) (a : Actor) (packet : Packet) (aside : IsAside packet) where
@@ -280,6 +280,13 @@ module _ (setup : Setup) (s : Node) (records : Records) (packet : Packet) (aside
     highest = λ acceptor vote heard. highest.highest acceptor vote (promise_before setup.nodes setup.node s.actor packet aside acceptor ballot slot (Some vote) heard);
   }
 
+  behind_still : (id : ℕ) (slot : Slot) (own chain : List Decree) → IsBehind setup.nodes s.actor.received id (StandsAt s slot own) chain →
+      IsBehind setup.nodes later.actor.received id (StandsAt later slot own) chain
+  behind_still id slot own [] is = tt
+  behind_still id slot own (only ∷ []) is = tt
+  behind_still id slot own (next ∷ newest ∷ older) (inl stands) = inl (stands_still slot own stands)
+  behind_still id slot own (next ∷ newest ∷ older) (inr knows) = inr (known_still setup.nodes setup.node s.actor packet aside id (Some (newest ∷ older)) knows)
+
   round_still : (id : ℕ) (round : Option Round) → IsRoundOf setup.nodes setup.node s id round → IsRoundOf setup.nodes setup.node later id round
   round_still id None none = λ slot ballot about runs. none slot ballot about (running_before setup.nodes setup.node s.actor packet aside slot ballot runs)
   round_still id (Some r) is = record {
@@ -295,6 +302,7 @@ module _ (setup : Setup) (s : Node) (records : Records) (packet : Packet) (aside
       | inl stands ↦ inl (stands_still r.slot r.own stands)
       | inr own ↦ inr (own.0, own_still setup.nodes setup.node s.actor packet aside id r.own own.1)
     ];
+    behind = behind_still id r.slot r.own r.own is.behind;
     unproposed = is.unproposed;
   }
 

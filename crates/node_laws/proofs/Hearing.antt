@@ -15,7 +15,7 @@ use Rattle.mc_parts.proofs.Learning.{learned_still}
 use Rattle.mc_parts.proofs.Membership.{in_right}
 use Rattle.node_model.specs.Kept.{Held}
 use Rattle.node_model.specs.Message.{Message, Round}
-use Rattle.node_laws.specs.Stands.{IsHeld, IsHighestReport, IsHighestSeen, IsHighestTold, IsMessage, IsRoundOf as IsKeptRound, TellsOfNone, WasSeen}
+use Rattle.node_laws.specs.Stands.{IsBehind, IsHeld, IsHighestReport, IsHighestSeen, IsHighestTold, IsMessage, IsRoundOf as IsKeptRound, TellsOfNone, WasSeen}
 use Rattle.node_laws.proofs.Answered.{known_is}
 use Rattle.node_laws.proofs.AsideSteps.{TellsNobody}
 use Rattle.node_laws.proofs.Learning.{heard_still}
@@ -197,6 +197,13 @@ module _ (setup : Setup) (s : Node) (packet : Packet) where
       });
     }
 
+    pub behind_heard : (slot : Slot) (own chain : List Decree) → IsBehind setup.nodes s.actor.received id (StandsAt s slot own) chain →
+        IsBehind setup.nodes t.actor.received id (StandsAt t slot own) chain
+    behind_heard slot own [] is = tt
+    behind_heard slot own (only ∷ []) is = tt
+    behind_heard slot own (next ∷ newest ∷ older) (inl stands) = inl (stands_heard slot own stands)
+    behind_heard slot own (next ∷ newest ∷ older) (inr knows) = inr (knows_still (newest ∷ older) knows)
+
     pub running_before : (slot : Slot) (ballot : ℕ) → slot.id ≡ id → IsRunning setup.nodes setup.node t.actor slot ballot →
         IsRunning setup.nodes setup.node s.actor slot ballot
     running_before slot ballot about runs = record {
@@ -224,6 +231,7 @@ module _ (setup : Setup) (s : Node) (packet : Packet) where
       highest = report_still r.highest is.highest;
       offered = is.offered;
       free = free_heard r.slot id r.own is.free;
+      behind = behind_heard r.slot r.own r.own is.behind;
       unproposed = is.unproposed;
     }
       where

@@ -35,7 +35,7 @@ use Rattle.node_laws.proofs.AcceptorSteps.{member_is, member_test, stepped_is}
 use Rattle.node_laws.proofs.Agreeing.{agrees_heard, agrees_with}
 use Rattle.node_laws.proofs.AsideSteps.{TellsNobody, ignored, none_due_once}
 use Rattle.node_laws.proofs.Deciding.{not_false, quiet_of}
-use Rattle.node_laws.proofs.Hearing.{RefusesNone, free_heard, highest_heard, message_heard, one_round, received, round_heard, round_sent, running_before, running_heard}
+use Rattle.node_laws.proofs.Hearing.{RefusesNone, behind_heard, free_heard, highest_heard, message_heard, one_round, received, round_heard, round_sent, running_before, running_heard}
 use Rattle.node_laws.proofs.Learning.{heard_still, majority_decides}
 use Rattle.node_laws.proofs.Messages.{each_with}
 use Rattle.node_laws.proofs.Plain.{IsUnmoved, calm_then, plain_steps, received_exact}
@@ -303,6 +303,7 @@ module _ (setup : Setup) (k : Kept) (s : Node) (stands : Stands setup k s) (send
       highest = report_is;
       offered = is.offered;
       free = free_heard setup s packet r.slot slot.id r.own is.free;
+      behind = behind_heard setup s packet slot.id m.known old.heard.known (heard_then slot.id).known r.slot r.own r.own is.behind;
       unproposed = λ few. is.unproposed (still_few few);
     }
 

@@ -88,6 +88,7 @@ module _ (setup : Setup) (s : Node) (slot : Slot) (vote : Vote) where
         | inl stands ↦ inl stands
         | inr own ↦ inr (own.0, own_later setup.nodes setup.node id s.actor proposed.actor (ground id) r.own own.1)
       ];
+      behind = is.behind;
       unproposed = λ few other same sent. elim sent [
         | inl now ↦ let slots : r.slot ≡ slot = cc in complete few slots
         | inr before ↦ is.unproposed few other same before

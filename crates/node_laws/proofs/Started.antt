@@ -23,7 +23,7 @@ use Rattle.shelf.proofs.Entries.{still_ascends}
 use Rattle.node_model.specs.Message.{Message, Round, most_places}
 use Rattle.node_model.specs.Kept.{Kept, message_at}
 use Rattle.node_model.specs.Proposer.{Prepared, Start, highest_round, is_free, last_round, prepared_at, started, started_at}
-use Rattle.node_laws.specs.Stands.{Agrees, IsHighestSeen, IsMessage, IsRoundOf, WasSeen}
+use Rattle.node_laws.specs.Stands.{Agrees, IsBehind, IsHighestSeen, IsMessage, IsRoundOf, WasSeen}
 use Rattle.node_laws.specs.Steps.{IsAtWork}
 use Rattle.node_laws.proofs.Messages.{each_with, listed_with}
 use Rattle.node_laws.proofs.AsideSteps.{none_due_once}
@@ -38,6 +38,7 @@ pub record IsDueStart (setup : Setup) (s : Node) (id : ℕ) (Due : ℕ → List 
   pub within : start.place < most_places
   pub ahead : IsAhead setup.nodes s.actor id start.place
   pub free : StandsAt s (slot_at id start.place) start.chain ⊎ ((slot_at id start.place ≡ slot_of id start.chain) × IsOwn (IsLearned setup.nodes s.actor.received) setup.node s.actor id start.chain)
+  pub behind : IsBehind setup.nodes s.actor.received id (StandsAt s (slot_at id start.place) start.chain) start.chain
 
 abbrev pub IsStartOf : Setup → Node → ℕ → (ℕ → List Decree → Type 0) → Option Start → Type 0
 IsStartOf setup s id Due None = (place : ℕ) (chain : List Decree) → Due place chain → ⊥
@@ -164,7 +165,7 @@ module _ (setup : Setup) (k : Kept) (s : Node) (agrees : Agrees setup k s) (mine
     new_message =
         let same = same_round setup k s agrees slot is.within in
         message_here setup s slot ballot start.chain (message_at k id) (agrees.message id) agrees.coherent mine is.within number (omega arith) (omega arith)
-        (ap (λ (i : ℕ). ballot_of number i setup.node) agrees.incarnation) is.ahead is.free
+        (ap (λ (i : ℕ). ballot_of number i setup.node) agrees.incarnation) is.ahead is.free is.behind
 
     own_now : OwnBallot setup.node s.actor ballot
     own_now =

@@ -17,7 +17,7 @@ use Rattle.mc_model.specs.node.Rules.{IsAhead}
 use Rattle.mc_model.specs.node.Setup.{Setup}
 use Rattle.node_model.specs.Message.{Message, Round, most_places}
 use Rattle.node_model.specs.Proposer.{started_at}
-use Rattle.node_laws.specs.Stands.{IsCoherent, IsHighestSeen, IsMessage, IsRoundOf as IsKeptRound, WasSeen}
+use Rattle.node_laws.specs.Stands.{IsBehind, IsCoherent, IsHighestSeen, IsMessage, IsRoundOf as IsKeptRound, WasSeen}
 use Rattle.node_laws.proofs.Coherence.{IsLater, fit_later}
 use Rattle.node_laws.proofs.Owning.{IsGround, own_later}
 
@@ -169,6 +169,7 @@ module _ (setup : Setup) (s : Node) (slot : Slot) (ballot : ℕ) (chain : List D
       highest = is.highest;
       offered = inr is.offered;
       free = elim is.free [ inl stands ↦ inl stands | inr own ↦ inr (own.0, own_other r.own own.1) ];
+      behind = is.behind;
       unproposed = λ few vote same sent. elim sent [ inl now ↦ absurd (cc) | inr before ↦ is.unproposed few vote same before ];
     }
 
@@ -278,8 +279,9 @@ module _ (setup : Setup) (s : Node) (slot : Slot) (ballot : ℕ) (chain : List D
     -- the round is for a chain beyond what is known, which stands already or is the node's own
     pub message_here : IsAhead setup.nodes s.actor slot.id slot.place →
         StandsAt s slot chain ⊎ ((slot ≡ slot_of slot.id chain) × IsOwn (IsLearned setup.nodes s.actor.received) setup.node s.actor slot.id chain) →
+        IsBehind setup.nodes s.actor.received slot.id (StandsAt s slot chain) chain →
         IsMessage setup prepared slot.id (started_at m slot number ballot chain)
-    message_here ahead free = record {
+    message_here ahead free behind = record {
       heard = record { votes = is.heard.votes; known = is.heard.known };
       places = length-set m.seen slot.place number ∙ is.places;
       seen = seen_here;
@@ -293,6 +295,7 @@ module _ (setup : Setup) (s : Node) (slot : Slot) (ballot : ℕ) (chain : List D
           | inl stands ↦ inl stands
           | inr it ↦ inr (it.0, own_later setup.nodes setup.node slot.id s.actor prepared.actor (same_ground slot.id) chain it.1)
         ];
+        behind = behind;
         unproposed = λ few. unproposed;
       };
       attempts = record { granted = is.attempts.granted; closed = is.attempts.closed };

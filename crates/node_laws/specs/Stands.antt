@@ -1,9 +1,10 @@
 -- What a node keeps stands for what the actor of the model holds, who remembers all that it received and sent.
-use Rattle.std.specs.Prelude.{◌≡◌, ◌↔◌, ◌⊎◌, ℕ, ◌<◌, ◌≤◌, true, false, List, get_or, length, map, Option, Some, None, IsSome}
+use Rattle.std.specs.Prelude.{◌≡◌, ◌↔◌, ◌⊎◌, ℕ, ◌<◌, ◌≤◌, true, false, List, [], ◌∷◌, get_or, length, map, Option, Some, None, IsSome}
 use Rattle.std.specs.Ordering.{nat_cmp}
 use Rattle.std.specs.Map.{keys_of, lookup}
 use Rattle.std.specs.List.Sorted.{IsStrictlyIncreasing, IsStrictlySortedBy}
 use Rattle.std.specs.BTreeMap.{is_at}
+use Rattle.mc_model.specs.message.Decree.{Decree}
 use Rattle.mc_model.specs.message.Chain.{IsPermitted}
 use Rattle.mc_model.specs.message.Ids.{IsIncarnation, node_of}
 use Rattle.mc_model.specs.synod.Lists.{In}
@@ -13,7 +14,7 @@ use Rattle.mc_model.specs.node.Outcome.{IsOutcome, Outcome, Unanswered, no_sessi
 use Rattle.mc_model.specs.node.Actor.{Actor, id_in, name_of}
 use Rattle.mc_model.specs.node.Alone.{Node, StandsAt}
 use Rattle.mc_model.specs.node.Concerns.{WasAskedFor, WasGiven}
-use Rattle.mc_model.specs.node.Knowledge.{IsKnown, IsLearned}
+use Rattle.mc_model.specs.node.Knowledge.{IsKnown, IsLearned, Knows}
 use Rattle.mc_model.specs.node.Phases.{IsDueReply, IsToSettle}
 use Rattle.mc_model.specs.node.Proposal.{IsOwn, OwnBallot}
 use Rattle.mc_model.specs.node.Replies.{Answer}
@@ -60,6 +61,12 @@ abbrev pub IsHighestReport : List Packet → Slot → ℕ → Option Vote → Ty
 IsHighestReport received slot ballot None = (acceptor : ℕ) (vote : Vote) → In (Promise acceptor slot ballot (Some vote)) received → ⊥
 IsHighestReport received slot ballot (Some top) = IsTopReport received slot ballot top
 
+-- a chain that is not the first, and does not stand already, goes on from what is known
+abbrev pub IsBehind : ℕ → List Packet → ℕ → Type 0 → List Decree → Type 0
+IsBehind nodes received id Stood [] = Unit {0}
+IsBehind nodes received id Stood (only ∷ []) = Unit {0}
+IsBehind nodes received id Stood (next ∷ newest ∷ older) = Stood ⊎ Knows nodes received id (newest ∷ older)
+
 -- A round runs: who promised and what they reported, the chain that it is for, which the node may propose, and that it has proposed
 -- nothing before a majority has promised.
 pub record IsRound (nodes node : ℕ) (s : Node) (id : ℕ) (r : Round) : Type 0 where
@@ -69,6 +76,7 @@ pub record IsRound (nodes node : ℕ) (s : Node) (id : ℕ) (r : Round) : Type 0
   pub highest : IsHighestReport s.actor.received r.slot r.ballot r.highest
   pub offered : In (record { slot = r.slot; ballot = r.ballot; chain = r.own }) s.actor.offers
   pub free : StandsAt s r.slot r.own ⊎ ((r.slot ≡ slot_of id r.own) × IsOwn (IsLearned nodes s.actor.received) node s.actor id r.own)
+  pub behind : IsBehind nodes s.actor.received id (StandsAt s r.slot r.own) r.own
   pub unproposed : is_majority nodes r.promised ≡ false → (vote : Vote) → vote.ballot ≡ r.ballot → In (Propose node r.slot vote) s.actor.sent → ⊥
 
 abbrev pub IsRoundOf : ℕ → ℕ → Node → ℕ → Option Round → Type 0
