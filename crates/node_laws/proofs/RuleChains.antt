@@ -6,14 +6,15 @@ use Rattle.mc_model.specs.message.Neighbours.{MayFollow}
 use Rattle.mc_model.specs.message.Chain.{IsPermitted, MayExtend, attempts_in, taken_in}
 use Rattle.mc_model.specs.synod.Lists.{In}
 use Rattle.mc_model.specs.synod.OneSlot.{vote_at}
-use Rattle.mc_model.specs.synod.Packet.{Slot, Voted, slot_at, slot_of}
+use Rattle.mc_model.specs.synod.Packet.{Packet, Slot, Voted, slot_at, slot_of}
 use Rattle.mc_model.specs.synod.Acceptor.{Records}
 use Rattle.mc_model.specs.node.Actor.{Actor}
 use Rattle.mc_model.specs.node.FirstRule.{Close, Delete, Expire, FitsRule, Follow, GiveUp, Lose, Rule, Take, Try, Undeliver, order_of}
 use Rattle.mc_model.specs.node.Knowledge.{IsLearned, Knows}
 use Rattle.mc_model.specs.node.Outcome.{Concluded, Outcome, Unanswered, decree_of, no_session_error, older_incarnation_error}
 use Rattle.mc_model.specs.node.Proposal.{Allows, HasError, IsCancelled, IsClosed, IsNext}
-use Rattle.mc_model.specs.node.Rules.{GoesFurther, IsAttemptBy, IsIdle, next_decree}
+use Rattle.mc_model.specs.node.Rules.{GoesFurther, IsAhead, IsAttemptBy, next_decree}
+use Rattle.mc_parts.proofs.Known.{knows_one}
 use Rattle.mc_parts.proofs.Lengths.{most_decrees}
 use Rattle.mc_parts.proofs.Majorities.{both}
 use Rattle.node_model.specs.Message.{most_places}
@@ -21,10 +22,28 @@ use Rattle.node_laws.specs.Stands.{IsClosing, IsCoherent}
 
 -- ---- what is known is permitted
 
-pub known_permitted : (nodes node : ℕ) (a : Actor) → IsCoherent node a → (id : ℕ) (chain : List Decree) → Knows nodes a.received id chain → IsPermitted id chain
-known_permitted nodes node a coherent id chain knows =
-    let told = both nodes (λ voter. In (Voted voter (slot_of id chain) (vote_at knows.ballot chain)) a.received) (λ voter. In (Voted voter (slot_of id chain) (vote_at knows.ballot chain)) a.received) knows.learned knows.learned in
-    (coherent.fits (Voted told.node (slot_of id chain) (vote_at knows.ballot chain)) told.one).0.permitted
+pub learned_permitted : (nodes node : ℕ) (a : Actor) → IsCoherent node a → (id ballot : ℕ) (chain : List Decree) → IsLearned nodes a.received (slot_of id chain) (vote_at ballot chain) → IsPermitted id chain
+learned_permitted nodes node a coherent id ballot chain learned =
+    let told = both nodes (λ voter. In (Voted voter (slot_of id chain) (vote_at ballot chain)) a.received) (λ voter. In (Voted voter (slot_of id chain) (vote_at ballot chain)) a.received) learned learned in
+    (coherent.fits (Voted told.node (slot_of id chain) (vote_at ballot chain)) told.one).0.permitted
+
+-- ---- what goes further from what is known
+
+record GoesOn (nodes node : ℕ) (a : Actor) (id place : ℕ) (chain : List Decree) : Type 0 where
+  kind : Kind
+  further : GoesFurther nodes node a id place chain kind
+
+goes_on : (nodes node : ℕ) (a : Actor) (records : Records) (up : List ℕ → Bool) (id : ℕ) (rule : Rule) (place : ℕ) (chain : List Decree) → 3 ≤ order_of rule →
+    FitsRule nodes node a records up id place chain rule → GoesOn nodes node a id place chain
+goes_on nodes node a records up id Take place chain late fits = absurd (omega arith)
+goes_on nodes node a records up id Follow place chain late fits = absurd (omega arith)
+goes_on nodes node a records up id Close place chain late fits = record { kind = _; further = fits.further }
+goes_on nodes node a records up id Lose place chain late fits = record { kind = _; further = fits.further }
+goes_on nodes node a records up id GiveUp place chain late fits = record { kind = _; further = fits.further }
+goes_on nodes node a records up id Delete place chain late fits = record { kind = _; further = fits.further }
+goes_on nodes node a records up id Expire place chain late fits = record { kind = _; further = fits.further }
+goes_on nodes node a records up id Undeliver place chain late fits = record { kind = _; further = fits.due.further }
+goes_on nodes node a records up id Try place chain late fits = record { kind = _; further = fits.due.further }
 
 -- ---- what may follow an attempt
 
@@ -181,3 +200,126 @@ module _ (nodes node : ℕ) (a : Actor) (coherent : IsCoherent node a) (records 
 
   own_author : (newest : Decree) → IsAttemptBy node newest → newest.author.incarnation ≡ a.incarnation → record { node = node; incarnation = a.incarnation } ≡ newest.author
   own_author newest own now = λ i. record { node = sym own.1 i; incarnation = sym now i }
+
+  pub rule_next : (rule : Rule) (place : ℕ) (chain : List Decree) → 3 ≤ order_of rule → FitsRule nodes node a records up id place chain rule → Next (after_rule rule place) chain
+  rule_next Take place chain late fits = absurd (omega arith)
+  rule_next Follow place chain late fits = absurd (omega arith)
+  rule_next Close place chain late fits =
+      let g = fits.further in
+      let closing = coherent.outcomes (slot_of id (g.newest ∷ g.older)) fits.outcome fits.closed in
+      next_of place chain (decree_of fits.outcome) g
+      (closing_follows g.newest.kind fits.attempt.0.0 fits.attempt.0.1 fits.outcome closing g.taken (attempts_in (g.newest ∷ g.older)) g.newest.author _ g.newest.moment _ (own_author g.newest fits.attempt fits.now))
+      (allows_closed a (slot_of id (g.newest ∷ g.older)) g.taken g.newest.author g.newest.kind fits.attempt.0.0 fits.attempt.0.1 (decree_of fits.outcome)
+      (record { outcome = fits.outcome; incarnation = fits.now; closed = fits.closed; kind = refl }))
+      (closing_error g.newest.kind fits.attempt.0.0 fits.attempt.0.1 fits.outcome closing)
+  rule_next Lose place chain late fits =
+      let g = fits.further in
+      let before = fits.before in
+      next_of place chain (Failed older_incarnation_error) g
+      (failure_follows g.newest.kind fits.attempt.0.0 older_incarnation_error fits.attempt.0.1 g.taken (attempts_in (g.newest ∷ g.older)) g.newest.author _ g.newest.moment _ (sym fits.attempt.1) (omega arith))
+      (allows_lost a (slot_of id (g.newest ∷ g.older)) g.taken g.newest.author g.newest.kind fits.attempt.0.0 fits.attempt.0.1 fits.before)
+      (failure_error g.newest.kind older_incarnation_error)
+  rule_next GiveUp place chain late fits =
+      let g = fits.further in
+      let slots : slot_at id (pred place) ≡ slot_of id (g.newest ∷ g.older) = ap (λ (p : ℕ). slot_at id (pred p)) g.behind in
+      record {
+        next = next_decree node a g.newest (Failed no_session_error);
+        newest = g.newest;
+        older = g.older;
+        taken = g.taken;
+        ballot = g.known.ballot;
+        chain_is = g.chain_is;
+        chosen = g.known.learned;
+        author = refl;
+        moment = refl;
+        message = g.message;
+        may = (omega arith, failure_follows g.newest.kind fits.attempt.0.0 no_session_error fits.attempt.0.1 g.taken (attempts_in (g.newest ∷ g.older)) g.newest.author _ g.newest.moment _ (sym fits.attempt.1) (let now = fits.now in omega arith));
+        allowed = allows_closed (after_rule GiveUp place) (slot_of id (g.newest ∷ g.older)) g.taken g.newest.author g.newest.kind fits.attempt.0.0 fits.attempt.0.1 (Failed no_session_error) (record {
+          outcome = Unanswered no_session_error;
+          incarnation = fits.now;
+          closed = inl (λ i. (sym slots i, Unanswered no_session_error));
+          kind = refl;
+        });
+        error = failure_error g.newest.kind no_session_error;
+      }
+  rule_next Delete place chain late fits =
+      let g = fits.further in
+      next_of place chain (Fate Deleted 0) g
+      (deleted_follows g.newest.kind fits.idle g.taken (attempts_in (g.newest ∷ g.older)) g.newest.author _ g.newest.moment _)
+      (deleted_allowed a (slot_of id (g.newest ∷ g.older)) g.taken g.newest.author g.newest.kind fits.idle fits.cancelled)
+      (deleted_error g.newest.kind)
+  rule_next Expire place chain late fits =
+      let g = fits.further in
+      next_of place chain (Fate Expired 0) g fits.may.1
+      (expired_allowed a (slot_of id (g.newest ∷ g.older)) g.taken g.newest.author g.newest.kind g.taken (attempts_in (g.newest ∷ g.older)) g.newest.author
+      (next_decree node a g.newest (Fate Expired 0)).author
+      g.newest.moment
+      (next_decree node a g.newest (Fate Expired 0)).moment
+      fits.may.1)
+      (expired_error g.newest.kind)
+  rule_next Undeliver place chain late fits =
+      let g = fits.due.further in
+      next_of place chain (Fate Undeliverable fits.error) g fits.due.may.1
+      (undelivered_allowed a (slot_of id (g.newest ∷ g.older)) g.taken g.newest.author g.newest.kind fits.error fits.failed)
+      (undelivered_error g.newest.kind fits.error fits.failed)
+  rule_next Try place chain late fits =
+      let g = fits.due.further in
+      next_of place chain (Attempt fits.number) g fits.due.may.1
+      (tried_allowed a (slot_of id (g.newest ∷ g.older)) g.taken g.newest.author g.newest.kind fits.number g.taken (attempts_in (g.newest ∷ g.older)) g.newest.author
+      (next_decree node a g.newest (Attempt fits.number)).author
+      g.newest.moment
+      (next_decree node a g.newest (Attempt fits.number)).moment
+      fits.due.may.1)
+      (tried_error g.newest.kind fits.number)
+
+  next_permitted : (b : Actor) → b.received ≡ a.received → (chain : List Decree) → Next b chain → IsPermitted id chain
+  next_permitted b same chain n =
+      let learned = subst (λ (received : List Packet). IsLearned nodes received (slot_of id (n.newest ∷ n.older)) (vote_at n.ballot (n.newest ∷ n.older))) same n.chosen in
+      let before = learned_permitted nodes node a coherent id n.ballot (n.newest ∷ n.older) learned in
+      let further : MayExtend (taken_in (n.newest ∷ n.older)) (n.newest ∷ n.older) n.next =
+          subst (λ (t : Option Submission). MayExtend t (n.newest ∷ n.older) n.next) (sym n.message) n.may in
+      subst (IsPermitted id) (sym n.chain_is) (before, further)
+
+  received_still : (rule : Rule) (place : ℕ) → (after_rule rule place).received ≡ a.received
+  received_still Take place = refl
+  received_still Follow place = refl
+  received_still Close place = refl
+  received_still Lose place = refl
+  received_still GiveUp place = refl
+  received_still Delete place = refl
+  received_still Expire place = refl
+  received_still Undeliver place = refl
+  received_still Try place = refl
+
+  -- ---- its place
+
+  pub record IsBehindKnown (place : ℕ) (chain : List Decree) : Type 0 where
+    pub slot_is : slot_at id place ≡ slot_of id chain
+    pub within : place < most_places
+    pub ahead : IsAhead nodes a id place
+
+  pub rule_place : (rule : Rule) (place : ℕ) (chain : List Decree) → 3 ≤ order_of rule → FitsRule nodes node a records up id place chain rule → IsBehindKnown place chain
+  rule_place rule place chain late fits =
+      let it = goes_on nodes node a records up id rule place chain late fits in
+      let g = it.further in
+      let permitted = next_permitted (after_rule rule place) (received_still rule place) chain (rule_next rule place chain late fits) in
+      let length_most = most_decrees id chain permitted in
+      let length_is : length chain ≡ length (next_decree node a g.newest it.kind ∷ g.newest ∷ g.older) = ap length g.chain_is in
+      let behind = g.behind in
+      record {
+        slot_is = let place_is : place ≡ pred (length chain) = omega arith in ap (slot_at id) place_is;
+        within = omega arith;
+        ahead = λ known knows.
+            let same : known ≡ g.newest ∷ g.older = knows_one nodes a.received id known (g.newest ∷ g.older) knows g.known in
+            let lengths : length known ≡ length (g.newest ∷ g.older) = ap length same in
+            omega arith;
+      }
+
+  -- a rule behind what is known has one place
+  pub one_place : (rule other : Rule) (place at : ℕ) (chain of : List Decree) → 3 ≤ order_of rule → 3 ≤ order_of other → FitsRule nodes node a records up id place chain rule →
+      FitsRule nodes node a records up id at of other → at ≡ place
+  one_place rule other place at chain of late later fits fits_other =
+      let one = (goes_on nodes node a records up id rule place chain late fits).further in
+      let second = (goes_on nodes node a records up id other at of later fits_other).further in
+      let same : second.newest ∷ second.older ≡ one.newest ∷ one.older = knows_one nodes a.received id (second.newest ∷ second.older) (one.newest ∷ one.older) second.known one.known in
+      second.behind ∙ ap length same ∙ sym one.behind
