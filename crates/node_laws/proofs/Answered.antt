@@ -1,22 +1,22 @@
 -- What a request is answered by what is kept is what it is answered by what the actor knows and was told.
-use Rattle.std.proofs.Common.{◌≡◌, ◌↔◌, ◌⊎◌, ℕ, pred, ◌≤◌, Bool, true, false, List, [], ◌∷◌, length, Option, Some, None, refl, sym, ap, subst, ◌∙◌, inl, inr, arith}
-use Rattle.std.specs.Prelude.{◌&&◌, nat_le, not, if◌then◌else◌}
+use Rattle.std.proofs.Common.{◌≡◌, ◌↔◌, ℕ, pred, ◌≤◌, Bool, true, false, List, [], ◌∷◌, length, Option, Some, None, refl, sym, ap, subst, ◌∙◌, inl, inr, arith}
+use Rattle.std.specs.Prelude.{nat_le, if◌then◌else◌}
 use Rattle.std.proofs.lemmas.Bool.{and_from, and_parts, true≢false}
 use Rattle.std.specs.Bool.{Decides}
 use Rattle.std.proofs.lemmas.Bool.Decides.{nat_tests}
 use Rattle.mc_model.specs.message.Submission.{Submission}
-use Rattle.mc_model.specs.message.Decree.{Attempt, Decree, Deleted, Delivered, Expired, Failed, Fate, Final, Kind, Rejected, Taken, Undeliverable}
+use Rattle.mc_model.specs.message.Decree.{Attempt, Decree, Deleted, Delivered, Expired, Failed, Fate, Kind, Rejected, Taken, Undeliverable}
 use Rattle.mc_model.specs.message.Chain.{final_by, final_in, taken_in}
 use Rattle.mc_model.specs.synod.Lists.{In}
 use Rattle.mc_model.specs.synod.Packet.{Name, Packet, Tell, TopVote}
 use Rattle.mc_model.specs.node.Actor.{Actor, Cancel, Query, Request, Submit, Waiting, id_in, name_of}
 use Rattle.mc_model.specs.node.Knowledge.{IsKnown, Knows}
-use Rattle.mc_model.specs.node.Proposal.{IsMatch, IsOwner}
-use Rattle.mc_model.specs.node.Replies.{Accepted, Answer, FitsCancel, FitsQuery, FitsRequest, FitsSubmit, IsRemoved, Kept, KeepsMessage, NotMatched, NotOwner, Removed, Shown, Unknown}
+use Rattle.mc_model.specs.node.Proposal.{IsMatch}
+use Rattle.mc_model.specs.node.Replies.{Accepted, Answer, FitsCancel, FitsQuery, FitsRequest, FitsSubmit, Kept, KeepsMessage, NotMatched, NotOwner, Removed, Shown, Unknown}
 use Rattle.mc_model.specs.node.Settling.{HasTold, IsReached, IsSettled}
 use Rattle.mc_parts.proofs.Known.{knows_one}
 use Rattle.node_model.specs.Kept.{Held}
-use Rattle.node_model.specs.Answers.{answer_by, answer_to, cancel_answer, cancel_answer_of, cancel_decided, is_match, is_owner, query_shown}
+use Rattle.node_model.specs.Answers.{answer_by, cancel_answer, cancel_answer_of, cancel_decided, is_match, is_owner, query_shown}
 use Rattle.node_model.specs.Requests.{is_reached, is_settled}
 use Rattle.node_model.specs.Sets.{is_majority}
 use Rattle.node_laws.specs.Stands.{IsHeld, IsHighestTold}

@@ -31,3 +31,4 @@ pub mod Plain
 pub mod Refusing
 pub mod Proposed
 pub mod Promising
+pub mod Closing

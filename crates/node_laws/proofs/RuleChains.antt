@@ -1,7 +1,7 @@
 -- The chain of a rule's round is the node's own, at a place beyond what it knows.
-use Rattle.std.proofs.Common.{◌≡◌, ◌⊎◌, ℕ, pred, ◌<◌, ◌≤◌, max, Bool, List, [], ◌∷◌, length, Option, Some, None, refl, sym, ap, subst, ◌∙◌, inl, inr, arith}
+use Rattle.std.proofs.Common.{◌≡◌, ◌⊎◌, ℕ, pred, ◌<◌, ◌≤◌, Bool, List, ◌∷◌, length, Option, refl, sym, ap, subst, ◌∙◌, inl, inr, arith}
 use Rattle.mc_model.specs.message.Submission.{Submission}
-use Rattle.mc_model.specs.message.Decree.{Attempt, Author, Decree, Deleted, Delivered, Expired, Failed, Fate, Final, Kind, Rejected, Taken, Undeliverable}
+use Rattle.mc_model.specs.message.Decree.{Attempt, Author, Decree, Deleted, Delivered, Expired, Failed, Fate, Kind, Rejected, Taken, Undeliverable}
 use Rattle.mc_model.specs.message.Neighbours.{MayFollow}
 use Rattle.mc_model.specs.message.Chain.{IsPermitted, MayExtend, attempts_in, taken_in}
 use Rattle.mc_model.specs.synod.Lists.{In}
@@ -10,7 +10,7 @@ use Rattle.mc_model.specs.synod.Packet.{Packet, Slot, Voted, slot_at, slot_of}
 use Rattle.mc_model.specs.synod.Acceptor.{Records}
 use Rattle.mc_model.specs.node.Actor.{Actor}
 use Rattle.mc_model.specs.node.FirstRule.{Close, Delete, Expire, FitsRule, Follow, GiveUp, Lose, Rule, Take, Try, Undeliver, order_of}
-use Rattle.mc_model.specs.node.Knowledge.{IsLearned, Knows}
+use Rattle.mc_model.specs.node.Knowledge.{IsLearned}
 use Rattle.mc_model.specs.node.Outcome.{Concluded, Outcome, Unanswered, decree_of, no_session_error, older_incarnation_error}
 use Rattle.mc_model.specs.node.Proposal.{Allows, HasError, IsCancelled, IsClosed, IsNext}
 use Rattle.mc_model.specs.node.Rules.{GoesFurther, IsAhead, IsAttemptBy, next_decree}
