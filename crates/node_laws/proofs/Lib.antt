@@ -32,3 +32,4 @@ pub mod Refusing
 pub mod Proposed
 pub mod Promising
 pub mod Closing
+pub mod Ruling
