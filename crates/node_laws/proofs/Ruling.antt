@@ -9,7 +9,7 @@ use Rattle.mc_model.specs.synod.Lists.{In}
 use Rattle.mc_model.specs.synod.OneSlot.{Vote, vote_at}
 use Rattle.mc_model.specs.synod.Packet.{Packet, Prepare, Slot, Tell, slot_at, slot_of, top_at}
 use Rattle.mc_model.specs.node.Act.{Abandons, Act, Prepares}
-use Rattle.mc_model.specs.node.Actor.{Actor, Offer, Submit, Waiting, name_of}
+use Rattle.mc_model.specs.node.Actor.{Actor, Offer, Request, Submit, id_in, name_of}
 use Rattle.mc_model.specs.node.Alone.{Node, StandsAt, reached_alone}
 use Rattle.mc_model.specs.node.Due.{Fall, key_of}
 use Rattle.mc_model.specs.node.Effect.{did}
@@ -18,7 +18,7 @@ use Rattle.mc_model.specs.node.Knowledge.{IsLearned, Knows}
 use Rattle.mc_model.specs.node.Outcome.{Outcome, Unanswered, no_session_error}
 use Rattle.mc_model.specs.node.Outputs.{packets_in}
 use Rattle.mc_model.specs.node.Proposal.{IsOwn, OwnBallot}
-use Rattle.mc_model.specs.node.Replies.{Accepted}
+use Rattle.mc_model.specs.node.Replies.{Accepted, FitsRequest}
 use Rattle.mc_model.specs.node.Rounds.{HasSeen, IsNextBallot, MayPrepare, RunsNone}
 use Rattle.mc_model.specs.node.Rules.{FitsFollow, FitsTake, IsAhead, IsShownAt}
 use Rattle.mc_model.specs.node.Setup.{Setup}
@@ -33,6 +33,7 @@ use Rattle.node_laws.specs.Steps.{IsAtWork}
 use Rattle.node_laws.proofs.Closing.{closed_agrees}
 use Rattle.node_laws.proofs.FirstRule.{AgreesOn, is_first, none_fits, same_rule}
 use Rattle.node_laws.proofs.Owning.{IsGround, own_later}
+use Rattle.node_laws.proofs.Orders.{in_mapped}
 use Rattle.node_laws.proofs.Places.{message_elsewhere}
 use Rattle.node_laws.proofs.RuleChains.{after_rule, one_place, rule_next, rule_place}
 use Rattle.node_laws.proofs.Started.{IsDueStart, IsStartOf, IsToPrepare, StartsAs, started_as}
@@ -107,3 +108,132 @@ module _ (setup : Setup) (s : Node) where
         IsFirstRule setup.nodes setup.node s.actor s.records up id at of other → at ≡ place
     first_once rule other place at chain of one second =
         rule_once rule place at chain of one.fits (subst (λ (r : Rule). Fits r at of) (same_first rule other place at chain of one second) second.fits)
+
+  -- ---- what was started of other messages does not matter
+
+  module _ (slots : List Slot) (offers : List Offer) (id : ℕ) (apart : (offer : Offer) → In offer offers → offer.slot.id ≡ id → ⊥) where
+    prepared_before : (slot : Slot) (ballot : ℕ) → slot.id ≡ id → In (Prepare setup.node slot ballot) (map packet_of offers ++ s.actor.sent) → In (Prepare setup.node slot ballot) s.actor.sent
+    prepared_before slot ballot about sent = elim (in_either (Prepare setup.node slot ballot) (map packet_of offers) s.actor.sent sent) [
+      | inl now ↦
+          let it = in_mapped packet_of offers (Prepare setup.node slot ballot) now in
+          let packets : Prepare setup.node slot ballot ≡ Prepare setup.node it.from.slot it.from.ballot = it.is in
+          let slots_same : slot ≡ it.from.slot = cc in
+          absurd (apart it.from it.among (ap (λ (x : Slot). x.id) (sym slots_same) ∙ about))
+      | inr before ↦ before
+    ]
+
+    seen_before : (slot : Slot) → slot.id ≡ id → (round : ℕ) → HasSeen setup.node (later slots offers).actor s.records slot round → HasSeen setup.node s.actor s.records slot round
+    seen_before slot about round (inl own) = inl own
+    seen_before slot about round (inr (inl refused)) = inr (inl (record {
+      sender = refused.sender;
+      ballot = refused.ballot;
+      promised = refused.promised;
+      heard = refused.heard;
+      proposer = refused.proposer;
+      incarnation = refused.incarnation;
+      names = refused.names;
+    }))
+    seen_before slot about round (inr (inr sent)) = inr (inr (record { ballot = sent.ballot; sent = prepared_before slot sent.ballot about sent.sent; names = sent.names }))
+
+    seen_later : (slot : Slot) (round : ℕ) → HasSeen setup.node s.actor s.records slot round → HasSeen setup.node (later slots offers).actor s.records slot round
+    seen_later slot round (inl own) = inl own
+    seen_later slot round (inr (inl refused)) = inr (inl (record {
+      sender = refused.sender;
+      ballot = refused.ballot;
+      promised = refused.promised;
+      heard = refused.heard;
+      proposer = refused.proposer;
+      incarnation = refused.incarnation;
+      names = refused.names;
+    }))
+    seen_later slot round (inr (inr sent)) = inr (inr (record { ballot = sent.ballot; sent = in_right (Prepare setup.node slot sent.ballot) (map packet_of offers) s.actor.sent sent.sent; names = sent.names }))
+
+    may_before : RunsNone setup.nodes setup.node s.actor id → (slot : Slot) (ballot : ℕ) → slot.id ≡ id →
+        MayPrepare setup.nodes setup.node (later slots offers).actor s.records slot ballot → MayPrepare setup.nodes setup.node s.actor s.records slot ballot
+    may_before none slot ballot about may = record {
+      none = subst (RunsNone setup.nodes setup.node s.actor) (sym about) none;
+      next = record {
+        highest = may.next.highest;
+        seen = seen_before slot about may.next.highest may.next.seen;
+        most = λ round seen. may.next.most round (seen_later slot round seen);
+        ballot_is = may.next.ballot_is;
+        round = may.next.round;
+      };
+    }
+
+    may_later : RunsNone setup.nodes setup.node (later slots offers).actor id → (slot : Slot) (ballot : ℕ) → slot.id ≡ id →
+        MayPrepare setup.nodes setup.node s.actor s.records slot ballot → MayPrepare setup.nodes setup.node (later slots offers).actor s.records slot ballot
+    may_later none slot ballot about may = record {
+      none = subst (RunsNone setup.nodes setup.node (later slots offers).actor) (sym about) none;
+      next = record {
+        highest = may.next.highest;
+        seen = seen_later slot may.next.highest may.next.seen;
+        most = λ round seen. may.next.most round (seen_before slot about round seen);
+        ballot_is = may.next.ballot_is;
+        round = may.next.round;
+      };
+    }
+
+  -- ---- the round of a rule may be started
+
+  abbrev given_slots : Rule → ℕ → ℕ → List Slot
+  given_slots GiveUp id place = slot_at id (pred place) ∷ []
+  given_slots rule id place = []
+
+  module _ (coherent : IsCoherent setup.node s.actor) (up : List ℕ → Bool) (id : ℕ) where
+    ground_here : (slots : List Slot) (offers : List Offer) → IsGround setup.nodes id s.actor (later slots offers).actor
+    ground_here slots offers = record {
+      incarnation = refl;
+      clock = refl;
+      submits = λ w message waits submits. waits;
+      cancels = λ w taken waits settled cancels. waits;
+      closed = λ slot outcome is_in. in_right (slot, outcome) (map unanswered slots) s.actor.closed is_in;
+      learned = λ slot vote learned. learned;
+    }
+
+    abbrev After : Rule → ℕ → Actor
+    After rule place = after_rule setup.nodes setup.node s.actor coherent s.records up id rule place
+
+    ground_given : (place : ℕ) (slots : List Slot) (offers : List Offer) → IsGround setup.nodes id (After GiveUp place) (later (slot_at id (pred place) ∷ slots) offers).actor
+    ground_given place slots offers = record {
+      incarnation = refl;
+      clock = refl;
+      submits = λ w message waits submits. waits;
+      cancels = λ w taken waits settled cancels. waits;
+      closed = λ slot outcome is_in. elim is_in [
+        | inl same ↦ inl same
+        | inr before ↦ inr (in_right (slot, outcome) (map unanswered slots) s.actor.closed before)
+      ];
+      learned = λ slot vote learned. learned;
+    }
+
+    ground_of : (rule : Rule) (place : ℕ) (slots : List Slot) (offers : List Offer) → IsGround setup.nodes id (After rule place) (later (given_slots rule id place ++ slots) offers).actor
+    ground_of Take place slots offers = ground_here slots offers
+    ground_of Follow place slots offers = ground_here slots offers
+    ground_of Close place slots offers = ground_here slots offers
+    ground_of Lose place slots offers = ground_here slots offers
+    ground_of GiveUp place slots offers = ground_given place slots offers
+    ground_of Delete place slots offers = ground_here slots offers
+    ground_of Expire place slots offers = ground_here slots offers
+    ground_of Undeliver place slots offers = ground_here slots offers
+    ground_of Try place slots offers = ground_here slots offers
+
+    -- a submit_sm that waits is of a message of which nothing is known
+    take_ahead : IsQuiet setup.nodes setup.node s.actor → (place : ℕ) (chain : List Decree) → FitsTake setup.node s.actor id place chain → IsAhead setup.nodes s.actor id place
+    take_ahead quiet place chain fits known knows =
+        let w = fits.1.waiting in
+        let about : id_in w.request ≡ id = ap id_in fits.1.submits in
+        let accepted : FitsRequest setup.nodes setup.node s.actor w (Submit id fits.1.message) Accepted = record { chain = known; known = knows } in
+        absurd (quiet.answered w.ticket id Accepted (record {
+          asked = record { waiting = w; waits = fits.1.waits; ticket_is = refl; about = about };
+          fits = subst (λ (r : Request). FitsRequest setup.nodes setup.node s.actor w r Accepted) (sym fits.1.submits) accepted;
+        }))
+
+    module _ (k : Kept) (slots : List Slot) (offers : List Offer) (agrees : Agrees setup k (later slots offers)) where
+      shown_stands : (place : ℕ) (vote : Vote) → IsShownAt setup.node s.actor s.records id place vote → StandsAt (later slots offers) (slot_at id place) vote.chain
+      shown_stands place vote (inl told) = inr (inr (inr (inl (told.told.teller, name_of setup.node s.actor told.waiting, vote.ballot, told.told.heard))))
+      shown_stands place vote (inr voted) = agrees.voted (slot_at id place) vote (ap (λ (r : SlotRecord). r.vote) (agrees.records (slot_at id place)) ∙ voted)
+
+      shown_within : (place : ℕ) (vote : Vote) → IsShownAt setup.node s.actor s.records id place vote → place < most_places
+      shown_within place vote (inl told) = (coherent.fits (Tell told.told.teller (name_of setup.node s.actor told.waiting) (Some (top_at (slot_at id place) vote))) told.told.heard).0
+      shown_within place vote (inr voted) = (agrees.placed (slot_at id place) vote (ap (λ (r : SlotRecord). r.vote) (agrees.records (slot_at id place)) ∙ voted)).1
