@@ -280,7 +280,7 @@ module _ (nodes node : ℕ) (a : Actor) (coherent : IsCoherent node a) (records 
           subst (λ (t : Option Submission). MayExtend t (n.newest ∷ n.older) n.next) (sym n.message) n.may in
       subst (IsPermitted id) (sym n.chain_is) (before, further)
 
-  received_still : (rule : Rule) (place : ℕ) → (after_rule rule place).received ≡ a.received
+  pub received_still : (rule : Rule) (place : ℕ) → (after_rule rule place).received ≡ a.received
   received_still Take place = refl
   received_still Follow place = refl
   received_still Close place = refl

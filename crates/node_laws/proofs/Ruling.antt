@@ -35,7 +35,7 @@ use Rattle.node_laws.proofs.FirstRule.{AgreesOn, is_first, none_fits, same_rule}
 use Rattle.node_laws.proofs.Owning.{IsGround, own_later}
 use Rattle.node_laws.proofs.Orders.{in_mapped}
 use Rattle.node_laws.proofs.Places.{message_elsewhere}
-use Rattle.node_laws.proofs.RuleChains.{after_rule, one_place, rule_next, rule_place}
+use Rattle.node_laws.proofs.RuleChains.{after_rule, one_place, received_still, rule_next, rule_place}
 use Rattle.node_laws.proofs.Started.{IsDueStart, IsStartOf, IsToPrepare, StartsAs, started_as}
 
 abbrev pub unanswered : Slot → Slot × Outcome
@@ -237,3 +237,90 @@ module _ (setup : Setup) (s : Node) where
       shown_within : (place : ℕ) (vote : Vote) → IsShownAt setup.node s.actor s.records id place vote → place < most_places
       shown_within place vote (inl told) = (coherent.fits (Tell told.told.teller (name_of setup.node s.actor told.waiting) (Some (top_at (slot_at id place) vote))) told.told.heard).0
       shown_within place vote (inr voted) = (agrees.placed (slot_at id place) vote (ap (λ (r : SlotRecord). r.vote) (agrees.records (slot_at id place)) ∙ voted)).1
+
+      abbrev DueTo : ℕ → List Decree → Type 0
+      DueTo place chain = Starts up id place chain
+
+      abbrev Given : Rule → ℕ → Node
+      Given rule place = later (given_slots rule id place ++ slots) offers
+
+      record IsReady (rule : Rule) (place : ℕ) (chain : List Decree) : Type 0 where
+        within : place < most_places
+        ahead : IsAhead setup.nodes s.actor id place
+        free : StandsAt (Given rule place) (slot_at id place) chain ⊎ ((slot_at id place ≡ slot_of id chain) × IsOwn (IsLearned setup.nodes (Given rule place).actor.received) setup.node (Given rule place).actor id chain)
+
+      behind_ready : (rule : Rule) (place : ℕ) (chain : List Decree) → 3 ≤ order_of rule → Fits coherent up id rule place chain → IsReady rule place chain
+      behind_ready rule place chain late fits =
+          let at = rule_place setup.nodes setup.node s.actor coherent s.records up id rule place chain late fits in
+          let next = rule_next setup.nodes setup.node s.actor coherent s.records up id rule place chain late fits in
+          let still = received_still setup.nodes setup.node s.actor coherent s.records up id rule place in
+          let own : IsOwn (IsLearned setup.nodes (After rule place).received) setup.node (After rule place) id chain = inr next in
+          record {
+            within = at.within;
+            ahead = at.ahead;
+            free = inr (at.slot_is, own_later setup.nodes setup.node id (After rule place) (Given rule place).actor (ground_of rule place slots offers) chain own);
+          }
+
+      ready : IsQuiet setup.nodes setup.node s.actor → (rule : Rule) (place : ℕ) (chain : List Decree) → Fits coherent up id rule place chain → IsReady rule place chain
+      ready quiet Take place chain fits = record {
+        within = let first = fits.0 in omega arith;
+        ahead = take_ahead quiet place chain fits;
+        free = inr (
+          (let lengths : pred (length chain) ≡ 0 = ap (λ (c : List Decree). pred (length c)) fits.1.chain_is in ap (slot_at id) (fits.0 ∙ sym lengths)),
+          own_later setup.nodes setup.node id s.actor (later slots offers).actor (ground_here slots offers) chain (inl fits.1),
+        );
+      }
+      ready quiet Follow place chain fits = record {
+        within = shown_within place fits.vote fits.highest.shown;
+        ahead = fits.ahead;
+        free = inl (subst (StandsAt (later slots offers) (slot_at id place)) (sym fits.chain_is) (shown_stands place fits.vote fits.highest.shown));
+      }
+      ready quiet Close place chain fits = behind_ready Close place chain (omega arith) fits
+      ready quiet Lose place chain fits = behind_ready Lose place chain (omega arith) fits
+      ready quiet GiveUp place chain fits = behind_ready GiveUp place chain (omega arith) fits
+      ready quiet Delete place chain fits = behind_ready Delete place chain (omega arith) fits
+      ready quiet Expire place chain fits = behind_ready Expire place chain (omega arith) fits
+      ready quiet Undeliver place chain fits = behind_ready Undeliver place chain (omega arith) fits
+      ready quiet Try place chain fits = behind_ready Try place chain (omega arith) fits
+
+      pub is_start : IsQuiet setup.nodes setup.node s.actor → (fit : Fitting) → IsFirstRule setup.nodes setup.node s.actor s.records up id fit.start.place fit.start.chain fit.rule →
+          IsDueStart setup (Given fit.rule fit.start.place) id DueTo fit.start
+      is_start quiet fit first =
+          let it = ready quiet fit.rule fit.start.place fit.start.chain first.fits in
+          record {
+            due = (fit.rule, first);
+            only = λ place chain other. first_once coherent up id fit.rule other.0 fit.start.place place fit.start.chain chain first other.1;
+            within = it.within;
+            ahead = it.ahead;
+            free = it.free;
+          }
+
+      -- ---- an attempt is given up
+
+      give_up_agrees : (place : ℕ) (chain : List Decree) → Fits coherent up id GiveUp place chain → ((slot : Slot) → In slot slots → slot.id ≡ id → ⊥) →
+          Agrees setup (abandoned k id (pred place)) (later (slot_at id (pred place) ∷ slots) offers)
+      give_up_agrees place chain fits apart =
+          closed_agrees setup k (later slots offers) agrees (slot_at id (pred place)) (Unanswered no_session_error) (inr refl) open_yet
+        where
+          slots_same : slot_at id (pred place) ≡ slot_of id (fits.further.newest ∷ fits.further.older)
+          slots_same = ap (λ (p : ℕ). slot_at id (pred p)) fits.further.behind
+
+          open_yet : (other : Outcome) → In (slot_at id (pred place), other) (map unanswered slots ++ s.actor.closed) → ⊥
+          open_yet other is_in = elim (in_either (slot_at id (pred place), other) (map unanswered slots) s.actor.closed is_in) [
+            | inl now ↦
+                let it = in_mapped unanswered slots (slot_at id (pred place), other) now in
+                apart it.from it.among (ap (λ (x : Slot × Outcome). x.0.id) (sym it.is))
+            | inr before ↦ fits.closed other (subst (λ (x : Slot). In (x, other) s.actor.closed) slots_same before)
+          ]
+
+      given_agrees : (rule : Rule) (place : ℕ) (chain : List Decree) → Fits coherent up id rule place chain → ((slot : Slot) → In slot slots → slot.id ≡ id → ⊥) →
+          Agrees setup (given_up rule k id (pred place)) (Given rule place)
+      given_agrees Take place chain fits apart = agrees
+      given_agrees Follow place chain fits apart = agrees
+      given_agrees Close place chain fits apart = agrees
+      given_agrees Lose place chain fits apart = agrees
+      given_agrees GiveUp place chain fits apart = give_up_agrees place chain fits apart
+      given_agrees Delete place chain fits apart = agrees
+      given_agrees Expire place chain fits apart = agrees
+      given_agrees Undeliver place chain fits apart = agrees
+      given_agrees Try place chain fits apart = agrees
