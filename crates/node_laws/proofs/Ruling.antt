@@ -10,11 +10,11 @@ use Rattle.mc_model.specs.synod.OneSlot.{Vote, vote_at}
 use Rattle.mc_model.specs.synod.Packet.{Packet, Prepare, Slot, Tell, slot_at, slot_of, top_at}
 use Rattle.mc_model.specs.node.Act.{Abandons, Act, Prepares}
 use Rattle.mc_model.specs.node.Actor.{Actor, Offer, Request, Submit, id_in, name_of}
-use Rattle.mc_model.specs.node.Alone.{Node, StandsAt, reached_alone}
+use Rattle.mc_model.specs.node.Alone.{Node, StandsAt, after_alone, reached_alone}
 use Rattle.mc_model.specs.node.Due.{Fall, key_of}
 use Rattle.mc_model.specs.node.Effect.{did}
 use Rattle.mc_model.specs.node.FirstRule.{Close, Delete, Expire, FitsRule, Follow, GiveUp, IsFirstRule, Lose, Rule, Take, Try, Undeliver, order_of}
-use Rattle.mc_model.specs.node.Knowledge.{IsLearned, Knows}
+use Rattle.mc_model.specs.node.Knowledge.{IsKnown, IsLearned, Knows}
 use Rattle.mc_model.specs.node.Outcome.{Outcome, Unanswered, no_session_error}
 use Rattle.mc_model.specs.node.Outputs.{packets_in}
 use Rattle.mc_model.specs.node.Proposal.{IsOwn, OwnBallot}
@@ -24,17 +24,18 @@ use Rattle.mc_model.specs.node.Rules.{FitsFollow, FitsTake, IsAhead, IsShownAt}
 use Rattle.mc_model.specs.node.Setup.{Setup}
 use Rattle.mc_parts.proofs.Membership.{in_either, in_right}
 use Rattle.node_model.specs.Kept.{Held, Kept, message_at}
-use Rattle.node_model.specs.Message.{most_places}
-use Rattle.node_model.specs.Proposer.{Prepared, Start, started}
+use Rattle.node_model.specs.Message.{Message, most_places}
+use Rattle.node_model.specs.Proposer.{Prepared, Start, highest_round, is_free, prepared_at, started}
 use Rattle.node_model.specs.Rules.{Fitting, first_rule}
 use Rattle.node_model.specs.Ticks.{abandoned, and_then, given_up, ruled, ruled_each}
-use Rattle.node_laws.specs.Stands.{Agrees, IsCoherent, IsQuiet}
+use Rattle.node_laws.specs.Answering.{ArePlaced}
+use Rattle.node_laws.specs.Stands.{Agrees, HasAttempts, IsCoherent, IsQuiet, IsRoundOf}
 use Rattle.node_laws.specs.Steps.{IsAtWork}
 use Rattle.node_laws.proofs.Closing.{closed_agrees}
 use Rattle.node_laws.proofs.FirstRule.{AgreesOn, is_first, none_fits, same_rule}
 use Rattle.node_laws.proofs.Owning.{IsGround, own_later}
 use Rattle.node_laws.proofs.Orders.{in_mapped}
-use Rattle.node_laws.proofs.Places.{message_elsewhere}
+use Rattle.node_laws.proofs.Places.{message_elsewhere, message_here}
 use Rattle.node_laws.proofs.RuleChains.{after_rule, one_place, received_still, rule_next, rule_place}
 use Rattle.node_laws.proofs.Started.{IsDueStart, IsStartOf, IsToPrepare, StartsAs, started_as}
 
@@ -324,3 +325,93 @@ module _ (setup : Setup) (s : Node) where
       given_agrees Expire place chain fits apart = agrees
       given_agrees Undeliver place chain fits apart = agrees
       given_agrees Try place chain fits apart = agrees
+
+-- ---- what is kept of other messages stays
+
+pub record IsBeside (k new : Kept) (id : ℕ) : Type 0 where
+  pub incarnation : new.incarnation ≡ k.incarnation
+  pub clock : new.clock ≡ k.clock
+  pub records : new.records ≡ k.records
+  pub held : new.held ≡ k.held
+  pub elsewhere : (other : ℕ) → (other ≡ id → ⊥) → message_at new other ≡ message_at k other
+
+beside_same : (k : Kept) (id : ℕ) → IsBeside k k id
+beside_same k id = record { incarnation = refl; clock = refl; records = refl; held = refl; elsewhere = λ other apart. refl }
+
+beside_then : (k middle new : Kept) (id : ℕ) → IsBeside k middle id → IsBeside middle new id → IsBeside k new id
+beside_then k middle new id one other = record {
+  incarnation = other.incarnation ∙ one.incarnation;
+  clock = other.clock ∙ one.clock;
+  records = other.records ∙ one.records;
+  held = other.held ∙ one.held;
+  elsewhere = λ at apart. other.elsewhere at apart ∙ one.elsewhere at apart;
+}
+
+given_beside : (rule : Rule) (k : Kept) (id place : ℕ) → IsBeside k (given_up rule k id place) id
+given_beside Take k id place = beside_same k id
+given_beside Follow k id place = beside_same k id
+given_beside Close k id place = beside_same k id
+given_beside Lose k id place = beside_same k id
+given_beside GiveUp k id place = record { incarnation = refl; clock = refl; records = refl; held = refl; elsewhere = λ other apart. message_elsewhere k id other _ apart }
+given_beside Delete k id place = beside_same k id
+given_beside Expire k id place = beside_same k id
+given_beside Undeliver k id place = beside_same k id
+given_beside Try k id place = beside_same k id
+
+given_round : (rule : Rule) (k : Kept) (id place : ℕ) → (message_at k id).round ≡ None → (message_at (given_up rule k id place) id).round ≡ None
+given_round Take k id place none = none
+given_round Follow k id place none = none
+given_round Close k id place none = none
+given_round Lose k id place none = none
+given_round GiveUp k id place none = ap (λ (m : Message). m.round) (message_here k id _) ∙ none
+given_round Delete k id place none = none
+given_round Expire k id place none = none
+given_round Undeliver k id place none = none
+given_round Try k id place none = none
+
+started_beside : (setup : Setup) (k : Kept) (id : ℕ) (start : Option Start) → IsBeside k (started setup k id start).kept id
+started_beside setup k id None = beside_same k id
+started_beside setup k id (Some start) = by_free (is_free k (slot_at id start.place))
+  where
+    by_free : (free : Bool) → IsBeside k (if free then prepared_at setup k (slot_at id start.place) (suc (highest_round k.records (message_at k id) (slot_at id start.place))) start.chain else record { kept = k; packets = [] }).kept id
+    by_free true = record { incarnation = refl; clock = refl; records = refl; held = refl; elsewhere = λ other apart. message_elsewhere k id other _ apart }
+    by_free false = beside_same k id
+
+agrees_beside : (setup : Setup) (a : Actor) (records : Records) (k new : Kept) (id other : ℕ) → (other ≡ id → ⊥) → IsBeside k new id → AgreesOn setup a records k other → AgreesOn setup a records new other
+agrees_beside setup a records k new id other apart beside is = record {
+  incarnation = beside.incarnation ∙ is.incarnation;
+  clock = beside.clock ∙ is.clock;
+  same_records = λ slot. ap (λ (r : Records). r slot) beside.records ∙ is.same_records slot;
+  placed = subst ArePlaced (sym beside.records) is.placed;
+  waiting = ap (map (λ h. h.waiting)) beside.held ∙ is.waiting;
+  told = λ h among. is.told h (subst (λ (hs : List Held). In h hs) beside.held among);
+  known = subst (λ (m : Message). IsKnown setup.nodes a.received other m.known) (sym (beside.elsewhere other apart)) is.known;
+  attempts = subst (λ (m : Message). HasAttempts a other m) (sym (beside.elsewhere other apart)) is.attempts;
+}
+
+-- ---- acts that start rounds, and what they leave
+
+module _ (setup : Setup) (s : Node) where
+  -- each of these acts starts a round of the message
+  record AreStarts (acts : List Act) : Type 0 where
+    offers : List Offer
+    are : acts ≡ map prepare_of offers
+
+  starts_of : (P : Act → Type 0) → ((act : Act) → P act → (offer : Offer) × (act ≡ prepare_of offer)) → (acts : List Act) → ((act : Act) → In act acts → P act) → AreStarts acts
+  starts_of P each [] all = record { offers = []; are = refl }
+  starts_of P each (act ∷ acts) all =
+      let one = each act (all act (inl refl)) in
+      let others = starts_of P each acts (λ other among. all other (inr among)) in
+      record { offers = one.0 ∷ others.offers; are = λ i. one.1 i ∷ others.are i }
+
+  reached_starts : (some : List Offer) (slots : List Slot) (offers : List Offer) → reached_alone setup.node (later setup s slots offers) (map prepare_of some) ≡ later setup s slots (some ++ offers)
+  reached_starts [] slots offers = refl
+  reached_starts (offer ∷ some) slots offers = ap (λ (x : Node). after_alone setup.node x (prepare_of offer)) (reached_starts some slots offers)
+
+  packets_of_starts : (a : Actor) (records : Records) (some : List Offer) → packets_in setup.node a records (map prepare_of some) ≡ map (packet_of setup s) some
+  packets_of_starts a records [] = refl
+  packets_of_starts a records (offer ∷ some) = ap (λ (ps : List Packet). packet_of setup s offer ∷ ps) (packets_of_starts a records some)
+
+keys_of_starts : (some : List Offer) → map key_of (map prepare_of some) ≡ map id_of_offer some
+keys_of_starts [] = refl
+keys_of_starts (offer ∷ some) = ap (λ (ns : List ℕ). offer.slot.id ∷ ns) (keys_of_starts some)
