@@ -33,3 +33,4 @@ pub mod Proposed
 pub mod Promising
 pub mod Closing
 pub mod Ruling
+pub mod RulingOne

@@ -1,43 +1,40 @@
 -- Message by message, a tick gives up attempts and starts rounds, by the first rule that fits.
-use Rattle.std.proofs.Common.{◌≡◌, ◌⊎◌, ◌↔◌, ℕ, suc, pred, ◌<◌, ◌≤◌, Bool, true, false, List, [], ◌∷◌, ◌++◌, length, map, Option, Some, None, refl, sym, ap, subst, ◌∙◌, inl, inr, arith}
-use Rattle.std.specs.Prelude.{◌==◌, reverse, if◌then◌else◌}
+use Rattle.std.proofs.Common.{◌≡◌, ◌⊎◌, ℕ, suc, pred, ◌<◌, ◌≤◌, Bool, true, false, List, [], ◌∷◌, ◌++◌, length, map, Option, Some, None, refl, sym, ap, subst, ◌∙◌, inl, inr, arith}
+use Rattle.std.specs.Prelude.{if◌then◌else◌}
 use Rattle.std.proofs.lemmas.Bool.{cases_lt}
 use Rattle.mc_model.specs.message.Decree.{Decree}
-use Rattle.mc_model.specs.message.Ids.{IsNode}
 use Rattle.mc_model.specs.synod.Acceptor.{Records, SlotRecord}
 use Rattle.mc_model.specs.synod.Lists.{In}
-use Rattle.mc_model.specs.synod.OneSlot.{Vote, vote_at}
+use Rattle.mc_model.specs.synod.OneSlot.{Vote}
 use Rattle.mc_model.specs.synod.Packet.{Packet, Prepare, Slot, Tell, slot_at, slot_of, top_at}
-use Rattle.mc_model.specs.node.Act.{Abandons, Act, Prepares}
+use Rattle.mc_model.specs.node.Act.{Act, Prepares}
 use Rattle.mc_model.specs.node.Actor.{Actor, Offer, Request, Submit, id_in, name_of}
 use Rattle.mc_model.specs.node.Alone.{Node, StandsAt, after_alone, reached_alone}
-use Rattle.mc_model.specs.node.Due.{Fall, key_of}
-use Rattle.mc_model.specs.node.Effect.{did}
+use Rattle.mc_model.specs.node.Due.{key_of}
 use Rattle.mc_model.specs.node.FirstRule.{Close, Delete, Expire, FitsRule, Follow, GiveUp, IsFirstRule, Lose, Rule, Take, Try, Undeliver, order_of}
-use Rattle.mc_model.specs.node.Knowledge.{IsKnown, IsLearned, Knows}
+use Rattle.mc_model.specs.node.Knowledge.{IsKnown, IsLearned}
 use Rattle.mc_model.specs.node.Outcome.{Outcome, Unanswered, no_session_error}
 use Rattle.mc_model.specs.node.Outputs.{packets_in}
-use Rattle.mc_model.specs.node.Proposal.{IsOwn, OwnBallot}
+use Rattle.mc_model.specs.node.Proposal.{IsOwn}
 use Rattle.mc_model.specs.node.Replies.{Accepted, FitsRequest}
-use Rattle.mc_model.specs.node.Rounds.{HasSeen, IsNextBallot, MayPrepare, RunsNone}
+use Rattle.mc_model.specs.node.Rounds.{HasSeen, MayPrepare, RunsNone}
 use Rattle.mc_model.specs.node.Rules.{FitsFollow, FitsTake, IsAhead, IsShownAt}
 use Rattle.mc_model.specs.node.Setup.{Setup}
 use Rattle.mc_parts.proofs.Membership.{in_either, in_right}
 use Rattle.node_model.specs.Kept.{Held, Kept, message_at}
 use Rattle.node_model.specs.Message.{Message, most_places}
-use Rattle.node_model.specs.Proposer.{Prepared, Start, highest_round, is_free, prepared_at, started}
-use Rattle.node_model.specs.Rules.{Fitting, first_rule}
-use Rattle.node_model.specs.Ticks.{abandoned, and_then, given_up, ruled, ruled_each}
+use Rattle.node_model.specs.Proposer.{Start, highest_round, is_free, prepared_at, started}
+use Rattle.node_model.specs.Rules.{Fitting}
+use Rattle.node_model.specs.Ticks.{abandoned, given_up}
 use Rattle.node_laws.specs.Answering.{ArePlaced}
-use Rattle.node_laws.specs.Stands.{Agrees, HasAttempts, IsCoherent, IsQuiet, IsRoundOf}
-use Rattle.node_laws.specs.Steps.{IsAtWork}
+use Rattle.node_laws.specs.Stands.{Agrees, HasAttempts, IsCoherent, IsQuiet}
 use Rattle.node_laws.proofs.Closing.{closed_agrees}
-use Rattle.node_laws.proofs.FirstRule.{AgreesOn, is_first, none_fits, same_rule}
+use Rattle.node_laws.proofs.FirstRule.{AgreesOn, same_rule}
 use Rattle.node_laws.proofs.Owning.{IsGround, own_later}
 use Rattle.node_laws.proofs.Orders.{in_mapped}
 use Rattle.node_laws.proofs.Places.{message_elsewhere, message_here}
 use Rattle.node_laws.proofs.RuleChains.{after_rule, one_place, received_still, rule_next, rule_place}
-use Rattle.node_laws.proofs.Started.{IsDueStart, IsStartOf, IsToPrepare, StartsAs, started_as}
+use Rattle.node_laws.proofs.Started.{IsDueStart}
 
 abbrev pub unanswered : Slot → Slot × Outcome
 unanswered slot = (slot, Unanswered no_session_error)
@@ -95,7 +92,7 @@ module _ (setup : Setup) (s : Node) where
     rule_once Try place at chain of one other = one_place setup.nodes setup.node s.actor coherent s.records up id Try Try place at chain of (omega arith) (omega arith) one other
 
     -- of two first rules neither stands before the other
-    same_first : (rule other : Rule) (place at : ℕ) (chain of : List Decree) → IsFirstRule setup.nodes setup.node s.actor s.records up id place chain rule →
+    pub same_first : (rule other : Rule) (place at : ℕ) (chain of : List Decree) → IsFirstRule setup.nodes setup.node s.actor s.records up id place chain rule →
         IsFirstRule setup.nodes setup.node s.actor s.records up id at of other → other ≡ rule
     same_first rule other place at chain of one second = same_rule other rule (elim (cases_lt (order_of rule) (order_of other)) [
       | inl before ↦ absurd (second.first rule place chain before one.fits)
@@ -149,7 +146,7 @@ module _ (setup : Setup) (s : Node) where
     }))
     seen_later slot round (inr (inr sent)) = inr (inr (record { ballot = sent.ballot; sent = in_right (Prepare setup.node slot sent.ballot) (map packet_of offers) s.actor.sent sent.sent; names = sent.names }))
 
-    may_before : RunsNone setup.nodes setup.node s.actor id → (slot : Slot) (ballot : ℕ) → slot.id ≡ id →
+    pub may_before : RunsNone setup.nodes setup.node s.actor id → (slot : Slot) (ballot : ℕ) → slot.id ≡ id →
         MayPrepare setup.nodes setup.node (later slots offers).actor s.records slot ballot → MayPrepare setup.nodes setup.node s.actor s.records slot ballot
     may_before none slot ballot about may = record {
       none = subst (RunsNone setup.nodes setup.node s.actor) (sym about) none;
@@ -162,7 +159,7 @@ module _ (setup : Setup) (s : Node) where
       };
     }
 
-    may_later : RunsNone setup.nodes setup.node (later slots offers).actor id → (slot : Slot) (ballot : ℕ) → slot.id ≡ id →
+    pub may_later : RunsNone setup.nodes setup.node (later slots offers).actor id → (slot : Slot) (ballot : ℕ) → slot.id ≡ id →
         MayPrepare setup.nodes setup.node s.actor s.records slot ballot → MayPrepare setup.nodes setup.node (later slots offers).actor s.records slot ballot
     may_later none slot ballot about may = record {
       none = subst (RunsNone setup.nodes setup.node (later slots offers).actor) (sym about) none;
@@ -177,7 +174,7 @@ module _ (setup : Setup) (s : Node) where
 
   -- ---- the round of a rule may be started
 
-  abbrev given_slots : Rule → ℕ → ℕ → List Slot
+  abbrev pub given_slots : Rule → ℕ → ℕ → List Slot
   given_slots GiveUp id place = slot_at id (pred place) ∷ []
   given_slots rule id place = []
 
@@ -314,7 +311,7 @@ module _ (setup : Setup) (s : Node) where
             | inr before ↦ fits.closed other (subst (λ (x : Slot). In (x, other) s.actor.closed) slots_same before)
           ]
 
-      given_agrees : (rule : Rule) (place : ℕ) (chain : List Decree) → Fits coherent up id rule place chain → ((slot : Slot) → In slot slots → slot.id ≡ id → ⊥) →
+      pub given_agrees : (rule : Rule) (place : ℕ) (chain : List Decree) → Fits coherent up id rule place chain → ((slot : Slot) → In slot slots → slot.id ≡ id → ⊥) →
           Agrees setup (given_up rule k id (pred place)) (Given rule place)
       given_agrees Take place chain fits apart = agrees
       given_agrees Follow place chain fits apart = agrees
@@ -335,10 +332,10 @@ pub record IsBeside (k new : Kept) (id : ℕ) : Type 0 where
   pub held : new.held ≡ k.held
   pub elsewhere : (other : ℕ) → (other ≡ id → ⊥) → message_at new other ≡ message_at k other
 
-beside_same : (k : Kept) (id : ℕ) → IsBeside k k id
+pub beside_same : (k : Kept) (id : ℕ) → IsBeside k k id
 beside_same k id = record { incarnation = refl; clock = refl; records = refl; held = refl; elsewhere = λ other apart. refl }
 
-beside_then : (k middle new : Kept) (id : ℕ) → IsBeside k middle id → IsBeside middle new id → IsBeside k new id
+pub beside_then : (k middle new : Kept) (id : ℕ) → IsBeside k middle id → IsBeside middle new id → IsBeside k new id
 beside_then k middle new id one other = record {
   incarnation = other.incarnation ∙ one.incarnation;
   clock = other.clock ∙ one.clock;
@@ -347,7 +344,7 @@ beside_then k middle new id one other = record {
   elsewhere = λ at apart. other.elsewhere at apart ∙ one.elsewhere at apart;
 }
 
-given_beside : (rule : Rule) (k : Kept) (id place : ℕ) → IsBeside k (given_up rule k id place) id
+pub given_beside : (rule : Rule) (k : Kept) (id place : ℕ) → IsBeside k (given_up rule k id place) id
 given_beside Take k id place = beside_same k id
 given_beside Follow k id place = beside_same k id
 given_beside Close k id place = beside_same k id
@@ -358,7 +355,7 @@ given_beside Expire k id place = beside_same k id
 given_beside Undeliver k id place = beside_same k id
 given_beside Try k id place = beside_same k id
 
-given_round : (rule : Rule) (k : Kept) (id place : ℕ) → (message_at k id).round ≡ None → (message_at (given_up rule k id place) id).round ≡ None
+pub given_round : (rule : Rule) (k : Kept) (id place : ℕ) → (message_at k id).round ≡ None → (message_at (given_up rule k id place) id).round ≡ None
 given_round Take k id place none = none
 given_round Follow k id place none = none
 given_round Close k id place none = none
@@ -369,7 +366,7 @@ given_round Expire k id place none = none
 given_round Undeliver k id place none = none
 given_round Try k id place none = none
 
-started_beside : (setup : Setup) (k : Kept) (id : ℕ) (start : Option Start) → IsBeside k (started setup k id start).kept id
+pub started_beside : (setup : Setup) (k : Kept) (id : ℕ) (start : Option Start) → IsBeside k (started setup k id start).kept id
 started_beside setup k id None = beside_same k id
 started_beside setup k id (Some start) = by_free (is_free k (slot_at id start.place))
   where
@@ -377,7 +374,7 @@ started_beside setup k id (Some start) = by_free (is_free k (slot_at id start.pl
     by_free true = record { incarnation = refl; clock = refl; records = refl; held = refl; elsewhere = λ other apart. message_elsewhere k id other _ apart }
     by_free false = beside_same k id
 
-agrees_beside : (setup : Setup) (a : Actor) (records : Records) (k new : Kept) (id other : ℕ) → (other ≡ id → ⊥) → IsBeside k new id → AgreesOn setup a records k other → AgreesOn setup a records new other
+pub agrees_beside : (setup : Setup) (a : Actor) (records : Records) (k new : Kept) (id other : ℕ) → (other ≡ id → ⊥) → IsBeside k new id → AgreesOn setup a records k other → AgreesOn setup a records new other
 agrees_beside setup a records k new id other apart beside is = record {
   incarnation = beside.incarnation ∙ is.incarnation;
   clock = beside.clock ∙ is.clock;
@@ -393,25 +390,25 @@ agrees_beside setup a records k new id other apart beside is = record {
 
 module _ (setup : Setup) (s : Node) where
   -- each of these acts starts a round of the message
-  record AreStarts (acts : List Act) : Type 0 where
-    offers : List Offer
-    are : acts ≡ map prepare_of offers
+  pub record AreStarts (acts : List Act) : Type 0 where
+    pub offers : List Offer
+    pub are : acts ≡ map prepare_of offers
 
-  starts_of : (P : Act → Type 0) → ((act : Act) → P act → (offer : Offer) × (act ≡ prepare_of offer)) → (acts : List Act) → ((act : Act) → In act acts → P act) → AreStarts acts
+  pub starts_of : (P : Act → Type 0) → ((act : Act) → P act → (offer : Offer) × (act ≡ prepare_of offer)) → (acts : List Act) → ((act : Act) → In act acts → P act) → AreStarts acts
   starts_of P each [] all = record { offers = []; are = refl }
   starts_of P each (act ∷ acts) all =
       let one = each act (all act (inl refl)) in
       let others = starts_of P each acts (λ other among. all other (inr among)) in
       record { offers = one.0 ∷ others.offers; are = λ i. one.1 i ∷ others.are i }
 
-  reached_starts : (some : List Offer) (slots : List Slot) (offers : List Offer) → reached_alone setup.node (later setup s slots offers) (map prepare_of some) ≡ later setup s slots (some ++ offers)
+  pub reached_starts : (some : List Offer) (slots : List Slot) (offers : List Offer) → reached_alone setup.node (later setup s slots offers) (map prepare_of some) ≡ later setup s slots (some ++ offers)
   reached_starts [] slots offers = refl
   reached_starts (offer ∷ some) slots offers = ap (λ (x : Node). after_alone setup.node x (prepare_of offer)) (reached_starts some slots offers)
 
-  packets_of_starts : (a : Actor) (records : Records) (some : List Offer) → packets_in setup.node a records (map prepare_of some) ≡ map (packet_of setup s) some
+  pub packets_of_starts : (a : Actor) (records : Records) (some : List Offer) → packets_in setup.node a records (map prepare_of some) ≡ map (packet_of setup s) some
   packets_of_starts a records [] = refl
   packets_of_starts a records (offer ∷ some) = ap (λ (ps : List Packet). packet_of setup s offer ∷ ps) (packets_of_starts a records some)
 
-keys_of_starts : (some : List Offer) → map key_of (map prepare_of some) ≡ map id_of_offer some
+pub keys_of_starts : (some : List Offer) → map key_of (map prepare_of some) ≡ map id_of_offer some
 keys_of_starts [] = refl
 keys_of_starts (offer ∷ some) = ap (λ (ns : List ℕ). offer.slot.id ∷ ns) (keys_of_starts some)
