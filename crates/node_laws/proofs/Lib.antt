@@ -34,3 +34,4 @@ pub mod Promising
 pub mod Closing
 pub mod Ruling
 pub mod RulingOne
+pub mod RulingAll
