@@ -89,6 +89,7 @@ module _ (setup : Setup) (s : Node) (slot : Slot) (outcome : Outcome) where
     highest = is.highest;
     offered = is.offered;
     free = elim is.free [ inl stands ↦ inl stands | inr own ↦ inr (own.0, own_later setup.nodes setup.node id s.actor closed.actor (ground id) r.own own.1) ];
+    behind = is.behind;
     unproposed = is.unproposed;
   }
 
@@ -180,6 +181,7 @@ closed_agrees setup k s agrees slot outcome closing open_yet = record {
     life = agrees.coherent.life;
     ticked = agrees.coherent.ticked;
     fits = λ packet came. fit_later setup.node s.actor (closed setup s slot outcome).actor later packet (agrees.coherent.fits packet came);
+    own = agrees.coherent.own;
     prepared = agrees.coherent.prepared;
     outcomes = λ other of is_in. elim is_in [
       | inl same ↦ subst IsClosing (ap (λ (x : Slot × Outcome). x.1) (sym same)) closing

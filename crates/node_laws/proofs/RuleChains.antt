@@ -10,7 +10,7 @@ use Rattle.mc_model.specs.synod.Packet.{Packet, Slot, Voted, slot_at, slot_of}
 use Rattle.mc_model.specs.synod.Acceptor.{Records}
 use Rattle.mc_model.specs.node.Actor.{Actor}
 use Rattle.mc_model.specs.node.FirstRule.{Close, Delete, Expire, FitsRule, Follow, GiveUp, Lose, Rule, Take, Try, Undeliver, order_of}
-use Rattle.mc_model.specs.node.Knowledge.{IsLearned}
+use Rattle.mc_model.specs.node.Knowledge.{IsLearned, Knows}
 use Rattle.mc_model.specs.node.Outcome.{Concluded, Outcome, Unanswered, decree_of, no_session_error, older_incarnation_error}
 use Rattle.mc_model.specs.node.Proposal.{Allows, HasError, IsCancelled, IsClosed, IsNext}
 use Rattle.mc_model.specs.node.Rules.{GoesFurther, IsAhead, IsAttemptBy, next_decree}
@@ -297,6 +297,11 @@ module _ (nodes node : ℕ) (a : Actor) (coherent : IsCoherent node a) (records 
     pub slot_is : slot_at id place ≡ slot_of id chain
     pub within : place < most_places
     pub ahead : IsAhead nodes a id place
+    pub next : Decree
+    pub newest : Decree
+    pub older : List Decree
+    pub chain_is : chain ≡ next ∷ newest ∷ older
+    pub known : Knows nodes a.received id (newest ∷ older)
 
   pub rule_place : (rule : Rule) (place : ℕ) (chain : List Decree) → 3 ≤ order_of rule → FitsRule nodes node a records up id place chain rule → IsBehindKnown place chain
   rule_place rule place chain late fits =
@@ -313,6 +318,11 @@ module _ (nodes node : ℕ) (a : Actor) (coherent : IsCoherent node a) (records 
             let same : known ≡ g.newest ∷ g.older = knows_one nodes a.received id known (g.newest ∷ g.older) knows g.known in
             let lengths : length known ≡ length (g.newest ∷ g.older) = ap length same in
             omega arith;
+        next = next_decree node a g.newest it.kind;
+        newest = g.newest;
+        older = g.older;
+        chain_is = g.chain_is;
+        known = g.known;
       }
 
   -- a rule behind what is known has one place

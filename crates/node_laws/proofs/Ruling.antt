@@ -27,7 +27,7 @@ use Rattle.node_model.specs.Proposer.{Start, highest_round, is_free, prepared_at
 use Rattle.node_model.specs.Rules.{Fitting}
 use Rattle.node_model.specs.Ticks.{abandoned, given_up}
 use Rattle.node_laws.specs.Answering.{ArePlaced}
-use Rattle.node_laws.specs.Stands.{Agrees, HasAttempts, IsCoherent, IsQuiet}
+use Rattle.node_laws.specs.Stands.{Agrees, HasAttempts, IsBehind, IsCoherent, IsQuiet}
 use Rattle.node_laws.proofs.Closing.{closed_agrees}
 use Rattle.node_laws.proofs.FirstRule.{AgreesOn, same_rule}
 use Rattle.node_laws.proofs.Owning.{IsGround, own_later}
@@ -172,6 +172,12 @@ module _ (setup : Setup) (s : Node) where
       };
     }
 
+  -- a chain that stands already need not go on from what is known
+  behind_stood : (id : ℕ) (Stood : Type 0) (chain : List Decree) → Stood → IsBehind setup.nodes s.actor.received id Stood chain
+  behind_stood id Stood [] stood = tt
+  behind_stood id Stood (only ∷ []) stood = tt
+  behind_stood id Stood (next ∷ newest ∷ older) stood = inl stood
+
   -- ---- the round of a rule may be started
 
   abbrev pub given_slots : Rule → ℕ → ℕ → List Slot
@@ -245,6 +251,7 @@ module _ (setup : Setup) (s : Node) where
       record IsReady (rule : Rule) (place : ℕ) (chain : List Decree) : Type 0 where
         within : place < most_places
         ahead : IsAhead setup.nodes s.actor id place
+        behind : IsBehind setup.nodes s.actor.received id (StandsAt (Given rule place) (slot_at id place) chain) chain
         free : StandsAt (Given rule place) (slot_at id place) chain ⊎ ((slot_at id place ≡ slot_of id chain) × IsOwn (IsLearned setup.nodes (Given rule place).actor.received) setup.node (Given rule place).actor id chain)
 
       behind_ready : (rule : Rule) (place : ℕ) (chain : List Decree) → 3 ≤ order_of rule → Fits coherent up id rule place chain → IsReady rule place chain
@@ -256,6 +263,7 @@ module _ (setup : Setup) (s : Node) where
           record {
             within = at.within;
             ahead = at.ahead;
+            behind = subst (IsBehind setup.nodes s.actor.received id (StandsAt (Given rule place) (slot_at id place) chain)) (sym at.chain_is) (inr at.known);
             free = inr (at.slot_is, own_later setup.nodes setup.node id (After rule place) (Given rule place).actor (ground_of rule place slots offers) chain own);
           }
 
@@ -263,16 +271,20 @@ module _ (setup : Setup) (s : Node) where
       ready quiet Take place chain fits = record {
         within = let first = fits.0 in omega arith;
         ahead = take_ahead quiet place chain fits;
+        behind = subst (IsBehind setup.nodes s.actor.received id (StandsAt (later slots offers) (slot_at id place) chain)) (sym fits.1.chain_is) tt;
         free = inr (
           (let lengths : pred (length chain) ≡ 0 = ap (λ (c : List Decree). pred (length c)) fits.1.chain_is in ap (slot_at id) (fits.0 ∙ sym lengths)),
           own_later setup.nodes setup.node id s.actor (later slots offers).actor (ground_here slots offers) chain (inl fits.1),
         );
       }
-      ready quiet Follow place chain fits = record {
-        within = shown_within place fits.vote fits.highest.shown;
-        ahead = fits.ahead;
-        free = inl (subst (StandsAt (later slots offers) (slot_at id place)) (sym fits.chain_is) (shown_stands place fits.vote fits.highest.shown));
-      }
+      ready quiet Follow place chain fits =
+          let stands = subst (StandsAt (later slots offers) (slot_at id place)) (sym fits.chain_is) (shown_stands place fits.vote fits.highest.shown) in
+          record {
+            within = shown_within place fits.vote fits.highest.shown;
+            ahead = fits.ahead;
+            behind = behind_stood id (StandsAt (later slots offers) (slot_at id place) chain) chain stands;
+            free = inl stands;
+          }
       ready quiet Close place chain fits = behind_ready Close place chain (omega arith) fits
       ready quiet Lose place chain fits = behind_ready Lose place chain (omega arith) fits
       ready quiet GiveUp place chain fits = behind_ready GiveUp place chain (omega arith) fits
@@ -290,6 +302,7 @@ module _ (setup : Setup) (s : Node) where
             only = λ place chain other. first_once coherent up id fit.rule other.0 fit.start.place place fit.start.chain chain first other.1;
             within = it.within;
             ahead = it.ahead;
+            behind = it.behind;
             free = it.free;
           }
 
