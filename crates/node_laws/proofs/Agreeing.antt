@@ -1,5 +1,5 @@
 -- What is kept agrees with the actor to which a packet came that tells nothing to a request.
-use Rattle.std.proofs.Common.{◌≡◌, ℕ, ◌∷◌}
+use Rattle.std.proofs.Common.{◌≡◌, ℕ}
 use Rattle.mc_model.specs.synod.Packet.{Packet}
 use Rattle.mc_model.specs.node.Actor.{name_of}
 use Rattle.mc_model.specs.node.Alone.{Node}

@@ -1,16 +1,15 @@
 -- What a packet leaves as it was of which it tells nothing.
-use Rattle.std.proofs.Common.{◌≡◌, ◌⊎◌, ℕ, zero, suc, ◌-◌, ◌<◌, List, [], ◌∷◌, ◌++◌, length, take, Option, Some, None, sym, ap, subst, ◌∙◌, inl, inr, arith, refl}
+use Rattle.std.proofs.Common.{◌≡◌, ◌⊎◌, ℕ, zero, suc, ◌-◌, ◌<◌, List, [], ◌∷◌, ◌++◌, length, take, Option, Some, None, sym, subst, ◌∙◌, inl, inr, refl}
 use Rattle.mc_model.specs.message.Decree.{Decree}
 use Rattle.mc_model.specs.synod.Lists.{In}
 use Rattle.mc_model.specs.synod.OneSlot.{Vote}
-use Rattle.mc_model.specs.synod.Packet.{Name, Packet, Prepare, Promise, Refused, Slot, Tell, TopVote, Voted, slot_at, slot_of}
+use Rattle.mc_model.specs.synod.Packet.{Name, Packet, Prepare, Promise, Refused, Slot, Tell, TopVote, slot_at, slot_of}
 use Rattle.mc_model.specs.node.Actor.{Actor}
 use Rattle.mc_model.specs.node.Alone.{Node, StandsAt}
 use Rattle.mc_model.specs.node.Knowledge.{IsKnown, IsLearned, Knows}
 use Rattle.mc_model.specs.node.Proposal.{IsOwn, OwnBallot}
-use Rattle.mc_model.specs.node.Rounds.{IsReachedBy, IsRefused, IsRoundOf, IsRunning, sent_since_tick}
+use Rattle.mc_model.specs.node.Rounds.{IsRoundOf, IsRunning}
 use Rattle.mc_model.specs.node.Setup.{Setup}
-use Rattle.mc_model.specs.node.Settling.{HasTold}
 use Rattle.mc_parts.proofs.Learning.{learned_still}
 use Rattle.mc_parts.proofs.Membership.{in_right}
 use Rattle.node_model.specs.Kept.{Held}

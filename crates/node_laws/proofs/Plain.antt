@@ -1,23 +1,19 @@
 -- The step of a node to which a packet comes that settles and answers nothing: what is kept of the requests and what is known stay.
 use Rattle.std.proofs.Common.{◌≡◌, ℕ, false, List, [], ◌∷◌, ◌++◌, Option, Some, None, refl, sym, ap, subst, ◌∙◌, inl, inr}
-use Rattle.std.specs.Prelude.{reverse}
 use Rattle.mc_model.specs.message.Decree.{Decree}
 use Rattle.mc_model.specs.synod.Packet.{Packet}
 use Rattle.mc_model.specs.synod.Lists.{In}
-use Rattle.mc_model.specs.node.Act.{Act, Asks, Prepares, Proposes, Receives, Replies, Reports, Settles}
-use Rattle.mc_model.specs.node.Alone.{IsRunAlone, Node, reached_alone}
+use Rattle.mc_model.specs.node.Act.{Act, Asks, Prepares, Receives, Replies, Reports, Settles}
+use Rattle.mc_model.specs.node.Alone.{Node}
 use Rattle.mc_model.specs.node.Causes.{Causes, CausesDelete}
 use Rattle.mc_model.specs.node.Concerns.{Concerns}
 use Rattle.mc_model.specs.node.Core.{AcceptorReplies}
 use Rattle.mc_model.specs.node.Due.{AreDueOnce}
-use Rattle.mc_model.specs.node.Effect.{saved as saved_by}
 use Rattle.mc_model.specs.node.Input.{Delivery}
 use Rattle.mc_model.specs.node.Knowledge.{IsKnown, Knows}
-use Rattle.mc_model.specs.node.Outputs.{packets_in, receipts_in, replies_in}
-use Rattle.mc_model.specs.node.Phases.{DueToAsk, DueToEnd, DueToPrepare, DueToPropose, DueToReply, DueToReport, DueToSettle}
+use Rattle.mc_model.specs.node.Phases.{DueToAsk, DueToPrepare, DueToPropose, DueToReply, DueToReport, DueToSettle}
 use Rattle.mc_model.specs.node.Setup.{Setup}
 use Rattle.mc_model.specs.node.Step.{IsExact}
-use Rattle.mc_model.specs.synod.Acceptor.{Records}
 use Rattle.node_model.specs.Kept.{Held, Kept, message_at}
 use Rattle.node_model.specs.Answers.{answer_to}
 use Rattle.node_model.specs.Requests.{id_of, settles}
@@ -27,7 +23,7 @@ use Rattle.node_laws.specs.Steps.{IsAtWork, StepsAs}
 use Rattle.node_laws.proofs.Answered.{known_is}
 use Rattle.node_laws.proofs.AsideSteps.{TellsNobody, follows_none, none_due, none_due_once}
 use Rattle.node_laws.proofs.Hearing.{received}
-use Rattle.node_laws.proofs.Deciding.{IsCalm, calm_of, known_for, quiet_of}
+use Rattle.node_laws.proofs.Deciding.{IsCalm, calm_of, quiet_of}
 
 -- proposals alone
 alone : (core proposes : List Act) → proposes ++ core ≡ [] ++ [] ++ proposes ++ [] ++ [] ++ [] ++ [] ++ [] ++ core

@@ -4,10 +4,8 @@ use Rattle.std.specs.Prelude.{◌==◌, ◌&&◌, nat_lt, not, if◌then◌else�
 use Rattle.std.specs.Bool.{Decides}
 use Rattle.std.proofs.lemmas.Bool.{and_from, and_parts, eqb-false, eqb-true, true≢false}
 use Rattle.std.proofs.lemmas.Bool.Decides.{Decides-and, Decides-eqb, Decides-like, Decides-or, nat_tests}
-use Rattle.mc_model.specs.message.Decree.{Decree}
 use Rattle.mc_model.specs.synod.Lists.{In}
-use Rattle.mc_model.specs.synod.Majority.{Majority}
-use Rattle.mc_model.specs.synod.OneSlot.{IsJustified, IsOfHighest, IsWithin, ReportsWithin, Vote, vote_at}
+use Rattle.mc_model.specs.synod.OneSlot.{IsOfHighest, IsWithin, Vote, vote_at}
 use Rattle.mc_model.specs.synod.Ballot.{incarnation_in, proposer_of}
 use Rattle.mc_model.specs.synod.Packet.{Ask, Packet, Prepare, Promise, Propose, Refused, Slot, Tell, Voted, same_slot, slot_at, slot_of}
 use Rattle.mc_model.specs.node.Act.{Act, Proposes, Receives}
@@ -24,7 +22,7 @@ use Rattle.mc_model.specs.node.Setup.{Setup}
 use Rattle.mc_parts.proofs.Membership.{of_only, slots_same}
 use Rattle.node_model.specs.Kept.{Kept, message_at, with_message}
 use Rattle.node_model.specs.Message.{Message, Round}
-use Rattle.node_model.specs.Outputs.{Stepped, leaves, sends}
+use Rattle.node_model.specs.Outputs.{leaves, sends}
 use Rattle.node_model.specs.Packets.{is_member, on_promise, promised_in, proposals}
 use Rattle.node_model.specs.Proposer.{chain_offered, completes, higher_of, offered, promised_by, runs_at}
 use Rattle.node_model.specs.Sets.{is_majority, with_node}
@@ -33,7 +31,7 @@ use Rattle.node_laws.specs.Stands.{Agrees, HasHeard, IsHighestReport, IsMessage,
 use Rattle.node_laws.specs.Steps.{IsAtWork, StepsAs}
 use Rattle.node_laws.proofs.AcceptorSteps.{member_is, member_test, stepped_is}
 use Rattle.node_laws.proofs.Agreeing.{agrees_heard, agrees_with}
-use Rattle.node_laws.proofs.AsideSteps.{TellsNobody, ignored, none_due_once}
+use Rattle.node_laws.proofs.AsideSteps.{TellsNobody, ignored}
 use Rattle.node_laws.proofs.Deciding.{not_false, quiet_of}
 use Rattle.node_laws.proofs.Hearing.{RefusesNone, behind_heard, free_heard, highest_heard, message_heard, one_round, received, round_heard, round_sent, running_before, running_heard}
 use Rattle.node_laws.proofs.Learning.{heard_still, majority_decides}

@@ -1,12 +1,9 @@
 -- What a Propose leaves as it was: all but the packets that were sent.
-use Rattle.std.proofs.Common.{◌≡◌, ◌⊎◌, ℕ, suc, ◌-◌, ◌<◌, ◌≤◌, false, List, [], ◌∷◌, ◌++◌, length, take, Option, Some, None, refl, sym, ap, subst, subst₂, ◌∙◌, inl, inr, arith}
-use Rattle.mc_model.specs.message.Decree.{Decree}
+use Rattle.std.proofs.Common.{◌≡◌, ℕ, false, List, [], ◌∷◌, ◌++◌, Option, Some, None, refl, sym, ap, subst₂, ◌∙◌, inl, inr, arith}
 use Rattle.mc_model.specs.synod.Lists.{In}
 use Rattle.mc_model.specs.synod.OneSlot.{Vote}
-use Rattle.mc_model.specs.synod.Packet.{Packet, Prepare, Propose, Slot, slot_at, slot_of}
-use Rattle.mc_model.specs.node.Alone.{Node, StandsAt}
-use Rattle.mc_model.specs.node.Knowledge.{IsLearned}
-use Rattle.mc_model.specs.node.Proposal.{IsOwn}
+use Rattle.mc_model.specs.synod.Packet.{Packet, Prepare, Propose, Slot, slot_at}
+use Rattle.mc_model.specs.node.Alone.{Node}
 use Rattle.mc_model.specs.node.Rounds.{IsRoundOf, IsRunning, sent_since_tick}
 use Rattle.mc_model.specs.node.Setup.{Setup}
 use Rattle.node_model.specs.Kept.{Kept, message_at}

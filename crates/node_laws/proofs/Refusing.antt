@@ -1,5 +1,5 @@
 -- The step of a node to which a refusal comes.
-use Rattle.std.proofs.Common.{◌≡◌, ◌↔◌, ℕ, ◌<◌, ◌≤◌, max, Bool, true, false, List, [], ◌∷◌, get_or, set, Option, Some, None, refl, sym, ap, subst, subst₂, ◌∙◌, inl, inr, arith}
+use Rattle.std.proofs.Common.{◌≡◌, ℕ, ◌<◌, ◌≤◌, max, Bool, true, false, get_or, set, Option, Some, None, refl, sym, ap, subst, subst₂, ◌∙◌, inl, inr, arith}
 use Rattle.std.specs.Prelude.{◌==◌, ◌&&◌, nat_lt, if◌then◌else◌}
 use Rattle.std.specs.Bool.{Decides}
 use Rattle.std.proofs.lemmas.Bool.{and_from, and_parts, cases_lt, eqb-false, eqb-true, true≢false}
@@ -9,15 +9,14 @@ use Rattle.mc_parts.proofs.Membership.{slots_same}
 use Rattle.mc_model.specs.synod.Ballot.{incarnation_in, proposer_of, round_in}
 use Rattle.mc_model.specs.synod.Lists.{In}
 use Rattle.mc_model.specs.synod.OneSlot.{Vote}
-use Rattle.mc_model.specs.synod.Packet.{Packet, Promise, Refused, Slot, Tell, Voted, same_slot, slot_at}
+use Rattle.mc_model.specs.synod.Packet.{Packet, Promise, Refused, Slot, same_slot, slot_at}
 use Rattle.mc_model.specs.node.Act.{Act, Proposes}
-use Rattle.mc_model.specs.node.Actor.{Actor, name_of}
 use Rattle.mc_model.specs.node.Alone.{Node}
 use Rattle.mc_model.specs.node.Concerns.{IsMember}
 use Rattle.mc_model.specs.node.Input.{Delivery}
 use Rattle.mc_model.specs.node.Phases.{DueToPropose}
 use Rattle.mc_model.specs.node.Proposal.{OwnBallot}
-use Rattle.mc_model.specs.node.Rounds.{IsRunning, RunsNone}
+use Rattle.mc_model.specs.node.Rounds.{RunsNone}
 use Rattle.mc_model.specs.node.Setup.{Setup}
 use Rattle.node_model.specs.Kept.{Kept, message_at, with_message}
 use Rattle.node_model.specs.Message.{Message, Round, most_places}
@@ -25,7 +24,7 @@ use Rattle.node_model.specs.Outputs.{leaves}
 use Rattle.node_model.specs.Packets.{is_member, on_refused}
 use Rattle.node_model.specs.Proposer.{is_own_ballot, refused, runs_at}
 use Rattle.node_model.specs.Stepped.{stepped}
-use Rattle.node_laws.specs.Stands.{Agrees, HasHeard, IsHighestSeen, IsMessage, IsRoundOf as IsKeptRound, Stands, WasSeen}
+use Rattle.node_laws.specs.Stands.{HasHeard, IsHighestSeen, IsMessage, IsRoundOf as IsKeptRound, Stands, WasSeen}
 use Rattle.node_laws.specs.Steps.{IsAtWork, StepsAs}
 use Rattle.node_laws.proofs.AcceptorSteps.{member_is, member_test, stepped_is}
 use Rattle.node_laws.proofs.AsideSteps.{TellsNobody, ignored}
@@ -33,7 +32,7 @@ use Rattle.node_laws.proofs.Agreeing.{agrees_heard, agrees_with}
 use Rattle.node_laws.proofs.Hearing.{PromisesNone, RefusesNone, highest_heard, message_heard, one_round, received, round_heard, round_sent, running_before, seen_heard}
 use Rattle.node_laws.proofs.Learning.{heard_still}
 use Rattle.node_laws.proofs.Messages.{each_with}
-use Rattle.node_laws.proofs.Plain.{IsUnmoved, plain_steps}
+use Rattle.node_laws.proofs.Plain.{plain_steps}
 
 module _ (setup : Setup) (k : Kept) (s : Node) (stands : Stands setup k s) (sender ballot promised : ℕ) (slot : Slot) where
   abbrev packet : Packet
