@@ -35,3 +35,5 @@ pub mod Closing
 pub mod Ruling
 pub mod RulingOne
 pub mod RulingAll
+pub mod Quiet
+pub mod Ticked
