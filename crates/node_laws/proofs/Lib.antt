@@ -37,3 +37,4 @@ pub mod RulingOne
 pub mod RulingAll
 pub mod Quiet
 pub mod Ticked
+pub mod TickIds

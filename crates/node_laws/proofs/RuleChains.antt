@@ -29,11 +29,11 @@ learned_permitted nodes node a coherent id ballot chain learned =
 
 -- ---- what goes further from what is known
 
-record GoesOn (nodes node : ℕ) (a : Actor) (id place : ℕ) (chain : List Decree) : Type 0 where
-  kind : Kind
-  further : GoesFurther nodes node a id place chain kind
+pub record GoesOn (nodes node : ℕ) (a : Actor) (id place : ℕ) (chain : List Decree) : Type 0 where
+  pub kind : Kind
+  pub further : GoesFurther nodes node a id place chain kind
 
-goes_on : (nodes node : ℕ) (a : Actor) (records : Records) (up : List ℕ → Bool) (id : ℕ) (rule : Rule) (place : ℕ) (chain : List Decree) → 3 ≤ order_of rule →
+pub goes_on : (nodes node : ℕ) (a : Actor) (records : Records) (up : List ℕ → Bool) (id : ℕ) (rule : Rule) (place : ℕ) (chain : List Decree) → 3 ≤ order_of rule →
     FitsRule nodes node a records up id place chain rule → GoesOn nodes node a id place chain
 goes_on nodes node a records up id Take place chain late fits = absurd (omega arith)
 goes_on nodes node a records up id Follow place chain late fits = absurd (omega arith)
