@@ -22,7 +22,7 @@ use Rattle.node_model.specs.Rules.{Fitting, attempt_rule, first_rule, fitting, i
 use Rattle.node_model.specs.Starts.{delete_for, delete_of}
 use Rattle.node_laws.specs.Answering.{ArePlaced}
 use Rattle.mc_model.specs.node.Alone.{Node}
-use Rattle.node_laws.specs.Stands.{HasAttempts, IsHeld, Stands}
+use Rattle.node_laws.specs.Stands.{Agrees, HasAttempts, IsHeld}
 use Rattle.node_laws.proofs.Decided.{Decided}
 use Rattle.node_laws.proofs.FollowRule.{follow_decided}
 use Rattle.node_laws.proofs.KnownRules.{attempt_decides, close_decided, delete_decided, expire_decided, give_up_decided, lose_decided, try_decided, undeliver_decided}
@@ -272,16 +272,16 @@ module _ (setup : Setup) (a : Actor) (records : Records) (k : Kept) (up : List �
       let found : FoundFrom setup a records k up id 1 None = subst (FoundFrom setup a records k up id 1) is (first_found setup a records k up id agrees) in
       found rule place chain (least rule) fits
 
--- ---- of what stands for the actor
+-- ---- of what is kept
 
-pub agrees_with : (setup : Setup) (k : Kept) (s : Node) → Stands setup k s → (id : ℕ) → AgreesOn setup s.actor s.records k id
-agrees_with setup k s stands id = record {
-  incarnation = stands.agrees.incarnation;
-  clock = stands.agrees.clock;
-  same_records = stands.agrees.records;
-  placed = λ slot vote voted. (stands.agrees.placed slot vote voted).1;
-  waiting = stands.agrees.waiting;
-  told = stands.agrees.told;
-  known = (stands.agrees.message id).heard.known;
-  attempts = (stands.agrees.message id).attempts;
+pub agrees_on : (setup : Setup) (k : Kept) (s : Node) → Agrees setup k s → (id : ℕ) → AgreesOn setup s.actor s.records k id
+agrees_on setup k s agrees id = record {
+  incarnation = agrees.incarnation;
+  clock = agrees.clock;
+  same_records = agrees.records;
+  placed = λ slot vote voted. (agrees.placed slot vote voted).1;
+  waiting = agrees.waiting;
+  told = agrees.told;
+  known = (agrees.message id).heard.known;
+  attempts = (agrees.message id).attempts;
 }

@@ -32,7 +32,7 @@ late_act h = Replies (ticket_of h) (id_of h) TooLate
 abbrev pub late_acts : List Held → List Act
 late_acts held = reverse (map late_act held)
 
-late_first : (h : Held) (held : List Held) → late_acts (h ∷ held) ≡ late_acts held ++ late_act h ∷ []
+pub late_first : (h : Held) (held : List Held) → late_acts (h ∷ held) ≡ late_acts held ++ late_act h ∷ []
 late_first h held = reverse_onto (map late_act held) (late_act h) []
 
 -- ---- what they leave

@@ -38,3 +38,4 @@ pub mod RulingAll
 pub mod Quiet
 pub mod Ticked
 pub mod TickIds
+pub mod TickActs
