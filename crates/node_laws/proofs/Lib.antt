@@ -39,3 +39,4 @@ pub mod Quiet
 pub mod Ticked
 pub mod TickIds
 pub mod TickActs
+pub mod TickSteps
