@@ -155,15 +155,17 @@ module _ (setup : Setup) (before a : Actor) (held : List Held) (waiting : map (�
       each (h ∷ some) within =
           subst (IsRunAlone setup.nodes setup.node s) (sym (ask_first h some))
           (run_more setup.nodes setup.node s (ask_acts some) (ask_act h ∷ [])
-          (each some (λ it among. within it (inr among)))
-          (record {
-            least = least;
-            most = most;
-            up = ap (λ (x : Actor). x.up) same ∙ at_work;
-            needs = record {
-              waiting = h.waiting;
-              waits = subst (λ (x : Actor). In h.waiting x.waiting) (sym same) (is_due h (within h (inl refl))).waits;
-              ticket_is = refl;
-              about = refl;
-            };
-          }, tt))
+          (each some (λ it among. within it (inr among))) (
+            record {
+              least = least;
+              most = most;
+              up = ap (λ (x : Actor). x.up) same ∙ at_work;
+              needs = record {
+                waiting = h.waiting;
+                waits = subst (λ (x : Actor). In h.waiting x.waiting) (sym same) (is_due h (within h (inl refl))).waits;
+                ticket_is = refl;
+                about = refl;
+              };
+            },
+            tt,
+          ))

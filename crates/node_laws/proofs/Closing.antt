@@ -130,8 +130,7 @@ module _ (setup : Setup) (s : Node) (slot : Slot) (outcome : Outcome) where
 
         by_place : (test : Bool) → (place == slot.place) ≡ test → ((if test then Some outcome else m.closed place) ≡ Some other) ↔ In (slot_at slot.id place, other) closed.actor.closed
         by_place true same =
-            let is_place : place ≡ slot.place = eqb-true place slot.place same in
-            (
+            let is_place : place ≡ slot.place = eqb-true place slot.place same in (
               λ t. let outcomes : outcome ≡ other = cc in inl (λ i. (slot_is is_place i, sym outcomes i)),
               λ is_in. elim is_in [
                 | inl now ↦ ap (λ (x : Slot × Outcome). Some x.1) (sym now)

@@ -111,16 +111,18 @@ module _ (nodes node : ℕ) where
       (run_more nodes node s (late_acts held) (late_act h ∷ [])
       (run_late held ascends.1 (after_alone node s (late_act h)) least most up
       (λ it among. filter_in (other_than (ticket_of h)) s.actor.waiting it.waiting (waits it (inr among)) (is_other it.waiting (ticket_of h) (λ same. let less = ascends.0 it among in absurd (omega arith))))
-      (λ it among. late it (inr among)))
-      (record {
-        least = least;
-        most = most;
-        up = up;
-        needs = record {
-          asked = record { waiting = h.waiting; waits = waits h (inl refl); ticket_is = refl; about = refl };
-          fits = late h (inl refl);
-        };
-      }, tt))
+      (λ it among. late it (inr among))) (
+        record {
+          least = least;
+          most = most;
+          up = up;
+          needs = record {
+            asked = record { waiting = h.waiting; waits = waits h (inl refl); ticket_is = refl; about = refl };
+            fits = late h (inl refl);
+          };
+        },
+        tt,
+      ))
 
 module _ (a : Actor) (held : List Held) (waiting : map (λ h. h.waiting) held ≡ a.waiting) (ascends : Ascend held) (moment : ℕ) (up : List ℕ → Bool) where
   abbrev Due : Act → Type 0
@@ -149,9 +151,9 @@ module _ (a : Actor) (held : List Held) (waiting : map (λ h. h.waiting) held �
   due_all (Replies ticket id TooLate) due =
       let kept = kept_as held due.asked.waiting (subst (λ (ws : List Waiting). In due.asked.waiting ws) (sym waiting) due.asked.waits) in
       let too_late : is_late a.clock kept.request ≡ true =
-          (most_is (kept.request.waiting.since + longest_wait) a.clock).1 (subst (λ (w : Waiting). w.since + longest_wait ≤ a.clock) (sym kept.same) due.late) in
+      (most_is (kept.request.waiting.since + longest_wait) a.clock).1 (subst (λ (w : Waiting). w.since + longest_wait ≤ a.clock) (sym kept.same) due.late) in
       let same : late_act kept.request ≡ Replies ticket id TooLate =
-          λ i. Replies ((ap (λ (w : Waiting). w.ticket) kept.same ∙ due.asked.ticket_is) i) ((ap (λ (w : Waiting). id_in w.request) kept.same ∙ due.asked.about) i) TooLate in
+      λ i. Replies ((ap (λ (w : Waiting). w.ticket) kept.same ∙ due.asked.ticket_is) i) ((ap (λ (w : Waiting). id_in w.request) kept.same ∙ due.asked.about) i) TooLate in
       subst (λ (act : Act). In act (late_acts late)) same
       (reverse_in (late_act kept.request) (map late_act late) (mapped_in late_act late kept.request (filter_in (is_late a.clock) held kept.request kept.among too_late)))
   due_all act due = absurd due

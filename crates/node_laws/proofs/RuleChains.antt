@@ -277,7 +277,7 @@ module _ (nodes node : ℕ) (a : Actor) (coherent : IsCoherent node a) (records 
       let learned = subst (λ (received : List Packet). IsLearned nodes received (slot_of id (n.newest ∷ n.older)) (vote_at n.ballot (n.newest ∷ n.older))) same n.chosen in
       let before = learned_permitted nodes node a coherent id n.ballot (n.newest ∷ n.older) learned in
       let further : MayExtend (taken_in (n.newest ∷ n.older)) (n.newest ∷ n.older) n.next =
-          subst (λ (t : Option Submission). MayExtend t (n.newest ∷ n.older) n.next) (sym n.message) n.may in
+      subst (λ (t : Option Submission). MayExtend t (n.newest ∷ n.older) n.next) (sym n.message) n.may in
       subst (IsPermitted id) (sym n.chain_is) (before, further)
 
   pub received_still : (rule : Rule) (place : ℕ) → (after_rule rule place).received ≡ a.received

@@ -34,7 +34,6 @@ Ascending (id ∷ others) = ((other : ℕ) → In other others → id < other) �
 
 module _ (setup : Setup) (s : Node) (coherent : IsCoherent setup.node s.actor) (quiet : IsQuiet setup.nodes setup.node s.actor) (works : IsAtWork setup s) (mine : IsNode setup.node)
     (none_runs : (id : ℕ) → RunsNone setup.nodes setup.node s.actor id) (up : List ℕ → Bool) where
-
   pub record RulesAll (ids : List ℕ) (slots : List Slot) (offers : List Offer) (new : Prepared) : Type 0 where
     pub some_slots : List Slot
     pub some_offers : List Offer
@@ -61,7 +60,6 @@ module _ (setup : Setup) (s : Node) (coherent : IsCoherent setup.node s.actor) (
 
   module _ (id : ℕ) (others : List ℕ) (above : (other : ℕ) → In other others → id < other) (k : Kept) (slots : List Slot) (offers : List Offer) (is : IsToCome (id ∷ others) k slots offers)
       (new : Prepared) (one : RulesOne setup s coherent quiet works mine none_runs up id k slots offers new) where
-
     to_come : IsToCome others new.kept (one.some_slots ++ slots) (one.some_offers ++ offers)
     to_come = record {
       agrees = one.agrees;
@@ -160,8 +158,8 @@ module _ (setup : Setup) (s : Node) (coherent : IsCoherent setup.node s.actor) (
   rules_all (id ∷ others) ascends k slots offers is =
       let new : Prepared = ruled setup k id (first_rule setup k up id) in
       let one : RulesOne setup s coherent quiet works mine none_runs up id k slots offers new =
-          rules_one setup s coherent quiet works mine none_runs up id k slots offers is.agrees (is.each id (inl refl)) (is.free id (inl refl))
-          (λ slot among same. is.apart_slots slot among (inl same))
-          (λ offer among same. is.apart offer among (inl same)) in
+      rules_one setup s coherent quiet works mine none_runs up id k slots offers is.agrees (is.each id (inl refl)) (is.free id (inl refl))
+      (λ slot among same. is.apart_slots slot among (inl same))
+      (λ offer among same. is.apart offer among (inl same)) in
       joined id others ascends.0 k slots offers is new one (ruled_each setup up others new.kept)
       (rules_all others ascends.1 new.kept (one.some_slots ++ slots) (one.some_offers ++ offers) (to_come id others ascends.0 k slots offers is new one))

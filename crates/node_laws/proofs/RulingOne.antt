@@ -50,7 +50,6 @@ use Rattle.node_laws.proofs.Started.{IsDueStart, IsToPrepare, StartsAs, started_
 
 module _ (setup : Setup) (s : Node) (coherent : IsCoherent setup.node s.actor) (quiet : IsQuiet setup.nodes setup.node s.actor) (works : IsAtWork setup s) (mine : IsNode setup.node)
     (none_runs : (id : ℕ) → RunsNone setup.nodes setup.node s.actor id) (up : List ℕ → Bool) (id : ℕ) where
-
   abbrev FirstRuleAt : ℕ → ℕ → List Decree → Rule → Type 0
   FirstRuleAt at place chain rule = IsFirstRule setup.nodes setup.node s.actor s.records up at place chain rule
 
@@ -123,7 +122,6 @@ module _ (setup : Setup) (s : Node) (coherent : IsCoherent setup.node s.actor) (
 
   module _ (k : Kept) (slots : List Slot) (offers : List Offer) (agrees : Agrees setup k (later setup s slots offers)) (on : AgreesOn setup s.actor s.records k id)
       (free : (message_at k id).round ≡ None) (apart_slots : (slot : Slot) → In slot slots → slot.id ≡ id → ⊥) (apart : (offer : Offer) → In offer offers → offer.slot.id ≡ id → ⊥) where
-
     -- ---- no rule fits
 
     one_none : first_rule setup k up id ≡ None → RulesOne k slots offers (started setup k id None)
@@ -185,8 +183,7 @@ module _ (setup : Setup) (s : Node) (coherent : IsCoherent setup.node s.actor) (
         beside = beside_then k middle new.kept id (given_beside fit.rule k id (pred fit.start.place)) beside;
         gives_up = given_slots_are fit.rule fit.start.place fit.start.chain first;
         starts = λ offer among.
-            let due = only (prepare_of offer) (subst (λ (acts : List Act). In (prepare_of offer) acts) (sym are) (mapped_in prepare_of some offer among)) in
-            (
+            let due = only (prepare_of offer) (subst (λ (acts : List Act). In (prepare_of offer) acts) (sym are) (mapped_in prepare_of some offer among)) in (
               due.0,
               (
                 subst (λ (i : ℕ). Starts setup s up i offer.slot.place offer.chain) (sym due.0) due.1.0,

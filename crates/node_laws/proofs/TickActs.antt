@@ -91,7 +91,7 @@ module _ (setup : Setup) (s : Node) (works : IsAtWork setup s) (up : List ℕ �
       let fits = gives.1.fits in
       let g = fits.further in
       let place_is : slot ≡ slot_of slot.id (g.newest ∷ g.older) =
-          (let behind = g.behind in let places : slot.place ≡ length g.older = omega arith in λ i. record { id = slot.id; place = places i }) in
+      (let behind = g.behind in let places : slot.place ≡ length g.older = omega arith in λ i. record { id = slot.id; place = places i }) in
       record {
         attempting = record {
           newest = g.newest;

@@ -70,8 +70,7 @@ ascends_with key (first ∷ keys) ascends = by_order (nat_cmp key first) refl (a
   where
     by_order : (o : Ordering) → nat_cmp key first ≡ o → Ascending (insert_key nat_cmp keys key) → Ascending (match_ordering o (key ∷ first ∷ keys) (first ∷ keys) (first ∷ insert_key nat_cmp keys key))
     by_order Less is rest =
-        let below : key < first = grind (arith, nat_tests) in
-        (
+        let below : key < first = grind (arith, nat_tests) in (
           (λ other among. elim among [
             | inl same ↦ omega arith
             | inr later ↦ let more = ascends.0 other later in omega arith
@@ -80,8 +79,7 @@ ascends_with key (first ∷ keys) ascends = by_order (nat_cmp key first) refl (a
         )
     by_order Equal is rest = ascends
     by_order Greater is rest =
-        let above : first < key = grind (arith, nat_tests) in
-        (
+        let above : first < key = grind (arith, nat_tests) in (
           (λ other among. elim (in_either key keys other among) [
             | inl same ↦ omega arith
             | inr later ↦ ascends.0 other later
@@ -145,7 +143,7 @@ module _ (setup : Setup) (k : Kept) (s : Node) (agrees : Agrees setup k s) where
       by_entry (Some m) is = kept_in k.held (keys_of k.messages) id (listed_in id k.messages (subst IsSome (sym is) refl))
       by_entry None is =
           let nothing : IsKnown setup.nodes s.actor.received id unseen.known =
-              subst (λ (o : Option Message). IsKnown setup.nodes s.actor.received id (unwrap_or o unseen).known) is (agrees.message id).heard.known in
+          subst (λ (o : Option Message). IsKnown setup.nodes s.actor.received id (unwrap_or o unseen).known) is (agrees.message id).heard.known in
           absurd (nothing _ _ knows.learned)
 
   shown_in : (id place : ℕ) (vote : Vote) → IsShownAt setup.node s.actor s.records id place vote → In id (ids_of k)

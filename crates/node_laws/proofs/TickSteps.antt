@@ -1,35 +1,38 @@
 -- A tick of what is kept is an exact step of the actor.
 use Rattle.std.proofs.Common.{◌≡◌, ℕ, suc, max, Bool, List, [], ◌∷◌, ◌++◌, map, None, refl, sym, ap, subst, ◌∙◌, append-nil, append_assoc}
-use Rattle.std.specs.Prelude.{filter}
+use Rattle.std.specs.Prelude.{filter, reverse, if◌then◌else◌}
+use Rattle.std.proofs.lemmas.List.{reverse-append}
 use Rattle.mc_model.specs.message.Ids.{IsNode}
 use Rattle.mc_model.specs.synod.Lists.{In}
-use Rattle.mc_model.specs.synod.Packet.{Slot}
+use Rattle.mc_model.specs.synod.Packet.{Packet, Slot}
 use Rattle.mc_model.specs.node.Act.{Abandons, Act, Prepares, Proposes, Replies, Reports, Settles, Ticks}
 use Rattle.mc_model.specs.node.Actor.{Actor, Offer}
 use Rattle.mc_model.specs.node.Alone.{IsRunAlone, Node, reached_alone}
 use Rattle.mc_model.specs.node.Due.{AreDue, AreDueOnce, Fall, key_of}
-use Rattle.mc_model.specs.node.Effect.{did}
+use Rattle.mc_model.specs.node.Effect.{did, saved}
 use Rattle.mc_model.specs.node.FirstRule.{GiveUp}
 use Rattle.mc_model.specs.node.Input.{Tick}
+use Rattle.mc_model.specs.node.Outputs.{packets_in, receipts_in, replies_in}
 use Rattle.mc_model.specs.node.Phases.{DueToAbandon, DueToAsk, DueToPrepare, DueToPropose, DueToReply, DueToReport, DueToSettle}
 use Rattle.mc_model.specs.node.Setup.{Setup}
 use Rattle.mc_model.specs.node.Step.{IsExact}
 use Rattle.node_model.specs.Kept.{Held, Kept, message_at}
 use Rattle.node_model.specs.Message.{Message}
 use Rattle.node_model.specs.Requests.{is_untold}
-use Rattle.node_model.specs.Ticks.{ids_of, is_late, ruled_each}
+use Rattle.node_model.specs.Stepped.{stepped, stepped_down, stepped_up}
+use Rattle.node_model.specs.Ticks.{asked_again, ids_of, is_late, late_reply, on_tick, ruled_each}
 use Rattle.node_laws.specs.Stands.{Agrees, IsQuiet, Stands}
-use Rattle.node_laws.specs.Steps.{IsAtWork}
+use Rattle.node_laws.specs.Steps.{IsAtWork, StepsAs}
 use Rattle.node_laws.proofs.AsideSteps.{none_due, none_due_once}
-use Rattle.node_laws.proofs.AskingAgain.{ask_acts, asks_due, asks_may, reached_ask}
+use Rattle.node_laws.proofs.AskingAgain.{ask_acts, ask_packets, ask_receipts, ask_replies, asks_due, asks_may, reached_ask}
 use Rattle.node_laws.proofs.FirstRule.{agrees_on}
-use Rattle.node_laws.proofs.LateReplies.{did_all_late, late_acts, late_due, late_may}
+use Rattle.node_laws.proofs.LateReplies.{did_all_late, late_acts, late_due, late_may, late_packets, late_receipts, late_replies}
 use Rattle.node_laws.proofs.Orders.{Ascend, ascend_from, in_mapped, mapped_in}
 use Rattle.node_laws.proofs.Quiet.{quiet_with, to_settle_back}
-use Rattle.node_laws.proofs.Ruling.{keys_of_starts, later, prepare_of, reached_starts}
+use Rattle.node_laws.proofs.Ruling.{keys_of_starts, later, packet_of, packets_of_starts, prepare_of, reached_starts}
 use Rattle.node_laws.proofs.RulingAll.{RulesAll, rules_all}
-use Rattle.node_laws.proofs.Runs.{did_more, reached_more, run_more}
-use Rattle.node_laws.proofs.TickActs.{abandon_keys, reached_abandons, reached_late, run_abandons, run_starts}
+use Rattle.node_laws.proofs.Runs.{did_more, packets_more, reached_more, receipts_more, replies_more, run_more}
+use Rattle.node_laws.proofs.TickActs.{abandon_keys, abandon_packets, abandon_receipts, abandon_replies, reached_abandons, reached_late, run_abandons, run_starts, start_receipts, start_replies}
 use Rattle.node_laws.proofs.TickIds.{fits_in, ids_ascending}
 use Rattle.node_laws.proofs.Ticked.{after_late, agrees_then, kept_then, message_ticked, none_runs, waits_before}
 
@@ -228,3 +231,86 @@ module _ (setup : Setup) (k : Kept) (s : Node) (stands : Stands setup k s) (work
     replied = subst (λ (x : Actor). AreDue (DueToReply setup.nodes setup.node x) []) (sym did_parts_is) (none_due _ replies_none);
     reported = none_due _ reports_none;
   }
+
+  -- ---- what goes out
+
+  abbrev acts : List Act
+  acts = prepares ++ (abandons ++ (asks ++ (late ++ core)))
+
+  abbrev asked_of : Actor → List Packet
+  asked_of a = packets_in setup.node a (saved s.records (late ++ core)) asks
+
+  late_sends : packets_in setup.node s.actor s.records (late ++ core) ≡ []
+  late_sends = packets_more setup.node s.actor s.records late core ∙ ap (λ (ps : List Packet). ps ++ []) (late_packets setup.node risen s.records late_held)
+
+  asks_send : packets_in setup.node s.actor s.records (asks ++ (late ++ core)) ≡ asked_of tick.actor
+  asks_send =
+      packets_more setup.node s.actor s.records asks (late ++ core)
+      ∙ (λ i. asked_of (did_late_is i) ++ late_sends i)
+      ∙ append-nil (asked_of tick.actor)
+
+  abandons_send : packets_in setup.node s.actor s.records (abandons ++ (asks ++ (late ++ core))) ≡ asked_of tick.actor
+  abandons_send =
+      packets_more setup.node s.actor s.records abandons (asks ++ (late ++ core))
+      ∙ (λ i. abandon_packets setup.node (did setup.node s.actor (asks ++ (late ++ core))) (saved s.records (asks ++ (late ++ core))) slots i ++ asks_send i)
+
+  prepares_send : packets_in setup.node s.actor s.records acts ≡ map (packet_of setup tick) offers ++ asked_of tick.actor
+  prepares_send =
+      packets_more setup.node s.actor s.records prepares (abandons ++ (asks ++ (late ++ core)))
+      ∙ (λ i. packets_of_starts setup tick (did setup.node s.actor (abandons ++ (asks ++ (late ++ core)))) (saved s.records (abandons ++ (asks ++ (late ++ core)))) offers i ++ abandons_send i)
+
+  packets_are : asked_again setup ticked ++ (ruled_each setup up (ids_of ticked) ticked).packets ≡ reverse (packets_in setup.node s.actor s.records acts)
+  packets_are =
+      (λ i. sym (ask_packets setup ticked tick.actor agrees.incarnation (saved s.records (late ++ core)) untold) i ++ rules.packets i)
+      ∙ sym (reverse-append (map (packet_of setup tick) offers) (asked_of tick.actor))
+      ∙ ap reverse (sym prepares_send)
+
+  replies_are : map late_reply (filter (is_late (max k.clock moment)) k.held) ≡ reverse (replies_in acts)
+  replies_are =
+      ap (λ (c : ℕ). map late_reply (filter (is_late (max c moment)) k.held)) stands.agrees.clock
+      ∙ sym (late_replies late_held)
+      ∙ ap reverse (sym (
+      replies_more prepares (abandons ++ (asks ++ (late ++ core)))
+      ∙ (λ i. start_replies offers i ++ replies_more abandons (asks ++ (late ++ core)) i)
+      ∙ (λ i. abandon_replies slots i ++ replies_more asks (late ++ core) i)
+      ∙ (λ i. ask_replies untold i ++ replies_more late core i)
+      ∙ append-nil (replies_in late)
+      ))
+
+  receipts_are : [] ≡ reverse (receipts_in acts)
+  receipts_are = ap reverse (sym (
+      receipts_more prepares (abandons ++ (asks ++ (late ++ core)))
+      ∙ (λ i. start_receipts offers i ++ receipts_more abandons (asks ++ (late ++ core)) i)
+      ∙ (λ i. abandon_receipts slots i ++ receipts_more asks (late ++ core) i)
+      ∙ (λ i. ask_receipts untold i ++ receipts_more late core i)
+      ∙ (λ i. late_receipts late_held i ++ [])
+      ))
+
+  -- ---- the step
+
+  stands_then : Stands setup (ruled_each setup up (ids_of ticked) ticked).kept (reached_alone setup.node s acts)
+  stands_then = subst (Stands setup (ruled_each setup up (ids_of ticked) ticked).kept) (sym reached_all_is) (record {
+    agrees = rules.agrees;
+    quiet = quiet_with setup.nodes setup.node tick.actor (later setup tick (slots ++ []) (offers ++ [])).actor refl refl (λ w waits. waits) quiet;
+  })
+
+  on_tick_steps : StepsAs setup s (Tick moment up) (on_tick setup k moment up)
+  on_tick_steps = record {
+    acts = acts;
+    taken = record { run = runs; exact = exact };
+    stands = stands_then;
+    outputs = λ i. record {
+      ticket = None;
+      refused = None;
+      packets = packets_are i;
+      replies = replies_are i;
+      receipts = receipts_are i;
+      granted = None;
+    };
+  }
+
+  pub tick_steps : StepsAs setup s (Tick moment up) (stepped setup k (Tick moment up))
+  tick_steps = subst (StepsAs setup s (Tick moment up)) (sym is_up) on_tick_steps
+    where
+      is_up : stepped setup k (Tick moment up) ≡ on_tick setup k moment up
+      is_up = ap (λ (running : Bool). if running then stepped_up setup k (Tick moment up) else stepped_down setup k (Tick moment up)) (stands.agrees.up ∙ works.up)

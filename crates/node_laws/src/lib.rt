@@ -7,6 +7,7 @@ mod rules;
 mod steps;
 mod synod;
 mod tables;
+mod ticks;
 
 pub use examples::{
     a_message_is_cancelled_alone, a_message_is_delivered_alone, a_message_is_taken_alone,
@@ -21,3 +22,4 @@ pub use synod::{
     what_is_heard_is_known,
 };
 pub use tables::messages_are_kept_by_their_ids;
+pub use ticks::a_tick_is_exact;
