@@ -40,3 +40,6 @@ pub mod Ticked
 pub mod TickIds
 pub mod TickActs
 pub mod TickSteps
+pub mod Waiting
+pub mod Settled
+pub mod Replied
