@@ -43,3 +43,4 @@ pub mod TickSteps
 pub mod Waiting
 pub mod Settled
 pub mod Replied
+pub mod Busy

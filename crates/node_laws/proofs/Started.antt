@@ -58,6 +58,8 @@ pub record StartsAs (setup : Setup) (k : Kept) (s : Node) (id : ℕ) (Due : ℕ 
   pub packets : new.packets ≡ reverse (packets_in setup.node s.actor s.records acts)
   pub no_replies : replies_in acts ≡ []
   pub no_receipts : receipts_in acts ≡ []
+  pub up : new.kept.up ≡ k.up
+  pub received : (reached_alone setup.node s acts).actor.received ≡ s.actor.received
   pub held : new.kept.held ≡ k.held
   pub known : (other : ℕ) → (message_at new.kept other).known ≡ (message_at k other).known
   pub records : (reached_alone setup.node s acts).records ≡ s.records
@@ -130,6 +132,8 @@ module _ (setup : Setup) (k : Kept) (s : Node) (agrees : Agrees setup k s) (mine
     packets = refl;
     no_replies = refl;
     no_receipts = refl;
+    up = refl;
+    received = refl;
     held = refl;
     known = λ other. refl;
     records = refl;
@@ -218,6 +222,8 @@ module _ (setup : Setup) (k : Kept) (s : Node) (agrees : Agrees setup k s) (mine
           packets = refl;
           no_replies = refl;
           no_receipts = refl;
+          up = refl;
+          received = refl;
           held = refl;
           known = each_with (λ other m. m.known ≡ (message_at k other).known) k id new refl (λ other apart. refl);
           records = refl;
