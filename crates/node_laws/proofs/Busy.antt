@@ -80,7 +80,7 @@ still_unsettled nodes known h = by_test (settles nodes known h) refl
     by_test true is = never (is_cancel h.waiting.request)
     by_test false is = is
 
-same_id : (nodes : ℕ) (known : Option (List Decree)) (h : Held) → id_of (settled_by nodes known h) ≡ id_of h
+pub same_id : (nodes : ℕ) (known : Option (List Decree)) (h : Held) → id_of (settled_by nodes known h) ≡ id_of h
 same_id nodes known h = by_test (settles nodes known h)
   where
     by_test : (test : Bool) → id_of (if test then record h { waiting = record h.waiting { settled = true } } else h) ≡ id_of h

@@ -44,3 +44,6 @@ pub mod Waiting
 pub mod Settled
 pub mod Replied
 pub mod Busy
+pub mod Deleting
+pub mod Reporting
+pub mod Voting

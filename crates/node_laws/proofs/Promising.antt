@@ -39,7 +39,7 @@ use Rattle.node_laws.proofs.Messages.{each_with}
 use Rattle.node_laws.proofs.Plain.{IsUnmoved, calm_then, plain_steps, received_exact}
 use Rattle.node_laws.proofs.Proposed.{IsComplete, agrees_proposed, proposed}
 
-slots_tested : (a b : Slot) → a ≡ b → same_slot a b ≡ true
+pub slots_tested : (a b : Slot) → a ≡ b → same_slot a b ≡ true
 slots_tested a b same =
     and_from (a.id == b.id) (a.place == b.place) ((Decides-eqb a.id b.id).1 (ap (λ (x : Slot). x.id) same)) ((Decides-eqb a.place b.place).1 (ap (λ (x : Slot). x.place) same))
 

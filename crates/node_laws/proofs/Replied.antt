@@ -295,7 +295,7 @@ cancel_open id taken newest older reached settled (Cancel other account source d
     ∙ ap (λ (b : Bool). if b then cancel_answer newest.kind (newest ∷ older) else Some (NotMatched (newest ∷ older))) ((match_decides taken account source destination).1 cancels.1)
     ∙ idle_answer newest.kind (newest ∷ older) idle
 
-cancels_of : (request : Request) (id : ℕ) (taken : Submission) → Cancels request id taken → id_in request ≡ id
+pub cancels_of : (request : Request) (id : ℕ) (taken : Submission) → Cancels request id taken → id_in request ≡ id
 cancels_of (Submit other message) id taken cancels = absurd cancels
 cancels_of (Query other account source) id taken cancels = absurd cancels
 cancels_of (Cancel other account source destination) id taken cancels = cancels.0

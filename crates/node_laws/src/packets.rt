@@ -1,8 +1,10 @@
 //! Steps of what is kept to which a packet of another comes, as steps of the actor.
 
 ghost use Rattle.std.specs.Prelude.{ℕ, Option};
+ghost use Rattle.mc_model.specs.message.Chain.{IsPermitted};
+ghost use Rattle.mc_model.specs.message.Ids.{IsNode};
 ghost use Rattle.mc_model.specs.synod.OneSlot.{Vote};
-ghost use Rattle.mc_model.specs.synod.Packet.{Promise, Refused, Slot};
+ghost use Rattle.mc_model.specs.synod.Packet.{Promise, Refused, Slot, Voted};
 ghost use Rattle.mc_model.specs.node.Alone.{Node};
 ghost use Rattle.mc_model.specs.node.Input.{Delivery};
 ghost use Rattle.mc_model.specs.node.Setup.{Setup};
@@ -26,4 +28,14 @@ pub fn a_promise_is_exact()
     ensures { (setup : Setup) (k : Kept) (s : Node) → Stands setup k s → IsAtWork setup s →
         (sender ballot : ℕ) (slot : Slot) (report : Option Vote) →
         StepsAs setup s (Delivery (Promise sender slot ballot report)) (stepped setup k (Delivery (Promise sender slot ballot report))) }
+{}
+
+/// A vote of which the node is told is heard. If a majority told of it, and its chain is longer than what was known, the chain is known
+/// from then on: a round that it reaches ends, each cancel_sm of the message that is then settled is settled, a message that is to be
+/// deleted for one has a round started, whoever waits for what is now known is answered, and a receipt goes out on a final state that
+/// was not known before. That is an exact step of every actor for which what is kept stands. The chain is a permitted one.
+pub fn a_vote_is_exact()
+    ensures { (setup : Setup) (k : Kept) (s : Node) → Stands setup k s → IsAtWork setup s → IsNode setup.node →
+        (voter : ℕ) (slot : Slot) (vote : Vote) → IsPermitted slot.id vote.chain →
+        StepsAs setup s (Delivery (Voted voter slot vote)) (stepped setup k (Delivery (Voted voter slot vote))) }
 {}
