@@ -1,5 +1,5 @@
 -- What is kept agrees with the actor once an attempt is closed.
-use Rattle.std.proofs.Common.{◌≡◌, ◌↔◌, ℕ, Bool, true, false, ◌∷◌, Option, Some, None, refl, sym, ap, subst, inl, inr, arith}
+use Rattle.std.proofs.Common.{◌≡◌, ◌↔◌, ℕ, Bool, true, false, ◌∷◌, Option, Some, refl, sym, ap, subst, inl, inr, arith}
 use Rattle.std.specs.Prelude.{◌==◌, if◌then◌else◌}
 use Rattle.std.proofs.Common.{eqb-true}
 use Rattle.std.proofs.lemmas.Bool.{eqb-false}
@@ -7,15 +7,15 @@ use Rattle.mc_model.specs.synod.Lists.{In}
 use Rattle.mc_model.specs.synod.Packet.{Slot, slot_at}
 use Rattle.mc_model.specs.node.Alone.{Node}
 use Rattle.mc_model.specs.node.Outcome.{Outcome}
-use Rattle.mc_model.specs.node.Rounds.{IsRunning}
 use Rattle.mc_model.specs.node.Setup.{Setup}
 use Rattle.node_model.specs.Attempts.{closed_by}
-use Rattle.node_model.specs.Message.{Message, Round}
+use Rattle.node_model.specs.Message.{Message}
 use Rattle.node_model.specs.Kept.{Kept, message_at}
-use Rattle.node_laws.specs.Stands.{Agrees, HasAttempts, IsClosing, IsHighestSeen, IsMessage, IsRoundOf, WasSeen}
+use Rattle.node_laws.specs.Stands.{Agrees, HasAttempts, IsClosing, IsMessage}
 use Rattle.node_laws.proofs.Coherence.{IsLater, fit_later}
 use Rattle.node_laws.proofs.Messages.{each_with, listed_with}
-use Rattle.node_laws.proofs.Owning.{IsGround, own_later}
+use Rattle.node_laws.proofs.Changing.{message_changed}
+use Rattle.node_laws.proofs.Owning.{IsGround}
 use Rattle.shelf.proofs.Entries.{still_ascends}
 
 module _ (setup : Setup) (s : Node) (slot : Slot) (outcome : Outcome) where
@@ -24,50 +24,6 @@ module _ (setup : Setup) (s : Node) (slot : Slot) (outcome : Outcome) where
     actor = record s.actor { closed = (slot, outcome) ∷ s.actor.closed };
     records = s.records;
     began = s.began;
-  }
-
-  seen_still : (other : Slot) (round : ℕ) → WasSeen setup.node s.actor other round → WasSeen setup.node closed.actor other round
-  seen_still other round (inl refused) = inl (record {
-    sender = refused.sender;
-    ballot = refused.ballot;
-    promised = refused.promised;
-    heard = refused.heard;
-    proposer = refused.proposer;
-    incarnation = refused.incarnation;
-    names = refused.names;
-  })
-  seen_still other round (inr sent) = inr (record { ballot = sent.ballot; sent = sent.sent; names = sent.names })
-
-  seen_before : (other : Slot) (round : ℕ) → WasSeen setup.node closed.actor other round → WasSeen setup.node s.actor other round
-  seen_before other round (inl refused) = inl (record {
-    sender = refused.sender;
-    ballot = refused.ballot;
-    promised = refused.promised;
-    heard = refused.heard;
-    proposer = refused.proposer;
-    incarnation = refused.incarnation;
-    names = refused.names;
-  })
-  seen_before other round (inr sent) = inr (record { ballot = sent.ballot; sent = sent.sent; names = sent.names })
-
-  highest_still : (other : Slot) (round : ℕ) → IsHighestSeen setup.node s.actor other round → IsHighestSeen setup.node closed.actor other round
-  highest_still other round highest = record {
-    seen = elim highest.seen [ inl none ↦ inl none | inr seen ↦ inr (seen_still other round seen) ];
-    most = λ above seen. highest.most above (seen_before other above seen);
-  }
-
-  running_still : (other : Slot) (ballot : ℕ) → IsRunning setup.nodes setup.node s.actor other ballot → IsRunning setup.nodes setup.node closed.actor other ballot
-  running_still other ballot runs = record {
-    round = record { newer = runs.round.newer; older = runs.round.older; split = runs.round.split; newest = runs.round.newest };
-    accepted = λ refused. runs.accepted (record { sender = refused.sender; promised = refused.promised; heard = refused.heard; greater = refused.greater });
-    short = λ reached. runs.short (record { chain = reached.chain; known = reached.known; far = reached.far });
-  }
-
-  running_before : (other : Slot) (ballot : ℕ) → IsRunning setup.nodes setup.node closed.actor other ballot → IsRunning setup.nodes setup.node s.actor other ballot
-  running_before other ballot runs = record {
-    round = record { newer = runs.round.newer; older = runs.round.older; split = runs.round.split; newest = runs.round.newest };
-    accepted = λ refused. runs.accepted (record { sender = refused.sender; promised = refused.promised; heard = refused.heard; greater = refused.greater });
-    short = λ reached. runs.short (record { chain = reached.chain; known = reached.known; far = reached.far });
   }
 
   ground : (id : ℕ) → IsGround setup.nodes id s.actor closed.actor
@@ -80,18 +36,10 @@ module _ (setup : Setup) (s : Node) (slot : Slot) (outcome : Outcome) where
     learned = λ other vote learned. learned;
   }
 
-  round_still : (id : ℕ) (round : Option Round) → IsRoundOf setup.nodes setup.node s id round → IsRoundOf setup.nodes setup.node closed id round
-  round_still id None none = λ other ballot about runs. none other ballot about (running_before other ballot runs)
-  round_still id (Some r) is = record {
-    about = is.about;
-    running = running_still r.slot r.ballot is.running;
-    promised = is.promised;
-    highest = is.highest;
-    offered = is.offered;
-    free = elim is.free [ inl stands ↦ inl stands | inr own ↦ inr (own.0, own_later setup.nodes setup.node id s.actor closed.actor (ground id) r.own own.1) ];
-    behind = is.behind;
-    unproposed = is.unproposed;
-  }
+  with_attempts : (id : ℕ) (m : Message) (given : ℕ → Bool) (ended : ℕ → Option Outcome) → IsMessage setup s id m → HasAttempts closed.actor id (record m { granted = given; closed = ended }) →
+      IsMessage setup closed id (record m { granted = given; closed = ended })
+  with_attempts id m given ended is attempts =
+      message_changed setup s s.actor.serial s.actor.ticket s.actor.waiting s.actor.granted ((slot, outcome) ∷ s.actor.closed) id (ground id) m given ended is attempts
 
   -- ---- another message
 
@@ -108,13 +56,7 @@ module _ (setup : Setup) (s : Node) (slot : Slot) (outcome : Outcome) where
   }
 
   message_other : (id : ℕ) (m : Message) → (id ≡ slot.id → ⊥) → IsMessage setup s id m → IsMessage setup closed id m
-  message_other id m apart is = record {
-    heard = is.heard;
-    places = is.places;
-    seen = λ place within. highest_still (slot_at id place) _ (is.seen place within);
-    round = round_still id m.round is.round;
-    attempts = attempts_other id m apart is.attempts;
-  }
+  message_other id m apart is = with_attempts id m m.granted m.closed is (attempts_other id m apart is.attempts)
 
   -- ---- the message itself
 
@@ -146,13 +88,7 @@ module _ (setup : Setup) (s : Node) (slot : Slot) (outcome : Outcome) where
         )
 
     message_here : IsMessage setup closed slot.id now
-    message_here = record {
-      heard = record { votes = is.heard.votes; known = is.heard.known };
-      places = is.places;
-      seen = λ place within. highest_still (slot_at slot.id place) _ (is.seen place within);
-      round = round_still slot.id m.round is.round;
-      attempts = record { granted = is.attempts.granted; closed = closed_now };
-    }
+    message_here = with_attempts slot.id m now.granted now.closed is (record { granted = is.attempts.granted; closed = closed_now })
 
 -- ---- the whole
 

@@ -31,6 +31,7 @@ pub mod Plain
 pub mod Refusing
 pub mod Proposed
 pub mod Promising
+pub mod Changing
 pub mod Closing
 pub mod Ruling
 pub mod RulingOne
