@@ -1,33 +1,31 @@
 -- The step of a node to which a packet comes by which requests are settled and answered, a round starts and a receipt goes out.
-use Rattle.std.proofs.Common.{◌≡◌, ◌⊎◌, ℕ, Bool, true, false, List, [], ◌∷◌, ◌++◌, map, Option, Some, None, refl, sym, ap, subst, ◌∙◌, append-nil, inl, inr}
-use Rattle.std.specs.Prelude.{◌&&◌, filter, if◌then◌else◌, not, reverse}
+use Rattle.std.proofs.Common.{◌≡◌, ℕ, Bool, true, false, List, [], ◌∷◌, ◌++◌, map, Option, Some, None, refl, sym, ap, subst, ◌∙◌, append-nil, inl}
+use Rattle.std.specs.Prelude.{◌&&◌, filter, if◌then◌else◌, reverse}
 use Rattle.std.specs.Option.{is_none}
-use Rattle.std.proofs.lemmas.List.{reverse-append}
 use Rattle.mc_model.specs.message.Decree.{Decree}
-use Rattle.mc_model.specs.synod.Acceptor.{Records}
 use Rattle.mc_model.specs.synod.Lists.{In}
 use Rattle.mc_model.specs.synod.Packet.{Packet}
 use Rattle.mc_model.specs.node.Act.{Act, Asks, Prepares, Receives, Reports}
-use Rattle.mc_model.specs.node.Actor.{Actor, Waiting}
+use Rattle.mc_model.specs.node.Actor.{Actor}
 use Rattle.mc_model.specs.node.Alone.{IsRunAlone, Node, reached_alone}
 use Rattle.mc_model.specs.node.Causes.{Causes}
 use Rattle.mc_model.specs.node.Concerns.{Concerns}
 use Rattle.mc_model.specs.node.Core.{AcceptorReplies}
-use Rattle.mc_model.specs.node.Due.{AreDue, AreDueOnce, key_of}
+use Rattle.mc_model.specs.node.Due.{AreDue, AreDueOnce}
 use Rattle.mc_model.specs.node.Effect.{did, saved}
 use Rattle.mc_model.specs.node.Input.{Delivery}
 use Rattle.mc_model.specs.node.Knowledge.{Knows}
 use Rattle.std.proofs.lemmas.Bool.{true≢false}
-use Rattle.mc_model.specs.node.Outputs.{Receipt, Reply, outputs_of, packets_in, receipts_in, replies_in}
+use Rattle.mc_model.specs.node.Outputs.{Receipt, Reply, packets_in, receipts_in, replies_in}
 use Rattle.mc_model.specs.node.Phases.{DueToAsk, DueToPrepare, DueToPropose, DueToReply, DueToReport, IsDueReport}
 use Rattle.mc_model.specs.node.Replies.{Answer}
 use Rattle.mc_model.specs.node.Setup.{Setup}
 use Rattle.mc_model.specs.node.Step.{IsExact}
 use Rattle.node_model.specs.Answers.{answer_to}
 use Rattle.node_model.specs.Kept.{Held, Kept, message_at}
-use Rattle.node_model.specs.Outputs.{Stepped, sends}
+use Rattle.node_model.specs.Outputs.{sends}
 use Rattle.node_model.specs.Proposer.{Prepared}
-use Rattle.node_model.specs.Requests.{id_of, is_cancel, is_settled, settled_by, settles, ticket_of}
+use Rattle.node_model.specs.Requests.{id_of, is_cancel, settled_by, settles}
 use Rattle.node_laws.specs.Stands.{Agrees, Stands}
 use Rattle.node_laws.specs.Steps.{IsAtWork, StepsAs}
 use Rattle.node_laws.proofs.AsideSteps.{none_due, none_due_once}
@@ -35,7 +33,7 @@ use Rattle.node_laws.proofs.Deciding.{IsCalm, known_for, quiet_of}
 use Rattle.node_laws.proofs.Hearing.{received}
 use Rattle.node_laws.proofs.Orders.{filter_passes, in_mapped}
 use Rattle.node_laws.proofs.Replied.{replied_agrees, replies_due, replies_lead, replies_of, replies_out, replies_packets, replies_receipts, replies_run, reply_acts, waits_on}
-use Rattle.node_laws.proofs.Runs.{did_more, packets_more, reached_actor, reached_more, receipts_more, replies_more, run_more, saved_more}
+use Rattle.node_laws.proofs.Runs.{packets_more, reached_actor, reached_more, receipts_more, replies_more, run_more, saved_more}
 use Rattle.node_laws.proofs.Settled.{all_settled, settled_acts, settled_agrees, settles_due, settles_lead, settles_packets, settles_receipts, settles_records, settles_replies, settles_run}
 use Rattle.node_laws.proofs.Started.{IsToPrepare, StartsAs}
 use Rattle.node_laws.proofs.Waiting.{waits}

@@ -48,3 +48,4 @@ pub mod Busy
 pub mod Deleting
 pub mod Reporting
 pub mod Voting
+pub mod Arrived

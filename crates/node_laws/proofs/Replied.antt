@@ -2,24 +2,24 @@
 use Rattle.std.proofs.Common.{◌≡◌, ◌⊎◌, ℕ, pred, ◌<◌, Bool, true, false, cond, List, [], ◌∷◌, ◌++◌, length, map, Option, Some, None, refl, sym, ap, subst, subst₂, ◌∙◌, append-nil, inl, inr, arith}
 use Rattle.std.specs.Prelude.{◌==◌, filter, if◌then◌else◌, not, reverse}
 use Rattle.std.specs.Option.{is_none}
-use Rattle.std.proofs.lemmas.Bool.{eqb-false, eqb-true, true≢false}
+use Rattle.std.proofs.lemmas.Bool.{eqb-false, eqb-true}
 use Rattle.std.proofs.lemmas.List.{map-append, reverse-append}
 use Rattle.mc_model.specs.message.Submission.{Submission}
 use Rattle.mc_model.specs.message.Decree.{Attempt, Decree, Failed, Fate, Kind, Taken}
 use Rattle.mc_model.specs.message.Chain.{taken_in}
 use Rattle.mc_model.specs.synod.Acceptor.{Records}
 use Rattle.mc_model.specs.synod.Lists.{In}
-use Rattle.mc_model.specs.synod.Packet.{Packet, Slot, slot_of}
+use Rattle.mc_model.specs.synod.Packet.{Slot, slot_of}
 use Rattle.mc_model.specs.node.Act.{Act, Replies}
-use Rattle.mc_model.specs.node.Actor.{Actor, Cancel, Query, Request, Submit, Waiting, id_in, name_of}
+use Rattle.mc_model.specs.node.Actor.{Actor, Cancel, Query, Request, Submit, Waiting, id_in}
 use Rattle.mc_model.specs.node.Alone.{IsRunAlone, Node, StandsAt, after_alone, reached_alone}
 use Rattle.mc_model.specs.node.Due.{AreDue, Fall, key_of}
 use Rattle.mc_model.specs.node.Effect.{did, saved}
 use Rattle.mc_model.specs.node.Knowledge.{IsKnown, Knows}
 use Rattle.mc_model.specs.node.Proposal.{Cancels}
-use Rattle.mc_model.specs.node.Outputs.{Receipt, Reply, packets_in, receipts_in, replies_in}
+use Rattle.mc_model.specs.node.Outputs.{Reply, packets_in, receipts_in, replies_in}
 use Rattle.mc_model.specs.node.Phases.{DueToReply}
-use Rattle.mc_model.specs.node.Replies.{Accepted, Answer, FitsRequest, IsAnswer, Kept as Keeps, MayReply, NotMatched, NotOwner, Removed, Shown, TooLate, Unknown}
+use Rattle.mc_model.specs.node.Replies.{Accepted, Answer, FitsRequest, IsAnswer, Kept as Keeps, NotMatched, NotOwner, Removed, Shown, TooLate, Unknown}
 use Rattle.mc_model.specs.node.Setup.{Setup}
 use Rattle.mc_parts.proofs.Membership.{in_either, in_filter}
 use Rattle.node_model.specs.Kept.{Held, Kept, message_at}
@@ -32,8 +32,8 @@ use Rattle.node_laws.proofs.Answered.{AnswerIs, answer_is, known_is}
 use Rattle.node_laws.proofs.Deciding.{answered_in, known_for, to_answer}
 use Rattle.node_laws.proofs.Cancelling.{match_decides}
 use Rattle.node_laws.proofs.Held.{IsKeptAs, kept_as, waits_among}
-use Rattle.node_laws.proofs.Orders.{Ascend, ascend_filter, ascend_from, fall_join, filter_in, filter_passes, in_append, in_mapped, increasing_from, mapped_in}
-use Rattle.node_laws.proofs.Runs.{did_more, packets_more, reached_more, receipts_more, replies_more, run_more, saved_more}
+use Rattle.node_laws.proofs.Orders.{Ascend, ascend_filter, ascend_from, fall_join, filter_in, in_append, in_mapped, increasing_from}
+use Rattle.node_laws.proofs.Runs.{did_more, packets_more, reached_more, receipts_more, replies_more, run_more}
 use Rattle.node_laws.proofs.Waiting.{IsIdleKind, KeepsGround, StaysFree, agrees_waits, waits}
 
 -- ---- the acts, by what each request is answered, if anything

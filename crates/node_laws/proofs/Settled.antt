@@ -1,30 +1,29 @@
 -- Each request that is to be settled is settled, by ascending tickets.
-use Rattle.std.proofs.Common.{◌≡◌, ◌⊎◌, ℕ, ◌<◌, Bool, true, false, cond, List, [], ◌∷◌, ◌++◌, map, Option, Some, None, refl, sym, ap, subst, ◌∙◌, inl, inr, arith}
+use Rattle.std.proofs.Common.{◌≡◌, ℕ, ◌<◌, Bool, true, false, cond, List, [], ◌∷◌, ◌++◌, map, Option, Some, None, refl, sym, ap, subst, ◌∙◌, inl, inr, arith}
 use Rattle.std.specs.Prelude.{◌==◌, ◌&&◌, filter, if◌then◌else◌, not, reverse}
 use Rattle.std.specs.List.Sorted.{IsStrictlyIncreasing}
-use Rattle.std.proofs.lemmas.Bool.{eqb-false, eqb-true, true≢false}
+use Rattle.std.proofs.lemmas.Bool.{eqb-false, eqb-true}
 use Rattle.std.proofs.lemmas.Grind.{reverse_onto}
 use Rattle.mc_model.specs.message.Submission.{Submission}
-use Rattle.mc_model.specs.message.Decree.{Decree}
 use Rattle.mc_model.specs.synod.Acceptor.{Records}
 use Rattle.mc_model.specs.synod.Lists.{In}
 use Rattle.mc_model.specs.synod.Packet.{Name, Packet}
 use Rattle.mc_model.specs.node.Act.{Act, Settles}
-use Rattle.mc_model.specs.node.Actor.{Actor, Cancel, Query, Request, Submit, Waiting, id_in, name_of}
+use Rattle.mc_model.specs.node.Actor.{Actor, Request, Submit, Waiting, id_in, name_of}
 use Rattle.mc_model.specs.node.Alone.{IsRunAlone, Node, after_alone, reached_alone}
 use Rattle.mc_model.specs.node.Due.{AreDue}
 use Rattle.mc_model.specs.node.Effect.{did, saved, settle}
 use Rattle.mc_model.specs.node.Outputs.{Receipt, Reply, packets_in, receipts_in, replies_in}
-use Rattle.mc_model.specs.node.Phases.{DueToSettle, IsToSettle}
+use Rattle.mc_model.specs.node.Phases.{DueToSettle}
 use Rattle.mc_model.specs.node.Setup.{Setup}
 use Rattle.mc_model.specs.node.Settling.{MaySettle}
 use Rattle.mc_parts.proofs.Membership.{in_filter}
 use Rattle.node_model.specs.Kept.{Held, Kept, message_at}
-use Rattle.node_model.specs.Message.{Message, Round}
+use Rattle.node_model.specs.Message.{Round}
 use Rattle.node_model.specs.Requests.{is_cancel, is_settled, settled_by, settles, ticket_of}
 use Rattle.node_laws.specs.Stands.{Agrees, IsHeld}
 use Rattle.node_laws.specs.Steps.{IsAtWork}
-use Rattle.node_laws.proofs.Deciding.{SettlesIn, known_for, settled_in, to_settle}
+use Rattle.node_laws.proofs.Deciding.{known_for, settled_in, to_settle}
 use Rattle.node_laws.proofs.Held.{IsKeptAs, kept_as, waits_among}
 use Rattle.node_laws.proofs.Orders.{Ascend, acts_fall, ascend_filter, ascend_from, filter_in, filter_passes, in_mapped, in_reverse, mapped_in, reverse_in}
 use Rattle.node_laws.proofs.Runs.{did_more, packets_more, reached_more, receipts_more, replies_more, run_more, saved_more}

@@ -1,5 +1,5 @@
 -- What stays of an actor for which other requests wait.
-use Rattle.std.proofs.Common.{◌≡◌, ◌⊎◌, ℕ, ◌<◌, true, List, [], ◌∷◌, map, Option, Some, None, refl, sym, ap, subst, ◌∙◌, inl, inr, arith}
+use Rattle.std.proofs.Common.{◌≡◌, ◌⊎◌, ℕ, ◌<◌, true, List, [], ◌∷◌, map, Option, Some, None, refl, inl, inr, arith}
 use Rattle.std.specs.List.Sorted.{IsStrictlyIncreasing}
 use Rattle.mc_model.specs.message.Submission.{Submission}
 use Rattle.mc_model.specs.message.Decree.{Attempt, Author, Decree, Deleted, Failed, Fate, Kind, Taken}
@@ -17,7 +17,7 @@ use Rattle.node_model.specs.Kept.{Held, Kept, message_at}
 use Rattle.node_model.specs.Message.{Message, Round}
 use Rattle.node_model.specs.Requests.{ticket_of}
 use Rattle.node_laws.specs.Stands.{Agrees, IsCoherent, IsHeld, IsHighestSeen, IsMessage, IsRoundOf as IsKeptRound, WasSeen}
-use Rattle.node_laws.proofs.Coherence.{IsLater, fit_later}
+use Rattle.node_laws.proofs.Coherence.{fit_later}
 
 -- a message of this newest decree waits for its next one
 abbrev pub IsIdleKind : Kind → Type 0
