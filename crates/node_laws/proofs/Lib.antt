@@ -49,3 +49,4 @@ pub mod Deleting
 pub mod Reporting
 pub mod Voting
 pub mod Arrived
+pub mod Beginning
