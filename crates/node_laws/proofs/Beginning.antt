@@ -150,17 +150,17 @@ module _ (setup : Setup) (s : Node) (input : Input) (act : Act) (tells : TellsNo
 
     replies_out : [] ≡ reverse (replies_in acts)
     replies_out = ap reverse (sym (
-      replies_more it.starts.acts (ask_acts asked ++ act ∷ [])
-      ∙ (λ i. it.starts.no_replies i ++ replies_more (ask_acts asked) (act ∷ []) i)
-      ∙ (λ i. ask_replies asked i ++ tells.replies i)
-    ))
+        replies_more it.starts.acts (ask_acts asked ++ act ∷ [])
+        ∙ (λ i. it.starts.no_replies i ++ replies_more (ask_acts asked) (act ∷ []) i)
+        ∙ (λ i. ask_replies asked i ++ tells.replies i)
+        ))
 
     receipts_out : [] ≡ reverse (receipts_in acts)
     receipts_out = ap reverse (sym (
-      receipts_more it.starts.acts (ask_acts asked ++ act ∷ [])
-      ∙ (λ i. it.starts.no_receipts i ++ receipts_more (ask_acts asked) (act ∷ []) i)
-      ∙ (λ i. ask_receipts asked i ++ tells.receipts i)
-    ))
+        receipts_more it.starts.acts (ask_acts asked ++ act ∷ [])
+        ∙ (λ i. it.starts.no_receipts i ++ receipts_more (ask_acts asked) (act ∷ []) i)
+        ∙ (λ i. ask_receipts asked i ++ tells.receipts i)
+        ))
 
     -- ---- the step
 

@@ -50,3 +50,4 @@ pub mod Reporting
 pub mod Voting
 pub mod Arrived
 pub mod Beginning
+pub mod ArrivalSteps

@@ -3,6 +3,7 @@
 
 mod examples;
 mod packets;
+mod requests;
 mod rules;
 mod steps;
 mod synod;
@@ -15,6 +16,7 @@ pub use examples::{
     a_refused_round_is_followed_by_a_greater_one, an_attempt_is_lost_by_a_restart,
 };
 pub use packets::{a_promise_is_exact, a_refused_ballot_is_exact, a_vote_is_exact};
+pub use requests::an_arrival_is_exact;
 pub use rules::the_first_rule_is_found;
 pub use steps::{a_refusal_is_exact, a_step_of_an_acceptor_is_exact, an_opening_is_exact};
 pub use synod::{
