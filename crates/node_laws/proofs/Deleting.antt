@@ -1,14 +1,11 @@
 -- A round that deletes a message for a cancel_sm, outside a tick.
-use Rattle.std.proofs.Common.{◌≡◌, ℕ, false, List, sym, subst, inl, inr, arith}
+use Rattle.std.proofs.Common.{◌≡◌, ℕ, false, List, sym, subst, inr, arith}
 use Rattle.mc_model.specs.message.Decree.{Decree}
-use Rattle.mc_model.specs.synod.Packet.{slot_at, slot_of}
+use Rattle.mc_model.specs.synod.Packet.{slot_at}
 use Rattle.mc_model.specs.node.Alone.{Node, StandsAt}
 use Rattle.mc_model.specs.node.FirstRule.{Delete}
-use Rattle.mc_model.specs.node.Knowledge.{IsLearned}
-use Rattle.mc_model.specs.node.Proposal.{IsOwn}
-use Rattle.mc_model.specs.node.Rules.{FitsDelete, IsAhead}
+use Rattle.mc_model.specs.node.Rules.{FitsDelete}
 use Rattle.mc_model.specs.node.Setup.{Setup}
-use Rattle.node_model.specs.Message.{most_places}
 use Rattle.node_model.specs.Proposer.{Start}
 use Rattle.node_laws.specs.Stands.{IsBehind, IsCoherent}
 use Rattle.node_laws.proofs.RuleChains.{rule_next, rule_place}

@@ -1,5 +1,5 @@
 -- The receipt that goes out if a final state becomes known.
-use Rattle.std.proofs.Common.{◌≡◌, ◌⊎◌, ℕ, Bool, true, false, List, [], ◌∷◌, Option, Some, None, refl, sym, ap, subst, subst₂, ◌∙◌, inl, inr}
+use Rattle.std.proofs.Common.{◌≡◌, ℕ, Bool, true, false, List, [], ◌∷◌, Option, Some, None, refl, sym, ap, subst, subst₂, ◌∙◌, inl, inr}
 use Rattle.std.specs.Prelude.{◌%◌, ◌==◌, ◌&&◌, ◌||◌, if◌then◌else◌, not}
 use Rattle.std.specs.Bool.{Decides}
 use Rattle.std.specs.Option.{is_none}
@@ -16,7 +16,6 @@ use Rattle.mc_model.specs.node.Outputs.{Receipt}
 use Rattle.mc_model.specs.node.Phases.{AsksReceipt, DueToReport, IsDueReport}
 use Rattle.mc_parts.proofs.Known.{knows_one}
 use Rattle.node_model.specs.Answers.{had_fate, is_asked, receipt_by, receipts_of}
-use Rattle.node_laws.proofs.Answered.{known_is}
 use Rattle.node_laws.proofs.Busy.{IsReport, report_out}
 use Rattle.node_laws.proofs.Deciding.{not_false}
 

@@ -1,9 +1,9 @@
 -- The step of a node that is told of a vote.
-use Rattle.std.proofs.Common.{◌≡◌, ◌⊎◌, ℕ, pred, ◌<◌, ◌≤◌, Bool, true, false, cond, List, [], ◌∷◌, length, map, Option, Some, None, refl, sym, ap, subst, subst₂, ◌∙◌, inl, inr, arith}
-use Rattle.std.specs.Prelude.{◌==◌, ◌&&◌, ◌||◌, filter, if◌then◌else◌, nat_le, nat_lt, not}
+use Rattle.std.proofs.Common.{◌≡◌, ◌⊎◌, ℕ, pred, ◌<◌, ◌≤◌, Bool, true, false, cond, List, [], ◌∷◌, length, map, Option, Some, None, refl, sym, ap, subst, ◌∙◌, inl, inr, arith}
+use Rattle.std.specs.Prelude.{◌==◌, ◌||◌, filter, if◌then◌else◌, nat_le, not}
 use Rattle.std.specs.Bool.{Decides}
 use Rattle.std.specs.Option.{is_none}
-use Rattle.std.proofs.lemmas.Bool.{and_from, and_parts, eqb-false, eqb-true, true≢false}
+use Rattle.std.proofs.lemmas.Bool.{and_parts, eqb-false, eqb-true, true≢false}
 use Rattle.std.proofs.lemmas.Bool.Decides.{Decides-and, Decides-eqb, Decides-like, Decides-ltb, Decides-or, nat_tests}
 use Rattle.mc_model.specs.message.Ids.{incarnation_of, node_of, serial_of}
 use Rattle.mc_model.specs.message.Submission.{Submission}
@@ -11,16 +11,16 @@ use Rattle.mc_model.specs.message.Decree.{Decree}
 use Rattle.mc_model.specs.message.Chain.{IsPermitted, taken_in}
 use Rattle.mc_model.specs.synod.Lists.{In}
 use Rattle.mc_model.specs.synod.OneSlot.{Vote}
-use Rattle.mc_model.specs.synod.Packet.{Packet, Promise, Refused, Slot, Tell, Voted, same_slot, slot_at, slot_of}
+use Rattle.mc_model.specs.synod.Packet.{Packet, Promise, Slot, Voted, same_slot, slot_at, slot_of}
 use Rattle.mc_model.specs.node.Act.{Act, Proposes}
-use Rattle.mc_model.specs.node.Actor.{Actor, Waiting, id_in}
+use Rattle.mc_model.specs.node.Actor.{Waiting, id_in}
 use Rattle.mc_model.specs.node.Alone.{Node, StandsAt}
 use Rattle.mc_model.specs.node.Causes.{Causes, CausesDelete}
 use Rattle.mc_model.specs.node.Concerns.{Concerns, IsMember, WasGiven}
 use Rattle.mc_model.specs.node.Input.{Delivery}
 use Rattle.mc_model.specs.node.Knowledge.{IsKnown, IsLearned, Knows}
 use Rattle.mc_model.specs.node.Phases.{DueToPropose}
-use Rattle.mc_model.specs.node.Rounds.{IsPromised, IsReachedBy, IsRoundOf, IsRunning}
+use Rattle.mc_model.specs.node.Rounds.{IsPromised, IsRunning}
 use Rattle.mc_model.specs.node.Proposal.{IsOwn}
 use Rattle.mc_model.specs.node.Rules.{FitsDelete}
 use Rattle.mc_model.specs.node.Setup.{Setup}
@@ -30,14 +30,14 @@ use Rattle.node_model.specs.Answers.{answer_to, receipts_of, replied, replies_to
 use Rattle.node_model.specs.Kept.{Held, Kept, message_at, with_message}
 use Rattle.node_model.specs.Learner.{heard, is_shorter, makes_known}
 use Rattle.node_model.specs.Message.{Message, Round}
-use Rattle.node_model.specs.Outputs.{Stepped, leaves, sends}
-use Rattle.node_model.specs.Packets.{answered_then, heard_in, is_member, known_then, on_known, on_voted, settled_for, vote_concerns, was_given}
+use Rattle.node_model.specs.Outputs.{leaves, sends}
+use Rattle.node_model.specs.Packets.{answered_then, is_member, known_then, on_known, on_voted, settled_for, vote_concerns, was_given}
 use Rattle.node_model.specs.Proposer.{Prepared, Start, started, unless_reached}
-use Rattle.node_model.specs.Requests.{id_of, settled_by, settles, ticket_of}
+use Rattle.node_model.specs.Requests.{id_of, settled_by, settles}
 use Rattle.node_model.specs.Sets.{is_majority}
 use Rattle.node_model.specs.Starts.{delete_for, delete_of}
 use Rattle.node_model.specs.Stepped.{stepped}
-use Rattle.node_laws.specs.Stands.{Agrees, HasHeard, IsBehind, IsCast, IsHighestReport, IsMessage, IsRound, IsRoundOf as IsKeptRound, Stands}
+use Rattle.node_laws.specs.Stands.{Agrees, HasHeard, IsBehind, IsHighestReport, IsMessage, IsRound, IsRoundOf as IsKeptRound, Stands}
 use Rattle.node_laws.specs.Steps.{IsAtWork, StepsAs}
 use Rattle.node_laws.proofs.AcceptorSteps.{member_is, member_test, stepped_is}
 use Rattle.node_laws.proofs.Agreeing.{agrees_with}
@@ -47,7 +47,7 @@ use Rattle.node_laws.proofs.Deciding.{IsCalm, calm_of, known_for}
 use Rattle.node_laws.proofs.Hearing.{PromisesNone, RefusesNone, free_heard, highest_heard, message_heard, one_round, received, round_heard, stands_heard}
 use Rattle.node_laws.proofs.Learning.{known_before, known_more}
 use Rattle.node_laws.proofs.Messages.{each_with}
-use Rattle.node_laws.proofs.Plain.{IsUnmoved, plain_steps}
+use Rattle.node_laws.proofs.Plain.{plain_steps}
 use Rattle.node_laws.proofs.Busy.{busy_steps, report_out, same_id}
 use Rattle.node_laws.proofs.Decided.{Decided}
 use Rattle.node_laws.proofs.Deleting.{deletes_start}
