@@ -104,6 +104,7 @@ module _ (setup : Setup) (k : Kept) (s : Node) (agrees : Agrees setup k s) (requ
       (message_at k id).closed
       is
       (record { granted = is.attempts.granted; closed = is.attempts.closed })
+      is.covers
 
   none_told : (teller : ℕ) (told : Option TopVote) → In (Tell teller (name_of setup.node arrived.actor new.waiting) told) s.actor.received → ⊥
   none_told teller told heard = untold_yet setup.node s.actor agrees.coherent teller k.ticket told (let same = agrees.ticket in omega arith) heard

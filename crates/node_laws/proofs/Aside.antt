@@ -313,6 +313,7 @@ module _ (setup : Setup) (s : Node) (records : Records) (packet : Packet) (aside
     seen = λ place within. highest_still (slot_at id place) _ (is.seen place within);
     round = round_still id m.round is.round;
     attempts = record { granted = is.attempts.granted; closed = is.attempts.closed };
+    covers = is.covers;
   }
 
   -- ---- what is kept of a request, too

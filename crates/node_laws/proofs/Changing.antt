@@ -1,5 +1,6 @@
 -- What is kept of a message agrees with an actor at which other requests wait, or other attempts were granted or closed.
 use Rattle.std.proofs.Common.{ℕ, Bool, List, Option, Some, None, inl, inr}
+use Rattle.mc_model.specs.synod.Lists.{In}
 use Rattle.mc_model.specs.synod.Packet.{Slot, slot_at}
 use Rattle.mc_model.specs.node.Actor.{Waiting}
 use Rattle.mc_model.specs.node.Alone.{Node}
@@ -7,7 +8,7 @@ use Rattle.mc_model.specs.node.Outcome.{Outcome}
 use Rattle.mc_model.specs.node.Rounds.{IsRunning}
 use Rattle.mc_model.specs.node.Setup.{Setup}
 use Rattle.node_model.specs.Message.{Message, Round}
-use Rattle.node_laws.specs.Stands.{HasAttempts, IsHighestSeen, IsMessage, IsRoundOf, WasSeen}
+use Rattle.node_laws.specs.Stands.{CoversGrant, HasAttempts, IsHighestSeen, IsMessage, IsRoundOf, WasSeen}
 use Rattle.node_laws.proofs.Owning.{IsGround, own_later}
 
 module _ (setup : Setup) (s : Node) (serial ticket : ℕ) (waiting : List Waiting) (granted : List Slot) (closed : List (Slot × Outcome)) where
@@ -84,11 +85,13 @@ module _ (setup : Setup) (s : Node) (serial ticket : ℕ) (waiting : List Waitin
 
   -- of which these attempts were granted and closed
   pub message_changed : (id : ℕ) → IsGround setup.nodes id s.actor changed.actor → (m : Message) (given : ℕ → Bool) (ended : ℕ → Option Outcome) → IsMessage setup s id m →
-      HasAttempts changed.actor id (record m { granted = given; closed = ended }) → IsMessage setup changed id (record m { granted = given; closed = ended })
-  message_changed id ground m given ended is attempts = record {
+      HasAttempts changed.actor id (record m { granted = given; closed = ended }) → ((place : ℕ) → In (slot_at id place) granted → CoversGrant setup.node changed.actor m.known place) →
+      IsMessage setup changed id (record m { granted = given; closed = ended })
+  message_changed id ground m given ended is attempts covers = record {
     heard = record { votes = is.heard.votes; known = is.heard.known };
     places = is.places;
     seen = λ place within. highest_still (slot_at id place) _ (is.seen place within);
     round = round_still id ground m.round is.round;
     attempts = attempts;
+    covers = covers;
   }

@@ -267,4 +267,5 @@ module _ (setup : Setup) (s : Node) (packet : Packet) where
         round = round_heard id m.known is.heard.known heard.known m.round (away_unpromised id away m.round is.round)
             (away_unrefused id away m.round is.round) is.round;
         attempts = record { granted = is.attempts.granted; closed = is.attempts.closed };
+        covers = is.covers;
       }

@@ -60,6 +60,7 @@ zeros place = zero_at unseen.seen place (refl, (refl, (refl, (refl, (refl, (refl
 
 unseen_stands : (setup : Setup) (records : Records) (incarnation serial id : ℕ) → IsMessage setup (node_over records incarnation serial) id unseen
 unseen_stands setup records incarnation serial id = record {
+  covers = λ place none. absurd none;
   heard = nothing_heard setup.nodes id;
   places = refl;
   seen = λ place within. record {

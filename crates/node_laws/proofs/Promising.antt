@@ -166,6 +166,7 @@ module _ (setup : Setup) (k : Kept) (s : Node) (stands : Stands setup k s) (send
           seen = λ place within. highest_heard setup s packet (slot_at slot.id place) _ (λ above from of own same. absurd (cc)) (old.seen place within);
           round = promises_other m.round old.round;
           attempts = record { granted = old.attempts.granted; closed = old.attempts.closed };
+          covers = old.covers;
         }
 
         by_id : (same : Bool) → (id == slot.id) ≡ same → IsMessage setup t id (message_at k id)
@@ -313,6 +314,7 @@ module _ (setup : Setup) (k : Kept) (s : Node) (stands : Stands setup k s) (send
           seen = λ place within. highest_heard setup s packet (slot_at slot.id place) _ (λ above from of own same. absurd (cc)) (old.seen place within);
           round = round_now;
           attempts = record { granted = old.attempts.granted; closed = old.attempts.closed };
+          covers = old.covers;
         })
         other_message
 

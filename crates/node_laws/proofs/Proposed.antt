@@ -136,6 +136,7 @@ module _ (setup : Setup) (s : Node) (slot : Slot) (vote : Vote) where
     seen = λ place within. highest_still (slot_at id place) _ (is.seen place within);
     round = round_still coherent id m.round complete is.round;
     attempts = record { granted = is.attempts.granted; closed = is.attempts.closed };
+    covers = is.covers;
   }
 
   coherent_proposed : In (Prepare setup.node slot vote.ballot) s.actor.sent → IsCoherent setup.node s.actor → IsCoherent setup.node proposed.actor

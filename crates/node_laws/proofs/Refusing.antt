@@ -219,6 +219,7 @@ module _ (setup : Setup) (k : Kept) (s : Node) (stands : Stands setup k s) (send
           seen = seen_then;
           round = round_then m.round old.round;
           attempts = record { granted = old.attempts.granted; closed = old.attempts.closed };
+          covers = old.covers;
         }
 
     own_steps : IsAtWork setup s → IsMember setup.nodes sender →
@@ -248,6 +249,7 @@ module _ (setup : Setup) (k : Kept) (s : Node) (stands : Stands setup k s) (send
               (old.seen place within);
           round = round_stays m.round old.round;
           attempts = record { granted = old.attempts.granted; closed = old.attempts.closed };
+          covers = old.covers;
         }
 
         by_id : (same : Bool) → (id == slot.id) ≡ same → IsMessage setup t id (message_at k id)

@@ -180,6 +180,7 @@ module _ (setup : Setup) (s : Node) (slot : Slot) (ballot : ℕ) (chain : List D
       seen = λ place within. highest_other (slot_at id place) (λ same. apart (ap (λ (x : Slot). x.id) same)) _ (is.seen place within);
       round = round_other m.round is.round;
       attempts = record { granted = is.attempts.granted; closed = is.attempts.closed };
+      covers = is.covers;
     }
 
   -- ---- the message itself, of which no round runs
@@ -299,4 +300,5 @@ module _ (setup : Setup) (s : Node) (slot : Slot) (ballot : ℕ) (chain : List D
         unproposed = λ few. unproposed;
       };
       attempts = record { granted = is.attempts.granted; closed = is.attempts.closed };
+      covers = is.covers;
     }

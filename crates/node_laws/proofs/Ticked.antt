@@ -130,6 +130,7 @@ module _ (setup : Setup) (k : Kept) (s : Node) (agrees : Agrees setup k s) (mome
     };
     round = none_runs id;
     attempts = record { granted = is.attempts.granted; closed = is.attempts.closed };
+    covers = is.covers;
   }
 
   abbrev pub kept_then : Kept

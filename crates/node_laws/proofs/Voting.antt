@@ -37,7 +37,7 @@ use Rattle.node_model.specs.Requests.{id_of, settled_by, settles}
 use Rattle.node_model.specs.Sets.{is_majority}
 use Rattle.node_model.specs.Starts.{delete_for, delete_of}
 use Rattle.node_model.specs.Stepped.{stepped}
-use Rattle.node_laws.specs.Stands.{Agrees, HasHeard, IsBehind, IsHighestReport, IsMessage, IsRound, IsRoundOf as IsKeptRound, Stands}
+use Rattle.node_laws.specs.Stands.{Agrees, CoversGrant, HasHeard, IsBehind, IsHighestReport, IsMessage, IsRound, IsRoundOf as IsKeptRound, Stands}
 use Rattle.node_laws.specs.Steps.{IsAtWork, StepsAs}
 use Rattle.node_laws.proofs.AcceptorSteps.{member_is, member_test, stepped_is}
 use Rattle.node_laws.proofs.Agreeing.{agrees_with}
@@ -125,6 +125,7 @@ module _ (setup : Setup) (k : Kept) (s : Node) (stands : Stands setup k s) (vote
       seen = λ place within. highest_heard setup s packet (slot_at id place) _ (λ above from of own same. absurd (cc)) (old.seen place within);
       round = round_now m.round old.round;
       attempts = record { granted = old.attempts.granted; closed = old.attempts.closed };
+      covers = old.covers;
     }
 
     idle_proposes : (act : Act) → DueToPropose setup.nodes setup.node s.actor t.actor act → ⊥
@@ -249,6 +250,15 @@ module _ (setup : Setup) (k : Kept) (s : Node) (stands : Stands setup k s) (vote
             runs.short (record { chain = vote.chain; known = subst (λ (i : ℕ). Knows setup.nodes t.actor.received i vote.chain) (sym about) knows_now; far = omega arith })
         by_place false beyond = unreached r is beyond
 
+    -- an attempt that was granted is behind it now
+    covers_now : (before : Option (List Decree)) → IsKnown setup.nodes s.actor.received id before → (place : ℕ) → CoversGrant setup.node s.actor before place →
+        CoversGrant setup.node t.actor (Some vote.chain) place
+    covers_now None is place covers = absurd covers
+    covers_now (Some chain) is place covers =
+        let less = shorter chain is in
+        let far = covers.0 in
+        (omega arith, λ same. absurd (omega arith))
+
     agrees_1 : IsAtWork setup s → Concerns setup.nodes setup.node s.actor packet → Agrees setup k1 t
     agrees_1 works concerned =
         agrees_with setup k s stands.agrees packet tells_nobody (record { slot_is = refl; permitted = permitted }, concerned.2) id known
@@ -258,6 +268,7 @@ module _ (setup : Setup) (k : Kept) (s : Node) (stands : Stands setup k s) (vote
           seen = λ place within. highest_heard setup s packet (slot_at id place) _ (λ above from of own same. absurd (cc)) (old.seen place within);
           round = round_then m.round old.round;
           attempts = record { granted = old.attempts.granted; closed = old.attempts.closed };
+          covers = λ place granted. covers_now m.known old.heard.known place (old.covers place granted);
         })
         other_message
 

@@ -156,6 +156,7 @@ module _ (setup : Setup) (s : Node) (ws : List Waiting) where
     seen = λ place within. highest_waits (slot_at id place) _ (is.seen place within);
     round = round_waits id m.round stays is.round;
     attempts = record { granted = is.attempts.granted; closed = is.attempts.closed };
+    covers = is.covers;
   }
 
   pub coherent_waits : IsCoherent setup.node s.actor → IsCoherent setup.node waits.actor

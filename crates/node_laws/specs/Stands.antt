@@ -1,5 +1,5 @@
 -- What a node keeps stands for what the actor of the model holds, who remembers all that it received and sent.
-use Rattle.std.specs.Prelude.{◌≡◌, ◌↔◌, ◌⊎◌, ℕ, ◌<◌, ◌≤◌, true, false, List, [], ◌∷◌, get_or, length, map, Option, Some, None, IsSome}
+use Rattle.std.specs.Prelude.{◌≡◌, ◌↔◌, ◌⊎◌, ℕ, ◌<◌, ◌≤◌, true, false, List, [], ◌∷◌, get_or, length, map, Option, Some, None, IsSome, pred}
 use Rattle.std.specs.Ordering.{nat_cmp}
 use Rattle.std.specs.Map.{keys_of, lookup}
 use Rattle.std.specs.List.Sorted.{IsStrictlyIncreasing, IsStrictlySortedBy}
@@ -18,6 +18,7 @@ use Rattle.mc_model.specs.node.Knowledge.{IsKnown, IsLearned, Knows}
 use Rattle.mc_model.specs.node.Phases.{IsDueReply, IsToSettle}
 use Rattle.mc_model.specs.node.Proposal.{IsOwn, OwnBallot}
 use Rattle.mc_model.specs.node.Replies.{Answer}
+use Rattle.mc_model.specs.node.Rules.{IsAttemptBy}
 use Rattle.mc_model.specs.node.Rounds.{IsRunning, RunsNone, WasPrepared, WasRefusedFor}
 use Rattle.mc_model.specs.node.Settling.{HasTold}
 use Rattle.mc_model.specs.node.Setup.{Setup}
@@ -87,12 +88,23 @@ pub record HasAttempts (a : Actor) (id : ℕ) (m : Message) : Type 0 where
   pub granted : (place : ℕ) → (m.granted place ≡ true) ↔ In (slot_at id place) a.granted
   pub closed : (place : ℕ) (outcome : Outcome) → (m.closed place ≡ Some outcome) ↔ In (slot_at id place, outcome) a.closed
 
+-- a chain ends in an attempt of the node in this incarnation
+abbrev pub IsOwnAttempt : ℕ → Actor → List Decree → Type 0
+IsOwnAttempt node a [] = ⊥
+IsOwnAttempt node a (newest ∷ older) = IsAttemptBy node newest × (newest.author.incarnation ≡ a.incarnation)
+
+-- What is known reaches the place of an attempt that was granted, and ends in an attempt of the node while that is the newest decree.
+abbrev pub CoversGrant : ℕ → Actor → Option (List Decree) → ℕ → Type 0
+CoversGrant node a None place = ⊥
+CoversGrant node a (Some chain) place = (place ≤ pred (length chain)) × (place ≡ pred (length chain) → IsOwnAttempt node a chain)
+
 pub record IsMessage (setup : Setup) (s : Node) (id : ℕ) (m : Message) : Type 0 where
   pub heard : HasHeard setup.nodes s.actor.received id m
   pub places : length m.seen ≡ most_places
   pub seen : (place : ℕ) → place < most_places → IsHighestSeen setup.node s.actor (slot_at id place) (get_or m.seen place 0)
   pub round : IsRoundOf setup.nodes setup.node s id m.round
   pub attempts : HasAttempts s.actor id m
+  pub covers : (place : ℕ) → In (slot_at id place) s.actor.granted → CoversGrant setup.node s.actor m.known place
 
 -- ---- one request
 
