@@ -51,3 +51,4 @@ pub mod Voting
 pub mod Arrived
 pub mod Beginning
 pub mod ArrivalSteps
+pub mod Granting
