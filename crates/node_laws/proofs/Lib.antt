@@ -52,3 +52,4 @@ pub mod Arrived
 pub mod Beginning
 pub mod ArrivalSteps
 pub mod Granting
+pub mod Responding
