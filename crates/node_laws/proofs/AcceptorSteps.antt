@@ -103,7 +103,7 @@ module _ (setup : Setup) (k : Kept) (s : Node) (stands : Stands setup k s) (work
     where
       by_member : (member : Bool) → is_member setup sender ≡ member → StepsAs setup s (Delivery (Prepare sender slot ballot)) (if member then on_prepare setup k slot ballot else leaves k)
       by_member true is = on_prepare_steps sender ballot slot (member_is setup sender is)
-      by_member false is = ignored setup s k stands (Prepare sender slot ballot) (prepare_aside sender ballot slot).tells (λ member. true≢false (sym (member_test setup sender member) ∙ is))
+      by_member false is = ignored setup s k stands (Prepare sender slot ballot) (λ member. true≢false (sym (member_test setup sender member) ∙ is))
 
   -- ---- a Propose
 
@@ -140,7 +140,7 @@ module _ (setup : Setup) (k : Kept) (s : Node) (stands : Stands setup k s) (work
     where
       by_member : (member : Bool) → is_member setup sender ≡ member → StepsAs setup s (Delivery (Propose sender slot vote)) (if member then on_propose setup k slot vote else leaves k)
       by_member true is = on_propose_steps sender slot vote fits (member_is setup sender is)
-      by_member false is = ignored setup s k stands (Propose sender slot vote) (propose_aside sender slot vote).tells (λ member. true≢false (sym (member_test setup sender member) ∙ is))
+      by_member false is = ignored setup s k stands (Propose sender slot vote) (λ member. true≢false (sym (member_test setup sender member) ∙ is))
 
   -- ---- a question
 
@@ -176,4 +176,4 @@ module _ (setup : Setup) (k : Kept) (s : Node) (stands : Stands setup k s) (work
     where
       by_member : (member : Bool) → is_member setup sender ≡ member → StepsAs setup s (Delivery (Ask sender id name)) (if member then on_ask setup k id name else leaves k)
       by_member true is = on_ask_steps sender id name (member_is setup sender is)
-      by_member false is = ignored setup s k stands (Ask sender id name) (ask_aside sender id name).tells (λ member. true≢false (sym (member_test setup sender member) ∙ is))
+      by_member false is = ignored setup s k stands (Ask sender id name) (λ member. true≢false (sym (member_test setup sender member) ∙ is))

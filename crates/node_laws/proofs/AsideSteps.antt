@@ -48,6 +48,12 @@ none_due_once Due none = record { only = λ act is_in. absurd is_in; all = λ ac
 abbrev pub TellsNobody : Packet → Type 0
 TellsNobody packet = (teller : ℕ) (name : Name) (told : Option TopVote) → Tell teller name told ≡ packet → ⊥
 
+-- a round is started by a Tell alone, and by one that concerns the node
+pub follows_concern : (nodes node : ℕ) (before a : Actor) (packet : Packet) (id place : ℕ) (chain : List Decree) → CausesFollow nodes node before a (Delivery packet) id place chain →
+    Concerns nodes node before packet
+follows_concern nodes node before a (Tell teller name told) id place chain follows = follows.0
+follows_concern nodes node before a packet id place chain follows = absurd follows
+
 pub follows_none : (nodes node : ℕ) (before a : Actor) (packet : Packet) (id place : ℕ) (chain : List Decree) → TellsNobody packet → CausesFollow nodes node before a (Delivery packet) id place chain → ⊥
 follows_none nodes node before a (Tell teller name told) id place chain none follows = none teller name told refl
 follows_none nodes node before a packet id place chain none follows = follows
@@ -369,22 +375,22 @@ module _ (setup : Setup) (s : Node) (k : Kept) (stands : Stands setup k s) where
   idle_asks packet (Asks id ticket) due = due
   idle_asks packet act due = due
 
-  idle_causes : (packet : Packet) → TellsNobody packet → (id place : ℕ) (chain : List Decree) → Causes setup.nodes setup.node s.actor s.actor (Delivery packet) id place chain → ⊥
-  idle_causes packet tells id place chain (inl take) = take
-  idle_causes packet tells id place chain (inr (inl close)) = close
-  idle_causes packet tells id place chain (inr (inr (inl follows))) = follows_none setup.nodes setup.node s.actor s.actor packet id place chain tells follows
-  idle_causes packet tells id place chain (inr (inr (inr deletes))) = idle_deletes id place chain deletes
+  idle_causes : (packet : Packet) → (Concerns setup.nodes setup.node s.actor packet → ⊥) → (id place : ℕ) (chain : List Decree) → Causes setup.nodes setup.node s.actor s.actor (Delivery packet) id place chain → ⊥
+  idle_causes packet strange id place chain (inl take) = take
+  idle_causes packet strange id place chain (inr (inl close)) = close
+  idle_causes packet strange id place chain (inr (inr (inl follows))) = strange (follows_concern setup.nodes setup.node s.actor s.actor packet id place chain follows)
+  idle_causes packet strange id place chain (inr (inr (inr deletes))) = idle_deletes id place chain deletes
 
-  idle_prepares : (packet : Packet) → TellsNobody packet → (act : Act) → DueToPrepare setup.nodes setup.node s.actor s.actor s.records (Delivery packet) act → ⊥
-  idle_prepares packet tells (Prepares slot ballot chain) due = idle_causes packet tells slot.id slot.place chain due.0
-  idle_prepares packet tells act due = due
+  idle_prepares : (packet : Packet) → (Concerns setup.nodes setup.node s.actor packet → ⊥) → (act : Act) → DueToPrepare setup.nodes setup.node s.actor s.actor s.records (Delivery packet) act → ⊥
+  idle_prepares packet strange (Prepares slot ballot chain) due = idle_causes packet strange slot.id slot.place chain due.0
+  idle_prepares packet strange act due = due
 
-  pub ignored : (packet : Packet) → TellsNobody packet → (Concerns setup.nodes setup.node s.actor packet → ⊥) → StepsAs setup s (Delivery packet) (leaves k)
-  ignored packet tells strange = record {
+  pub ignored : (packet : Packet) → (Concerns setup.nodes setup.node s.actor packet → ⊥) → StepsAs setup s (Delivery packet) (leaves k)
+  ignored packet strange = record {
     acts = [];
     taken = record {
       run = tt;
-      exact = idle_exact (Delivery packet) (inr (strange, refl)) (λ act due. due) (idle_asks packet) (λ act due. due) (idle_prepares packet tells);
+      exact = idle_exact (Delivery packet) (inr (strange, refl)) (λ act due. due) (idle_asks packet) (λ act due. due) (idle_prepares packet strange);
     };
     stands = stands;
     outputs = refl;

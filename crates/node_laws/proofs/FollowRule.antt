@@ -31,7 +31,8 @@ abbrev pub HighestOf : Option TopVote → (ℕ → Vote → Type 0) → Type 0
 HighestOf None Shown = (place : ℕ) (vote : Vote) → Shown place vote → ⊥
 HighestOf (Some top) Shown = IsHighest Shown top.place top.vote
 
-higher_decides : (new old : TopVote) → Decides (is_higher new old) ((old.place < new.place) ⊎ ((old.place ≡ new.place) × (old.vote.ballot < new.vote.ballot)))
+pub higher_decides : (new old : TopVote) →
+    Decides (is_higher new old) ((old.place < new.place) ⊎ ((old.place ≡ new.place) × (old.vote.ballot < new.vote.ballot)))
 higher_decides new old =
     Decides-or _ _ (Decides-ltb old.place new.place) (Decides-and _ _ (Decides-eqb old.place new.place) (Decides-ltb old.vote.ballot new.vote.ballot))
 
@@ -167,7 +168,8 @@ module _ (node : ℕ) (a : Actor) (id : ℕ) where
       HighestOf (if id_of h == id then higher_top base h.top else base) (λ place vote. Base place vote ⊎ ToldTo h place vote)
   one_highest base Base h is before = by_test (id_of h == id) refl
     where
-      by_test : (test : Bool) → (id_of h == id) ≡ test → HighestOf (if test then higher_top base h.top else base) (λ place vote. Base place vote ⊎ ToldTo h place vote)
+      by_test : (test : Bool) → (id_of h == id) ≡ test →
+          HighestOf (if test then higher_top base h.top else base) (λ place vote. Base place vote ⊎ ToldTo h place vote)
       by_test true same = either_highest Base (ToldTo h) base h.top before (told_highest h is (eqb-true (id_of h) id same))
       by_test false differs =
           highest_as Base (λ place vote. Base place vote ⊎ ToldTo h place vote) base (λ place vote shown. inl shown)
@@ -196,7 +198,8 @@ module _ (node : ℕ) (a : Actor) (id : ℕ) where
       there place vote (inl (inr told)) = inr (record { request = h; among = inl refl; told = told })
       there place vote (inr later) = inr (record { request = later.request; among = inr later.among; told = later.told })
 
-      which : (place : ℕ) (vote : Vote) (request : Held) → (request ≡ h) ⊎ In request others → ToldTo request place vote → With place vote ⊎ ToldAmong others place vote
+      which : (place : ℕ) (vote : Vote) (request : Held) → (request ≡ h) ⊎ In request others → ToldTo request place vote →
+          With place vote ⊎ ToldAmong others place vote
       which place vote request (inl same) told = inl (inr (subst (λ (x : Held). ToldTo x place vote) same told))
       which place vote request (inr later) told = inr (record { request = request; among = later; told = told })
 
@@ -205,7 +208,8 @@ module _ (node : ℕ) (a : Actor) (id : ℕ) where
       back place vote (inr told) = which place vote told.request told.among told.told
 
 -- the vote that the acceptor tells of is the highest of its own
-own_highest : (records : Records) (id : ℕ) (told : Option TopVote) → IsTold records id told → HighestOf told (λ place vote. (records (slot_at id place)).vote ≡ Some vote)
+own_highest : (records : Records) (id : ℕ) (told : Option TopVote) → IsTold records id told →
+    HighestOf told (λ place vote. (records (slot_at id place)).vote ≡ Some vote)
 own_highest records id None none = λ place vote voted. let both : Some vote ≡ None = sym voted ∙ none place in absurd (cc)
 own_highest records id (Some top) is = record {
   shown = is.voted;
@@ -258,7 +262,8 @@ module _ (setup : Setup) (a : Actor) (records : Records) (k : Kept) (id : ℕ)
             };
           })
 
-  ahead_decides : (chain : Option (List Decree)) (place : ℕ) → IsKnown setup.nodes a.received id chain → Decides (is_ahead chain place) (IsAhead setup.nodes a id place)
+  ahead_decides : (chain : Option (List Decree)) (place : ℕ) → IsKnown setup.nodes a.received id chain →
+      Decides (is_ahead chain place) (IsAhead setup.nodes a id place)
   ahead_decides None place nothing = ((λ t. λ chain knows. absurd (nothing _ _ knows.learned)), (λ ahead. refl))
   ahead_decides (Some chain) place knows = (
     λ t. λ other knows_other.

@@ -53,3 +53,5 @@ pub mod Beginning
 pub mod ArrivalSteps
 pub mod Granting
 pub mod Responding
+pub mod Told
+pub mod Telling

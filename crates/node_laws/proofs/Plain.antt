@@ -5,7 +5,7 @@ use Rattle.mc_model.specs.synod.Packet.{Packet}
 use Rattle.mc_model.specs.synod.Lists.{In}
 use Rattle.mc_model.specs.node.Act.{Act, Asks, Prepares, Receives, Replies, Reports, Settles}
 use Rattle.mc_model.specs.node.Alone.{Node}
-use Rattle.mc_model.specs.node.Causes.{Causes, CausesDelete}
+use Rattle.mc_model.specs.node.Causes.{Causes, CausesDelete, CausesFollow}
 use Rattle.mc_model.specs.node.Concerns.{Concerns}
 use Rattle.mc_model.specs.node.Core.{AcceptorReplies}
 use Rattle.mc_model.specs.node.Due.{AreDueOnce}
@@ -21,7 +21,7 @@ use Rattle.node_model.specs.Outputs.{sends}
 use Rattle.node_laws.specs.Stands.{Agrees, Stands}
 use Rattle.node_laws.specs.Steps.{IsAtWork, StepsAs}
 use Rattle.node_laws.proofs.Answered.{known_is}
-use Rattle.node_laws.proofs.AsideSteps.{TellsNobody, follows_none, none_due, none_due_once}
+use Rattle.node_laws.proofs.AsideSteps.{none_due, none_due_once}
 use Rattle.node_laws.proofs.Hearing.{received}
 use Rattle.node_laws.proofs.Deciding.{IsCalm, calm_of, quiet_of}
 
@@ -45,7 +45,8 @@ calm_still nodes before after same calm = record {
       (calm.answered h (subst (λ (hs : List Held). In h hs) same.held among));
 }
 
-module _ (setup : Setup) (k : Kept) (s : Node) (stands : Stands setup k s) (packet : Packet) (tells : TellsNobody packet) (k' : Kept)
+module _ (setup : Setup) (k : Kept) (s : Node) (stands : Stands setup k s) (packet : Packet)
+    (follows : (id place : ℕ) (chain : List Decree) → CausesFollow setup.nodes setup.node s.actor (received s packet).actor (Delivery packet) id place chain → ⊥) (k' : Kept)
     (after : Agrees setup k' (received s packet)) (same : IsUnmoved k k') where
   abbrev t : Node
   t = received s packet
@@ -77,7 +78,7 @@ module _ (setup : Setup) (k : Kept) (s : Node) (stands : Stands setup k s) (pack
   causes_none : (id place : ℕ) (chain : List Decree) → Causes setup.nodes setup.node s.actor t.actor (Delivery packet) id place chain → ⊥
   causes_none id place chain (inl take) = take
   causes_none id place chain (inr (inl close)) = close
-  causes_none id place chain (inr (inr (inl follows))) = follows_none setup.nodes setup.node s.actor t.actor packet id place chain tells follows
+  causes_none id place chain (inr (inr (inl it))) = follows id place chain it
   causes_none id place chain (inr (inr (inr deletes))) = deletes_none id place chain deletes
 
   prepares_none : (act : Act) → DueToPrepare setup.nodes setup.node s.actor t.actor s.records (Delivery packet) act → ⊥

@@ -6,11 +6,13 @@ use Rattle.std.proofs.lemmas.Bool.{and_from, and_parts, eqb-false, eqb-true, tru
 use Rattle.std.proofs.lemmas.Bool.Decides.{Decides-and, Decides-eqb, Decides-like, Decides-or, nat_tests}
 use Rattle.mc_model.specs.synod.Lists.{In}
 use Rattle.mc_model.specs.synod.OneSlot.{IsOfHighest, IsWithin, Vote, vote_at}
+use Rattle.mc_model.specs.message.Decree.{Decree}
 use Rattle.mc_model.specs.synod.Ballot.{incarnation_in, proposer_of}
 use Rattle.mc_model.specs.synod.Packet.{Ask, Packet, Prepare, Promise, Propose, Refused, Slot, Tell, Voted, same_slot, slot_at, slot_of}
 use Rattle.mc_model.specs.node.Act.{Act, Proposes, Receives}
 use Rattle.mc_model.specs.node.Actor.{Actor}
 use Rattle.mc_model.specs.node.Alone.{Node, StandsAt}
+use Rattle.mc_model.specs.node.Causes.{CausesFollow}
 use Rattle.mc_model.specs.node.Concerns.{IsMember, WasAskedFor}
 use Rattle.mc_model.specs.node.Due.{AreDueOnce, key_of}
 use Rattle.mc_model.specs.node.Input.{Delivery}
@@ -107,6 +109,9 @@ module _ (setup : Setup) (k : Kept) (s : Node) (stands : Stands setup k s) (send
   tells_nobody : TellsNobody packet
   tells_nobody teller name told same = absurd (cc)
 
+  follows_nothing : (other place : ℕ) (chain : List Decree) → CausesFollow setup.nodes setup.node s.actor t.actor (Delivery packet) other place chain → ⊥
+  follows_nothing other place chain follows = follows
+
   refuses_none : (other : Slot) (above : ℕ) → RefusesNone packet other above
   refuses_none other above from of greater same = absurd (cc)
 
@@ -176,9 +181,9 @@ module _ (setup : Setup) (k : Kept) (s : Node) (stands : Stands setup k s) (send
     idle_steps : IsAtWork setup s → IsMember setup.nodes sender → StepsAs setup s (Delivery packet) (leaves k)
     idle_steps works member = elim (was_asked setup.node s.actor slot ballot) [
       | inl asked ↦
-          plain_steps setup k s stands packet tells_nobody k (agrees_heard setup k s stands.agrees packet tells_nobody asked message_idle)
+          plain_steps setup k s stands packet follows_nothing k (agrees_heard setup k s stands.agrees packet tells_nobody asked message_idle)
           (record { held = refl; known = λ id. refl }) works (member, asked) refl idle_proposes
-      | inr strange ↦ ignored setup s k stands packet tells_nobody (λ concerned. strange concerned.1)
+      | inr strange ↦ ignored setup s k stands packet (λ concerned. strange concerned.1)
     ]
 
   -- ---- for the round that runs
@@ -444,16 +449,16 @@ module _ (setup : Setup) (k : Kept) (s : Node) (stands : Stands setup k s) (send
     running_steps : IsAtWork setup s → IsMember setup.nodes sender → (complete : Bool) → completes setup.nodes r sender ≡ complete →
         StepsAs setup s (Delivery packet) (sends k' (if complete then Propose setup.node r.slot (offered new) ∷ [] else []) [] [])
     running_steps works member false few =
-        plain_steps setup k s stands packet tells_nobody k' agrees_now unmoved works (member, asked) refl (incomplete_due few)
+        plain_steps setup k s stands packet follows_nothing k' agrees_now unmoved works (member, asked) refl (incomplete_due few)
     running_steps works member true completes =
         let agrees = agrees_proposed setup t r.slot (offered new) k' agrees_now prepared (others_complete completes) in
         record {
           acts = Proposes r.slot (offered new) ∷ Receives packet ∷ [];
           taken = record {
             run = (record { least = works.least; most = works.most; up = works.up; needs = may_propose completes }, (record { least = works.least; most = works.most; up = works.up; needs = tt }, tt));
-            exact = received_exact setup k s stands packet tells_nobody k' agrees_now unmoved (Proposes r.slot (offered new) ∷ []) (due_once completes) (member, asked) refl;
+            exact = received_exact setup k s stands packet follows_nothing k' agrees_now unmoved (Proposes r.slot (offered new) ∷ []) (due_once completes) (member, asked) refl;
           };
-          stands = record { agrees = agrees; quiet = quiet_of setup k' (proposed setup t r.slot (offered new)) agrees (calm_then setup k s stands packet tells_nobody k' agrees_now unmoved) };
+          stands = record { agrees = agrees; quiet = quiet_of setup k' (proposed setup t r.slot (offered new)) agrees (calm_then setup k s stands packet follows_nothing k' agrees_now unmoved) };
           outputs = refl;
         }
 
@@ -481,4 +486,4 @@ module _ (setup : Setup) (k : Kept) (s : Node) (stands : Stands setup k s) (send
       by_member : (member : Bool) → is_member setup sender ≡ member →
           StepsAs setup s (Delivery packet) (if member then on_promise setup k sender slot ballot report else leaves k)
       by_member true is = by_round works (member_is setup sender is) m.round old.round
-      by_member false is = ignored setup s k stands packet tells_nobody (λ concerned. true≢false (sym (member_test setup sender concerned.0) ∙ is))
+      by_member false is = ignored setup s k stands packet (λ concerned. true≢false (sym (member_test setup sender concerned.0) ∙ is))

@@ -1,17 +1,19 @@
 -- The step of a node to which a refusal comes.
-use Rattle.std.proofs.Common.{◌≡◌, ℕ, ◌<◌, ◌≤◌, max, Bool, true, false, get_or, set, Option, Some, None, refl, sym, ap, subst, subst₂, ◌∙◌, inl, inr, arith}
+use Rattle.std.proofs.Common.{List, ◌≡◌, ℕ, ◌<◌, ◌≤◌, max, Bool, true, false, get_or, set, Option, Some, None, refl, sym, ap, subst, subst₂, ◌∙◌, inl, inr, arith}
 use Rattle.std.specs.Prelude.{◌==◌, ◌&&◌, nat_lt, if◌then◌else◌}
 use Rattle.std.specs.Bool.{Decides}
 use Rattle.std.proofs.lemmas.Bool.{and_from, and_parts, cases_lt, eqb-false, eqb-true, true≢false}
 use Rattle.std.proofs.lemmas.Bool.Decides.{Decides-and, Decides-eqb, Decides-ltb}
 use Rattle.std.proofs.lemmas.List.{get_or-set_other, get_or-set_same, length-set}
 use Rattle.mc_parts.proofs.Membership.{slots_same}
+use Rattle.mc_model.specs.message.Decree.{Decree}
 use Rattle.mc_model.specs.synod.Ballot.{incarnation_in, proposer_of, round_in}
 use Rattle.mc_model.specs.synod.Lists.{In}
 use Rattle.mc_model.specs.synod.OneSlot.{Vote}
 use Rattle.mc_model.specs.synod.Packet.{Packet, Promise, Refused, Slot, same_slot, slot_at}
 use Rattle.mc_model.specs.node.Act.{Act, Proposes}
 use Rattle.mc_model.specs.node.Alone.{Node}
+use Rattle.mc_model.specs.node.Causes.{CausesFollow}
 use Rattle.mc_model.specs.node.Concerns.{IsMember}
 use Rattle.mc_model.specs.node.Input.{Delivery}
 use Rattle.mc_model.specs.node.Phases.{DueToPropose}
@@ -49,6 +51,9 @@ module _ (setup : Setup) (k : Kept) (s : Node) (stands : Stands setup k s) (send
 
   tells_nobody : TellsNobody packet
   tells_nobody teller name told same = absurd (cc)
+
+  follows_nothing : (other place : ℕ) (chain : List Decree) → CausesFollow setup.nodes setup.node s.actor t.actor (Delivery packet) other place chain → ⊥
+  follows_nothing other place chain follows = follows
 
   promises_none : (other : Slot) (above : ℕ) → PromisesNone packet other above
   promises_none other above acceptor report same = absurd (cc)
@@ -225,7 +230,7 @@ module _ (setup : Setup) (k : Kept) (s : Node) (stands : Stands setup k s) (send
     own_steps : IsAtWork setup s → IsMember setup.nodes sender →
         StepsAs setup s (Delivery packet) (leaves (with_message k slot.id (refused m slot ballot promised)))
     own_steps works member =
-        plain_steps setup k s stands packet tells_nobody (with_message k slot.id (refused m slot ballot promised))
+        plain_steps setup k s stands packet follows_nothing (with_message k slot.id (refused m slot ballot promised))
         (agrees_with setup k s stands.agrees packet tells_nobody tt slot.id (refused m slot ballot promised) message_then other_message)
         (record { held = refl; known = each_with (λ id it. it.known ≡ (message_at k id).known) k slot.id (refused m slot ballot promised) refl (λ id apart. refl) })
         works member refl proposes_none
@@ -258,7 +263,7 @@ module _ (setup : Setup) (k : Kept) (s : Node) (stands : Stands setup k s) (send
 
     strange_steps : IsAtWork setup s → IsMember setup.nodes sender → StepsAs setup s (Delivery packet) (leaves k)
     strange_steps works member =
-        plain_steps setup k s stands packet tells_nobody k (agrees_heard setup k s stands.agrees packet tells_nobody tt message_stays)
+        plain_steps setup k s stands packet follows_nothing k (agrees_heard setup k s stands.agrees packet tells_nobody tt message_stays)
         (record { held = refl; known = λ id. refl }) works member refl proposes_none
 
   -- ---- at any ballot
@@ -277,4 +282,4 @@ module _ (setup : Setup) (k : Kept) (s : Node) (stands : Stands setup k s) (send
       by_member : (member : Bool) → is_member setup sender ≡ member →
           StepsAs setup s (Delivery packet) (if member then on_refused setup k slot ballot promised else leaves k)
       by_member true is = on_refused_steps works (member_is setup sender is)
-      by_member false is = ignored setup s k stands packet tells_nobody (λ member. true≢false (sym (member_test setup sender member) ∙ is))
+      by_member false is = ignored setup s k stands packet (λ member. true≢false (sym (member_test setup sender member) ∙ is))

@@ -15,7 +15,7 @@ use Rattle.mc_model.specs.synod.Packet.{Packet, Promise, Slot, Voted, same_slot,
 use Rattle.mc_model.specs.node.Act.{Act, Proposes}
 use Rattle.mc_model.specs.node.Actor.{Waiting, id_in}
 use Rattle.mc_model.specs.node.Alone.{Node, StandsAt}
-use Rattle.mc_model.specs.node.Causes.{Causes, CausesDelete}
+use Rattle.mc_model.specs.node.Causes.{Causes, CausesDelete, CausesFollow}
 use Rattle.mc_model.specs.node.Concerns.{Concerns, IsMember, WasGiven}
 use Rattle.mc_model.specs.node.Input.{Delivery}
 use Rattle.mc_model.specs.node.Knowledge.{IsKnown, IsLearned, Knows}
@@ -86,6 +86,9 @@ module _ (setup : Setup) (k : Kept) (s : Node) (stands : Stands setup k s) (vote
   tells_nobody : TellsNobody packet
   tells_nobody teller name told same = absurd (cc)
 
+  follows_nothing : (other place : ℕ) (chain : List Decree) → CausesFollow setup.nodes setup.node s.actor t.actor (Delivery packet) other place chain → ⊥
+  follows_nothing other place chain follows = follows
+
   promises_none : (other : Slot) (above : ℕ) → PromisesNone packet other above
   promises_none other above acceptor report same = absurd (cc)
 
@@ -134,7 +137,7 @@ module _ (setup : Setup) (k : Kept) (s : Node) (stands : Stands setup k s) (vote
 
     heard_steps : IsAtWork setup s → Concerns setup.nodes setup.node s.actor packet → StepsAs setup s (Delivery packet) (leaves (with_message k id new))
     heard_steps works concerned =
-        plain_steps setup k s stands packet tells_nobody (with_message k id new)
+        plain_steps setup k s stands packet follows_nothing (with_message k id new)
         (agrees_with setup k s stands.agrees packet tells_nobody (record { slot_is = refl; permitted = permitted }, concerned.2) id new message_now other_message)
         (record { held = refl; known = each_with (λ other it. it.known ≡ (message_at k other).known) k id new refl (λ other apart. refl) })
         works concerned refl idle_proposes
@@ -525,15 +528,12 @@ module _ (setup : Setup) (k : Kept) (s : Node) (stands : Stands setup k s) where
   voted_steps voter slot vote permitted works mine =
       subst (StepsAs setup s (Delivery (Voted voter slot vote))) (sym (stepped_is setup k s (Voted voter slot vote) stands works)) (by_member (is_member setup voter) refl)
     where
-      tells : TellsNobody (Voted voter slot vote)
-      tells teller name told same = absurd (cc)
-
       by_concern : IsMember setup.nodes voter → (concerns : Bool) → vote_concerns setup k slot vote ≡ concerns →
           StepsAs setup s (Delivery (Voted voter slot vote)) (if concerns then on_voted setup k voter slot vote else leaves k)
       by_concern member true is = let both = (concerns_decides slot vote).0 is in placed_steps voter slot vote permitted works mine (member, both.0, both.1)
-      by_concern member false is = ignored setup s k stands (Voted voter slot vote) tells (λ concerned. true≢false (sym ((concerns_decides slot vote).1 (concerned.1, concerned.2)) ∙ is))
+      by_concern member false is = ignored setup s k stands (Voted voter slot vote) (λ concerned. true≢false (sym ((concerns_decides slot vote).1 (concerned.1, concerned.2)) ∙ is))
 
       by_member : (member : Bool) → is_member setup voter ≡ member →
           StepsAs setup s (Delivery (Voted voter slot vote)) (if member then (if vote_concerns setup k slot vote then on_voted setup k voter slot vote else leaves k) else leaves k)
       by_member true is = by_concern (member_is setup voter is) (vote_concerns setup k slot vote) refl
-      by_member false is = ignored setup s k stands (Voted voter slot vote) tells (λ concerned. true≢false (sym (member_test setup voter concerned.0) ∙ is))
+      by_member false is = ignored setup s k stands (Voted voter slot vote) (λ concerned. true≢false (sym (member_test setup voter concerned.0) ∙ is))
