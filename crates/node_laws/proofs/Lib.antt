@@ -55,3 +55,4 @@ pub mod Granting
 pub mod Responding
 pub mod Told
 pub mod Telling
+pub mod AnyPacket

@@ -15,7 +15,10 @@ pub use examples::{
     a_node_of_three_waits_for_others, a_query_is_answered_alone,
     a_refused_round_is_followed_by_a_greater_one, an_attempt_is_lost_by_a_restart,
 };
-pub use packets::{a_promise_is_exact, a_refused_ballot_is_exact, a_vote_is_exact};
+pub use packets::{
+    a_promise_is_exact, a_refused_ballot_is_exact, a_step_of_a_packet_is_exact, a_tell_is_exact,
+    a_vote_is_exact,
+};
 pub use requests::an_arrival_is_exact;
 pub use rules::the_first_rule_is_found;
 pub use steps::{a_refusal_is_exact, a_step_of_an_acceptor_is_exact, an_opening_is_exact};

@@ -4,14 +4,14 @@ ghost use Rattle.std.specs.Prelude.{ℕ, Option};
 ghost use Rattle.mc_model.specs.message.Chain.{IsPermitted};
 ghost use Rattle.mc_model.specs.message.Ids.{IsNode};
 ghost use Rattle.mc_model.specs.synod.OneSlot.{Vote};
-ghost use Rattle.mc_model.specs.synod.Packet.{Promise, Refused, Slot, Voted};
+ghost use Rattle.mc_model.specs.synod.Packet.{Name, Packet, Promise, Refused, Slot, Tell, TopVote, Voted};
 ghost use Rattle.mc_model.specs.node.Alone.{Node};
 ghost use Rattle.mc_model.specs.node.Input.{Delivery};
 ghost use Rattle.mc_model.specs.node.Setup.{Setup};
 ghost use Rattle.node_model.specs.Kept.{Kept};
 ghost use Rattle.node_model.specs.Stepped.{stepped};
-ghost use Rattle.node_laws.specs.Stands.{Stands};
-ghost use Rattle.node_laws.specs.Steps.{IsAtWork, StepsAs};
+ghost use Rattle.node_laws.specs.Stands.{IsWithin, Stands};
+ghost use Rattle.node_laws.specs.Steps.{IsAtWork, IsWellMade, StepsAs};
 
 /// A refusal tells the proposer a round, if it is of a ballot of its own, and ends the round that runs, if it is of that one and for a
 /// greater ballot. That is an exact step of every actor for which what is kept stands.
@@ -38,4 +38,21 @@ pub fn a_vote_is_exact()
     ensures { (setup : Setup) (k : Kept) (s : Node) → Stands setup k s → IsAtWork setup s → IsNode setup.node →
         (voter : ℕ) (slot : Slot) (vote : Vote) → IsPermitted slot.id vote.chain →
         StepsAs setup s (Delivery (Voted voter slot vote)) (stepped setup k (Delivery (Voted voter slot vote))) }
+{}
+
+/// What is told to a question of this node in this incarnation, by one of the nodes and about its message, is kept of the request that
+/// waits under its ticket. A cancel_sm that is settled by it may have its message deleted, and if a majority has told of more than is
+/// known, that is followed; the request is answered, if it has an answer then. That is an exact step of every actor for which what is
+/// kept stands, and so it is if the Tell is another's or comes too late. What is told is at one of the places of a chain.
+pub fn a_tell_is_exact()
+    ensures { (setup : Setup) (k : Kept) (s : Node) → Stands setup k s → IsAtWork setup s → IsNode setup.node →
+        (teller : ℕ) (name : Name) (told : Option TopVote) → IsWithin told →
+        StepsAs setup s (Delivery (Tell teller name told)) (stepped setup k (Delivery (Tell teller name told))) }
+{}
+
+/// With every packet, from whatever sender and whether it concerns the node or not, what is kept takes an exact step of every actor for
+/// which it stands. What a Propose, a vote and a Tell carry is well made.
+pub fn a_step_of_a_packet_is_exact()
+    ensures { (setup : Setup) (k : Kept) (s : Node) → Stands setup k s → IsAtWork setup s → IsNode setup.node →
+        (packet : Packet) → IsWellMade packet → StepsAs setup s (Delivery packet) (stepped setup k (Delivery packet)) }
 {}
