@@ -1,6 +1,7 @@
 //! Laws of the node by what it keeps. The functions do nothing: their contracts are the laws.
 #![tactic(auto)]
 
+mod attempts;
 mod examples;
 mod packets;
 mod requests;
@@ -10,6 +11,7 @@ mod synod;
 mod tables;
 mod ticks;
 
+pub use attempts::{a_grant_is_exact, a_grant_is_judged, a_response_is_exact};
 pub use examples::{
     a_message_is_cancelled_alone, a_message_is_delivered_alone, a_message_is_taken_alone,
     a_node_of_three_waits_for_others, a_query_is_answered_alone,
