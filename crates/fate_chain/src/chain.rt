@@ -83,7 +83,8 @@ impl Chain {
 
     /// The place in which it stands: one less than the number of its decrees, 0 to 17.
     pub fn place(&self) -> u8
-        ensures { result ≡ pred (length self.now.decrees) }
+        ensures place { result ≡ pred (length self.now.decrees) }
+        ensures range { result ≤ 17 }
     {
         (self.decrees.len() - 1) as u8
     }

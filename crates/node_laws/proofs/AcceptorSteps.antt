@@ -18,7 +18,7 @@ use Rattle.node_model.specs.Packets.{is_member, judged, on_ask, on_packet, on_pr
 use Rattle.node_model.specs.Stepped.{stepped, stepped_down, stepped_up}
 use Rattle.node_laws.specs.Stands.{IsAside, IsPlaced, Stands}
 use Rattle.node_laws.specs.Steps.{IsAtWork, StepsAs}
-use Rattle.node_laws.proofs.Accepting.{told_is}
+use Rattle.node_model.proofs.Told.{told_is}
 use Rattle.node_laws.proofs.AsideSteps.{heard, stands_later, answered, answered_with, ignored, same_with, stands_heard, unchanged}
 
 prepare_aside : (sender ballot : ℕ) (slot : Slot) → IsAside (Prepare sender slot ballot)

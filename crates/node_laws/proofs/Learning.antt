@@ -18,7 +18,7 @@ use Rattle.node_model.specs.Learner.{heard, is_shorter, makes_known}
 use Rattle.node_model.specs.Packets.{known_then}
 use Rattle.node_model.specs.Same.{same_vote}
 use Rattle.node_laws.specs.Stands.{HasHeard, TellsOfNone}
-use Rattle.node_laws.proofs.Same.{vote_decides}
+use Rattle.node_model.proofs.Same.{vote_decides}
 
 -- ---- majorities
 

@@ -1,6 +1,5 @@
 -- What an acceptor answers is what the actor of the model answers.
-use Rattle.std.specs.Prelude.{◌≡◌, ℕ, ◌<◌, [], ◌∷◌, Some}
-use Rattle.mc_model.specs.synod.OneSlot.{Vote}
+use Rattle.std.specs.Prelude.{◌≡◌, ℕ, [], ◌∷◌}
 use Rattle.mc_model.specs.synod.Packet.{Packet, Slot}
 use Rattle.mc_model.specs.synod.Acceptor.{Records, with_record}
 use Rattle.mc_model.specs.node.Act.{Act}
@@ -8,7 +7,6 @@ use Rattle.mc_model.specs.node.Actor.{Actor}
 use Rattle.mc_model.specs.node.Core.{AcceptorReplies}
 use Rattle.mc_model.specs.node.Effect.{packets_by, records_by}
 use Rattle.node_model.specs.Acceptor.{Judgement}
-use Rattle.node_model.specs.Message.{most_places}
 
 -- By one act the actor answers a packet with what is judged, and leaves the record of it.
 pub record IsAnswered (node : ℕ) (a : Actor) (records : Records) (packet : Packet) (slot : Slot) (judged : Judgement) : Type 0 where
@@ -16,7 +14,3 @@ pub record IsAnswered (node : ℕ) (a : Actor) (records : Records) (packet : Pac
   pub answers : AcceptorReplies records packet (act ∷ [])
   pub sends : packets_by node a records act ≡ judged.answer ∷ []
   pub leaves : (other : Slot) → records_by records act other ≡ with_record records slot judged.after other
-
--- each vote stands at one of the places of a chain
-abbrev pub ArePlaced : Records → Type 0
-ArePlaced records = (slot : Slot) (vote : Vote) → (records slot).vote ≡ Some vote → slot.place < most_places

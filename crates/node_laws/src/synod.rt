@@ -10,13 +10,13 @@ ghost use Rattle.mc_model.specs.node.Actor.{Actor};
 ghost use Rattle.mc_model.specs.node.Knowledge.{IsLearned};
 ghost use Rattle.mc_model.specs.node.Rounds.{IsPromised};
 ghost use Rattle.mc_model.specs.node.Settling.{HasTold};
-ghost use Rattle.node_model.specs.Acceptor.{prepare_judged, propose_judged, told_of};
+ghost use Rattle.node_model.specs.Acceptor.{ArePlaced, prepare_judged, propose_judged, told_of};
 ghost use Rattle.node_model.specs.Learner.{heard, makes_known};
 ghost use Rattle.node_model.specs.Message.{Message, unseen};
 ghost use Rattle.node_model.specs.Packets.{known_then};
 ghost use Rattle.node_model.specs.Same.{same_vote};
 ghost use Rattle.node_model.specs.Sets.{is_majority};
-ghost use Rattle.node_laws.specs.Answering.{ArePlaced, IsAnswered};
+ghost use Rattle.node_laws.specs.Answering.{IsAnswered};
 ghost use Rattle.node_laws.specs.Stands.{HasHeard, TellsOfNone};
 
 /// Two votes are found the same exactly if they are equal.

@@ -1,5 +1,5 @@
 -- What an acceptor answers, and the record that it leaves (Paxos Made Simple, 2.2 and 2.5).
-use Rattle.std.specs.Prelude.{ℕ, zero, suc, nat_le, nat_lt, Option, Some, None, if◌then◌else◌}
+use Rattle.std.specs.Prelude.{◌≡◌, ℕ, zero, suc, ◌<◌, nat_le, nat_lt, Option, Some, None, if◌then◌else◌}
 use Rattle.mc_model.specs.synod.OneSlot.{Vote}
 use Rattle.mc_model.specs.synod.Packet.{Packet, Promise, Refused, Slot, TopVote, Voted, slot_at, top_at}
 use Rattle.mc_model.specs.synod.Acceptor.{Records, SlotRecord, after_promise, after_vote}
@@ -35,3 +35,7 @@ told_below records id (suc place) =
 
 abbrev pub told_of : Records → ℕ → Option TopVote
 told_of records id = told_below records id most_places
+
+-- each vote stands at one of the places of a chain
+abbrev pub ArePlaced : Records → Type 0
+ArePlaced records = (slot : Slot) (vote : Vote) → (records slot).vote ≡ Some vote → slot.place < most_places

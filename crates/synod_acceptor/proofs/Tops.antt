@@ -9,7 +9,7 @@ use Rattle.mc_parts.proofs.Membership.{in_right, in_either}
 use Rattle.synod_acceptor.specs.declared.record.Record.{Record}
 use Rattle.synod_acceptor.specs.declared.vote.Vote.{Vote as Cast}
 use Rattle.synod_acceptor.specs.declared.vote.Report.TheVariants.{Nothing, Held}
-use Rattle.synod_acceptor.specs.Votes.{slot_in, told_of, vote_of}
+use Rattle.synod_acceptor.specs.Votes.{slot_in, told_vote, vote_of}
 use Rattle.synod_acceptor.specs.Records.{entries_of, entry_of, held_at, or_blank, record_at, AreApart, IsAbove, IsTopEntry, IsTopOf, Passes}
 use Rattle.synod_acceptor.proofs.Slots.{by_first, held_first, held_later}
 
@@ -85,27 +85,27 @@ passes_other cast id told differs = record {
       absurd (differs (sym (ap (λ (e : Slot × SlotRecord). e.0.id) same))));
 }
 
-within : (cast : Cast) (told : Option Cast) → (IsAbove cast told → ⊥) → IsWithinTop (told_of told) (slot_in cast).place
+within : (cast : Cast) (told : Option Cast) → (IsAbove cast told → ⊥) → IsWithinTop (told_vote told) (slot_in cast).place
 within cast None never = never tt
 within cast (Some old) never = not_above never
   where
     not_above : ((slot_in old).place < (slot_in cast).place → ⊥) → (slot_in cast).place ≤ (slot_in old).place
     not_above none = omega arith
 
-pub passes_lower : (cast : Cast) (id : ℕ) (told : Option Cast) → (IsAbove cast told → ⊥) → Passes (Held cast) id (told_of told) (told_of told)
+pub passes_lower : (cast : Cast) (id : ℕ) (told : Option Cast) → (IsAbove cast told → ⊥) → Passes (Held cast) id (told_vote told) (told_vote told)
 passes_lower cast id told never = record {
-  leads = λ entries promised top. top_still entries (slot_in cast, record { promised = promised; vote = Some (vote_of cast) }) id (told_of told) top (λ place was vote same.
-      subst (λ (p : ℕ). IsWithinTop (told_of told) p) (sym (ap (λ (e : Slot × SlotRecord). e.0.place) same)) (within cast told never));
+  leads = λ entries promised top. top_still entries (slot_in cast, record { promised = promised; vote = Some (vote_of cast) }) id (told_vote told) top (λ place was vote same.
+      subst (λ (p : ℕ). IsWithinTop (told_vote told) p) (sym (ap (λ (e : Slot × SlotRecord). e.0.place) same)) (within cast told never));
 }
 
-higher : (cast : Cast) (told : Option Cast) → IsAbove cast told → IsHigher (told_of told) (slot_in cast).place
+higher : (cast : Cast) (told : Option Cast) → IsAbove cast told → IsHigher (told_vote told) (slot_in cast).place
 higher cast None above = tt
 higher cast (Some old) above = above
 
-pub passes_higher : (cast : Cast) (id : ℕ) (told : Option Cast) → cast.chain.id ≡ id → IsAbove cast told → Passes (Held cast) id (told_of told) (told_of (Some cast))
+pub passes_higher : (cast : Cast) (id : ℕ) (told : Option Cast) → cast.chain.id ≡ id → IsAbove cast told → Passes (Held cast) id (told_vote told) (told_vote (Some cast))
 passes_higher cast id told same above = record {
   leads = λ entries promised top.
-      let grown = top_higher entries promised id (told_of told) (top_at (slot_in cast) (vote_of cast)) top same (higher cast told above) in
+      let grown = top_higher entries promised id (told_vote told) (top_at (slot_in cast) (vote_of cast)) top same (higher cast told above) in
       let slots : slot_at id (slot_in cast).place ≡ slot_in cast = λ i. slot_at (sym same i) (slot_in cast).place in
       subst (λ (s : Slot). IsTopEntry (entries ++ (s, record { promised = promised; vote = Some (vote_of cast) }) ∷ []) id (top_at (slot_in cast) (vote_of cast))) slots grown;
 }

@@ -7,7 +7,7 @@ use Rattle.mc_model.specs.node.Actor.{Actor}
 use Rattle.mc_model.specs.node.Act.{Act}
 use Rattle.mc_model.specs.node.Core.{AcceptorReplies}
 use Rattle.mc_model.specs.node.Effect.{packets_by, records_by}
-use Rattle.synod_acceptor.specs.Verdicts.{Judgement, prepare_judged, propose_judged}
+use Rattle.node_model.specs.Acceptor.{Judgement, prepare_judged, propose_judged}
 
 -- the act of a node sends the answer, and leaves the record in the slot
 pub record Does (node : ℕ) (a : Actor) (records : Records) (slot : Slot) (act : Act) (judged : Judgement) : Type 0 where

@@ -1,6 +1,6 @@
 -- Packets, as the model's.
 use Rattle.mc_model.specs.synod.Packet.{Packet, Prepare, Promise, Propose, Voted, Refused, Ask, Tell}
-use Rattle.synod_acceptor.specs.Votes.{vote_of, slot_in, report_of, slot_reported, told_of}
+use Rattle.synod_acceptor.specs.Votes.{vote_of, slot_in, report_of, slot_reported, told_vote}
 use Rattle.synod_acceptor.specs.declared.packet.Packet.{Packet as Sent}
 use Rattle.synod_acceptor.specs.declared.packet.Packet.TheVariants as sent
 
@@ -11,4 +11,4 @@ packet_of (sent.Propose from vote) = Propose from (slot_in vote) (vote_of vote)
 packet_of (sent.Voted from vote) = Voted from (slot_in vote) (vote_of vote)
 packet_of (sent.Refused from slot ballot promised) = Refused from slot ballot promised
 packet_of (sent.Ask from id name) = Ask from id name
-packet_of (sent.Tell from name told) = Tell from name (told_of told)
+packet_of (sent.Tell from name told) = Tell from name (told_vote told)

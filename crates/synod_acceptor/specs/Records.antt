@@ -4,6 +4,7 @@ use Rattle.mc_model.specs.synod.Lists.{In}
 use Rattle.mc_model.specs.synod.OneSlot.{Vote}
 use Rattle.mc_model.specs.synod.Packet.{Slot, TopVote, same_slot, slot_at}
 use Rattle.mc_model.specs.synod.Acceptor.{SlotRecord, blank}
+use Rattle.node_model.specs.Acceptor.{ArePlaced}
 use Rattle.synod_acceptor.specs.Votes.{record_of, report_of, slot_in, slot_recorded, slot_reported}
 use Rattle.synod_acceptor.specs.declared.record.Record.{Record}
 use Rattle.synod_acceptor.specs.declared.vote.Report.{Report}
@@ -32,6 +33,11 @@ record_at entries slot = or_blank (held_at entries slot)
 abbrev pub AreApart : List (Slot × SlotRecord) → Type 0
 AreApart [] = Unit {0}
 AreApart (first ∷ others) = (held_at others first.0 ≡ None) × AreApart others
+
+-- the records of an acceptor: one of a slot, and each vote at one of the places of a chain
+pub record AreRecords (entries : List (Slot × SlotRecord)) : Type 0 where
+  pub apart : AreApart entries
+  pub placed : ArePlaced (record_at entries)
 
 -- where the record of a slot stands
 pub record IsFoundAt (entries : List (Slot × SlotRecord)) (slot : Slot) (place : ℕ) : Type 0 where

@@ -29,6 +29,6 @@ abbrev pub slot_recorded : Record → Slot
 slot_recorded r = slot_reported r.report
 
 -- what is told of a message
-abbrev pub told_of : Option Cast → Option TopVote
-told_of None = None
-told_of (Some vote) = Some (top_at (slot_in vote) (vote_of vote))
+abbrev pub told_vote : Option Cast → Option TopVote
+told_vote None = None
+told_vote (Some vote) = Some (top_at (slot_in vote) (vote_of vote))

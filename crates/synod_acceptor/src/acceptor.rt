@@ -3,11 +3,12 @@
 ghost use Rattle.std.specs.Prelude.{◌≡◌, ◌<◌, ◌≤◌, ◌↔◌, Some, None, option_map, IfOk, IfSome, IsTrue, OnOk, OnErr};
 ghost use Rattle.std.specs.Option.{option_copied};
 ghost use Rattle.mc_model.specs.synod.Packet.{Slot as SlotValue};
-ghost use Rattle.mc_model.specs.synod.Acceptor.{IsTold, with_record};
-ghost use Rattle.synod_acceptor.specs.Votes.{record_of, slot_in, slot_recorded, told_of, vote_of};
+ghost use Rattle.mc_model.specs.synod.Acceptor.{with_record};
+ghost use Rattle.node_model.specs.Acceptor.{prepare_judged, propose_judged, told_of};
+ghost use Rattle.synod_acceptor.specs.Votes.{record_of, slot_in, slot_recorded, told_vote, vote_of};
 ghost use Rattle.synod_acceptor.specs.Packets.{packet_of};
 ghost use Rattle.synod_acceptor.specs.Records.{IsAbove, IsPlace, IsTopOf, Passes, entries_of, held_at, record_at};
-ghost use Rattle.synod_acceptor.specs.Verdicts.{Changes, prepare_judged, propose_judged};
+ghost use Rattle.synod_acceptor.specs.Verdicts.{Changes};
 ghost use Rattle.synod_acceptor.specs.declared.packet.Packet.TheVariants as sent;
 ghost use Rattle.synod_acceptor.specs.declared.vote.Report.TheVariants as reports;
 
@@ -42,11 +43,11 @@ impl Model for Acceptor {
 
     ghost Value = { List (Slot × SlotRecord) };
 
-    ghost use Rattle.synod_acceptor.specs.Records.{AreApart, entries_of};
+    ghost use Rattle.synod_acceptor.specs.Records.{AreRecords, entries_of};
 
     ghost view = { λ acceptor. entries_of acceptor.records.items };
 
-    ghost invariant = { λ acceptor. AreApart (entries_of acceptor.records.items) };
+    ghost invariant = { λ acceptor. AreRecords (entries_of acceptor.records.items) };
 }
 
 impl Acceptor {
@@ -133,7 +134,7 @@ impl Acceptor {
 
     /// The vote at the highest place of a message at which it voted; none if it did not. It takes no memory.
     pub fn tell(&self, id: MsgId) -> Option<&Vote>
-        ensures { IsTold (record_at self.now) id (told_of (option_copied result)) }
+        ensures { told_vote (option_copied result) ≡ told_of (record_at self.now) id }
     {
         top_of(&self.records, id)
     }
@@ -164,7 +165,7 @@ fn place_of(records: &[Record], slot: Slot) -> Option<usize>
 
 /// The vote at the highest place of a message.
 fn top_of(records: &[Record], id: MsgId) -> Option<&Vote>
-    ensures { IsTopOf (entries_of records.now) id (told_of (option_copied result)) }
+    ensures { IsTopOf (entries_of records.now) id (told_vote (option_copied result)) }
 {
     let mut top = None;
     for record in records {
@@ -175,7 +176,7 @@ fn top_of(records: &[Record], id: MsgId) -> Option<&Vote>
 
 /// The vote that is reported, if it is of the message and at a higher place than the one before; else that.
 fn higher<'a>(report: &'a Report, id: MsgId, top: Option<&'a Vote>) -> Option<&'a Vote>
-    ensures { Passes report.now id (told_of (option_copied top.entry)) (told_of (option_copied result)) }
+    ensures { Passes report.now id (told_vote (option_copied top.entry)) (told_vote (option_copied result)) }
 {
     let Report::Held(vote) = report else {
         return top;

@@ -1,7 +1,8 @@
 //! The records of an acceptor.
 
-ghost use Rattle.std.specs.Prelude.{◌≡◌, ◌↔◌, IfOk, IsTrue};
+ghost use Rattle.std.specs.Prelude.{◌≡◌, ◌<◌, ◌⊎◌, ◌↔◌, None, IfOk, IsTrue};
 ghost use Rattle.mc_model.specs.synod.Acceptor.{after_vote};
+ghost use Rattle.node_model.specs.Message.{most_places};
 ghost use Rattle.synod_acceptor.specs.Votes.{record_of, slot_in, slot_recorded, vote_of};
 
 use crate::vote::{Report, Vote};
@@ -22,9 +23,10 @@ pub struct Change {
 }
 
 impl Record {
-    /// The slot of which it is the record.
+    /// The slot of which it is the record; that of a vote is at one of the places of a chain.
     pub fn slot(&self) -> Slot
-        ensures { result ≡ slot_recorded self.now }
+        ensures slot { result ≡ slot_recorded self.now }
+        ensures place { ((record_of self.now).vote ≡ None) ⊎ (result.place < most_places) }
     {
         self.report.slot()
     }

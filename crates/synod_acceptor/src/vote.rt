@@ -1,7 +1,8 @@
 //! Votes, and what is reported of them.
 
-ghost use Rattle.std.specs.Prelude.{◌≡◌, ◌↔◌, IfOk, IsTrue};
-ghost use Rattle.synod_acceptor.specs.Votes.{slot_in, slot_reported};
+ghost use Rattle.std.specs.Prelude.{◌≡◌, ◌<◌, ◌⊎◌, ◌↔◌, None, IfOk, IsTrue};
+ghost use Rattle.node_model.specs.Message.{most_places};
+ghost use Rattle.synod_acceptor.specs.Votes.{report_of, slot_in, slot_reported};
 
 use fate_chain::Chain;
 use mc_types::{Ballot, Slot};
@@ -17,7 +18,8 @@ pub struct Vote {
 impl Vote {
     /// The slot in which its chain stands.
     pub fn slot(&self) -> Slot
-        ensures { result ≡ slot_in self.now }
+        ensures slot { result ≡ slot_in self.now }
+        ensures place { result.place < most_places }
     {
         Slot {
             id: self.chain.id(),
@@ -51,9 +53,10 @@ pub enum Report {
 }
 
 impl Report {
-    /// The slot of which it reports.
+    /// The slot of which it reports; that of a vote is at one of the places of a chain.
     pub fn slot(&self) -> Slot
-        ensures { result ≡ slot_reported self.now }
+        ensures slot { result ≡ slot_reported self.now }
+        ensures place { (report_of self.now ≡ None) ⊎ (result.place < most_places) }
     {
         match self {
             Report::Nothing(slot) => *slot,

@@ -1,4 +1,4 @@
-use Rattle.node_laws.proofs.Same.{vote_decides}
+use Rattle.node_model.proofs.Same.{vote_decides}
 use Rattle.node_laws.proofs.synod.votes_are_compared_exactly.Goals as goal
 
 pub returns : goal.returns

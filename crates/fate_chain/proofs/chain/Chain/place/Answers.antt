@@ -7,3 +7,8 @@ pub overflow_cast-result : goal.overflow_cast-result
 overflow_cast-result c =
     let place = has_place c.self.inside.id (reverse c.self.inside.decrees.items) c.self.invariant in
     omega (arith, place.most, length-reverse c.self.inside.decrees.items)
+
+pub returns-clause-range : goal.returns-clause-range
+returns-clause-range c =
+    let place = has_place c.self.inside.id (reverse c.self.inside.decrees.items) c.self.invariant in
+    omega (arith, place.most, length-reverse c.self.inside.decrees.items)

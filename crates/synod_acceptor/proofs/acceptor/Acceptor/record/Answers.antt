@@ -10,7 +10,7 @@ held c =
     let found : IsFoundAt (entries_of c.self.inside.records.items) c.args.slot c.in_ok-place.place = rw (← c.deref.ensures.value) c.in_ok-place.ensures in
     let within = place_within c.self.inside.records.items c.args.slot c.in_ok-place.place found in
     let stands = slice_get_read c.self.inside.records.items (length c.self.inside.records.items) c.in_ok-place.place c.index.result.now refl within c.index.ensures in
-    held_here c.self.inside.records.items c.in_ok-place.place c.index.result.now c.args.slot c.self.invariant found stands
+    held_here c.self.inside.records.items c.in_ok-place.place c.index.result.now c.args.slot c.self.invariant.apart found stands
 
 pub returns-clause-record : goal.returns-clause-record
 returns-clause-record c = rw (← c.self.view_is) (sym (held c).0)
