@@ -16,9 +16,8 @@ use Rattle.node_model.specs.Sets.{is_majority, with_node}
 use Rattle.node_model.specs.Message.{Message, unseen}
 use Rattle.node_model.specs.Learner.{heard, is_shorter, makes_known}
 use Rattle.node_model.specs.Packets.{known_then}
-use Rattle.node_model.specs.Same.{same_vote}
 use Rattle.node_laws.specs.Stands.{HasHeard, TellsOfNone}
-use Rattle.node_model.proofs.Same.{vote_decides}
+use Rattle.node_model.proofs.Heard.{with_voter}
 
 -- ---- majorities
 
@@ -33,20 +32,6 @@ majority_decides nodes P test finds = (
 )
 
 -- ---- one more vote is heard
-
-with_voter : (m : Message) (voter : ℕ) (vote : Vote) (node : ℕ) (other : Vote) → Decides ((heard m voter vote).votes other node) ((m.votes other node ≡ true) ⊎ ((vote ≡ other) × (node ≡ voter)))
-with_voter m voter vote node other = by_test (same_vote vote other) refl
-  where
-    by_test : (test : Bool) → same_vote vote other ≡ test → Decides ((if test then with_node (m.votes other) voter else m.votes other) node) ((m.votes other node ≡ true) ⊎ ((vote ≡ other) × (node ≡ voter)))
-    by_test true same =
-        Decides-like (with_node (m.votes other) voter node)
-        (λ p. elim p [ inl before ↦ inl before | inr now ↦ inr ((vote_decides vote other).0 same, now) ])
-        (λ p. elim p [ inl before ↦ inl before | inr now ↦ inr now.1 ])
-        (Decides-or (m.votes other node) (node == voter) ((λ t. t), (λ t. t)) (Decides-eqb node voter))
-    by_test false differs = (
-      λ t. inl t,
-      λ p. elim p [ inl before ↦ before | inr now ↦ absurd (true≢false (sym ((vote_decides vote other).1 now.0) ∙ differs)) ],
-    )
 
 module _ (nodes voter id : ℕ) (vote : Vote) (received : List Packet) (m : Message) (before : HasHeard nodes received id m) where
   abbrev Told : Packet

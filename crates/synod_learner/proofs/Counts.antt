@@ -68,7 +68,7 @@ none_is : (others : List Count) (first : Count) (slot : Slot) (vote : Vote) (vot
 none_is others first slot vote voters none slots votes is_in =
     none voters (subst (λ (c : Count). In c others) (λ i. count (slots i) (votes i) voters) is_in)
 
-single_in : (counts : List Count) (slot : Slot) (vote : Vote) (one other : ℕ) → AreSingle counts → In (count slot vote one) counts → In (count slot vote other) counts → one ≡ other
+pub single_in : (counts : List Count) (slot : Slot) (vote : Vote) (one other : ℕ) → AreSingle counts → In (count slot vote one) counts → In (count slot vote other) counts → one ≡ other
 single_in [] slot vote one other single a b = absurd a
 single_in (first ∷ others) slot vote one other single (inl a) (inl b) = ap (λ (c : Count). c.voters) (a ∙ sym b)
 single_in (first ∷ others) slot vote one other single (inl a) (inr b) = absurd (none_is others first slot vote other single.0 (ap (λ (c : Count). c.slot) a) (ap (λ (c : Count). c.vote) a) b)
@@ -133,7 +133,7 @@ with_new : (counts : List Count) (slot : Slot) (vote : Vote) (place : Option ℕ
 with_new counts slot vote None new none = in_right (count slot vote new) counts (count slot vote new ∷ []) (inl refl)
 with_new counts slot vote (Some place) new at = set_new counts place (count slot vote at.voters) (count slot vote new) at.stands
 
-with_from : (counts : List Count) (place : Option ℕ) (new c : Count) → In c (with_count counts place new) → In c counts ⊎ (c ≡ new)
+pub with_from : (counts : List Count) (place : Option ℕ) (new c : Count) → In c (with_count counts place new) → In c counts ⊎ (c ≡ new)
 with_from counts None new c is_in = in_two c counts new is_in
 with_from counts (Some place) new c is_in = set_from counts place new c is_in
 

@@ -16,7 +16,7 @@ use Rattle.mc_parts.proofs.Learning.{IsReached, IsShorter as IsBelow, known_reac
 use Rattle.synod_acceptor.specs.declared.vote.Vote.{Vote as Cast}
 use Rattle.synod_acceptor.specs.Votes.{slot_in, vote_of}
 use Rattle.synod_learner.specs.Counts.{AreOfOthers, Count, Grows, IsCounted, Learned, WithChain, known_in}
-use Rattle.synod_learner.specs.Hearing.{HasHeard, IsShorter, MakesKnown, Names}
+use Rattle.synod_learner.specs.Hearing.{HasHeard, IsShorter, MakesKnown}
 use Rattle.synod_learner.proofs.Counts.{IsAdded}
 
 abbrev pub told_by : ℕ → Cast → Packet
@@ -166,11 +166,6 @@ heard_new true nodes counts new known later received voter vote voters added are
 heard_new false nodes counts new known later received voter vote voters added are decides same heard =
     subst (λ (k : List Chain). HasHeard (learned_of nodes new k) (told_by voter vote ∷ received)) (sym same)
     (heard_more nodes counts new known received voter vote voters heard added are (λ most shorter. true≢false (sym (decides.1 (most, shorter)))))
-
-pub named_new : (grows : Bool) (nodes : ℕ) (counts new : List Count) (known later : List Chain) (vote : Cast) (voters : ℕ) → (IsTrue grows ↔ MakesKnown nodes known voters vote) → Grows grows known vote.chain later → Names (learned_of nodes counts known) (learned_of nodes new later) vote grows
-named_new true nodes counts new known later vote voters decides with =
-    ((decides.0 refl).1, with.known vote.chain.id ∙ ap (λ (b : Bool). cond b (Some vote.chain.decrees) (known_in known vote.chain.id)) (eq-eqb vote.chain.id vote.chain.id refl))
-named_new false nodes counts new known later vote voters decides same = ap (λ (k : List Chain). known_in k vote.chain.id) same
 
 pub others_grown : (grows : Bool) (known later : List Chain) (chain : Chain) → AreOfOthers known → Grows grows known chain later → AreOfOthers later
 others_grown true known later chain others with = with.others

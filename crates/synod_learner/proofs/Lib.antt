@@ -1,3 +1,4 @@
 pub mod Chains
 pub mod Counts
 pub mod Hearing
+pub mod Messages

@@ -1,11 +1,12 @@
 -- Votes, counted: for each slot, ballot and chain the set of those who voted for it.
-use Rattle.std.specs.Prelude.{◌≡◌, ℕ, ◌==◌, Bool, true, false, List, [], ◌∷◌, ◌++◌, set, slice_get, map, Option, Some, None, if◌then◌else◌}
+use Rattle.std.specs.Prelude.{◌≡◌, ℕ, ◌==◌, ◌&&◌, ◌||◌, Bool, true, false, List, [], ◌∷◌, ◌++◌, set, slice_get, map, Option, Some, None, if◌then◌else◌}
 use Rattle.mc_types.specs.Nodes.{has}
 use Rattle.mc_model.specs.message.Chain.{Chain}
 use Rattle.mc_model.specs.message.Decree.{Decree}
 use Rattle.mc_model.specs.synod.Lists.{In}
 use Rattle.mc_model.specs.synod.OneSlot.{Vote}
-use Rattle.mc_model.specs.synod.Packet.{Slot}
+use Rattle.mc_model.specs.synod.Packet.{Slot, same_slot}
+use Rattle.node_model.specs.Same.{same_vote}
 use Rattle.synod_acceptor.specs.Votes.{slot_in, vote_of}
 use Rattle.synod_learner.specs.declared.tally.Tally.{Tally}
 
@@ -25,6 +26,12 @@ pub record IsCounted (counts : List Count) (voter : ℕ) (slot : Slot) (vote : V
   pub voters : ℕ
   pub stands : In (record { slot = slot; vote = vote; voters = voters }) counts
   pub counted : has voters voter ≡ true
+
+-- the same, as a test
+abbrev pub is_voter : List Count → Slot → Vote → ℕ → Bool
+is_voter [] slot vote node = false
+is_voter (first ∷ others) slot vote node =
+    (same_slot first.slot slot && (same_vote first.vote vote && has first.voters node)) || is_voter others slot vote node
 
 -- nobody is
 abbrev pub IsUncounted : List Count → Slot → Vote → Type 0

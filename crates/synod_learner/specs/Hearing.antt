@@ -6,10 +6,12 @@ use Rattle.mc_model.specs.message.Chain.{Chain}
 use Rattle.mc_model.specs.synod.Lists.{In}
 use Rattle.mc_model.specs.synod.Majority.{IsMajority}
 use Rattle.mc_model.specs.synod.OneSlot.{Vote}
-use Rattle.mc_model.specs.synod.Packet.{Packet, Slot, Voted}
+use Rattle.mc_model.specs.synod.Packet.{Packet, Slot, Voted, slot_of}
 use Rattle.mc_model.specs.node.Knowledge.{IsKnown}
+use Rattle.node_model.specs.Message.{Message, unseen}
+use Rattle.node_model.specs.Packets.{known_then}
 use Rattle.synod_acceptor.specs.declared.vote.Vote.{Vote as Cast}
-use Rattle.synod_learner.specs.Counts.{IsCounted, Learned, known_in}
+use Rattle.synod_learner.specs.Counts.{AreOfOthers, AreSingle, Count, IsCounted, Learned, is_voter, known_in}
 
 -- It counted the votes of which these packets tell, and no others; and of each message it knows the chain that a node knows to
 -- which they came: the longest of which a majority told at one ballot, and of equally long ones the first.
@@ -26,8 +28,24 @@ IsShorter (Some old) chain = pred (length old) < pred (length chain)
 abbrev pub MakesKnown : ℕ → List Chain → ℕ → Cast → Type 0
 MakesKnown nodes known voters vote = IsMajority nodes (has voters) × IsShorter (known_in known vote.chain.id) vote.chain.decrees
 
--- The chain of a vote is known from then on, where less was known of its message; or what was known stays.
-abbrev pub Names : Learned → Learned → Cast → Bool → Type 0
-Names old new vote false = known_in new.known vote.chain.id ≡ known_in old.known vote.chain.id
-Names old new vote true = IsShorter (known_in old.known vote.chain.id) vote.chain.decrees
-    × (known_in new.known vote.chain.id ≡ Some vote.chain.decrees)
+-- of a vote that a majority cast the chain is known, or one of its message that is as long
+pub record AreLearned (nodes : ℕ) (counts : List Count) (known : List Chain) : Type 0 where
+  pub each : (count : Count) → In count counts → IsMajority nodes (has count.voters) →
+      IsShorter (known_in known count.slot.id) count.vote.chain → ⊥
+
+-- what a learner holds agrees: no vote has two counts, and no message two chains
+pub record IsCoherent (nodes : ℕ) (counts : List Count) (known : List Chain) : Type 0 where
+  pub single : AreSingle counts
+  pub others : AreOfOthers known
+  pub learned : AreLearned nodes counts known
+
+-- ---- a message, as a node keeps it
+
+-- by what a learner heard and knows of it alone
+abbrev pub message_in : Learned → ℕ → Message
+message_in l id = record unseen { votes = λ vote. is_voter l.counts (slot_of id vote.chain) vote; known = known_in l.known id }
+
+-- a chain becomes known, or not
+abbrev pub known_if : Bool → Message → List Decree → Message
+known_if false m chain = m
+known_if true m chain = known_then m chain

@@ -1,12 +1,14 @@
 //! The learner.
 
-ghost use Rattle.std.specs.Prelude.{◌≡◌, ◌<◌, ◌↔◌, ◌∷◌, [], List, option_map, length, IfOk, IfSome, IsTrue, OnOk, OnErr};
+ghost use Rattle.std.specs.Prelude.{◌≡◌, ◌<◌, ◌↔◌, ◌∷◌, [], ℕ, List, option_map, length, IfOk, IfSome, IsTrue, OnOk, OnErr};
 ghost use Rattle.std.specs.Option.{option_copied};
 ghost use Rattle.std.specs.Vec.{vec_len, vec_capacity};
 ghost use Rattle.mc_model.specs.synod.Packet.{Packet, Voted};
+ghost use Rattle.node_model.specs.Learner.{heard, makes_known};
+ghost use Rattle.node_model.specs.Message.{unseen};
 ghost use Rattle.synod_acceptor.specs.Votes.{slot_in, vote_of};
 ghost use Rattle.synod_learner.specs.Counts.{AreOfOthers, Grows, IsChainPlace, IsCountPlace, IsCounted, IsVotersAt, WithChain, counts_of, known_in, with_count};
-ghost use Rattle.synod_learner.specs.Hearing.{HasHeard, IsShorter, MakesKnown, Names};
+ghost use Rattle.synod_learner.specs.Hearing.{HasHeard, IsShorter, MakesKnown, known_if, message_in};
 
 use crate::tally::{Tally, tally_of};
 use fate_chain::Chain;
@@ -33,7 +35,8 @@ impl Model for Learner {
 
     ghost Value = { Learned };
 
-    ghost use Rattle.synod_learner.specs.Counts.{AreOfOthers, AreSingle, counts_of};
+    ghost use Rattle.synod_learner.specs.Counts.{counts_of};
+    ghost use Rattle.synod_learner.specs.Hearing.{IsCoherent};
 
     ghost view = { λ l. record {
       nodes = l.nodes;
@@ -41,7 +44,7 @@ impl Model for Learner {
       known = l.known.items;
     } };
 
-    ghost invariant = { λ l. AreSingle (counts_of l.tallies.items) × AreOfOthers l.known.items };
+    ghost invariant = { λ l. IsCoherent l.nodes (counts_of l.tallies.items) l.known.items };
 }
 
 impl Learner {
@@ -49,6 +52,7 @@ impl Learner {
     pub fn make(alloc: Global, nodes: u8) -> Learner
         ensures nodes { result.nodes ≡ nodes }
         ensures nothing { HasHeard result [] }
+        ensures message { (id : ℕ) → message_in result id ≡ unseen }
     {
         Learner {
             nodes,
@@ -64,7 +68,9 @@ impl Learner {
         ensures nodes { self.new.nodes ≡ self.old.nodes }
         ensures heard { OnOk result ((received : List Packet) → HasHeard self.old received →
             HasHeard self.new (Voted from (slot_in vote.now) (vote_of vote.now) ∷ received)) }
-        ensures named { IfOk result (λ named. Names self.old self.new vote.now named) }
+        ensures grows { IfOk result (λ grows. grows ≡ makes_known self.old.nodes (heard (message_in self.old vote.now.chain.id) from (vote_of vote.now)) (vote_of vote.now)) }
+        ensures message { IfOk result (λ grows. message_in self.new vote.now.chain.id
+            ≡ known_if grows (heard (message_in self.old vote.now.chain.id) from (vote_of vote.now)) vote.now.chain.decrees) }
         ensures err { OnErr result (self.new ≡ self.old) }
         ensures memory { OnErr result (IsCounted self.old.counts from (slot_in vote.now) (vote_of vote.now) → ⊥) }
     {
