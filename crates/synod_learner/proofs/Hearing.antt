@@ -1,7 +1,7 @@
 -- What a learner has heard, and what it knows, after one more vote.
 use Rattle.std.proofs.Common.{◌≡◌, ◌↔◌, ℕ, pred, ◌<◌, ◌≤◌, Bool, true, false, cond, List, [], ◌∷◌, length, Option, Some, None, refl, sym, ap, subst, ◌∙◌, inl, inr, arith, rules}
 use Rattle.std.specs.Prelude.{◌==◌, IsTrue, OnErr, Result, Ok, Err, nat_lt}
-use Rattle.std.proofs.lemmas.Bool.{cases_Bool, eq-eqb, eqb-false, eqb-true, true≢false}
+use Rattle.std.proofs.lemmas.Bool.{cases_Bool, eqb-false, eqb-true, true≢false}
 use Rattle.mc_types.specs.Nodes.{has}
 use Rattle.mc_model.specs.message.Decree.{Decree}
 use Rattle.mc_model.specs.message.Chain.{Chain}

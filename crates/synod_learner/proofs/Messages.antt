@@ -1,7 +1,7 @@
 -- What a learner heard and knows of a message, as a node keeps it.
 use Rattle.std.proofs.Common.{◌≡◌, ◌⊎◌, ◌↔◌, ℕ, pred, ◌*◌, ◌<◌, Bool, true, false, cond, List, [], ◌∷◌, length, Option, Some, None, refl, sym, ap, subst, ◌∙◌, inl, inr, arith}
 use Rattle.std.proofs.Math.Path.{fun_ext}
-use Rattle.std.specs.Prelude.{◌==◌, ◌&&◌, IsTrue, nat_lt}
+use Rattle.std.specs.Prelude.{◌==◌, ◌&&◌, IsTrue}
 use Rattle.std.specs.Bool.{Decides}
 use Rattle.std.specs.Cmp.{both_ways}
 use Rattle.std.proofs.lemmas.Bool.{cases_Bool, eq-eqb, true≢false}
@@ -12,10 +12,10 @@ use Rattle.mc_model.specs.message.Chain.{Chain}
 use Rattle.mc_model.specs.synod.Lists.{In}
 use Rattle.mc_model.specs.synod.Majority.{IsMajority, count as count_nodes}
 use Rattle.mc_model.specs.synod.OneSlot.{Vote}
-use Rattle.mc_model.specs.synod.Packet.{Slot, Voted, same_slot, slot_of}
+use Rattle.mc_model.specs.synod.Packet.{Slot, same_slot, slot_of}
 use Rattle.mc_parts.proofs.Membership.{slots_same}
 use Rattle.node_model.specs.Learner.{heard, is_shorter, makes_known}
-use Rattle.node_model.specs.Message.{Message, unseen}
+use Rattle.node_model.specs.Message.{unseen}
 use Rattle.node_model.specs.Same.{same_vote}
 use Rattle.node_model.specs.Sets.{is_majority}
 use Rattle.node_model.proofs.Heard.{with_voter}
@@ -23,7 +23,7 @@ use Rattle.node_model.proofs.Same.{vote_decides}
 use Rattle.synod_acceptor.specs.declared.vote.Vote.{Vote as Cast}
 use Rattle.synod_acceptor.specs.Votes.{slot_in, vote_of}
 use Rattle.synod_acceptor.proofs.Slots.{is_same}
-use Rattle.synod_learner.specs.Counts.{AreSingle, Count, Grows, IsCounted, Learned, WithChain, is_voter, known_in, with_count}
+use Rattle.synod_learner.specs.Counts.{AreSingle, Count, Grows, IsCounted, is_voter, known_in, with_count}
 use Rattle.synod_learner.specs.Hearing.{AreLearned, IsShorter, MakesKnown, known_if, message_in}
 use Rattle.synod_learner.proofs.Counts.{IsAdded, count, single_in, with_from}
 use Rattle.synod_learner.proofs.Hearing.{learned_of}
@@ -150,7 +150,7 @@ learned_more true nodes counts known later vote place voters learned decides wit
     each : (c : Count) → In c (with_count counts place (count (slot_in vote) (vote_of vote) voters)) → IsMajority nodes (has c.voters) → IsShorter (known_in later c.slot.id) c.vote.chain → ⊥
     each c is_in most shorter =
         let by : (test : Bool) → (c.slot.id == vote.chain.id) ≡ test → IsShorter (cond test (Some vote.chain.decrees) (known_in known c.slot.id)) c.vote.chain =
-            λ test is. subst (λ (k : Option (List Decree)). IsShorter k c.vote.chain) (with.known c.slot.id ∙ ap (λ (b : Bool). cond b (Some vote.chain.decrees) (known_in known c.slot.id)) is) shorter in
+        λ test is. subst (λ (k : Option (List Decree)). IsShorter k c.vote.chain) (with.known c.slot.id ∙ ap (λ (b : Bool). cond b (Some vote.chain.decrees) (known_in known c.slot.id)) is) shorter in
         elim (with_from counts place (count (slot_in vote) (vote_of vote) voters) c is_in) [
           | inl old ↦ elim (cases_Bool (c.slot.id == vote.chain.id)) [
             | inl here ↦
@@ -193,5 +193,5 @@ pub grows_new : (nodes : ℕ) (counts new : List Count) (known : List Chain) (vo
 grows_new nodes counts new known voter vote voters grows added are decides =
     let votes = votes_heard nodes counts new known voter vote added in
     let test : (heard (message_in (learned_of nodes counts known) vote.chain.id) voter (vote_of vote)).votes (vote_of vote) ≡ has voters =
-        sym (ap (λ (f : Vote → ℕ → Bool). f (vote_of vote)) votes) ∙ test_is new (slot_in vote) (vote_of vote) voters are in
+    sym (ap (λ (f : Vote → ℕ → Bool). f (vote_of vote)) votes) ∙ test_is new (slot_in vote) (vote_of vote) voters are in
     grows_is nodes voters _ (known_in known vote.chain.id) vote.chain.decrees grows test decides

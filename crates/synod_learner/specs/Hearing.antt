@@ -1,5 +1,5 @@
 -- What a learner has heard, as packets that came to a node, and what it knows by it (Paxos Made Simple, 2.3).
-use Rattle.std.specs.Prelude.{◌≡◌, ◌↔◌, ℕ, ◌<◌, pred, Bool, true, false, List, length, Option, Some, None}
+use Rattle.std.specs.Prelude.{◌↔◌, ℕ, ◌<◌, pred, Bool, true, false, List, length, Option, Some, None}
 use Rattle.mc_model.specs.message.Decree.{Decree}
 use Rattle.mc_types.specs.Nodes.{has}
 use Rattle.mc_model.specs.message.Chain.{Chain}

@@ -1,14 +1,16 @@
 -- Promises, counted one after another.
-use Rattle.std.proofs.Common.{◌≡◌, ◌↔◌, ℕ, Bool, true, false, cond, List, ◌∷◌, Option, Some, None, refl, sym, ap, subst, ◌∙◌, inl, inr, arith}
+use Rattle.std.proofs.Common.{◌≡◌, ◌↔◌, ℕ, ◌*◌, Bool, true, false, cond, List, ◌∷◌, Option, Some, None, refl, sym, ap, inl, inr, arith}
 use Rattle.std.specs.Prelude.{◌==◌, ◌||◌, nat_lt}
+use Rattle.std.proofs.lemmas.Bool.Decides.{Decides-ltb}
 use Rattle.std.proofs.lemmas.Bool.{eq-eqb, eqb-true, ltb-true, ltb-false, or_cases}
-use Rattle.mc_types.specs.Nodes.{has}
 use Rattle.mc_model.specs.synod.Lists.{In}
-use Rattle.mc_model.specs.synod.Majority.{IsMajority}
+use Rattle.mc_model.specs.synod.Majority.{count}
 use Rattle.mc_model.specs.synod.OneSlot.{Vote}
 use Rattle.mc_model.specs.synod.Packet.{Packet, Promise, Slot}
 use Rattle.mc_parts.proofs.Majorities.{counted, majority_counts}
-use Rattle.synod_proposer.specs.Proposing.{IsCounted, Round, higher_of}
+use Rattle.node_model.specs.Message.{Round}
+use Rattle.node_model.specs.Proposer.{higher_of, promised_by}
+use Rattle.node_model.specs.Sets.{is_majority, with_node}
 use Rattle.synod_proposer.specs.Promises.{CountsPromises, HasPromised, IsHighestReport, IsHighestVote, IsPromisedBy}
 
 -- ---- the highest vote
@@ -56,9 +58,9 @@ highest_more received slot ballot acceptor (Some top) (Some vote) is = highest_o
 
 -- ---- who promised
 
-promised_more : (old new : ℕ) (received : List Packet) (slot : Slot) (ballot acceptor : ℕ) (report : Option Vote) → ((node : ℕ) → (has old node ≡ true) ↔ HasPromised received slot ballot node) → ((other : ℕ) → has new other ≡ (has old other || other == acceptor)) → (node : ℕ) → (has new node ≡ true) ↔ HasPromised (Promise acceptor slot ballot report ∷ received) slot ballot node
-promised_more old new received slot ballot acceptor report are adds node = (
-  λ has_it. elim (or_cases (has old node) (node == acceptor) (sym (adds node) ∙ has_it)) [
+promised_more : (old : ℕ → Bool) (received : List Packet) (slot : Slot) (ballot acceptor : ℕ) (report : Option Vote) → ((node : ℕ) → (old node ≡ true) ↔ HasPromised received slot ballot node) → (node : ℕ) → (with_node old acceptor node ≡ true) ↔ HasPromised (Promise acceptor slot ballot report ∷ received) slot ballot node
+promised_more old received slot ballot acceptor report are node = (
+  λ has_it. elim (or_cases (old node) (node == acceptor) has_it) [
     | inl was ↦ let had = (are node).0 was in (had.0, inr had.1)
     | inr same ↦ let is = eqb-true node acceptor same in (report, inl (λ i. Promise (is i) slot ballot report))
   ],
@@ -73,33 +75,23 @@ promised_more old new received slot ballot acceptor report are adds node = (
     first true b is = refl
     first false b is = absurd (cc)
 
-    by_packet : (told : Option Vote) → In (Promise node slot ballot told) (Promise acceptor slot ballot report ∷ received) → has new node ≡ true
-    by_packet told (inl same) = let nodes : node ≡ acceptor = cc in adds node ∙ last (has old node) (node == acceptor) (eq-eqb node acceptor nodes)
-    by_packet told (inr before) = adds node ∙ first (has old node) (node == acceptor) ((are node).1 (told, before))
+    by_packet : (told : Option Vote) → In (Promise node slot ballot told) (Promise acceptor slot ballot report ∷ received) → with_node old acceptor node ≡ true
+    by_packet told (inl same) = let nodes : node ≡ acceptor = cc in last (old node) (node == acceptor) (eq-eqb node acceptor nodes)
+    by_packet told (inr before) = first (old node) (node == acceptor) ((are node).1 (told, before))
 
-    from : HasPromised (Promise acceptor slot ballot report ∷ received) slot ballot node → has new node ≡ true
+    from : HasPromised (Promise acceptor slot ballot report ∷ received) slot ballot node → with_node old acceptor node ≡ true
     from promised = by_packet promised.0 promised.1
 
-abbrev Counted : List Packet → ℕ → Slot → ℕ → Type 0
-Counted received promised slot ballot = (node : ℕ) → (has promised node ≡ true) ↔ HasPromised received slot ballot node
-
-pub counted_more : (old new : Round) (received : List Packet) (acceptor : ℕ) (report : Option Vote) → CountsPromises old received → IsCounted old acceptor report new → CountsPromises new (Promise acceptor old.slot old.ballot report ∷ received)
-counted_more old new received acceptor report before is =
-    let packets = Promise acceptor old.slot old.ballot report ∷ received in
-    let promised : Counted packets new.promised old.slot old.ballot = promised_more old.promised new.promised received old.slot old.ballot acceptor report before.promised is.promised in
-    let highest : IsHighestReport packets old.slot old.ballot (higher_of old.highest report) = highest_more received old.slot old.ballot acceptor old.highest report before.highest in
-    record {
-      promised = subst (λ (s : Slot). Counted packets new.promised s new.ballot) (sym is.slot) (subst (λ (b : ℕ). Counted packets new.promised old.slot b) (sym is.ballot) promised);
-      highest =
-          subst (λ (s : Slot). IsHighestReport packets s new.ballot new.highest) (sym is.slot)
-          (subst (λ (b : ℕ). IsHighestReport packets old.slot b new.highest) (sym is.ballot)
-          (subst (λ (h : Option Vote). IsHighestReport packets old.slot old.ballot h) (sym is.highest) highest));
-    }
+pub counted_more : (r : Round) (received : List Packet) (acceptor : ℕ) (report : Option Vote) → CountsPromises r received → CountsPromises (promised_by r acceptor report) (Promise acceptor r.slot r.ballot report ∷ received)
+counted_more r received acceptor report before = record {
+  promised = promised_more r.promised received r.slot r.ballot acceptor report before.promised;
+  highest = highest_more received r.slot r.ballot acceptor r.highest report before.highest;
+}
 
 -- ---- a majority
 
-pub majority_promised : (nodes : ℕ) (r : Round) (received : List Packet) → CountsPromises r received → IsMajority nodes (has r.promised) ↔ IsPromisedBy nodes received r.slot r.ballot
+pub majority_promised : (nodes : ℕ) (r : Round) (received : List Packet) → CountsPromises r received → (is_majority nodes r.promised ≡ true) ↔ IsPromisedBy nodes received r.slot r.ballot
 majority_promised nodes r received counts = (
-  λ most. majority_counts nodes (HasPromised received r.slot r.ballot) (has r.promised) (λ node least within passes. (counts.promised node).0 passes) most,
-  λ majority. counted nodes (HasPromised received r.slot r.ballot) (has r.promised) (λ node least within promised. (counts.promised node).1 promised) majority,
+  λ most. majority_counts nodes (HasPromised received r.slot r.ballot) r.promised (λ node least within passes. (counts.promised node).0 passes) ((Decides-ltb nodes (2 * count r.promised nodes)).0 most),
+  λ majority. (Decides-ltb nodes (2 * count r.promised nodes)).1 (counted nodes (HasPromised received r.slot r.ballot) r.promised (λ node least within promised. (counts.promised node).1 promised) majority),
 )

@@ -1,11 +1,10 @@
 -- The promises that came to a node for a round, and what it proposes by them (Paxos Made Simple, 2.2).
 use Rattle.std.specs.Prelude.{◌≡◌, ◌↔◌, ℕ, ◌≤◌, true, List, Option, Some, None}
-use Rattle.mc_types.specs.Nodes.{has}
 use Rattle.mc_model.specs.synod.Lists.{In}
 use Rattle.mc_model.specs.synod.Majority.{Majority}
 use Rattle.mc_model.specs.synod.OneSlot.{Vote}
 use Rattle.mc_model.specs.synod.Packet.{Packet, Promise, Slot}
-use Rattle.synod_proposer.specs.Proposing.{Round}
+use Rattle.node_model.specs.Message.{Round}
 
 -- an acceptor promised at the round's ballot
 abbrev pub HasPromised : List Packet → Slot → ℕ → ℕ → Type 0
@@ -22,7 +21,7 @@ IsHighestReport received slot ballot (Some top) = IsHighestVote received slot ba
 
 -- the round has counted the promises among these packets, and no others
 pub record CountsPromises (r : Round) (received : List Packet) : Type 0 where
-  pub promised : (acceptor : ℕ) → (has r.promised acceptor ≡ true) ↔ HasPromised received r.slot r.ballot acceptor
+  pub promised : (acceptor : ℕ) → (r.promised acceptor ≡ true) ↔ HasPromised received r.slot r.ballot acceptor
   pub highest : IsHighestReport received r.slot r.ballot r.highest
 
 -- a majority promised at the round's ballot

@@ -4,14 +4,14 @@ use Rattle.mc_model.specs.synod.OneSlot.{Vote}
 use Rattle.mc_model.specs.synod.Packet.{Slot, slot_of}
 use Rattle.synod_acceptor.specs.Votes.{slot_in, vote_of}
 use Rattle.synod_acceptor.specs.declared.vote.Vote.{Vote as Cast}
-use Rattle.synod_proposer.specs.Proposing.{Round}
+use Rattle.synod_proposer.specs.Proposing.{Running}
 use Rattle.synod_proposer.specs.declared.round.Round.TheInside.{Inside}
 
 abbrev pub votes_of : Option Cast → Option Vote
 votes_of vote = option_map vote_of vote
 
-abbrev pub round_of : Inside → Round
-round_of r = record {
+abbrev pub running_of : Inside → Running
+running_of r = record {
   slot = slot_of r.own.id r.own.decrees;
   ballot = r.ballot;
   own = r.own.decrees;

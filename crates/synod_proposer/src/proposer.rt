@@ -1,11 +1,13 @@
 //! The proposer.
 
-ghost use Rattle.std.specs.Prelude.{◌≡◌, ◌≤◌, ◌↔◌, ◌+◌, ℕ, true, false, None, get_or, set, max, option_map, IfOk, IsErr, OnOk, OnErr};
+ghost use Rattle.std.specs.Prelude.{◌≡◌, ◌≤◌, ◌↔◌, ◌+◌, true, false, None, Ok, get_or, set, max, option_map, IfOk, IsErr, OnOk, OnErr, if◌then◌else◌};
 ghost use Rattle.mc_model.specs.synod.Ballot.{ballot_of};
 ghost use Rattle.mc_model.specs.synod.Packet.{Prepare, slot_of};
+ghost use Rattle.node_model.specs.Message.{unseen};
+ghost use Rattle.node_model.specs.Proposer.{refused, runs_at, started_at};
 ghost use Rattle.synod_acceptor.specs.Packets.{packet_of};
 ghost use Rattle.synod_acceptor.specs.Votes.{report_of, slot_reported};
-ghost use Rattle.synod_proposer.specs.Proposing.{IsStarted, RoundCounted, RoundProposes, highest_round, refused, runs_at};
+ghost use Rattle.synod_proposer.specs.Proposing.{IsOfSame, as_round, counted_in, highest_round, is_own, message_of, proposed_in};
 
 use crate::fault::ProposerFault;
 use crate::round::Round;
@@ -45,8 +47,7 @@ impl Proposer {
         ensures node { result.node ≡ me.node }
         ensures incarnation { result.incarnation ≡ me.incarnation }
         ensures nodes { result.nodes ≡ nodes }
-        ensures round { result.round ≡ None }
-        ensures seen { (place : ℕ) → get_or result.seen place 0 ≡ 0 }
+        ensures message { message_of result ≡ unseen }
     {
         Proposer {
             me,
@@ -73,8 +74,10 @@ impl Proposer {
         ensures rounds { IsErr result ↔ (4294967295 ≤ highest_round self.old (slot_of chain.id chain.decrees).place own) }
         ensures prepare { IfOk result (λ packet. packet_of packet ≡ Prepare self.old.node (slot_of chain.id chain.decrees)
             (ballot_of (highest_round self.old (slot_of chain.id chain.decrees).place own + 1) self.old.incarnation self.old.node)) }
-        ensures started { OnOk result (IsStarted self.old (slot_of chain.id chain.decrees) chain.decrees
-            (highest_round self.old (slot_of chain.id chain.decrees).place own + 1) self.new) }
+        ensures started { OnOk result (message_of self.new ≡ started_at (message_of self.old) (slot_of chain.id chain.decrees)
+            (highest_round self.old (slot_of chain.id chain.decrees).place own + 1)
+            (ballot_of (highest_round self.old (slot_of chain.id chain.decrees).place own + 1) self.old.incarnation self.old.node) chain.decrees) }
+        ensures same { IsOfSame self.old self.new }
         ensures err { OnErr result (self.new ≡ self.old) }
     {
         let slot = Slot {
@@ -104,12 +107,12 @@ impl Proposer {
         ballot: Ballot,
         report: &Report,
     ) -> Result<Option<Packet>, AllocError>
-        ensures elsewhere { runs_at self.old.round (slot_reported report.now) ballot ≡ false → (result ≡ Ok None) × (self.new ≡ self.old) }
-        ensures counted { OnOk result (runs_at self.old.round (slot_reported report.now) ballot ≡ true →
-            RoundCounted self.old.round from (report_of report.now) self.new.round) }
-        ensures proposed { IfOk result (λ packet. runs_at self.old.round (slot_reported report.now) ballot ≡ true →
-            RoundProposes self.old.node self.old.nodes self.old.round self.new.round (option_map packet_of packet)) }
-        ensures seen { self.new.seen ≡ self.old.seen }
+        ensures elsewhere { runs_at (message_of self.old).round (slot_reported report.now) ballot ≡ false → (result ≡ Ok None) × (self.new ≡ self.old) }
+        ensures counted { OnOk result (runs_at (message_of self.old).round (slot_reported report.now) ballot ≡ true →
+            message_of self.new ≡ counted_in (message_of self.old) from (report_of report.now)) }
+        ensures proposed { IfOk result (λ packet. runs_at (message_of self.old).round (slot_reported report.now) ballot ≡ true →
+            option_map packet_of packet ≡ proposed_in self.old.node self.old.nodes (message_of self.old).round from (report_of report.now)) }
+        ensures same { IsOfSame self.old self.new }
         ensures err { OnErr result (self.new ≡ self.old) }
     {
         let Some(round) = &mut self.round else {
@@ -130,7 +133,9 @@ impl Proposer {
     /// Takes in that a ballot was refused for a promise at another. One of another node or incarnation changes nothing. The round
     /// that runs ends if it is refused for a greater ballot. It takes no memory.
     pub fn on_refused(&mut self, slot: Slot, ballot: Ballot, promised: Ballot)
-        ensures { self.new ≡ refused self.old slot ballot promised }
+        ensures message { message_of self.new
+            ≡ (if is_own self.old ballot then refused (message_of self.old) slot ballot promised else message_of self.old) }
+        ensures same { IsOfSame self.old self.new }
     {
         if ballot.node() != self.me.node || ballot.incarnation() != self.me.incarnation {
             return;
@@ -168,7 +173,7 @@ impl Proposer {
 
 /// Whether a round of this slot at this ballot runs.
 fn is_at(round: &Option<Round>, slot: Slot, ballot: Ballot) -> bool
-    ensures { result ≡ runs_at round.now slot ballot }
+    ensures { result ≡ runs_at (option_map as_round round.now) slot ballot }
 {
     match round {
         Some(round) => round.is_at(slot, ballot),

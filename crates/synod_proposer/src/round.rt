@@ -1,11 +1,12 @@
 //! A round.
 
-ghost use Rattle.std.specs.Prelude.{◌≡◌, ◌↔◌, ◌+◌, None, IfOk, IsTrue, OnOk, OnErr};
+ghost use Rattle.std.specs.Prelude.{◌≡◌, ◌↔◌, None, Some, IfOk, IsTrue, OnOk, OnErr};
 ghost use Rattle.mc_types.specs.Nodes.{has};
 ghost use Rattle.mc_model.specs.synod.Majority.{IsMajority};
 ghost use Rattle.mc_model.specs.synod.Packet.{Slot as SlotValue, slot_of};
+ghost use Rattle.node_model.specs.Proposer.{chain_offered, higher_of, runs_at};
 ghost use Rattle.synod_acceptor.specs.Votes.{report_of, slot_in, slot_reported, vote_of};
-ghost use Rattle.synod_proposer.specs.Proposing.{IsCounted, IsFresh, Offers, chain_offered, higher_of, over, runs_at};
+ghost use Rattle.synod_proposer.specs.Proposing.{IsCounted, IsFresh, Offers, as_round, over};
 ghost use Rattle.synod_proposer.specs.Rounds.{IsIn, votes_of};
 
 use fate_chain::Chain;
@@ -24,14 +25,14 @@ pub struct Round {
 }
 
 impl Model for Round {
-    ghost use Rattle.synod_proposer.specs.Proposing.{Round};
+    ghost use Rattle.synod_proposer.specs.Proposing.{Running};
 
-    ghost Value = { Round };
+    ghost Value = { Running };
 
     ghost use Rattle.mc_model.specs.synod.Packet.{slot_of};
-    ghost use Rattle.synod_proposer.specs.Rounds.{IsIn, round_of};
+    ghost use Rattle.synod_proposer.specs.Rounds.{IsIn, running_of};
 
-    ghost view = { round_of };
+    ghost view = { running_of };
 
     ghost invariant = { λ r. IsIn (slot_of r.own.id r.own.decrees) r.highest };
 }
@@ -61,7 +62,7 @@ impl Round {
 
     /// Whether it is of this slot and at this ballot.
     pub fn is_at(&self, slot: Slot, ballot: Ballot) -> bool
-        ensures { result ≡ runs_at (Some self.now) slot ballot }
+        ensures { result ≡ runs_at (Some (as_round self.now)) slot ballot }
     {
         self.slot() == slot && self.ballot == ballot
     }
