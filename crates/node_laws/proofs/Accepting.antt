@@ -1,23 +1,15 @@
 -- What an acceptor answers is what the actor of the model answers.
-use Rattle.std.proofs.Common.{◌≡◌, ℕ, Bool, true, false, refl, ap, inl, inr, arith}
+use Rattle.std.proofs.Common.{◌≡◌, ℕ, Bool, true, false, refl, inl, inr, arith}
 use Rattle.std.specs.Prelude.{nat_lt, nat_le, if◌then◌else◌}
 use Rattle.std.proofs.lemmas.Bool.Decides.{nat_tests}
 use Rattle.mc_model.specs.synod.OneSlot.{Vote}
-use Rattle.mc_model.specs.synod.Packet.{Prepare, Promise, Propose, Refused, Slot, Voted, same_slot}
-use Rattle.mc_model.specs.synod.Acceptor.{Records, after_promise, after_vote, with_record}
+use Rattle.mc_model.specs.synod.Packet.{Prepare, Promise, Propose, Refused, Slot, Voted}
+use Rattle.mc_model.specs.synod.Acceptor.{Records, after_promise, after_vote}
 use Rattle.mc_model.specs.node.Act.{Promises, Refuses, Votes}
 use Rattle.mc_model.specs.node.Actor.{Actor}
-use Rattle.mc_parts.proofs.Membership.{slots_same}
 use Rattle.node_model.specs.Acceptor.{Judgement, prepare_judged, propose_judged}
+use Rattle.node_model.proofs.Records.{same_record}
 use Rattle.node_laws.specs.Answering.{IsAnswered}
-
--- a record in the place of itself
-pub same_record : (records : Records) (slot other : Slot) → records other ≡ with_record records slot (records slot) other
-same_record records slot other = by_test (same_slot other slot) refl
-  where
-    by_test : (test : Bool) → same_slot other slot ≡ test → records other ≡ (if test then records slot else records other)
-    by_test true same = ap records (slots_same other slot same)
-    by_test false differs = refl
 
 pub prepare_answered : (node sender : ℕ) (a : Actor) (records : Records) (slot : Slot) (ballot : ℕ) →
     IsAnswered node a records (Prepare sender slot ballot) slot (prepare_judged node slot ballot (records slot))

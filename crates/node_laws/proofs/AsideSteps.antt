@@ -30,10 +30,10 @@ use Rattle.node_model.specs.Packets.{judged}
 use Rattle.node_model.specs.Stepped.{refused_with, stepped, stepped_down, stepped_up}
 use Rattle.node_laws.specs.Stands.{IsAside, IsCoherent, IsMessage, IsPlaced, Stands}
 use Rattle.node_laws.specs.Steps.{IsAtWork, StepsAs}
-use Rattle.node_laws.proofs.Accepting.{same_record}
+use Rattle.node_model.proofs.Records.{same_record}
 use Rattle.node_laws.proofs.Coherence.{aside_fits, coherent_heard}
 use Rattle.node_laws.proofs.Aside.{held_still, knows_before, later, message_still, promise_before, quiet_still, stands_still}
-use Rattle.node_laws.proofs.Places.{elsewhere, here, message_elsewhere, message_here}
+use Rattle.node_model.proofs.Places.{elsewhere, here, message_elsewhere, message_here}
 use Rattle.shelf.proofs.Entries.{still_ascends}
 
 -- ---- nothing is due
