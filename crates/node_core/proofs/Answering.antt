@@ -1,0 +1,110 @@
+-- A step that answers by a verdict is the model's.
+use Rattle.std.proofs.Common.{◌≡◌, ◌⊎◌, ℕ, Bool, true, false, List, [], ◌∷◌, map, Option, Some, None, refl, sym, ap, subst, ◌∙◌, inl, inr}
+use Rattle.std.proofs.Math.Path.{fun_ext}
+use Rattle.std.specs.Prelude.{IfOk, Result, Ok, Err, option_map, if◌then◌else◌}
+use Rattle.std.specs.Option.{unwrap_or}
+use Rattle.std.specs.Ordering.{nat_cmp}
+use Rattle.std.specs.BTreeMap.{insert_entry}
+use Rattle.mc_model.specs.synod.Packet.{Packet, Slot, same_slot, slot_at}
+use Rattle.mc_model.specs.synod.Acceptor.{Records, SlotRecord, blank, with_record}
+use Rattle.mc_model.specs.node.Setup.{Setup}
+use Rattle.node_model.specs.Acceptor.{Judgement}
+use Rattle.node_model.specs.Kept.{Kept, message_at, saved}
+use Rattle.node_model.specs.Message.{Message, unseen}
+use Rattle.node_model.specs.Outputs.{Stepped, leaves, nothing}
+use Rattle.node_model.specs.Packets.{if_member, is_member, judged}
+use Rattle.node_model.proofs.Records.{same_record}
+use Rattle.shelf.specs.Shelved.{value_at, with_value}
+use Rattle.synod_acceptor.specs.Packets.{packet_of}
+use Rattle.synod_acceptor.specs.Records.{record_at}
+use Rattle.synod_acceptor.specs.Verdicts.{Changes}
+use Rattle.synod_acceptor.specs.Votes.{record_of, slot_recorded}
+use Rattle.synod_acceptor.specs.declared.acceptor.Verdict.{Verdict}
+use Rattle.synod_acceptor.specs.declared.packet.Packet.{Packet as Cast}
+use Rattle.synod_acceptor.specs.declared.record.Change.{Change}
+use Rattle.node_core.specs.declared.kept.Kept.{Kept as Holding}
+use Rattle.node_core.specs.declared.message.Message.{Message as Filed}
+use Rattle.node_core.specs.declared.step.Step.{Step}
+use Rattle.node_core.specs.Keeping.{IsTaken, acceptor_in, filed_as, kept_of, kept_with, records_of}
+use Rattle.node_core.specs.Messages.{IsJudged, changed_by, message_of}
+use Rattle.node_core.specs.Steps.{IsAnswer, IsStep, entries_after}
+use Rattle.node_core.proofs.Entries.{message_looked_up, message_put, records_put}
+
+-- ---- a message that is taken out
+
+pub taken_there : (k : Holding) (id : ℕ) (m : Filed) → value_at k.messages.entries id ≡ Some m → IsTaken k id m
+taken_there k id m found = record {
+  message = sym (ap (λ (o : Option Message). unwrap_or o unseen) (message_looked_up k.messages.entries id ∙ ap (λ (o : Option Filed). option_map (message_of id) o) found));
+  records = λ place. ap (λ (o : Option Filed). record_at (acceptor_in o) (slot_at id place)) (sym found);
+}
+
+pub taken_fresh : (k : Holding) (id : ℕ) (m : Filed) → value_at k.messages.entries id ≡ None → message_of id m ≡ unseen → ((slot : Slot) → record_at m.acceptor slot ≡ blank) → IsTaken k id m
+taken_fresh k id m none is empty = record {
+  message = is ∙ sym (ap (λ (o : Option Message). unwrap_or o unseen) (message_looked_up k.messages.entries id ∙ ap (λ (o : Option Filed). option_map (message_of id) o) none));
+  records = λ place. empty (slot_at id place) ∙ ap (λ (o : Option Filed). record_at (acceptor_in o) (slot_at id place)) (sym none);
+}
+
+pub fresh_taken : {E : Type 0} (k : Holding) (id : ℕ) (result : Result Filed E) → value_at k.messages.entries id ≡ None → IfOk result (λ m. (slot : Slot) → record_at m.acceptor slot ≡ blank) → IfOk result (λ m. (id : ℕ) → message_of id m ≡ unseen) → IfOk result (IsTaken k id)
+fresh_taken k id (Ok m) none records is = taken_fresh k id m none (is id) records
+fresh_taken k id (Err e) none records is = tt
+
+-- ---- a verdict
+
+-- the records after its change are those that it leaves
+changed_is : (records : Records) (slot : Slot) (after : SlotRecord) (change : Option Change) → Changes slot (records slot) after change → (other : Slot) → changed_by change records other ≡ with_record records slot after other
+changed_is records slot after None same other = same_record records slot other ∙ ap (λ (r : SlotRecord). with_record records slot r other) (sym same)
+changed_is records slot after (Some change) is other =
+    ap (λ (s : Slot). with_record records s (record_of change.after) other) is.0 ∙ ap (λ (r : SlotRecord). with_record records slot r other) is.1
+
+module _ (k : Holding) (slot : Slot) (taken new : Filed) (judgement : SlotRecord → Judgement) (verdict : Verdict) (step : Step)
+    (is_taken : IsTaken k slot.id taken) (is_judged : IsJudged taken slot (judgement (record_at taken.acceptor slot)) new verdict) (is_answer : IsAnswer k slot.id new verdict step) where
+  abbrev Entries : List (ℕ × Filed)
+  Entries = k.messages.entries
+
+  same_here : record_at taken.acceptor slot ≡ records_of Entries slot
+  same_here = is_taken.records slot.place
+
+  abbrev Judged : Judgement
+  Judged = judgement (records_of Entries slot)
+
+  judged_here : judgement (record_at taken.acceptor slot) ≡ Judged
+  judged_here = ap judgement same_here
+
+  records_new : (place : ℕ) → record_at new.acceptor (slot_at slot.id place) ≡ with_record (records_of Entries) slot Judged.after (slot_at slot.id place)
+  records_new place =
+      is_judged.records (slot_at slot.id place)
+      ∙ ap (λ (j : Judgement). with_record (record_at taken.acceptor) slot j.after (slot_at slot.id place)) judged_here
+      ∙ ap (λ (r : SlotRecord). if same_slot (slot_at slot.id place) slot then Judged.after else r) (is_taken.records place)
+
+  records_then : (other : Slot) → records_of (with_value Entries slot.id new) other ≡ with_record (records_of Entries) slot Judged.after other
+  records_then = records_put Entries slot.id new slot Judged.after refl records_new
+
+  message_new : message_of slot.id new ≡ message_at (kept_of k) slot.id
+  message_new = (λ i. message_of slot.id (record { acceptor = new.acceptor; learner = is_judged.learner i; proposer = is_judged.proposer i })) ∙ is_taken.message
+
+  kept_then : kept_with k.setup k.incarnation (with_value Entries slot.id new) ≡ saved (kept_of k) slot Judged.after
+  kept_then = λ i. record (kept_of k) {
+    records = fun_ext records_then i;
+    messages = (message_put Entries slot.id new ∙ ap (λ (m : Message). insert_entry nat_cmp (map filed_as Entries) slot.id m) message_new) i;
+  }
+
+  change_is : Changes slot (records_of Entries slot) Judged.after verdict.change
+  change_is = subst (λ (r : SlotRecord). Changes slot r (judgement r).after verdict.change) same_here is_judged.change
+
+  pub answered : IsStep k (judged (kept_of k) slot Judged) step
+  answered = record {
+    kept = ap (λ (es : List (ℕ × Filed)). kept_with k.setup k.incarnation es) is_answer.entries ∙ kept_then;
+    outputs =
+        ap (λ (packets : List Cast). record nothing { packets = map packet_of packets }) is_answer.outputs
+        ∙ ap (λ (packet : Packet). record nothing { packets = packet ∷ [] }) (is_judged.answer ∙ ap (λ (j : Judgement). j.answer) judged_here);
+    saves = λ other.
+        ap (λ (es : List (ℕ × Filed)). records_of es other) is_answer.entries
+        ∙ records_then other
+        ∙ sym (ap (λ (change : Option Change). changed_by change (records_of Entries) other) is_answer.change ∙ changed_is (records_of Entries) slot Judged.after verdict.change change_is other);
+    room = is_answer.room;
+  }
+
+-- ---- what comes from a node of the cluster
+
+pub of_member : (setup : Setup) (k : Kept) (sender : ℕ) (to : Stepped) → is_member setup sender ≡ true → to ≡ if_member setup k sender to
+of_member setup k sender to is = sym (ap (λ (test : Bool). if test then to else leaves k) is)

@@ -1,0 +1,78 @@
+-- The messages that the code keeps, as a list of the model's, and their records.
+use Rattle.std.proofs.Common.{◌≡◌, ◌⊎◌, ℕ, Bool, true, false, cond, List, [], ◌∷◌, map, Option, Some, None, refl, sym, ap, subst, ◌∙◌, inl, inr, arith}
+use Rattle.std.specs.Prelude.{◌==◌, option_map, if◌then◌else◌}
+use Rattle.std.specs.Option.{unwrap_or}
+use Rattle.std.specs.Map.{lookup}
+use Rattle.std.specs.Ordering.{is_eq, nat_cmp, match_ordering}
+use Rattle.std.specs.declared.cmp.Ordering.{Ordering}
+use Rattle.std.specs.declared.cmp.Ordering.TheVariants.{Less, Equal, Greater}
+use Rattle.std.specs.BTreeMap.{insert_entry, is_at}
+use Rattle.std.proofs.lemmas.Bool.{and_parts, cases_Bool, eq-eqb, eqb-false, true≢false}
+use Rattle.std.proofs.lemmas.Bool.Decides.{Decides-eqb, nat_tests}
+use Rattle.mc_model.specs.synod.Packet.{Slot, same_slot, slot_at}
+use Rattle.mc_model.specs.synod.Acceptor.{Records, SlotRecord, with_record}
+use Rattle.node_model.specs.Message.{Message, unseen}
+use Rattle.node_model.proofs.Places.{here, elsewhere}
+use Rattle.shelf.specs.Shelved.{value_at, with_value}
+use Rattle.synod_acceptor.specs.Records.{record_at}
+use Rattle.node_core.specs.declared.message.Message.{Message as Filed}
+use Rattle.node_core.specs.Keeping.{acceptor_in, filed_as, records_of}
+use Rattle.node_core.specs.Messages.{message_of}
+
+-- ---- what is kept of an id
+
+same_key : (id key : ℕ) → is_at (nat_cmp id) key ≡ true → id ≡ key
+same_key id key is = at_order (nat_cmp id key) refl is
+  where
+    at_order : (o : Ordering) → nat_cmp id key ≡ o → is_eq o ≡ true → id ≡ key
+    at_order Less order is = absurd (true≢false (sym is))
+    at_order Equal order is = grind (arith, nat_tests)
+    at_order Greater order is = absurd (true≢false (sym is))
+
+pub message_looked_up : (entries : List (ℕ × Filed)) (id : ℕ) → lookup (is_at (nat_cmp id)) (map filed_as entries) ≡ option_map (message_of id) (value_at entries id)
+message_looked_up [] id = refl
+message_looked_up (e ∷ es) id = by_test (is_at (nat_cmp id) e.0) refl (message_looked_up es id)
+  where
+    by_test : (test : Bool) → is_at (nat_cmp id) e.0 ≡ test → lookup (is_at (nat_cmp id)) (map filed_as es) ≡ option_map (message_of id) (value_at es id) →
+        cond test (Some (message_of e.0 e.1)) (lookup (is_at (nat_cmp id)) (map filed_as es)) ≡ option_map (message_of id) (cond test (Some e.1) (value_at es id))
+    by_test true is rest = ap (λ (key : ℕ). Some (message_of key e.1)) (sym (same_key id e.0 is))
+    by_test false differs rest = rest
+
+-- ---- a message in the place of what was kept of its id
+
+pub message_put : (entries : List (ℕ × Filed)) (id : ℕ) (m : Filed) → map filed_as (with_value entries id m) ≡ insert_entry nat_cmp (map filed_as entries) id (message_of id m)
+message_put [] id m = refl
+message_put (e ∷ es) id m = at_order (nat_cmp id e.0) refl (message_put es id m)
+  where
+    at_order : (o : Ordering) → nat_cmp id e.0 ≡ o → map filed_as (with_value es id m) ≡ insert_entry nat_cmp (map filed_as es) id (message_of id m) →
+        map filed_as (match_ordering o ((id, m) ∷ e ∷ es) ((e.0, m) ∷ es) (e ∷ with_value es id m))
+        ≡ match_ordering o ((id, message_of id m) ∷ filed_as e ∷ map filed_as es) ((e.0, message_of id m) ∷ map filed_as es) (filed_as e ∷ insert_entry nat_cmp (map filed_as es) id (message_of id m))
+    at_order Less is rest = refl
+    at_order Equal is rest =
+        let same : e.0 ≡ id = grind (arith, nat_tests) in
+        ap (λ (key : ℕ). (e.0, message_of key m) ∷ map filed_as es) same
+    at_order Greater is rest = ap (λ (others : List (ℕ × Message)). filed_as e ∷ others) rest
+
+-- the records change in its slots alone
+pub records_put : (entries : List (ℕ × Filed)) (id : ℕ) (m : Filed) (slot : Slot) (after : SlotRecord) → slot.id ≡ id →
+    ((place : ℕ) → record_at m.acceptor (slot_at id place) ≡ with_record (records_of entries) slot after (slot_at id place)) →
+    (other : Slot) → records_of (with_value entries id m) other ≡ with_record (records_of entries) slot after other
+records_put entries id m slot after of is other = elim (cases_Bool (other.id == id)) [
+  | inl same ↦
+      let ids : other.id ≡ id = (Decides-eqb other.id id).0 same in
+      let found : value_at (with_value entries id m) other.id ≡ Some m = subst (λ (key : ℕ). value_at (with_value entries id m) key ≡ Some m) (sym ids) (here id m entries) in
+      let slots : slot_at id other.place ≡ other = λ i. slot_at (sym ids i) other.place in
+      ap (λ (found : Option Filed). record_at (acceptor_in found) other) found
+      ∙ subst (λ (s : Slot). record_at m.acceptor s ≡ with_record (records_of entries) slot after s) slots (is other.place)
+  | inr differs ↦
+      let apart : other.id ≡ id → ⊥ = λ ids. true≢false (sym (eq-eqb other.id id ids) ∙ differs) in
+      let kept : value_at (with_value entries id m) other.id ≡ value_at entries other.id = elsewhere id m other.id apart entries in
+      ap (λ (found : Option Filed). record_at (acceptor_in found) other) kept
+      ∙ ap (λ (test : Bool). if test then after else records_of entries other) (sym (not_same apart))
+]
+  where
+    not_same : (other.id ≡ id → ⊥) → same_slot other slot ≡ false
+    not_same apart = elim (cases_Bool (same_slot other slot)) [
+      | inl same ↦ absurd (apart ((Decides-eqb other.id slot.id).0 (and_parts (other.id == slot.id) (other.place == slot.place) same).0 ∙ of))
+      | inr differs ↦ differs
+    ]

@@ -1,0 +1,37 @@
+-- What a node of the code keeps, as the node's model says it.
+use Rattle.std.specs.Prelude.{◌≡◌, ℕ, List, [], map, Option, Some, None}
+use Rattle.mc_model.specs.synod.Packet.{Slot, slot_at}
+use Rattle.mc_model.specs.synod.Acceptor.{Records, SlotRecord}
+use Rattle.mc_model.specs.node.Setup.{Setup}
+use Rattle.node_model.specs.Message.{Message}
+use Rattle.node_model.specs.Kept.{Kept, message_at}
+use Rattle.node_model.specs.Stepped.{opened_over}
+use Rattle.shelf.specs.Shelved.{value_at}
+use Rattle.synod_acceptor.specs.Records.{record_at}
+use Rattle.node_core.specs.declared.kept.Kept.{Kept as Holding}
+use Rattle.node_core.specs.declared.message.Message.{Message as Filed}
+use Rattle.node_core.specs.Messages.{message_of}
+
+abbrev pub acceptor_in : Option Filed → List (Slot × SlotRecord)
+acceptor_in None = []
+acceptor_in (Some m) = m.acceptor
+
+-- the record of a slot is that of the acceptor of its message
+abbrev pub records_of : List (ℕ × Filed) → Records
+records_of entries = λ slot. record_at (acceptor_in (value_at entries slot.id)) slot
+
+abbrev pub filed_as : ℕ × Filed → ℕ × Message
+filed_as entry = (entry.0, message_of entry.0 entry.1)
+
+-- No request has come yet and no tick, so all else is as it was when the node opened.
+abbrev pub kept_with : Setup → ℕ → List (ℕ × Filed) → Kept
+kept_with setup incarnation entries =
+    record (opened_over (records_of entries) [] incarnation setup.first_serial) { messages = map filed_as entries }
+
+abbrev pub kept_of : Holding → Kept
+kept_of k = kept_with k.setup k.incarnation k.messages.entries
+
+-- a message that was taken out of it is what is kept of this id
+pub record IsTaken (k : Holding) (id : ℕ) (m : Filed) : Type 0 where
+  pub message : message_of id m ≡ message_at (kept_of k) id
+  pub records : (place : ℕ) → record_at m.acceptor (slot_at id place) ≡ records_of k.messages.entries (slot_at id place)

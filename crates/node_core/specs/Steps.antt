@@ -1,0 +1,60 @@
+-- A step of the code, as a step of the node's model.
+use Rattle.std.specs.Prelude.{◌≡◌, ℕ, ◌<◌, ◌-◌, max, List, [], ◌∷◌, length, map, Option, Some, None}
+use Rattle.std.specs.Box.{box_value}
+use Rattle.mc_model.specs.synod.Packet.{Ask, Packet, Prepare, Propose, Slot}
+use Rattle.mc_model.specs.node.Input.{Delivery, Input}
+use Rattle.mc_model.specs.node.Outputs.{Outputs}
+use Rattle.node_model.specs.Outputs.{Stepped, nothing}
+use Rattle.shelf.specs.Shelved.{Shelved, value_at, with_value}
+use Rattle.synod_acceptor.specs.Packets.{packet_of}
+use Rattle.synod_acceptor.specs.Votes.{slot_in, vote_of}
+use Rattle.synod_acceptor.specs.declared.acceptor.Verdict.{Verdict}
+use Rattle.node_core.specs.declared.input.Input.{Input as Given}
+use Rattle.node_core.specs.declared.input.Input.TheVariants as given
+use Rattle.node_core.specs.declared.kept.Kept.{Kept as Holding}
+use Rattle.node_core.specs.declared.message.Message.{Message as Filed}
+use Rattle.node_core.specs.declared.outputs.Outputs.{Outputs as Sent}
+use Rattle.node_core.specs.declared.step.Next.{Next}
+use Rattle.node_core.specs.declared.step.Step.{Step}
+use Rattle.node_core.specs.Keeping.{kept_with, records_of}
+use Rattle.node_core.specs.Messages.{changed_by}
+
+-- what comes to the code
+abbrev pub packet_in : Given → Packet
+packet_in (given.Prepare from slot ballot) = Prepare from slot ballot
+packet_in (given.Propose from vote) = Propose from (slot_in vote) (vote_of vote)
+packet_in (given.Ask from id name) = Ask from id name
+
+abbrev pub input_of : Given → Input
+input_of input = Delivery (packet_in input)
+
+-- what it gives out
+abbrev pub outputs_of : Sent → Outputs
+outputs_of o = record nothing { packets = map packet_of o.packets.items }
+
+-- ---- what a step keeps
+
+-- a message in the place of what was kept of its id, if there is one
+abbrev pub entries_after : List (ℕ × Filed) → Option Next → List (ℕ × Filed)
+entries_after entries None = entries
+entries_after entries (Some next) = with_value entries next.id (box_value next.message)
+
+-- there is room for it
+abbrev pub HasRoom : Shelved Filed → Option Next → Type 0
+HasRoom shelf None = Unit {0}
+HasRoom shelf (Some next) = value_at shelf.entries next.id ≡ None → 0 < max shelf.room (next.room - length shelf.entries)
+
+-- A step of the code is this one: it keeps the same and gives out the same, and once its change is saved, the records that are saved are
+-- those that are kept.
+pub record IsStep (k : Holding) (to : Stepped) (step : Step) : Type 0 where
+  pub kept : kept_with k.setup k.incarnation (entries_after k.messages.entries step.next) ≡ to.kept
+  pub outputs : outputs_of step.outputs ≡ to.outputs
+  pub saves : (slot : Slot) → records_of (entries_after k.messages.entries step.next) slot ≡ changed_by step.change (records_of k.messages.entries) slot
+  pub room : HasRoom k.messages step.next
+
+-- it answers by a verdict, and keeps this message
+pub record IsAnswer (k : Holding) (id : ℕ) (m : Filed) (verdict : Verdict) (step : Step) : Type 0 where
+  pub outputs : step.outputs.packets.items ≡ verdict.answer ∷ []
+  pub change : step.change ≡ verdict.change
+  pub entries : entries_after k.messages.entries step.next ≡ with_value k.messages.entries id m
+  pub room : HasRoom k.messages step.next

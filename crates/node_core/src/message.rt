@@ -1,0 +1,97 @@
+//! What a node keeps of one message.
+
+ghost use Rattle.std.specs.Prelude.{◌≡◌, ℕ, IfOk, OnOk};
+ghost use Rattle.std.specs.Option.{option_copied};
+ghost use Rattle.mc_model.specs.synod.Packet.{Slot as SlotValue};
+ghost use Rattle.mc_model.specs.synod.Acceptor.{blank};
+ghost use Rattle.node_model.specs.Acceptor.{prepare_judged, propose_judged, told_of};
+ghost use Rattle.node_model.specs.Message.{unseen};
+ghost use Rattle.synod_acceptor.specs.Records.{record_at};
+ghost use Rattle.synod_acceptor.specs.Votes.{slot_in, told_vote, vote_of};
+ghost use Rattle.node_core.specs.Messages.{IsJudged, IsOf, changed_by, message_of};
+
+use fate_chain::Author;
+use mc_types::{Ballot, MsgId, NodeNo, Slot};
+use std::alloc::{AllocError, Global};
+use synod_acceptor::{Acceptor, Change, Verdict, Vote};
+use synod_learner::Learner;
+use synod_proposer::Proposer;
+
+/// What a node keeps of one message: the records of its acceptor, what it heard and knows, and what it proposes.
+#[derive(Debug, Drop)]
+pub struct Message {
+    acceptor: Acceptor,
+    learner: Learner,
+    proposer: Proposer,
+}
+
+impl Message {
+    /// What an author, a node in an incarnation, keeps of a message that was never heard of, in a cluster of so many nodes.
+    pub fn fresh(alloc: Global, me: Author, nodes: u8) -> Result<Message, AllocError>
+        ensures records { IfOk result (λ message. (slot : SlotValue) → record_at message.acceptor slot ≡ blank) }
+        ensures message { IfOk result (λ message. (id : ℕ) → message_of id message ≡ unseen) }
+        ensures own { IfOk result (IsOf me.node me.incarnation nodes) }
+    {
+        Ok(Message {
+            acceptor: Acceptor::make(alloc, Vec::new(alloc))?,
+            learner: Learner::make(alloc, nodes),
+            proposer: Proposer::make(me, nodes),
+        })
+    }
+
+    /// What the acceptor of the node of this number answers to a Prepare, and the change that is to be saved before; it has taken it in.
+    /// An `Err` is want of memory, after which the message is worth nothing.
+    pub fn promise(
+        &mut self,
+        node: NodeNo,
+        slot: Slot,
+        ballot: Ballot,
+    ) -> Result<Verdict, AllocError>
+        ensures { IfOk result (IsJudged self.old slot (prepare_judged node slot ballot (record_at self.old.acceptor slot)) self.new) }
+    {
+        let verdict = self.acceptor.judge_prepare(node, slot, ballot)?;
+        take_in(&mut self.acceptor, &verdict.change)?;
+        Ok(verdict)
+    }
+
+    /// What the acceptor of the node of this number answers to a Propose, and the change that is to be saved before; it has taken it in.
+    /// An `Err` is want of memory, after which the message is worth nothing.
+    pub fn vote(&mut self, node: NodeNo, vote: &Vote) -> Result<Verdict, AllocError>
+        ensures { IfOk result (IsJudged self.old (slot_in vote.now)
+            (propose_judged node (slot_in vote.now) (vote_of vote.now) (record_at self.old.acceptor (slot_in vote.now))) self.new) }
+    {
+        let verdict = self.acceptor.judge_propose(node, vote)?;
+        take_in(&mut self.acceptor, &verdict.change)?;
+        Ok(verdict)
+    }
+
+    /// The vote at the highest place of the message of this id at which its acceptor voted; none if it did not. It takes no memory.
+    pub fn told(&self, id: MsgId) -> Option<&Vote>
+        ensures { told_vote (option_copied result) ≡ told_of (record_at self.now.acceptor) id }
+    {
+        self.acceptor.tell(id)
+    }
+
+    /// The same message once more.
+    pub fn copy(&self) -> Result<Message, AllocError>
+        ensures { IfOk result (λ message. message ≡ self.now) }
+    {
+        Ok(Message {
+            acceptor: self.acceptor.copy()?,
+            learner: self.learner.copy()?,
+            proposer: self.proposer.copy()?,
+        })
+    }
+}
+
+/// Takes in a change, if there is one.
+fn take_in(acceptor: &mut Acceptor, change: &Option<Change>) -> Result<(), AllocError>
+    ensures { OnOk result ((slot : SlotValue) → record_at acceptor.new slot ≡ changed_by change.now (record_at acceptor.old) slot) }
+{
+    let Some(change) = change else {
+        return Ok(());
+    };
+    let after = change.after.copy()?;
+    acceptor.apply(Change { after })?;
+    Ok(())
+}
