@@ -1,3 +1,5 @@
 pub mod Messages
 pub mod Keeping
 pub mod Steps
+pub mod Pendings
+pub mod Nodes

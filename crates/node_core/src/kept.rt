@@ -1,13 +1,13 @@
 //! What a node keeps.
 
-ghost use Rattle.std.specs.Prelude.{◌≡◌, ◌∷◌, [], None, true, IfOk};
+ghost use Rattle.std.specs.Prelude.{◌≡◌, [], None, IfOk};
 ghost use Rattle.std.specs.Option.{option_copied};
 ghost use Rattle.node_model.specs.Acceptor.{told_of};
 ghost use Rattle.node_model.specs.Packets.{is_member, on_ask, on_prepare, on_propose, on_packet};
 ghost use Rattle.shelf.specs.Shelved.{value_at};
 ghost use Rattle.synod_acceptor.specs.Votes.{slot_in, told_vote, vote_of};
 ghost use Rattle.node_core.specs.Keeping.{IsTaken, kept_of};
-ghost use Rattle.node_core.specs.Steps.{IsAnswer, IsStep, packet_in};
+ghost use Rattle.node_core.specs.Steps.{HasRoom, IsAnswer, IsStep, entries_after, packet_in};
 
 use crate::input::Input;
 use crate::message::Message;
@@ -43,6 +43,20 @@ impl Kept {
             Input::Propose { vote, .. } => self.on_propose(vote),
             Input::Ask { id, name, .. } => self.on_ask(*id, *name),
         }
+    }
+
+    /// Keeps a message, if there is one, in the place of what was kept of its id; there is room for it. It takes no memory.
+    pub fn install(&mut self, next: Option<Next>)
+        requires { HasRoom self.old.messages next }
+        ensures entries { self.new.messages.entries ≡ entries_after self.old.messages.entries next }
+        ensures setup { self.new.setup ≡ self.old.setup }
+        ensures incarnation { self.new.incarnation ≡ self.old.incarnation }
+    {
+        let Some(next) = next else {
+            return;
+        };
+        self.messages.make_room(next.room);
+        self.messages.put(next.id.number(), next.message);
     }
 
     /// Whether the node is one of the cluster.

@@ -1,0 +1,8 @@
+-- A step that waits to be committed.
+use Rattle.node_core.specs.declared.input.Input.{Input}
+use Rattle.node_core.specs.declared.kept.Kept.{Kept}
+
+-- what the node kept when it was prepared, and what came to it
+pub record Awaited : Type 0 where
+  pub was : Kept
+  pub input : Input

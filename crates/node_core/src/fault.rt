@@ -1,0 +1,25 @@
+//! Why a node does not take a step.
+
+ghost use Rattle.std.specs.Prelude.{◌≡◌};
+ghost use Rattle.node_core.specs.declared.fault.StepFault.TheVariants.{Memory};
+
+use std::alloc::AllocError;
+
+/// Why a node does not take a step.
+#[derive(Clone, Copy, Debug, PartialEq, Eq)]
+pub enum StepFault {
+    /// 1: a save failed before; the node is to be opened again.
+    Broken,
+    /// 4: the device of the store failed. What was to be saved is saved or not, and the node is Broken.
+    Device,
+    /// There was no memory for it.
+    Memory,
+}
+
+impl From<AllocError> for StepFault {
+    ghost from_gives = { λ _ fault. fault ≡ Memory };
+
+    fn from(_error: AllocError) -> StepFault {
+        StepFault::Memory
+    }
+}

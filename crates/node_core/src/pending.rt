@@ -1,0 +1,45 @@
+//! A step that waits to be committed.
+
+ghost use Rattle.std.specs.Prelude.{◌≡◌};
+ghost use Rattle.node_model.specs.Stepped.{stepped};
+ghost use Rattle.node_core.specs.Keeping.{kept_of};
+ghost use Rattle.node_core.specs.Steps.{input_of, outputs_of};
+
+use crate::input::Input;
+use crate::kept::Kept;
+use crate::outputs::Outputs;
+use crate::step::Step;
+use std::marker::Model;
+use std::snapshot::Snapshot;
+
+/// What a node is to do with an input, prepared so far that nothing but its save can fail. It changes the node once it is committed.
+/// Contracts see what the node kept when it was prepared, and the input.
+#[derive(Drop)]
+pub struct Pending {
+    pub(crate) input: Input,
+    pub(crate) step: Step,
+    pub(crate) was: Snapshot<Kept>,
+}
+
+impl Model for Pending {
+    ghost use Rattle.node_core.specs.Pendings.{Awaited};
+
+    ghost Value = { Awaited };
+
+    ghost use Rattle.node_model.specs.Stepped.{stepped};
+    ghost use Rattle.node_core.specs.Keeping.{kept_of};
+    ghost use Rattle.node_core.specs.Steps.{IsStep, input_of};
+
+    ghost view = { λ p. record { was = p.was.value; input = p.input } };
+
+    ghost invariant = { λ p. IsStep p.was.value (stepped p.was.value.setup (kept_of p.was.value) (input_of p.input)) p.step };
+}
+
+impl Pending {
+    /// What `commit` will give.
+    pub fn outputs(&self) -> &Outputs
+        ensures { outputs_of result.now ≡ (stepped self.now.was.setup (kept_of self.now.was) (input_of self.now.input)).outputs }
+    {
+        &self.step.outputs
+    }
+}
