@@ -1,13 +1,15 @@
 -- What a node of the code keeps, as the node's model says it.
-use Rattle.std.specs.Prelude.{◌≡◌, ℕ, List, [], map, Option, Some, None}
+use Rattle.std.specs.Prelude.{◌≡◌, ℕ, List, [], ◌∷◌, map, Option, Some, None}
 use Rattle.mc_model.specs.synod.Packet.{Slot, slot_at}
-use Rattle.mc_model.specs.synod.Acceptor.{Records, SlotRecord}
+use Rattle.mc_model.specs.synod.Acceptor.{Records, SlotRecord, with_record}
 use Rattle.mc_model.specs.node.Setup.{Setup}
-use Rattle.node_model.specs.Message.{Message}
+use Rattle.node_model.specs.Message.{Message, unseen}
 use Rattle.node_model.specs.Kept.{Kept, message_at}
 use Rattle.node_model.specs.Stepped.{opened_over}
 use Rattle.shelf.specs.Shelved.{value_at}
 use Rattle.synod_acceptor.specs.Records.{record_at}
+use Rattle.synod_acceptor.specs.Votes.{record_of, slot_recorded}
+use Rattle.synod_acceptor.specs.declared.record.Record.{Record}
 use Rattle.node_core.specs.declared.kept.Kept.{Kept as Holding}
 use Rattle.node_core.specs.declared.message.Message.{Message as Filed}
 use Rattle.node_core.specs.Messages.{message_of}
@@ -35,3 +37,24 @@ kept_of k = kept_with k.setup k.incarnation k.messages.entries
 pub record IsTaken (k : Holding) (id : ℕ) (m : Filed) : Type 0 where
   pub message : message_of id m ≡ message_at (kept_of k) id
   pub records : (place : ℕ) → record_at m.acceptor (slot_at id place) ≡ records_of k.messages.entries (slot_at id place)
+
+-- ---- what it keeps when it opens
+
+-- nothing was heard of any message yet
+abbrev pub AreUnseen : List (ℕ × Filed) → Type 0
+AreUnseen [] = Unit {0}
+AreUnseen (first ∷ others) = (message_of first.0 first.1 ≡ unseen) × AreUnseen others
+
+-- it keeps these records and nothing else
+pub record IsOpen (with : Setup) (starts : ℕ) (records : Records) (k : Holding) : Type 0 where
+  pub setup : k.setup ≡ with
+  pub incarnation : k.incarnation ≡ starts
+  pub kept : (slot : Slot) → records_of k.messages.entries slot ≡ records slot
+  pub fresh : AreUnseen k.messages.entries
+
+-- one more record was taken in
+pub record IsFiled (old : Holding) (kept : Record) (new : Holding) : Type 0 where
+  pub setup : new.setup ≡ old.setup
+  pub incarnation : new.incarnation ≡ old.incarnation
+  pub records : (slot : Slot) → records_of new.messages.entries slot ≡ with_record (records_of old.messages.entries) (slot_recorded kept) (record_of kept) slot
+  pub fresh : AreUnseen old.messages.entries → AreUnseen new.messages.entries

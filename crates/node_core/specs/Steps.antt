@@ -44,6 +44,11 @@ abbrev pub HasRoom : Shelved Filed → Option Next → Type 0
 HasRoom shelf None = Unit {0}
 HasRoom shelf (Some next) = value_at shelf.entries next.id ≡ None → 0 < max shelf.room (next.room - length shelf.entries)
 
+-- this message is to take the place of what is kept of this id
+pub record IsNext (k : Holding) (id : ℕ) (m : Filed) (next : Next) : Type 0 where
+  pub entries : entries_after k.messages.entries (Some next) ≡ with_value k.messages.entries id m
+  pub room : HasRoom k.messages (Some next)
+
 -- A step of the code is this one: it keeps the same and gives out the same, and once its change is saved, the records that are saved are
 -- those that are kept.
 pub record IsStep (k : Holding) (to : Stepped) (step : Step) : Type 0 where

@@ -1,13 +1,14 @@
 //! What a node keeps.
 
-ghost use Rattle.std.specs.Prelude.{◌≡◌, [], None, IfOk};
+ghost use Rattle.std.specs.Prelude.{◌≡◌, [], None, IfOk, OnOk};
 ghost use Rattle.std.specs.Option.{option_copied};
 ghost use Rattle.node_model.specs.Acceptor.{told_of};
 ghost use Rattle.node_model.specs.Packets.{is_member, on_ask, on_prepare, on_propose, on_packet};
 ghost use Rattle.shelf.specs.Shelved.{value_at};
+ghost use Rattle.synod_acceptor.specs.Records.{entries_of, record_at};
 ghost use Rattle.synod_acceptor.specs.Votes.{slot_in, told_vote, vote_of};
-ghost use Rattle.node_core.specs.Keeping.{IsTaken, kept_of};
-ghost use Rattle.node_core.specs.Steps.{HasRoom, IsAnswer, IsStep, entries_after, packet_in};
+ghost use Rattle.node_core.specs.Keeping.{IsFiled, IsOpen, IsTaken, kept_of};
+ghost use Rattle.node_core.specs.Steps.{HasRoom, IsAnswer, IsNext, IsStep, entries_after, packet_in};
 
 use crate::input::Input;
 use crate::message::Message;
@@ -18,7 +19,7 @@ use fate_chain::Author;
 use mc_types::{Ballot, Incarnation, MsgId, NodeNo, Slot};
 use shelf::Shelf;
 use std::alloc::{AllocError, Global};
-use synod_acceptor::{Name, Packet, Verdict, Vote};
+use synod_acceptor::{Name, Packet, Record, Verdict, Vote};
 
 /// What a node keeps in an incarnation: what it knows of each message of which it heard.
 #[derive(Drop)]
@@ -30,6 +31,39 @@ pub struct Kept {
 }
 
 impl Kept {
+    /// What a node keeps that opens in an incarnation over these records; of several of a slot the first counts.
+    pub fn open(
+        alloc: Global,
+        setup: Setup,
+        incarnation: Incarnation,
+        mut records: Vec<Record>,
+    ) -> Result<Kept, AllocError>
+        ensures { IfOk result (IsOpen setup incarnation (record_at (entries_of records.items))) }
+    {
+        let mut kept = Kept {
+            alloc,
+            setup,
+            incarnation,
+            messages: Shelf::empty(alloc),
+        };
+        while let Some(stored) = records.pop() {
+            kept.file(stored)?;
+        }
+        Ok(kept)
+    }
+
+    /// Takes in a record of its store.
+    fn file(&mut self, stored: Record) -> Result<(), AllocError>
+        ensures { OnOk result (IsFiled self.old stored self.new) }
+    {
+        let id = stored.slot().id;
+        let mut message = self.taken(id)?;
+        message.file(stored)?;
+        let next = self.next(id, message)?;
+        self.install(Some(next));
+        Ok(())
+    }
+
     /// The step that a packet leads to. It changes nothing, and copies what is kept of the packet's message alone. An `Err` is want of
     /// memory.
     pub fn step(&self, input: &Input) -> Result<Step, AllocError>
@@ -164,14 +198,24 @@ impl Kept {
     fn answer(&self, id: MsgId, message: Message, verdict: Verdict) -> Result<Step, AllocError>
         ensures { IfOk result (IsAnswer self.now id message verdict) }
     {
-        let room = self.messages.room(self.alloc, 1)?;
-        let message = Box::new(self.alloc, message)?;
+        let next = self.next(id, message)?;
         let mut packets = Vec::new(self.alloc);
         packets.push(verdict.answer)?;
         Ok(Step {
             outputs: Outputs { packets },
             change: verdict.change,
-            next: Some(Next { id, message, room }),
+            next: Some(next),
+        })
+    }
+
+    /// A message that is to take the place of what is kept of the id, and room for it.
+    fn next(&self, id: MsgId, message: Message) -> Result<Next, AllocError>
+        ensures { IfOk result (IsNext self.now id message) }
+    {
+        Ok(Next {
+            id,
+            message: Box::new(self.alloc, message)?,
+            room: self.messages.room(self.alloc, 1)?,
         })
     }
 }

@@ -3,17 +3,17 @@
 ghost use Rattle.std.specs.Prelude.{◌≡◌, ℕ, IfOk, OnOk};
 ghost use Rattle.std.specs.Option.{option_copied};
 ghost use Rattle.mc_model.specs.synod.Packet.{Slot as SlotValue};
-ghost use Rattle.mc_model.specs.synod.Acceptor.{blank};
+ghost use Rattle.mc_model.specs.synod.Acceptor.{blank, with_record};
 ghost use Rattle.node_model.specs.Acceptor.{prepare_judged, propose_judged, told_of};
 ghost use Rattle.node_model.specs.Message.{unseen};
 ghost use Rattle.synod_acceptor.specs.Records.{record_at};
-ghost use Rattle.synod_acceptor.specs.Votes.{slot_in, told_vote, vote_of};
+ghost use Rattle.synod_acceptor.specs.Votes.{record_of, slot_in, slot_recorded, told_vote, vote_of};
 ghost use Rattle.node_core.specs.Messages.{IsJudged, IsOf, changed_by, message_of};
 
 use fate_chain::Author;
 use mc_types::{Ballot, MsgId, NodeNo, Slot};
 use std::alloc::{AllocError, Global};
-use synod_acceptor::{Acceptor, Change, Verdict, Vote};
+use synod_acceptor::{Acceptor, Change, Record, Verdict, Vote};
 use synod_learner::Learner;
 use synod_proposer::Proposer;
 
@@ -63,6 +63,16 @@ impl Message {
         let verdict = self.acceptor.judge_propose(node, vote)?;
         take_in(&mut self.acceptor, &verdict.change)?;
         Ok(verdict)
+    }
+
+    /// Takes in a record of its store.
+    pub fn file(&mut self, stored: Record) -> Result<(), AllocError>
+        ensures records { OnOk result ((slot : SlotValue) →
+            record_at self.new.acceptor slot ≡ with_record (record_at self.old.acceptor) (slot_recorded stored) (record_of stored) slot) }
+        ensures others { OnOk result ((id : ℕ) → message_of id self.new ≡ message_of id self.old) }
+    {
+        self.acceptor.apply(Change { after: stored })?;
+        Ok(())
     }
 
     /// The vote at the highest place of the message of this id at which its acceptor voted; none if it did not. It takes no memory.

@@ -1,0 +1,141 @@
+-- What a node keeps that opens over the records of its store.
+use Rattle.std.proofs.Common.{◌≡◌, ◌⊎◌, ℕ, Bool, true, false, cond, List, [], ◌∷◌, ◌++◌, map, Option, Some, None, refl, sym, ap, subst, ◌∙◌, inl, inr, arith}
+use Rattle.std.specs.Prelude.{if◌then◌else◌}
+use Rattle.std.specs.Option.{unwrap_or}
+use Rattle.std.specs.Map.{lookup}
+use Rattle.std.specs.Ordering.{nat_cmp, match_ordering}
+use Rattle.std.specs.declared.cmp.Ordering.{Ordering}
+use Rattle.std.specs.declared.cmp.Ordering.TheVariants.{Less, Equal, Greater}
+use Rattle.std.specs.BTreeMap.{is_at}
+use Rattle.std.proofs.lemmas.Bool.{cases_Bool, true≢false}
+use Rattle.std.proofs.lemmas.Bool.Decides.{nat_tests}
+use Rattle.std.proofs.lemmas.List.{map-append}
+use Rattle.mc_model.specs.synod.Packet.{Slot, same_slot, slot_at}
+use Rattle.mc_model.specs.synod.Acceptor.{Records, SlotRecord, blank, with_record}
+use Rattle.mc_model.specs.node.Setup.{Setup}
+use Rattle.mc_parts.proofs.Membership.{slots_same}
+use Rattle.node_model.specs.Kept.{message_at}
+use Rattle.node_model.specs.Message.{Message, unseen}
+use Rattle.shelf.specs.Shelved.{value_at, with_value}
+use Rattle.synod_acceptor.proofs.Slots.{is_same}
+use Rattle.synod_acceptor.specs.Records.{entries_of, entry_of, held_at, or_blank, record_at}
+use Rattle.synod_acceptor.specs.Votes.{record_of, slot_recorded}
+use Rattle.synod_acceptor.specs.declared.record.Record.{Record}
+use Rattle.node_core.specs.declared.kept.Kept.{Kept as Holding}
+use Rattle.node_core.specs.declared.message.Message.{Message as Filed}
+use Rattle.node_core.specs.Keeping.{AreUnseen, IsFiled, IsOpen, IsTaken, filed_as, kept_of, records_of}
+use Rattle.node_core.specs.Messages.{message_of}
+use Rattle.node_core.proofs.Entries.{records_put}
+
+-- ---- nothing was heard
+
+pub unseen_at : (entries : List (ℕ × Filed)) (id : ℕ) → AreUnseen entries → unwrap_or (lookup (is_at (nat_cmp id)) (map filed_as entries)) unseen ≡ unseen
+unseen_at [] id fresh = refl
+unseen_at (e ∷ es) id fresh = by_test (is_at (nat_cmp id) e.0) (unseen_at es id fresh.1)
+  where
+    by_test : (test : Bool) → unwrap_or (lookup (is_at (nat_cmp id)) (map filed_as es)) unseen ≡ unseen → unwrap_or (cond test (Some (message_of e.0 e.1)) (lookup (is_at (nat_cmp id)) (map filed_as es))) unseen ≡ unseen
+    by_test true rest = fresh.0
+    by_test false rest = rest
+
+pub unseen_put : (entries : List (ℕ × Filed)) (id : ℕ) (m : Filed) → message_of id m ≡ unseen → AreUnseen entries → AreUnseen (with_value entries id m)
+unseen_put [] id m is fresh = (is, tt)
+unseen_put (e ∷ es) id m is fresh = at_order (nat_cmp id e.0) refl (unseen_put es id m is fresh.1)
+  where
+    at_order : (o : Ordering) → nat_cmp id e.0 ≡ o → AreUnseen (with_value es id m) → AreUnseen (match_ordering o ((id, m) ∷ e ∷ es) ((e.0, m) ∷ es) (e ∷ with_value es id m))
+    at_order Less order rest = (is, fresh)
+    at_order Equal order rest = let same : e.0 ≡ id = grind (arith, nat_tests) in (subst (λ (key : ℕ). message_of key m ≡ unseen) (sym same) is, fresh.1)
+    at_order Greater order rest = (fresh.0, rest)
+
+-- ---- one record more
+
+pub filed : (old new : Holding) (kept : Record) (id : ℕ) (taken m : Filed) → id ≡ (slot_recorded kept).id → IsTaken old id taken →
+    ((slot : Slot) → record_at m.acceptor slot ≡ with_record (record_at taken.acceptor) (slot_recorded kept) (record_of kept) slot) → ((id : ℕ) → message_of id m ≡ message_of id taken) →
+    new.messages.entries ≡ with_value old.messages.entries id m → new.setup ≡ old.setup → new.incarnation ≡ old.incarnation → IsFiled old kept new
+filed old new kept id taken m about is_taken records same entries setup incarnation = record {
+  setup = setup;
+  incarnation = incarnation;
+  records = λ slot.
+      ap (λ (es : List (ℕ × Filed)). records_of es slot) entries
+      ∙ records_put old.messages.entries id m (slot_recorded kept) (record_of kept) (sym about)
+        (λ place. records (slot_at id place) ∙ ap (λ (r : SlotRecord). if same_slot (slot_at id place) (slot_recorded kept) then record_of kept else r) (is_taken.records place))
+        slot;
+  fresh = λ fresh. subst AreUnseen (sym entries) (unseen_put old.messages.entries id m (same id ∙ is_taken.message ∙ unseen_at old.messages.entries id fresh) fresh);
+}
+
+-- ---- records over others
+
+-- of several of a slot the first counts
+abbrev pub over : List (Slot × SlotRecord) → Records → Slot → SlotRecord
+over entries records slot = unwrap_or (held_at entries slot) (records slot)
+
+pub over_blank : (entries : List (Slot × SlotRecord)) (records : Records) (slot : Slot) → records slot ≡ blank → over entries records slot ≡ record_at entries slot
+over_blank entries records slot is = by_held (held_at entries slot)
+  where
+    by_held : (held : Option SlotRecord) → unwrap_or held (records slot) ≡ or_blank held
+    by_held None = is
+    by_held (Some r) = refl
+
+over_same : (entries : List (Slot × SlotRecord)) (one other : Records) (slot : Slot) → one slot ≡ other slot → over entries one slot ≡ over entries other slot
+over_same entries one other slot is = ap (λ (r : SlotRecord). unwrap_or (held_at entries slot) r) is
+
+over_last : (entries : List (Slot × SlotRecord)) (last : Slot × SlotRecord) (records : Records) (slot : Slot) → over (entries ++ last ∷ []) records slot ≡ over entries (with_record records last.0 last.1) slot
+over_last [] last records slot = elim (cases_Bool (same_slot last.0 slot)) [
+  | inl same ↦
+      let slots : last.0 ≡ slot = slots_same last.0 slot same in
+      ap (λ (test : Bool). unwrap_or (cond test (Some last.1) None) (records slot)) same
+      ∙ sym (ap (λ (test : Bool). cond test last.1 (records slot)) (is_same slot last.0 (sym slots)))
+  | inr differs ↦
+      ap (λ (test : Bool). unwrap_or (cond test (Some last.1) None) (records slot)) differs
+      ∙ sym (ap (λ (test : Bool). cond test last.1 (records slot)) (apart differs))
+]
+  where
+    apart : same_slot last.0 slot ≡ false → same_slot slot last.0 ≡ false
+    apart differs = elim (cases_Bool (same_slot slot last.0)) [
+      | inl same ↦ absurd (true≢false (sym (is_same last.0 slot (sym (slots_same slot last.0 same))) ∙ differs))
+      | inr other ↦ other
+    ]
+over_last (first ∷ others) last records slot = by_test (same_slot first.0 slot) (over_last others last records slot)
+  where
+    by_test : (test : Bool) → over (others ++ last ∷ []) records slot ≡ over others (with_record records last.0 last.1) slot →
+        unwrap_or (cond test (Some first.1) (held_at (others ++ last ∷ []) slot)) (records slot) ≡ unwrap_or (cond test (Some first.1) (held_at others slot)) (with_record records last.0 last.1 slot)
+    by_test true rest = refl
+    by_test false rest = rest
+
+-- the last of the records is taken in
+pub over_filed : (records front : List Record) (last : Record) (old new : Holding) (slot : Slot) → records ≡ front ++ last ∷ [] → IsFiled old last new → over (entries_of front) (records_of new.messages.entries) slot ≡ over (entries_of records) (records_of old.messages.entries) slot
+over_filed records front last old new slot split is_filed =
+    over_same (entries_of front) (records_of new.messages.entries) (with_record (records_of old.messages.entries) (slot_recorded last) (record_of last)) slot (is_filed.records slot)
+    ∙ sym (over_last (entries_of front) (entry_of last) (records_of old.messages.entries) slot)
+    ∙ sym (ap (λ (es : List (Slot × SlotRecord)). over es (records_of old.messages.entries) slot) (ap entries_of split ∙ map-append entry_of front (last ∷ [])))
+
+-- ---- while they are taken in
+
+pub record IsFiling (with : Setup) (starts : ℕ) (left all : List Record) (k : Holding) : Type 0 where
+  pub setup : k.setup ≡ with
+  pub incarnation : k.incarnation ≡ starts
+  pub records : (slot : Slot) → over (entries_of left) (records_of k.messages.entries) slot ≡ record_at (entries_of all) slot
+  pub fresh : AreUnseen k.messages.entries
+
+pub filing_begins : (with : Setup) (starts : ℕ) (all : List Record) (k : Holding) → k.setup ≡ with → k.incarnation ≡ starts → k.messages.entries ≡ [] → IsFiling with starts all all k
+filing_begins with starts all k setup incarnation none = record {
+  setup = setup;
+  incarnation = incarnation;
+  records = λ slot. over_blank (entries_of all) (records_of k.messages.entries) slot (ap (λ (es : List (ℕ × Filed)). records_of es slot) none);
+  fresh = subst AreUnseen (sym none) tt;
+}
+
+pub filing_goes_on : (with : Setup) (starts : ℕ) (left front all : List Record) (last : Record) (old new : Holding) → left ≡ front ++ last ∷ [] → IsFiled old last new → IsFiling with starts left all old → IsFiling with starts front all new
+filing_goes_on with starts left front all last old new split is_filed filing = record {
+  setup = is_filed.setup ∙ filing.setup;
+  incarnation = is_filed.incarnation ∙ filing.incarnation;
+  records = λ slot. over_filed left front last old new slot split is_filed ∙ filing.records slot;
+  fresh = is_filed.fresh filing.fresh;
+}
+
+pub filing_ends : (with : Setup) (starts : ℕ) (left all : List Record) (k : Holding) → left ≡ [] → IsFiling with starts left all k → IsOpen with starts (record_at (entries_of all)) k
+filing_ends with starts left all k none filing = record {
+  setup = filing.setup;
+  incarnation = filing.incarnation;
+  kept = λ slot. sym (ap (λ (rs : List Record). over (entries_of rs) (records_of k.messages.entries) slot) none) ∙ filing.records slot;
+  fresh = filing.fresh;
+}
