@@ -21,7 +21,7 @@ use Rattle.node_core.specs.Messages.{message_of}
 
 -- ---- what is kept of an id
 
-same_key : (id key : ℕ) → is_at (nat_cmp id) key ≡ true → id ≡ key
+pub same_key : (id key : ℕ) → is_at (nat_cmp id) key ≡ true → id ≡ key
 same_key id key is = at_order (nat_cmp id key) refl is
   where
     at_order : (o : Ordering) → nat_cmp id key ≡ o → is_eq o ≡ true → id ≡ key

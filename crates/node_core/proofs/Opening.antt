@@ -2,7 +2,8 @@
 use Rattle.std.proofs.Common.{◌≡◌, ◌⊎◌, ℕ, Bool, true, false, cond, List, [], ◌∷◌, ◌++◌, map, Option, Some, None, refl, sym, ap, subst, ◌∙◌, inl, inr, arith}
 use Rattle.std.specs.Prelude.{if◌then◌else◌}
 use Rattle.std.specs.Option.{unwrap_or}
-use Rattle.std.specs.Map.{lookup}
+use Rattle.std.proofs.Math.Path.{fun_ext}
+use Rattle.std.specs.Map.{keys_of, lookup}
 use Rattle.std.specs.Ordering.{nat_cmp, match_ordering}
 use Rattle.std.specs.declared.cmp.Ordering.{Ordering}
 use Rattle.std.specs.declared.cmp.Ordering.TheVariants.{Less, Equal, Greater}
@@ -10,22 +11,26 @@ use Rattle.std.specs.BTreeMap.{is_at}
 use Rattle.std.proofs.lemmas.Bool.{cases_Bool, true≢false}
 use Rattle.std.proofs.lemmas.Bool.Decides.{nat_tests}
 use Rattle.std.proofs.lemmas.List.{map-append}
+use Rattle.mc_model.specs.synod.Lists.{In}
 use Rattle.mc_model.specs.synod.Packet.{Slot, same_slot, slot_at}
 use Rattle.mc_model.specs.synod.Acceptor.{Records, SlotRecord, blank, with_record}
 use Rattle.mc_model.specs.node.Setup.{Setup}
 use Rattle.mc_parts.proofs.Membership.{slots_same}
 use Rattle.node_model.specs.Kept.{message_at}
 use Rattle.node_model.specs.Message.{Message, unseen}
+use Rattle.node_model.specs.Stepped.{opened_over}
 use Rattle.shelf.specs.Shelved.{value_at, with_value}
 use Rattle.synod_acceptor.proofs.Slots.{is_same}
 use Rattle.synod_acceptor.specs.Records.{entries_of, entry_of, held_at, or_blank, record_at}
 use Rattle.synod_acceptor.specs.Votes.{record_of, slot_recorded}
 use Rattle.synod_acceptor.specs.declared.record.Record.{Record}
 use Rattle.node_core.specs.declared.kept.Kept.{Kept as Holding}
+use Rattle.node_core.specs.declared.life.Life.{Life}
 use Rattle.node_core.specs.declared.message.Message.{Message as Filed}
-use Rattle.node_core.specs.Keeping.{AreUnseen, IsFiled, IsOpen, IsTaken, filed_as, kept_of, records_of}
+use Rattle.node_core.specs.Keeping.{AreUnseen, IsFiled, IsOpen, IsTaken, acceptor_in, filed_as, kept_of, records_of}
 use Rattle.node_core.specs.Messages.{message_of}
-use Rattle.node_core.proofs.Entries.{records_put}
+use Rattle.node_core.specs.Nodes.{HasOpened, Standing}
+use Rattle.node_core.proofs.Entries.{records_put, same_key}
 
 -- ---- nothing was heard
 
@@ -138,4 +143,41 @@ filing_ends with starts left all k none filing = record {
   incarnation = filing.incarnation;
   kept = λ slot. sym (ap (λ (rs : List Record). over (entries_of rs) (records_of k.messages.entries) slot) none) ∙ filing.records slot;
   fresh = filing.fresh;
+}
+
+-- ---- a node that opens
+
+pub open_over : (with : Setup) (starts : ℕ) (one other : Records) (k : Holding) → IsOpen with starts one k → ((slot : Slot) → one slot ≡ other slot) → IsOpen with starts other k
+open_over with starts one other k is same = record {
+  setup = is.setup;
+  incarnation = is.incarnation;
+  kept = λ slot. is.kept slot ∙ same slot;
+  fresh = is.fresh;
+}
+
+messages_are : (entries : List (ℕ × Filed)) → AreUnseen entries → map filed_as entries ≡ map (λ id. (id, unseen)) (keys_of entries)
+messages_are [] fresh = refl
+messages_are (e ∷ es) fresh = λ i. (e.0, fresh.0 i) ∷ messages_are es fresh.1 i
+
+listed_in : (entries : List (ℕ × Filed)) (id : ℕ) → (value_at entries id ≡ None → ⊥) → In id (keys_of entries)
+listed_in [] id some = absurd (some refl)
+listed_in (e ∷ es) id some = elim (cases_Bool (is_at (nat_cmp id) e.0)) [
+  | inl same ↦ inl (same_key id e.0 same)
+  | inr differs ↦ inr (listed_in es id (λ none. some (ap (λ (test : Bool). cond test (Some e.1) (value_at es id)) differs ∙ none)))
+]
+
+pub opened : (with : Setup) (records : Records) (starts : ℕ) (node : Standing) (life : Life) → IsOpen with starts records node.kept → node.broken ≡ false → life.node ≡ with.node → life.incarnation ≡ starts → HasOpened with records starts node life
+opened with records starts node life is works of_node of_start = record {
+  ids = keys_of node.kept.messages.entries;
+  kept = λ i. record (opened_over records (keys_of node.kept.messages.entries) starts with.first_serial) {
+    records = fun_ext is.kept i;
+    incarnation = is.incarnation i;
+    serial = (is.setup i).first_serial;
+    messages = messages_are node.kept.messages.entries is.fresh i;
+  };
+  listed = λ slot differs. listed_in node.kept.messages.entries slot.id (λ none. differs (sym (is.kept slot) ∙ ap (λ (found : Option Filed). record_at (acceptor_in found) slot) none));
+  setup = is.setup;
+  works = works;
+  of_node = of_node;
+  of_start = of_start;
 }

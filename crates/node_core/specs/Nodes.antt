@@ -1,8 +1,13 @@
 -- A node of the code, and its steps.
-use Rattle.std.specs.Prelude.{◌≡◌, Bool, false}
-use Rattle.node_model.specs.Stepped.{stepped}
+use Rattle.std.specs.Prelude.{◌≡◌, ℕ, Bool, false, List}
+use Rattle.mc_model.specs.synod.Lists.{In}
+use Rattle.mc_model.specs.synod.Packet.{Slot}
+use Rattle.mc_model.specs.synod.Acceptor.{Records, blank}
+use Rattle.mc_model.specs.node.Setup.{Setup}
+use Rattle.node_model.specs.Stepped.{opened_over, stepped}
 use Rattle.node_core.specs.declared.input.Input.{Input}
 use Rattle.node_core.specs.declared.kept.Kept.{Kept}
+use Rattle.node_core.specs.declared.life.Life.{Life}
 use Rattle.node_core.specs.declared.outputs.Outputs.{Outputs}
 use Rattle.node_core.specs.Keeping.{kept_of}
 use Rattle.node_core.specs.Pendings.{Awaited}
@@ -12,6 +17,16 @@ use Rattle.node_core.specs.Steps.{input_of, outputs_of}
 pub record Standing : Type 0 where
   pub kept : Kept
   pub broken : Bool
+
+-- It opened in this incarnation with these records and nothing else. Each message of which there is a record is among its messages.
+pub record HasOpened (with : Setup) (records : Records) (starts : ℕ) (node : Standing) (life : Life) : Type 0 where
+  pub ids : List ℕ
+  pub kept : kept_of node.kept ≡ opened_over records ids starts with.first_serial
+  pub listed : (slot : Slot) → (records slot ≡ blank → ⊥) → In slot.id ids
+  pub setup : node.kept.setup ≡ with
+  pub works : node.broken ≡ false
+  pub of_node : life.node ≡ with.node
+  pub of_start : life.incarnation ≡ starts
 
 -- a step of this node was prepared, for this input
 pub record IsAwaited (node : Standing) (input : Input) (pending : Awaited) : Type 0 where

@@ -176,6 +176,13 @@ impl Kept {
         self.messages.get(id.number())
     }
 
+    /// The incarnation.
+    pub fn incarnation(&self) -> Incarnation
+        ensures { result ≡ self.now.incarnation }
+    {
+        self.incarnation
+    }
+
     /// By whom its decrees are.
     fn author(&self) -> Author
         ensures node { result.node ≡ self.now.setup.node }

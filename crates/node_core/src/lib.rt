@@ -4,8 +4,10 @@
 mod fault;
 mod input;
 mod kept;
+mod life;
 mod message;
 mod node;
+mod open;
 mod outputs;
 mod pending;
 mod setup;
@@ -13,7 +15,9 @@ mod step;
 
 pub use fault::StepFault;
 pub use input::Input;
+pub use life::Life;
 pub use node::Node;
+pub use open::open_node;
 pub use outputs::Outputs;
 pub use pending::Pending;
 pub use setup::Setup;

@@ -42,6 +42,19 @@ impl<S: StableStore> Model for Node<S> {
 }
 
 impl<S: StableStore> Node<S> {
+    /// A node that keeps what its store has the records of.
+    pub(crate) fn make(store: S, kept: Kept) -> Node<S>
+        requires { AreSame (S.records store) (records_of kept.messages.entries) }
+        ensures kept { result.kept ≡ kept }
+        ensures broken { result.broken ≡ false }
+    {
+        Node {
+            store,
+            kept,
+            broken: false,
+        }
+    }
+
     /// Prepares what the node does with an input. It changes nothing, and copies what is kept of the message of the input alone. Broken
     /// exactly if a save failed before, before any memory is taken.
     pub fn prepare_step(&self, input: Input) -> Result<Pending, StepFault>

@@ -1,0 +1,47 @@
+//! The opening of a node.
+
+ghost use Rattle.std.specs.Prelude.{◌≡◌, ◌⊎◌, ◌+◌, IfOk, IfErr, OnOk, OnErr};
+ghost use Rattle.stable_store.specs.Stored.{AreSame};
+ghost use Rattle.node_core.specs.Keeping.{IsOpen};
+ghost use Rattle.node_core.specs.Nodes.{HasOpened};
+
+use crate::kept::Kept;
+use crate::life::Life;
+use crate::node::Node;
+use crate::setup::Setup;
+use stable_store::{StableStore, StoreFault};
+use std::alloc::Global;
+
+/// Opens a node over a store, in the incarnation after the last one that is stored: it keeps the records of the store and nothing else.
+/// An `Err` is the store's fault or want of memory, and hands the store back; its records are as they were, and its incarnation is
+/// the same or one more.
+pub fn open_node<S: StableStore>(
+    alloc: Global,
+    mut store: S,
+    setup: Setup,
+) -> Result<(Node<S>, Life), (StoreFault, S)>
+    ensures ok { IfOk result (λ opened. HasOpened setup (S.records store) (S.started store + 1) opened.0 opened.1) }
+    ensures records { IfErr result (λ failed. AreSame (S.records failed.1) (S.records store)) }
+    ensures started { IfErr result (λ failed. (S.started failed.1 ≡ S.started store) ⊎ (S.started failed.1 ≡ S.started store + 1)) }
+{
+    match begin(alloc, &mut store, setup) {
+        Ok(kept) => {
+            let life = Life::of(setup.node, kept.incarnation());
+            Ok((Node::make(store, kept), life))
+        }
+        Err(fault) => Err((fault, store)),
+    }
+}
+
+/// What a node keeps that opens over a store in the next incarnation, which the store has then.
+fn begin<S: StableStore>(alloc: Global, store: &mut S, setup: Setup) -> Result<Kept, StoreFault>
+    ensures ok { IfOk result (IsOpen setup (S.started store.old + 1) (S.records store.old)) }
+    ensures records { AreSame (S.records store.new) (S.records store.old) }
+    ensures started { OnOk result (S.started store.new ≡ S.started store.old + 1) }
+    ensures err { OnErr result ((S.started store.new ≡ S.started store.old) ⊎ (S.started store.new ≡ S.started store.old + 1)) }
+{
+    let records = store.load()?;
+    let incarnation = store.next_incarnation()?;
+    let kept = Kept::open(alloc, setup, incarnation, records)?;
+    Ok(kept)
+}
