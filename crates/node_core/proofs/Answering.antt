@@ -22,31 +22,38 @@ use Rattle.synod_acceptor.specs.Votes.{record_of, slot_recorded}
 use Rattle.synod_acceptor.specs.declared.acceptor.Verdict.{Verdict}
 use Rattle.synod_acceptor.specs.declared.packet.Packet.{Packet as Cast}
 use Rattle.synod_acceptor.specs.declared.record.Change.{Change}
+use Rattle.synod_learner.specs.Counts.{Learned}
+use Rattle.synod_proposer.specs.Proposing.{Proposing}
 use Rattle.node_core.specs.declared.kept.Kept.{Kept as Holding}
 use Rattle.node_core.specs.declared.message.Message.{Message as Filed}
 use Rattle.node_core.specs.declared.step.Step.{Step}
-use Rattle.node_core.specs.Keeping.{IsTaken, acceptor_in, filed_as, kept_of, kept_with, records_of}
-use Rattle.node_core.specs.Messages.{IsJudged, changed_by, message_of}
+use Rattle.node_core.specs.Keeping.{AreOf, IsTaken, acceptor_in, filed_as, kept_of, kept_with, records_of}
+use Rattle.node_core.specs.Messages.{IsJudged, IsOf, changed_by, message_of}
 use Rattle.node_core.specs.Steps.{IsAnswer, IsStep, entries_after}
-use Rattle.node_core.proofs.Entries.{message_looked_up, message_put, records_put}
+use Rattle.node_core.proofs.Entries.{message_looked_up, message_put, own_at, own_put, records_put}
 
 -- ---- a message that is taken out
 
 pub taken_there : (k : Holding) (id : ℕ) (m : Filed) → value_at k.messages.entries id ≡ Some m → IsTaken k id m
 taken_there k id m found = record {
+  own = λ own. own_at k.setup k.incarnation k.messages.entries id m own.each found;
   message = sym (ap (λ (o : Option Message). unwrap_or o unseen) (message_looked_up k.messages.entries id ∙ ap (λ (o : Option Filed). option_map (message_of id) o) found));
   records = λ place. ap (λ (o : Option Filed). record_at (acceptor_in o) (slot_at id place)) (sym found);
 }
 
-pub taken_fresh : (k : Holding) (id : ℕ) (m : Filed) → value_at k.messages.entries id ≡ None → message_of id m ≡ unseen → ((slot : Slot) → record_at m.acceptor slot ≡ blank) → IsTaken k id m
-taken_fresh k id m none is empty = record {
-  message = is ∙ sym (ap (λ (o : Option Message). unwrap_or o unseen) (message_looked_up k.messages.entries id ∙ ap (λ (o : Option Filed). option_map (message_of id) o) none));
+pub none_kept : (k : Holding) (id : ℕ) → value_at k.messages.entries id ≡ None → message_at (kept_of k) id ≡ unseen
+none_kept k id none = ap (λ (o : Option Message). unwrap_or o unseen) (message_looked_up k.messages.entries id ∙ ap (λ (o : Option Filed). option_map (message_of id) o) none)
+
+pub taken_fresh : (k : Holding) (id : ℕ) (m : Filed) → value_at k.messages.entries id ≡ None → message_of id m ≡ unseen → ((slot : Slot) → record_at m.acceptor slot ≡ blank) → IsOf k.setup.node k.incarnation k.setup.nodes m → IsTaken k id m
+taken_fresh k id m none is empty of = record {
+  own = λ own. of;
+  message = is ∙ sym (none_kept k id none);
   records = λ place. empty (slot_at id place) ∙ ap (λ (o : Option Filed). record_at (acceptor_in o) (slot_at id place)) (sym none);
 }
 
-pub fresh_taken : {E : Type 0} (k : Holding) (id : ℕ) (result : Result Filed E) → value_at k.messages.entries id ≡ None → IfOk result (λ m. (slot : Slot) → record_at m.acceptor slot ≡ blank) → IfOk result (λ m. (id : ℕ) → message_of id m ≡ unseen) → IfOk result (IsTaken k id)
-fresh_taken k id (Ok m) none records is = taken_fresh k id m none (is id) records
-fresh_taken k id (Err e) none records is = tt
+pub fresh_taken : {E : Type 0} (k : Holding) (id : ℕ) (result : Result Filed E) → value_at k.messages.entries id ≡ None → IfOk result (λ m. (slot : Slot) → record_at m.acceptor slot ≡ blank) → IfOk result (λ m. (id : ℕ) → message_of id m ≡ unseen) → IfOk result (IsOf k.setup.node k.incarnation k.setup.nodes) → IfOk result (IsTaken k id)
+fresh_taken k id (Ok m) none records is of = taken_fresh k id m none (is id) records of
+fresh_taken k id (Err e) none records is of = tt
 
 -- ---- a verdict
 
@@ -88,6 +95,14 @@ module _ (k : Holding) (slot : Slot) (taken new : Filed) (judgement : SlotRecord
     messages = (message_put Entries slot.id new ∙ ap (λ (m : Message). insert_entry nat_cmp (map filed_as Entries) slot.id m) message_new) i;
   }
 
+  of_new : IsOf k.setup.node k.incarnation k.setup.nodes taken → IsOf k.setup.node k.incarnation k.setup.nodes new
+  of_new of = record {
+    learner = ap (λ (l : Learned). l.nodes) is_judged.learner ∙ of.learner;
+    node = ap (λ (p : Proposing). p.node) is_judged.proposer ∙ of.node;
+    incarnation = ap (λ (p : Proposing). p.incarnation) is_judged.proposer ∙ of.incarnation;
+    proposer = ap (λ (p : Proposing). p.nodes) is_judged.proposer ∙ of.proposer;
+  }
+
   change_is : Changes slot (records_of Entries slot) Judged.after verdict.change
   change_is = subst (λ (r : SlotRecord). Changes slot r (judgement r).after verdict.change) same_here is_judged.change
 
@@ -101,6 +116,7 @@ module _ (k : Holding) (slot : Slot) (taken new : Filed) (judgement : SlotRecord
         ap (λ (es : List (ℕ × Filed)). records_of es other) is_answer.entries
         ∙ records_then other
         ∙ sym (ap (λ (change : Option Change). changed_by change (records_of Entries) other) is_answer.change ∙ changed_is (records_of Entries) slot Judged.after verdict.change change_is other);
+    own = λ own. subst (λ (es : List (ℕ × Filed)). AreOf k.setup k.incarnation es) (sym is_answer.entries) (own_put k.setup k.incarnation Entries slot.id new (of_new (is_taken.own own)) own.each);
     room = is_answer.room;
   }
 

@@ -12,12 +12,14 @@ use Rattle.std.proofs.lemmas.Bool.Decides.{Decides-eqb, nat_tests}
 use Rattle.mc_model.specs.synod.Packet.{Slot, same_slot, slot_at}
 use Rattle.mc_model.specs.synod.Acceptor.{Records, SlotRecord, with_record}
 use Rattle.node_model.specs.Message.{Message, unseen}
+use Rattle.mc_model.specs.node.Setup.{Setup}
+use Rattle.node_model.proofs.Records.{same_record}
 use Rattle.node_model.proofs.Places.{here, elsewhere}
 use Rattle.shelf.specs.Shelved.{value_at, with_value}
 use Rattle.synod_acceptor.specs.Records.{record_at}
 use Rattle.node_core.specs.declared.message.Message.{Message as Filed}
-use Rattle.node_core.specs.Keeping.{acceptor_in, filed_as, records_of}
-use Rattle.node_core.specs.Messages.{message_of}
+use Rattle.node_core.specs.Keeping.{AreOf, acceptor_in, filed_as, records_of}
+use Rattle.node_core.specs.Messages.{IsOf, message_of}
 
 -- ---- what is kept of an id
 
@@ -76,3 +78,29 @@ records_put entries id m slot after of is other = elim (cases_Bool (other.id == 
       | inl same ↦ absurd (apart ((Decides-eqb other.id slot.id).0 (and_parts (other.id == slot.id) (other.place == slot.place) same).0 ∙ of))
       | inr differs ↦ differs
     ]
+
+-- ---- the node of messages
+
+pub own_at : (setup : Setup) (starts : ℕ) (entries : List (ℕ × Filed)) (id : ℕ) (m : Filed) → AreOf setup starts entries → value_at entries id ≡ Some m → IsOf setup.node starts setup.nodes m
+own_at setup starts [] id m own found = absurd (cc)
+own_at setup starts (e ∷ es) id m own found = by_test (is_at (nat_cmp id) e.0) found (own_at setup starts es id m own.1)
+  where
+    by_test : (test : Bool) → cond test (Some e.1) (value_at es id) ≡ Some m → (value_at es id ≡ Some m → IsOf setup.node starts setup.nodes m) → IsOf setup.node starts setup.nodes m
+    by_test true is rest = let same : e.1 ≡ m = cc in subst (λ (n : Filed). IsOf setup.node starts setup.nodes n) same own.0
+    by_test false is rest = rest is
+
+pub own_put : (setup : Setup) (starts : ℕ) (entries : List (ℕ × Filed)) (id : ℕ) (m : Filed) → IsOf setup.node starts setup.nodes m → AreOf setup starts entries → AreOf setup starts (with_value entries id m)
+own_put setup starts [] id m is own = (is, tt)
+own_put setup starts (e ∷ es) id m is own = at_order (nat_cmp id e.0) (own_put setup starts es id m is own.1)
+  where
+    at_order : (o : Ordering) → AreOf setup starts (with_value es id m) → AreOf setup starts (match_ordering o ((id, m) ∷ e ∷ es) ((e.0, m) ∷ es) (e ∷ with_value es id m))
+    at_order Less rest = (is, own)
+    at_order Equal rest = (is, own.1)
+    at_order Greater rest = (own.0, rest)
+
+-- the records stay, if the message has the same
+pub records_kept : (entries : List (ℕ × Filed)) (id : ℕ) (m : Filed) → ((place : ℕ) → record_at m.acceptor (slot_at id place) ≡ records_of entries (slot_at id place)) → (other : Slot) → records_of (with_value entries id m) other ≡ records_of entries other
+records_kept entries id m is other =
+    let first = slot_at id 0 in
+    records_put entries id m first (records_of entries first) refl (λ place. is place ∙ same_record (records_of entries) first (slot_at id place)) other
+    ∙ sym (same_record (records_of entries) first other)

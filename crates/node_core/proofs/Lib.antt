@@ -1,3 +1,4 @@
 pub mod Entries
 pub mod Answering
+pub mod Leaving
 pub mod Opening

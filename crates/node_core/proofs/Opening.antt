@@ -27,10 +27,10 @@ use Rattle.synod_acceptor.specs.declared.record.Record.{Record}
 use Rattle.node_core.specs.declared.kept.Kept.{Kept as Holding}
 use Rattle.node_core.specs.declared.life.Life.{Life}
 use Rattle.node_core.specs.declared.message.Message.{Message as Filed}
-use Rattle.node_core.specs.Keeping.{AreUnseen, IsFiled, IsOpen, IsTaken, acceptor_in, filed_as, kept_of, records_of}
-use Rattle.node_core.specs.Messages.{message_of}
+use Rattle.node_core.specs.Keeping.{AreOf, AreOwn, AreUnseen, IsFiled, IsOpen, IsTaken, acceptor_in, filed_as, kept_of, records_of}
+use Rattle.node_core.specs.Messages.{IsOf, message_of}
 use Rattle.node_core.specs.Nodes.{HasOpened, Standing}
-use Rattle.node_core.proofs.Entries.{records_put, same_key}
+use Rattle.node_core.proofs.Entries.{own_put, records_put, same_key}
 
 -- ---- nothing was heard
 
@@ -54,9 +54,9 @@ unseen_put (e ∷ es) id m is fresh = at_order (nat_cmp id e.0) refl (unseen_put
 -- ---- one record more
 
 pub filed : (old new : Holding) (kept : Record) (id : ℕ) (taken m : Filed) → id ≡ (slot_recorded kept).id → IsTaken old id taken →
-    ((slot : Slot) → record_at m.acceptor slot ≡ with_record (record_at taken.acceptor) (slot_recorded kept) (record_of kept) slot) → ((id : ℕ) → message_of id m ≡ message_of id taken) →
+    ((slot : Slot) → record_at m.acceptor slot ≡ with_record (record_at taken.acceptor) (slot_recorded kept) (record_of kept) slot) → ((id : ℕ) → message_of id m ≡ message_of id taken) → (IsOf old.setup.node old.incarnation old.setup.nodes taken → IsOf old.setup.node old.incarnation old.setup.nodes m) →
     new.messages.entries ≡ with_value old.messages.entries id m → new.setup ≡ old.setup → new.incarnation ≡ old.incarnation → IsFiled old kept new
-filed old new kept id taken m about is_taken records same entries setup incarnation = record {
+filed old new kept id taken m about is_taken records same of entries setup incarnation = record {
   setup = setup;
   incarnation = incarnation;
   records = λ slot.
@@ -64,6 +64,12 @@ filed old new kept id taken m about is_taken records same entries setup incarnat
       ∙ records_put old.messages.entries id m (slot_recorded kept) (record_of kept) (sym about)
         (λ place. records (slot_at id place) ∙ ap (λ (r : SlotRecord). if same_slot (slot_at id place) (slot_recorded kept) then record_of kept else r) (is_taken.records place))
         slot;
+  own = λ own. record {
+    each = subst (λ (es : List (ℕ × Filed)). AreOf new.setup new.incarnation es) (sym entries)
+        (subst (λ (s : Setup). AreOf s new.incarnation (with_value old.messages.entries id m)) (sym setup)
+        (subst (λ (starts : ℕ). AreOf old.setup starts (with_value old.messages.entries id m)) (sym incarnation)
+        (own_put old.setup old.incarnation old.messages.entries id m (of (is_taken.own own)) own.each)));
+  };
   fresh = λ fresh. subst AreUnseen (sym entries) (unseen_put old.messages.entries id m (same id ∙ is_taken.message ∙ unseen_at old.messages.entries id fresh) fresh);
 }
 
@@ -120,6 +126,7 @@ pub record IsFiling (with : Setup) (starts : ℕ) (left all : List Record) (k : 
   pub incarnation : k.incarnation ≡ starts
   pub records : (slot : Slot) → over (entries_of left) (records_of k.messages.entries) slot ≡ record_at (entries_of all) slot
   pub fresh : AreUnseen k.messages.entries
+  pub own : AreOwn k
 
 pub filing_begins : (with : Setup) (starts : ℕ) (all : List Record) (k : Holding) → k.setup ≡ with → k.incarnation ≡ starts → k.messages.entries ≡ [] → IsFiling with starts all all k
 filing_begins with starts all k setup incarnation none = record {
@@ -127,6 +134,7 @@ filing_begins with starts all k setup incarnation none = record {
   incarnation = incarnation;
   records = λ slot. over_blank (entries_of all) (records_of k.messages.entries) slot (ap (λ (es : List (ℕ × Filed)). records_of es slot) none);
   fresh = subst AreUnseen (sym none) tt;
+  own = record { each = subst (λ (es : List (ℕ × Filed)). AreOf k.setup k.incarnation es) (sym none) tt };
 }
 
 pub filing_goes_on : (with : Setup) (starts : ℕ) (left front all : List Record) (last : Record) (old new : Holding) → left ≡ front ++ last ∷ [] → IsFiled old last new → IsFiling with starts left all old → IsFiling with starts front all new
@@ -135,6 +143,7 @@ filing_goes_on with starts left front all last old new split is_filed filing = r
   incarnation = is_filed.incarnation ∙ filing.incarnation;
   records = λ slot. over_filed left front last old new slot split is_filed ∙ filing.records slot;
   fresh = is_filed.fresh filing.fresh;
+  own = is_filed.own filing.own;
 }
 
 pub filing_ends : (with : Setup) (starts : ℕ) (left all : List Record) (k : Holding) → left ≡ [] → IsFiling with starts left all k → IsOpen with starts (record_at (entries_of all)) k
@@ -143,6 +152,7 @@ filing_ends with starts left all k none filing = record {
   incarnation = filing.incarnation;
   kept = λ slot. sym (ap (λ (rs : List Record). over (entries_of rs) (records_of k.messages.entries) slot) none) ∙ filing.records slot;
   fresh = filing.fresh;
+  own = filing.own;
 }
 
 -- ---- a node that opens
@@ -153,6 +163,7 @@ open_over with starts one other k is same = record {
   incarnation = is.incarnation;
   kept = λ slot. is.kept slot ∙ same slot;
   fresh = is.fresh;
+  own = is.own;
 }
 
 messages_are : (entries : List (ℕ × Filed)) → AreUnseen entries → map filed_as entries ≡ map (λ id. (id, unseen)) (keys_of entries)

@@ -12,7 +12,7 @@ use Rattle.synod_acceptor.specs.Votes.{record_of, slot_recorded}
 use Rattle.synod_acceptor.specs.declared.record.Record.{Record}
 use Rattle.node_core.specs.declared.kept.Kept.{Kept as Holding}
 use Rattle.node_core.specs.declared.message.Message.{Message as Filed}
-use Rattle.node_core.specs.Messages.{message_of}
+use Rattle.node_core.specs.Messages.{IsOf, message_of}
 
 abbrev pub acceptor_in : Option Filed → List (Slot × SlotRecord)
 acceptor_in None = []
@@ -33,8 +33,17 @@ kept_with setup incarnation entries =
 abbrev pub kept_of : Holding → Kept
 kept_of k = kept_with k.setup k.incarnation k.messages.entries
 
+-- each message is one of this node, and was made in this incarnation
+abbrev pub AreOf : Setup → ℕ → List (ℕ × Filed) → Type 0
+AreOf setup starts [] = Unit {0}
+AreOf setup starts (first ∷ others) = IsOf setup.node starts setup.nodes first.1 × AreOf setup starts others
+
+pub record AreOwn (k : Holding) : Type 0 where
+  pub each : AreOf k.setup k.incarnation k.messages.entries
+
 -- a message that was taken out of it is what is kept of this id
 pub record IsTaken (k : Holding) (id : ℕ) (m : Filed) : Type 0 where
+  pub own : AreOwn k → IsOf k.setup.node k.incarnation k.setup.nodes m
   pub message : message_of id m ≡ message_at (kept_of k) id
   pub records : (place : ℕ) → record_at m.acceptor (slot_at id place) ≡ records_of k.messages.entries (slot_at id place)
 
@@ -51,6 +60,7 @@ pub record IsOpen (with : Setup) (starts : ℕ) (records : Records) (k : Holding
   pub incarnation : k.incarnation ≡ starts
   pub kept : (slot : Slot) → records_of k.messages.entries slot ≡ records slot
   pub fresh : AreUnseen k.messages.entries
+  pub own : AreOwn k
 
 -- one more record was taken in
 pub record IsFiled (old : Holding) (kept : Record) (new : Holding) : Type 0 where
@@ -58,3 +68,4 @@ pub record IsFiled (old : Holding) (kept : Record) (new : Holding) : Type 0 wher
   pub incarnation : new.incarnation ≡ old.incarnation
   pub records : (slot : Slot) → records_of new.messages.entries slot ≡ with_record (records_of old.messages.entries) (slot_recorded kept) (record_of kept) slot
   pub fresh : AreUnseen old.messages.entries → AreUnseen new.messages.entries
+  pub own : AreOwn old → AreOwn new

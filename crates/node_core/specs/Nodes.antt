@@ -5,11 +5,12 @@ use Rattle.mc_model.specs.synod.Packet.{Slot}
 use Rattle.mc_model.specs.synod.Acceptor.{Records, blank}
 use Rattle.mc_model.specs.node.Setup.{Setup}
 use Rattle.node_model.specs.Stepped.{opened_over, stepped}
+use Rattle.stable_store.specs.Stored.{AreSame}
 use Rattle.node_core.specs.declared.input.Input.{Input}
 use Rattle.node_core.specs.declared.kept.Kept.{Kept}
 use Rattle.node_core.specs.declared.life.Life.{Life}
 use Rattle.node_core.specs.declared.outputs.Outputs.{Outputs}
-use Rattle.node_core.specs.Keeping.{kept_of}
+use Rattle.node_core.specs.Keeping.{AreOwn, kept_of, records_of}
 use Rattle.node_core.specs.Pendings.{Awaited}
 use Rattle.node_core.specs.Steps.{input_of, outputs_of}
 
@@ -17,6 +18,11 @@ use Rattle.node_core.specs.Steps.{input_of, outputs_of}
 pub record Standing : Type 0 where
   pub kept : Kept
   pub broken : Bool
+
+-- Its messages are its own, and unless a save failed, its records are those that are stored.
+pub record IsStored (broken : Bool) (stored : Records) (k : Kept) : Type 0 where
+  pub saved : broken ≡ false → AreSame stored (records_of k.messages.entries)
+  pub own : AreOwn k
 
 -- It opened in this incarnation with these records and nothing else. Each message of which there is a record is among its messages.
 pub record HasOpened (with : Setup) (records : Records) (starts : ℕ) (node : Standing) (life : Life) : Type 0 where

@@ -1,13 +1,13 @@
 -- A step of the code, as a step of the node's model.
 use Rattle.std.specs.Prelude.{◌≡◌, ℕ, ◌<◌, ◌-◌, max, List, [], ◌∷◌, length, map, Option, Some, None}
 use Rattle.std.specs.Box.{box_value}
-use Rattle.mc_model.specs.synod.Packet.{Ask, Packet, Prepare, Propose, Slot}
+use Rattle.mc_model.specs.synod.Packet.{Ask, Packet, Prepare, Promise, Propose, Refused, Slot, Tell}
 use Rattle.mc_model.specs.node.Input.{Delivery, Input}
 use Rattle.mc_model.specs.node.Outputs.{Outputs}
 use Rattle.node_model.specs.Outputs.{Stepped, nothing}
 use Rattle.shelf.specs.Shelved.{Shelved, value_at, with_value}
 use Rattle.synod_acceptor.specs.Packets.{packet_of}
-use Rattle.synod_acceptor.specs.Votes.{slot_in, vote_of}
+use Rattle.synod_acceptor.specs.Votes.{report_of, slot_in, slot_reported, told_vote, vote_of}
 use Rattle.synod_acceptor.specs.declared.acceptor.Verdict.{Verdict}
 use Rattle.node_core.specs.declared.input.Input.{Input as Given}
 use Rattle.node_core.specs.declared.input.Input.TheVariants as given
@@ -16,7 +16,7 @@ use Rattle.node_core.specs.declared.message.Message.{Message as Filed}
 use Rattle.node_core.specs.declared.outputs.Outputs.{Outputs as Sent}
 use Rattle.node_core.specs.declared.step.Next.{Next}
 use Rattle.node_core.specs.declared.step.Step.{Step}
-use Rattle.node_core.specs.Keeping.{kept_with, records_of}
+use Rattle.node_core.specs.Keeping.{AreOf, AreOwn, kept_with, records_of}
 use Rattle.node_core.specs.Messages.{changed_by}
 
 -- what comes to the code
@@ -24,6 +24,9 @@ abbrev pub packet_in : Given → Packet
 packet_in (given.Prepare from slot ballot) = Prepare from slot ballot
 packet_in (given.Propose from vote) = Propose from (slot_in vote) (vote_of vote)
 packet_in (given.Ask from id name) = Ask from id name
+packet_in (given.Promise from ballot report) = Promise from (slot_reported report) ballot (report_of report)
+packet_in (given.Refused from slot ballot promised) = Refused from slot ballot promised
+packet_in (given.Tell from name told) = Tell from name (told_vote told)
 
 abbrev pub input_of : Given → Input
 input_of input = Delivery (packet_in input)
@@ -55,11 +58,24 @@ pub record IsStep (k : Holding) (to : Stepped) (step : Step) : Type 0 where
   pub kept : kept_with k.setup k.incarnation (entries_after k.messages.entries step.next) ≡ to.kept
   pub outputs : outputs_of step.outputs ≡ to.outputs
   pub saves : (slot : Slot) → records_of (entries_after k.messages.entries step.next) slot ≡ changed_by step.change (records_of k.messages.entries) slot
+  pub own : AreOwn k → AreOf k.setup k.incarnation (entries_after k.messages.entries step.next)
   pub room : HasRoom k.messages step.next
 
 -- it answers by a verdict, and keeps this message
 pub record IsAnswer (k : Holding) (id : ℕ) (m : Filed) (verdict : Verdict) (step : Step) : Type 0 where
   pub outputs : step.outputs.packets.items ≡ verdict.answer ∷ []
   pub change : step.change ≡ verdict.change
+  pub entries : entries_after k.messages.entries step.next ≡ with_value k.messages.entries id m
+  pub room : HasRoom k.messages step.next
+
+-- at most one packet
+abbrev pub packets_in : Option Packet → List Packet
+packets_in None = []
+packets_in (Some packet) = packet ∷ []
+
+-- it sends these packets, saves nothing, and keeps this message
+pub record IsLeft (k : Holding) (id : ℕ) (m : Filed) (packets : List Packet) (step : Step) : Type 0 where
+  pub outputs : outputs_of step.outputs ≡ record nothing { packets = packets }
+  pub change : step.change ≡ None
   pub entries : entries_after k.messages.entries step.next ≡ with_value k.messages.entries id m
   pub room : HasRoom k.messages step.next

@@ -5,9 +5,9 @@ ghost use Rattle.node_model.specs.Stepped.{sender_of};
 ghost use Rattle.node_core.specs.Steps.{packet_in};
 
 use mc_types::{Ballot, MsgId, NodeNo, Slot};
-use synod_acceptor::{Name, Vote};
+use synod_acceptor::{Name, Report, Vote};
 
-/// A packet that comes to a node, with its sender: those that ask something of its acceptor.
+/// A packet that comes to a node, with its sender.
 #[derive(Debug, Drop)]
 pub enum Input {
     /// A node asks for a promise at a ballot.
@@ -27,6 +27,25 @@ pub enum Input {
         id: MsgId,
         name: Name,
     },
+    /// A node promises to vote below the ballot no more, and reports the vote of the slot.
+    Promise {
+        from: NodeNo,
+        ballot: Ballot,
+        report: Report,
+    },
+    /// A node refuses what was asked at a ballot, for a promise at another.
+    Refused {
+        from: NodeNo,
+        slot: Slot,
+        ballot: Ballot,
+        promised: Ballot,
+    },
+    /// A node tells how far the chain of a message has come. No request waits, so nobody asked.
+    Tell {
+        from: NodeNo,
+        name: Name,
+        told: Option<Vote>,
+    },
 }
 
 impl Input {
@@ -35,9 +54,12 @@ impl Input {
         ensures { result ≡ sender_of (packet_in self.now) }
     {
         match self {
-            Input::Prepare { from, .. } | Input::Propose { from, .. } | Input::Ask { from, .. } => {
-                *from
-            }
+            Input::Prepare { from, .. }
+            | Input::Propose { from, .. }
+            | Input::Ask { from, .. }
+            | Input::Promise { from, .. }
+            | Input::Refused { from, .. }
+            | Input::Tell { from, .. } => *from,
         }
     }
 }

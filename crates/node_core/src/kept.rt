@@ -1,14 +1,18 @@
 //! What a node keeps.
 
-ghost use Rattle.std.specs.Prelude.{◌≡◌, [], None, IfOk, OnOk};
+ghost use Rattle.std.specs.Prelude.{◌≡◌, [], None, IfOk, OnOk, option_map};
 ghost use Rattle.std.specs.Option.{option_copied};
 ghost use Rattle.node_model.specs.Acceptor.{told_of};
-ghost use Rattle.node_model.specs.Packets.{is_member, on_ask, on_prepare, on_propose, on_packet};
+ghost use Rattle.node_model.specs.Outputs.{leaves};
+ghost use Rattle.node_model.specs.Kept.{message_at};
+ghost use Rattle.node_model.specs.Proposer.{is_own_ballot, runs_at};
+ghost use Rattle.node_model.specs.Packets.{is_member, on_ask, on_packet, on_prepare, on_promise, on_propose, on_refused};
+ghost use Rattle.synod_acceptor.specs.Packets.{packet_of};
 ghost use Rattle.shelf.specs.Shelved.{value_at};
 ghost use Rattle.synod_acceptor.specs.Records.{entries_of, record_at};
-ghost use Rattle.synod_acceptor.specs.Votes.{slot_in, told_vote, vote_of};
-ghost use Rattle.node_core.specs.Keeping.{IsFiled, IsOpen, IsTaken, kept_of};
-ghost use Rattle.node_core.specs.Steps.{HasRoom, IsAnswer, IsNext, IsStep, entries_after, packet_in};
+ghost use Rattle.synod_acceptor.specs.Votes.{report_of, slot_in, slot_reported, told_vote, vote_of};
+ghost use Rattle.node_core.specs.Keeping.{AreOwn, IsFiled, IsOpen, IsTaken, kept_of};
+ghost use Rattle.node_core.specs.Steps.{HasRoom, IsAnswer, IsLeft, IsNext, IsStep, entries_after, packet_in, packets_in};
 
 use crate::input::Input;
 use crate::message::Message;
@@ -19,7 +23,7 @@ use fate_chain::Author;
 use mc_types::{Ballot, Incarnation, MsgId, NodeNo, Slot};
 use shelf::Shelf;
 use std::alloc::{AllocError, Global};
-use synod_acceptor::{Name, Packet, Record, Verdict, Vote};
+use synod_acceptor::{Name, Packet, Record, Report, Verdict, Vote};
 
 /// What a node keeps in an incarnation: what it knows of each message of which it heard.
 #[derive(Drop)]
@@ -67,6 +71,7 @@ impl Kept {
     /// The step that a packet leads to. It changes nothing, and copies what is kept of the packet's message alone. An `Err` is want of
     /// memory.
     pub fn step(&self, input: &Input) -> Result<Step, AllocError>
+        requires { AreOwn self.now }
         ensures { IfOk result (IsStep self.now (on_packet self.now.setup (kept_of self.now) (packet_in input.now))) }
     {
         if !self.is_member(input.from()) {
@@ -76,6 +81,18 @@ impl Kept {
             Input::Prepare { slot, ballot, .. } => self.on_prepare(*slot, *ballot),
             Input::Propose { vote, .. } => self.on_propose(vote),
             Input::Ask { id, name, .. } => self.on_ask(*id, *name),
+            Input::Promise {
+                from,
+                ballot,
+                report,
+            } => self.on_promise(*from, *ballot, report),
+            Input::Refused {
+                slot,
+                ballot,
+                promised,
+                ..
+            } => self.on_refused(*slot, *ballot, *promised),
+            Input::Tell { .. } => Ok(self.same()),
         }
     }
 
@@ -102,6 +119,7 @@ impl Kept {
 
     /// A step that does nothing.
     fn same(&self) -> Step
+        ensures step { IsStep self.now (leaves (kept_of self.now)) result }
         ensures outputs { result.outputs.packets.items ≡ [] }
         ensures change { result.change ≡ None }
         ensures next { result.next ≡ None }
@@ -152,6 +170,57 @@ impl Kept {
         Ok(step)
     }
 
+    /// What it does with a promise.
+    fn on_promise(
+        &self,
+        from: NodeNo,
+        ballot: Ballot,
+        report: &Report,
+    ) -> Result<Step, AllocError>
+        requires { AreOwn self.now }
+        ensures { IfOk result (IsStep self.now (on_promise self.now.setup (kept_of self.now) from (slot_reported report.now) ballot (report_of report.now))) }
+    {
+        let slot = report.slot();
+        let id = slot.id;
+        if !self.runs_at(id, slot, ballot) {
+            return Ok(self.same());
+        }
+        let mut message = self.taken(id)?;
+        let packet = message.promised_by(from, ballot, report)?;
+        self.leave(id, message, packet)
+    }
+
+    /// Whether a round of this slot, of the message of this id, runs at this ballot. It takes no memory.
+    fn runs_at(&self, id: MsgId, slot: Slot, ballot: Ballot) -> bool
+        ensures { result ≡ runs_at (message_at (kept_of self.now) id).round slot ballot }
+    {
+        match self.find(id) {
+            Some(message) => message.runs_at(slot, ballot),
+            None => false,
+        }
+    }
+
+    /// What it does with a refusal.
+    fn on_refused(&self, slot: Slot, ballot: Ballot, promised: Ballot) -> Result<Step, AllocError>
+        requires { AreOwn self.now }
+        ensures { IfOk result (IsStep self.now (on_refused self.now.setup (kept_of self.now) slot ballot promised)) }
+    {
+        if !self.is_own(ballot) {
+            return Ok(self.same());
+        }
+        let id = slot.id;
+        let mut message = self.taken(id)?;
+        message.refused(slot, ballot, promised);
+        self.leave(id, message, None)
+    }
+
+    /// Whether the ballot is one of its own, of this incarnation.
+    fn is_own(&self, ballot: Ballot) -> bool
+        ensures { result ≡ is_own_ballot self.now.setup (kept_of self.now) ballot }
+    {
+        ballot.node() == self.setup.node && ballot.incarnation() == self.incarnation
+    }
+
     /// The vote at the highest place of a message at which it voted; none if it did not. It takes no memory.
     fn told(&self, id: MsgId) -> Option<&Vote>
         ensures { told_vote (option_copied result) ≡ told_of (kept_of self.now).records id }
@@ -165,7 +234,7 @@ impl Kept {
     {
         match self.find(id) {
             Some(message) => message.copy(),
-            None => Message::fresh(self.alloc, self.author(), self.setup.nodes),
+            None => Message::fresh(self.alloc, self.author(), self.nodes()),
         }
     }
 
@@ -194,6 +263,13 @@ impl Kept {
         }
     }
 
+    /// How many nodes the cluster has.
+    fn nodes(&self) -> u8
+        ensures { result ≡ self.now.setup.nodes }
+    {
+        self.setup.nodes
+    }
+
     /// Its number.
     fn node(&self) -> NodeNo
         ensures { result ≡ self.now.setup.node }
@@ -211,6 +287,27 @@ impl Kept {
         Ok(Step {
             outputs: Outputs { packets },
             change: verdict.change,
+            next: Some(next),
+        })
+    }
+
+    /// The step that sends this packet, if there is one, and keeps this message under the id.
+    fn leave(
+        &self,
+        id: MsgId,
+        message: Message,
+        packet: Option<Packet>,
+    ) -> Result<Step, AllocError>
+        ensures { IfOk result (IsLeft self.now id message (packets_in (option_map packet_of packet))) }
+    {
+        let next = self.next(id, message)?;
+        let mut packets = Vec::new(self.alloc);
+        if let Some(packet) = packet {
+            packets.push(packet)?;
+        }
+        Ok(Step {
+            outputs: Outputs { packets },
+            change: None,
             next: Some(next),
         })
     }

@@ -6,14 +6,15 @@ ghost use Rattle.mc_model.specs.synod.Packet.{Slot as SlotValue};
 ghost use Rattle.mc_model.specs.synod.Acceptor.{blank, with_record};
 ghost use Rattle.node_model.specs.Acceptor.{prepare_judged, propose_judged, told_of};
 ghost use Rattle.node_model.specs.Message.{unseen};
+ghost use Rattle.node_model.specs.Proposer.{runs_at};
 ghost use Rattle.synod_acceptor.specs.Records.{record_at};
-ghost use Rattle.synod_acceptor.specs.Votes.{record_of, slot_in, slot_recorded, told_vote, vote_of};
-ghost use Rattle.node_core.specs.Messages.{IsJudged, IsOf, changed_by, message_of};
+ghost use Rattle.synod_acceptor.specs.Votes.{record_of, report_of, slot_in, slot_recorded, slot_reported, told_vote, vote_of};
+ghost use Rattle.node_core.specs.Messages.{IsJudged, IsOf, IsPromised, IsRefused, changed_by, message_of};
 
 use fate_chain::Author;
 use mc_types::{Ballot, MsgId, NodeNo, Slot};
 use std::alloc::{AllocError, Global};
-use synod_acceptor::{Acceptor, Change, Record, Verdict, Vote};
+use synod_acceptor::{Acceptor, Change, Packet, Record, Report, Verdict, Vote};
 use synod_learner::Learner;
 use synod_proposer::Proposer;
 
@@ -65,11 +66,40 @@ impl Message {
         Ok(verdict)
     }
 
+    /// Whether a round of this slot runs at this ballot. It takes no memory.
+    pub fn runs_at(&self, slot: Slot, ballot: Ballot) -> bool
+        ensures { (id : ℕ) → result ≡ runs_at (message_of id self.now).round slot ballot }
+    {
+        self.proposer.runs_at(slot, ballot)
+    }
+
+    /// Counts a promise of a node, with its report, in the round that runs at its slot and ballot, and gives the Propose if it completes a
+    /// majority. An `Err` is want of memory, after which the message is worth nothing.
+    pub fn promised_by(
+        &mut self,
+        from: NodeNo,
+        ballot: Ballot,
+        report: &Report,
+    ) -> Result<Option<Packet>, AllocError>
+        ensures { IfOk result (IsPromised self.old from ballot (slot_reported report.now) (report_of report.now) self.new) }
+    {
+        self.proposer.on_promise(from, ballot, report)
+    }
+
+    /// Takes in that a ballot was refused for a promise at another; one of another node or incarnation changes nothing. It takes no
+    /// memory.
+    pub fn refused(&mut self, slot: Slot, ballot: Ballot, promised: Ballot)
+        ensures { IsRefused self.old slot ballot promised self.new }
+    {
+        self.proposer.on_refused(slot, ballot, promised);
+    }
+
     /// Takes in a record of its store.
     pub fn file(&mut self, stored: Record) -> Result<(), AllocError>
         ensures records { OnOk result ((slot : SlotValue) →
             record_at self.new.acceptor slot ≡ with_record (record_at self.old.acceptor) (slot_recorded stored) (record_of stored) slot) }
         ensures others { OnOk result ((id : ℕ) → message_of id self.new ≡ message_of id self.old) }
+        ensures own { OnOk result ((me starts nodes : ℕ) → IsOf me starts nodes self.old → IsOf me starts nodes self.new) }
     {
         self.acceptor.apply(Change { after: stored })?;
         Ok(())

@@ -5,7 +5,7 @@ ghost use Rattle.node_core.specs.declared.fault.StepFault.TheVariants.{Broken, D
 ghost use Rattle.stable_store.specs.Stored.{AreSame};
 ghost use Rattle.node_core.specs.Keeping.{records_of};
 ghost use Rattle.node_core.specs.Messages.{changed_by};
-ghost use Rattle.node_core.specs.Nodes.{HasTaken, IsAwaited};
+ghost use Rattle.node_core.specs.Nodes.{HasTaken, IsAwaited, IsStored};
 
 use crate::fault::StepFault;
 use crate::input::Input;
@@ -32,19 +32,17 @@ impl<S: StableStore> Model for Node<S> {
 
     ghost Value = { Standing };
 
-    ghost use Rattle.std.specs.Prelude.{◌≡◌, false};
-    ghost use Rattle.stable_store.specs.Stored.{AreSame};
-    ghost use Rattle.node_core.specs.Keeping.{records_of};
+    ghost use Rattle.node_core.specs.Nodes.{IsStored};
 
     ghost view = { λ n. record { kept = n.kept; broken = n.broken } };
 
-    ghost invariant = { λ n. n.broken ≡ false → AreSame (S.records n.store) (records_of n.kept.messages.entries) };
+    ghost invariant = { λ n. IsStored n.broken (S.records n.store) n.kept };
 }
 
 impl<S: StableStore> Node<S> {
     /// A node that keeps what its store has the records of.
     pub(crate) fn make(store: S, kept: Kept) -> Node<S>
-        requires { AreSame (S.records store) (records_of kept.messages.entries) }
+        requires { IsStored false (S.records store) kept }
         ensures kept { result.kept ≡ kept }
         ensures broken { result.broken ≡ false }
     {

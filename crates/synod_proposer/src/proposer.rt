@@ -67,6 +67,13 @@ impl Proposer {
         }
     }
 
+    /// Whether a round of this slot runs at this ballot. It takes no memory.
+    pub fn runs_at(&self, slot: Slot, ballot: Ballot) -> bool
+        ensures { result ≡ runs_at (message_of self.now).round slot ballot }
+    {
+        is_at(&self.round, slot, ballot)
+    }
+
     /// Starts the round for a chain, in the place of the one that runs, and gives its Prepare. The round is one above the highest at
     /// that place: of the own record's (0 if there is none), of refusals and of earlier rounds. Rounds exactly if that would pass
     /// 2^32 - 1; then nothing changes. It takes no memory.

@@ -12,4 +12,4 @@ returns-in-Some c =
 pub returns-in-None : goal.returns-in-None
 returns-in-None c =
     let none : None ≡ value_at c.args.self.now.messages.entries c.args.id = rw c.in-None.is at c.find.ensures in
-    fresh_taken c.args.self.now c.args.id c.fresh.result (sym none) c.fresh.ensures.records c.fresh.ensures.message
+    fresh_taken c.args.self.now c.args.id c.fresh.result (sym none) c.fresh.ensures.records c.fresh.ensures.message (rw (c.author.ensures.node, c.author.ensures.incarnation, c.nodes.ensures) at c.fresh.ensures.own)
