@@ -4,6 +4,7 @@ use Rattle.octet_fields.specs.Kinds.{join}
 use Rattle.octet_fields.specs.Reading.{content_at, told, nothing_at}
 use Rattle.pdu_codec.specs.declared.fault.Field.{Field}
 use Rattle.pdu_codec.specs.declared.fault.Field.TheVariants.{ServiceType, MessageId, SourceAddrTon, SourceAddrNpi, SourceAddr, DestAddrTon, DestAddrNpi, DestinationAddr}
+use Rattle.pdu_codec.specs.declared.fault.Field.TheVariants.{EsmClass, ProtocolId, PriorityFlag, ScheduleDeliveryTime, ValidityPeriod, RegisteredDelivery, ReplaceIfPresentFlag, DataCoding, SmDefaultMsgId}
 use Rattle.pdu_codec.specs.declared.fault.PduFault.{PduFault}
 use Rattle.pdu_codec.specs.declared.fault.PduFault.TheVariants.{Extra}
 use Rattle.pdu_codec.specs.declared.address.AddressOctets.{AddressOctets}
@@ -12,8 +13,11 @@ use Rattle.pdu_codec.specs.declared.cancel.CancelOctets.{CancelOctets}
 use Rattle.pdu_codec.specs.declared.message.Envelope.{Envelope}
 use Rattle.pdu_codec.specs.declared.message.MessageOctets.{MessageOctets}
 use Rattle.pdu_codec.specs.declared.message.Parties.{Parties}
+use Rattle.pdu_codec.specs.declared.message.Class.{Class}
+use Rattle.pdu_codec.specs.declared.message.TimesOctets.{TimesOctets}
+use Rattle.pdu_codec.specs.declared.message.Flags.{Flags}
 use Rattle.pdu_codec.specs.declared.message.Handling.{Handling}
-use Rattle.pdu_codec.specs.Grammar.{Parts, Contents, ◌>>=◌, text, address_parts, source_parts, destination_parts, envelope_parts, handling_parts, text_parts, message_parts, bind_parts, cancel_parts, front_at, optional_at}
+use Rattle.pdu_codec.specs.Grammar.{Parts, Contents, ◌>>=◌, text, octet, address_parts, source_parts, destination_parts, envelope_parts, handling_parts, text_parts, message_parts, bind_parts, cancel_parts, front_at, optional_at}
 use Rattle.pdu_codec.specs.Text.{IsText, IsShortMessage}
 use Rattle.pdu_codec.specs.Tlv.{tlvs_in}
 
@@ -26,9 +30,28 @@ abbrev pub envelope_contents : Envelope → Contents envelope_parts
 envelope_contents e =
     (e.service_type.now, join source_parts destination_parts (address_contents e.source) (address_contents e.destination))
 
+-- how a message is to be handled, in three pieces
+abbrev pub class_parts : Parts
+class_parts = octet EsmClass ∷ octet ProtocolId ∷ octet PriorityFlag ∷ []
+
+abbrev pub times_parts : Parts
+times_parts = text ScheduleDeliveryTime 17 ∷ text ValidityPeriod 17 ∷ []
+
+abbrev pub flags_parts : Parts
+flags_parts = octet RegisteredDelivery ∷ octet ReplaceIfPresentFlag ∷ octet DataCoding ∷ octet SmDefaultMsgId ∷ []
+
+abbrev pub class_contents : Class → Contents class_parts
+class_contents c = (c.esm_class, (c.protocol_id, (c.priority_flag, tt)))
+
+abbrev pub times_contents : TimesOctets → Contents times_parts
+times_contents t = (t.schedule_delivery_time.now, (t.validity_period.now, tt))
+
+abbrev pub flags_contents : Flags → Contents flags_parts
+flags_contents f = (f.registered_delivery, (f.replace_if_present_flag, (f.data_coding, (f.sm_default_msg_id, tt))))
+
 abbrev pub handling_contents : Handling → Contents handling_parts
 handling_contents h =
-    (h.esm_class, (h.protocol_id, (h.priority_flag, (h.schedule_delivery_time.now, (h.validity_period.now, (h.registered_delivery, (h.replace_if_present_flag, (h.data_coding, (h.sm_default_msg_id, tt)))))))))
+    join class_parts (times_parts ++ flags_parts) (class_contents h.class) (join times_parts flags_parts (times_contents h.times) (flags_contents h.flags))
 
 abbrev pub parties_contents : Parties → Contents envelope_parts
 parties_contents p =
@@ -43,8 +66,8 @@ pub record HasTexts (m : MessageOctets) : Type 0 where
   pub service_type : IsText 6 m.envelope.service_type.now
   pub source : IsText 21 m.envelope.source.digits.now
   pub destination : IsText 21 m.envelope.destination.digits.now
-  pub schedule : IsText 17 m.handling.schedule_delivery_time.now
-  pub validity : IsText 17 m.handling.validity_period.now
+  pub schedule : IsText 17 m.handling.times.schedule_delivery_time.now
+  pub validity : IsText 17 m.handling.times.validity_period.now
   pub short : IsShortMessage m.short_message.now
   pub tlvs : IsOk (optional_at m.tlvs.now)
 
@@ -72,7 +95,8 @@ envelope_at octets =
     told (text ServiceType 6).fault (content_at (text ServiceType 6).kind octets) >>= λ x. source_at x.1 >>= λ y. destination_at y.1 >>= λ z. Ok ((x.0, join source_parts destination_parts y.0 z.0), z.1)
 
 unfoldable pub handling_at : List ℕ → Result (Contents handling_parts × List ℕ) PduFault
-handling_at octets = front_at handling_parts octets
+handling_at octets =
+    front_at class_parts octets >>= λ x. front_at times_parts x.1 >>= λ y. front_at flags_parts y.1 >>= λ z. Ok (join class_parts (times_parts ++ flags_parts) x.0 (join times_parts flags_parts y.0 z.0), z.1)
 
 unfoldable pub message_at : List ℕ → Result (Contents message_parts) PduFault
 message_at octets =

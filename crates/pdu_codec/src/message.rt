@@ -3,7 +3,7 @@
 
 ghost use Rattle.std.specs.Prelude.{◌≡◌, IfOk};
 ghost use Rattle.pdu_codec.specs.Text.{IsText};
-ghost use Rattle.pdu_codec.specs.Grammar.{message_parts, contents_at, IsRead};
+ghost use Rattle.pdu_codec.specs.Grammar.{message_parts, contents_at, front_at, IsRead};
 ghost use Rattle.pdu_codec.specs.Contents.{message_contents};
 ghost use Rattle.pdu_codec.specs.Pdu.{IsMade};
 ghost use Rattle.pdu_codec.specs.Pieces as pieces;
@@ -55,21 +55,22 @@ impl Envelope<'_> {
     }
 }
 
-/// How a message is to be handled, as it stands in octets.
+/// What a message is, and how urgent.
 #[derive(Clone, Copy)]
-struct Handling<'a> {
+struct Class {
     esm_class: u8,
     protocol_id: u8,
     priority_flag: u8,
-    schedule_delivery_time: &'a [u8],
-    validity_period: &'a [u8],
-    registered_delivery: u8,
-    replace_if_present_flag: u8,
-    data_coding: u8,
-    sm_default_msg_id: u8,
 }
 
-impl Handling<'_> {
+/// When a message is to be delivered, and until when, as it stands in octets.
+#[derive(Clone, Copy)]
+struct TimesOctets<'a> {
+    schedule_delivery_time: &'a [u8],
+    validity_period: &'a [u8],
+}
+
+impl TimesOctets<'_> {
     fn times(&self, alloc: Global) -> Result<Times, AllocError>
         requires schedule_delivery_time { IsText 17 self.now.schedule_delivery_time.now }
         requires validity_period { IsText 17 self.now.validity_period.now }
@@ -82,6 +83,23 @@ impl Handling<'_> {
             validity_period: Text::of(alloc, self.validity_period)?,
         })
     }
+}
+
+/// Whether a receipt is asked for, whether an older message is to be replaced, and what the short_message is.
+#[derive(Clone, Copy)]
+struct Flags {
+    registered_delivery: u8,
+    replace_if_present_flag: u8,
+    data_coding: u8,
+    sm_default_msg_id: u8,
+}
+
+/// How a message is to be handled, as it stands in octets.
+#[derive(Clone, Copy)]
+struct Handling<'a> {
+    class: Class,
+    times: TimesOctets<'a>,
+    flags: Flags,
 }
 
 /// A message, as it stands in octets.
@@ -101,22 +119,22 @@ impl MessageOctets<'_> {
     {
         let handling = self.handling;
         let parties = self.envelope.parties(alloc)?;
-        let times = handling.times(alloc)?;
+        let times = handling.times.times(alloc)?;
         let short_message = ShortMessage::of(alloc, self.short_message)?;
         let tlvs = Tlvs::of(alloc, self.tlvs)?;
         Ok(Message {
             service_type: parties.service_type,
             source: parties.source,
             destination: parties.destination,
-            esm_class: handling.esm_class,
-            protocol_id: handling.protocol_id,
-            priority_flag: handling.priority_flag,
+            esm_class: handling.class.esm_class,
+            protocol_id: handling.class.protocol_id,
+            priority_flag: handling.class.priority_flag,
             schedule_delivery_time: times.schedule_delivery_time,
             validity_period: times.validity_period,
-            registered_delivery: handling.registered_delivery,
-            replace_if_present_flag: handling.replace_if_present_flag,
-            data_coding: handling.data_coding,
-            sm_default_msg_id: handling.sm_default_msg_id,
+            registered_delivery: handling.flags.registered_delivery,
+            replace_if_present_flag: handling.flags.replace_if_present_flag,
+            data_coding: handling.flags.data_coding,
+            sm_default_msg_id: handling.flags.sm_default_msg_id,
             short_message,
             tlvs,
         })
@@ -141,31 +159,67 @@ fn envelope_at(octets: &[u8]) -> Result<(Envelope<'_>, &[u8]), PduFault>
     Ok((envelope, rest))
 }
 
-#[tactic(auto, unfolding(crate::specs::Pieces::handling_at))]
-fn handling_at(octets: &[u8]) -> Result<(Handling<'_>, &[u8]), PduFault>
-    ensures read { IsRead (λ x. (pieces.handling_contents x.0, x.1.now)) result (pieces.handling_at octets.now) }
-    ensures schedule { IfOk result (λ x. IsText 17 x.0.schedule_delivery_time.now) }
-    ensures validity { IfOk result (λ x. IsText 17 x.0.validity_period.now) }
+fn class_at(octets: &[u8]) -> Result<(Class, &[u8]), PduFault>
+    ensures { IsRead (λ x. (pieces.class_contents x.0, x.1.now)) result (front_at pieces.class_parts octets.now) }
 {
     let (esm_class, rest) = octet_at(Field::EsmClass, octets)?;
     let (protocol_id, rest) = octet_at(Field::ProtocolId, rest)?;
     let (priority_flag, rest) = octet_at(Field::PriorityFlag, rest)?;
-    let (schedule_delivery_time, rest) = text_at(Field::ScheduleDeliveryTime, limits::TIME, rest)?;
-    let (validity_period, rest) = text_at(Field::ValidityPeriod, limits::TIME, rest)?;
-    let (registered_delivery, rest) = octet_at(Field::RegisteredDelivery, rest)?;
-    let (replace_if_present_flag, rest) = octet_at(Field::ReplaceIfPresentFlag, rest)?;
-    let (data_coding, rest) = octet_at(Field::DataCoding, rest)?;
-    let (sm_default_msg_id, rest) = octet_at(Field::SmDefaultMsgId, rest)?;
-    let handling = Handling {
+    let class = Class {
         esm_class,
         protocol_id,
         priority_flag,
+    };
+    Ok((class, rest))
+}
+
+fn times_at(octets: &[u8]) -> Result<(TimesOctets<'_>, &[u8]), PduFault>
+    ensures read { IsRead (λ x. (pieces.times_contents x.0, x.1.now)) result (front_at pieces.times_parts octets.now) }
+    ensures schedule { IfOk result (λ x. IsText 17 x.0.schedule_delivery_time.now) }
+    ensures validity { IfOk result (λ x. IsText 17 x.0.validity_period.now) }
+{
+    let (schedule_delivery_time, rest) = text_at(
+        Field::ScheduleDeliveryTime,
+        limits::TIME,
+        octets,
+    )?;
+    let (validity_period, rest) = text_at(Field::ValidityPeriod, limits::TIME, rest)?;
+    let times = TimesOctets {
         schedule_delivery_time,
         validity_period,
+    };
+    Ok((times, rest))
+}
+
+fn flags_at(octets: &[u8]) -> Result<(Flags, &[u8]), PduFault>
+    ensures { IsRead (λ x. (pieces.flags_contents x.0, x.1.now)) result (front_at pieces.flags_parts octets.now) }
+{
+    let (registered_delivery, rest) = octet_at(Field::RegisteredDelivery, octets)?;
+    let (replace_if_present_flag, rest) = octet_at(Field::ReplaceIfPresentFlag, rest)?;
+    let (data_coding, rest) = octet_at(Field::DataCoding, rest)?;
+    let (sm_default_msg_id, rest) = octet_at(Field::SmDefaultMsgId, rest)?;
+    let flags = Flags {
         registered_delivery,
         replace_if_present_flag,
         data_coding,
         sm_default_msg_id,
+    };
+    Ok((flags, rest))
+}
+
+#[tactic(auto, unfolding(crate::specs::Pieces::handling_at))]
+fn handling_at(octets: &[u8]) -> Result<(Handling<'_>, &[u8]), PduFault>
+    ensures read { IsRead (λ x. (pieces.handling_contents x.0, x.1.now)) result (pieces.handling_at octets.now) }
+    ensures schedule { IfOk result (λ x. IsText 17 x.0.times.schedule_delivery_time.now) }
+    ensures validity { IfOk result (λ x. IsText 17 x.0.times.validity_period.now) }
+{
+    let (class, rest) = class_at(octets)?;
+    let (times, rest) = times_at(rest)?;
+    let (flags, rest) = flags_at(rest)?;
+    let handling = Handling {
+        class,
+        times,
+        flags,
     };
     Ok((handling, rest))
 }
