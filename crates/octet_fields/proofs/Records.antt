@@ -100,6 +100,11 @@ whole_takes {E} extra parts octets c are e =
         subst (λ (f : Contents parts). TakesWhole parts octets f) (ok_is d c e) (record { spelled = parts_are ∙ append-nil (spellings parts d); within = within })
     ended d (octet ∷ rest) parts_are within e = absurd cc
 
+-- no octet, told in another word
+pub nothing_at-told : {E : Type 0} (word : Defect → E) (extra : Defect) (octets : List ℕ) → nothing_at (word extra) octets ≡ told word (nothing_at extra octets)
+nothing_at-told word extra [] = refl
+nothing_at-told word extra (octet ∷ octets) = refl
+
 -- ---- a front, and the fields behind it
 
 pub bind-assoc : {A B C E : Type 0} (r : Result A E) (f : A → Result B E) (g : B → Result C E) → ((r >>= f) >>= g) ≡ (r >>= λ x. f x >>= g)

@@ -62,10 +62,9 @@ pub fn counted_at(octets: &[u8]) -> Result<(&[u8], &[u8]), PduFault>
 pub fn nothing_at(octets: &[u8]) -> Result<(), PduFault>
     ensures { IsRead (λ x. x) result (fields.nothing_at PduFault.Extra octets.now) }
 {
-    if octets.is_empty() {
-        Ok(())
-    } else {
-        Err(PduFault::Extra)
+    match octet_fields::nothing_at(octets) {
+        Ok(()) => Ok(()),
+        Err(_) => Err(PduFault::Extra),
     }
 }
 
