@@ -1,5 +1,5 @@
 -- Forms: what is read is spelled so and within its limits, and what is spelled so is read.
-use Rattle.std.proofs.Common.{◌≡◌, ℕ, ◌+◌, ◌<◌, ◌≤◌, Bool, true, false, not, ◌&&◌, eqb, leb, cond, List, [], ◌∷◌, length, Option, Some, None, Result, Ok, Err, refl, ap, ◌∙◌, arith, length-append}
+use Rattle.std.proofs.Common.{◌≡◌, ℕ, ◌+◌, ◌<◌, ◌≤◌, Bool, true, false, ◌&&◌, eqb, leb, cond, List, [], ◌∷◌, length, Option, Some, None, Result, Ok, Err, refl, ap, ◌∙◌, arith, length-append}
 use Rattle.std.proofs.lemmas.Bool.{and_parts, false≢true, ne_eqb, eqb-true, leb-true}
 use Rattle.std.proofs.lemmas.List.{nil_from_length}
 use Rattle.octet_fields.specs.declared.defect.Defect.{Defect}
@@ -10,7 +10,7 @@ use Rattle.octet_fields.proofs.Octets.{bind_ok}
 use Rattle.octet_fields.specs.Laws.{IsFirstFault}
 use Rattle.octet_fields.proofs.Records.{whole_takes, whole_again, first_fault}
 use Rattle.pdu_codec.specs.declared.fault.PduFault.{PduFault}
-use Rattle.pdu_codec.specs.declared.fault.PduFault.TheVariants.{Extra, Memory}
+use Rattle.pdu_codec.specs.declared.fault.PduFault.TheVariants.{Extra, Length, Memory}
 use Rattle.pdu_codec.specs.Text.{IsOctets}
 use Rattle.pdu_codec.specs.Grammar.{Parts, ◌>>=◌, contents_at}
 use Rattle.pdu_codec.specs.Forms.{Form, Has, MayHave, parts_of, Filling, filling_octets, FillingFits, filling_at}
@@ -66,37 +66,35 @@ spelling-some (Parameters most) c delimited = absurd (false≢true delimited)
 
 -- ---- words for defects
 
-abbrev pub is_memory : PduFault → Bool
-is_memory Memory = true
-is_memory other = false
+-- Whether it may be told of a body: a wrong length and a want of memory are not.
+abbrev pub is_of_body : PduFault → Bool
+is_of_body Length = false
+is_of_body Memory = false
+is_of_body other = true
 
--- no defect of the part is called a want of memory
-abbrev pub is_silent : Part PduFault → Bool
-is_silent part =
-    not (is_memory (part.fault Cut)) && (not (is_memory (part.fault Few)) && (not (is_memory (part.fault Long)) && (not (is_memory (part.fault Unfit)) && not (is_memory (part.fault defects.Extra)))))
+-- each defect of the part is called a fault of a body
+abbrev pub tells_body : Part PduFault → Bool
+tells_body part =
+    is_of_body (part.fault Cut) && (is_of_body (part.fault Few) && (is_of_body (part.fault Long) && (is_of_body (part.fault Unfit) && is_of_body (part.fault defects.Extra))))
 
-abbrev pub are_silent : Parts → Bool
-are_silent [] = true
-are_silent (first ∷ others) = is_silent first && are_silent others
+abbrev pub tell_body : Parts → Bool
+tell_body [] = true
+tell_body (first ∷ others) = tells_body first && tell_body others
 
-not_true : (a : Bool) → not a ≡ true → a ≡ false
-not_true true e = absurd cc
-not_true false e = refl
-
-pub silent-fault : (part : Part PduFault) → is_silent part ≡ true → (defect : Defect) → is_memory (part.fault defect) ≡ false
-silent-fault part silent defect =
-    let told : Defect → Bool = λ d. not (is_memory (part.fault d)) in
-    let cut = and_parts (told Cut) (told Few && (told Long && (told Unfit && told defects.Extra))) silent in
+pub body-fault : (part : Part PduFault) → tells_body part ≡ true → (defect : Defect) → is_of_body (part.fault defect) ≡ true
+body-fault part tells defect =
+    let told : Defect → Bool = λ d. is_of_body (part.fault d) in
+    let cut = and_parts (told Cut) (told Few && (told Long && (told Unfit && told defects.Extra))) tells in
     let few = and_parts (told Few) (told Long && (told Unfit && told defects.Extra)) cut.1 in
     let long = and_parts (told Long) (told Unfit && told defects.Extra) few.1 in
     let unfit = and_parts (told Unfit) (told defects.Extra) long.1 in
-    not_true _ (elim defect as (λ d. told d ≡ true) [
+    elim defect as (λ d. told d ≡ true) [
       | Cut ↦ cut.0
       | Few ↦ few.0
       | Long ↦ long.0
       | Unfit ↦ unfit.0
       | defects.Extra ↦ unfit.1
-    ])
+    ]
 
 -- ---- forms
 

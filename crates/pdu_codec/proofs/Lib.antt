@@ -1,6 +1,6 @@
 pub mod Optional
 pub mod PieceLaws
 pub mod PduLaws
-pub mod NoMemory
+pub mod BodyFaults
 pub mod FormLaws
 pub mod PduSpelling

@@ -20,38 +20,38 @@ use Rattle.pdu_codec.specs.Bodies.{Filled, Fills, filled_command, filled_by, oct
 use Rattle.pdu_codec.specs.Pdu.{framed, octets_of, Fits, has_wrong_length, read_pdu, Gives}
 use Rattle.octet_fields.proofs.Octets.{IsOctets-drop, bind_ok, guard_ok, ok_is}
 use Rattle.octet_fields.specs.Laws.{IsFirstFault}
-use Rattle.pdu_codec.proofs.FormLaws.{is_sound, are_silent, form_takes, form_again, form-short, bind_err, form_first_fault}
+use Rattle.pdu_codec.proofs.FormLaws.{is_sound, tell_body, form_takes, form_again, form-short, bind_err, form_first_fault}
 use Rattle.pdu_codec.proofs.PduLaws.{with_body, read_pdu-whole, bind_answer_again, message_id_again, query_answer_again}
 
 -- ---- commands
 
--- Its number stands for it, and has four octets; its form is sound, and never tells of memory.
+-- Its number stands for it, and has four octets; its form is sound, and each defect is told as a fault of a body.
 pub record IsServed (command : Command) : Type 0 where
   pub known : command_of (command_code command) ≡ Some command
   pub number : ltb (command_code command) (2 ^ 32) ≡ true
   pub form : is_sound (form_of command) ≡ true
-  pub silent : are_silent (parts_of (form_of command)) ≡ true
+  pub told : tell_body (parts_of (form_of command)) ≡ true
 
 pub served : (command : Command) → IsServed command
-served commands.BindReceiver = record { known = refl; number = refl; form = refl; silent = refl }
-served commands.BindReceiverResp = record { known = refl; number = refl; form = refl; silent = refl }
-served commands.BindTransmitter = record { known = refl; number = refl; form = refl; silent = refl }
-served commands.BindTransmitterResp = record { known = refl; number = refl; form = refl; silent = refl }
-served commands.BindTransceiver = record { known = refl; number = refl; form = refl; silent = refl }
-served commands.BindTransceiverResp = record { known = refl; number = refl; form = refl; silent = refl }
-served commands.SubmitSm = record { known = refl; number = refl; form = refl; silent = refl }
-served commands.SubmitSmResp = record { known = refl; number = refl; form = refl; silent = refl }
-served commands.DeliverSm = record { known = refl; number = refl; form = refl; silent = refl }
-served commands.DeliverSmResp = record { known = refl; number = refl; form = refl; silent = refl }
-served commands.QuerySm = record { known = refl; number = refl; form = refl; silent = refl }
-served commands.QuerySmResp = record { known = refl; number = refl; form = refl; silent = refl }
-served commands.CancelSm = record { known = refl; number = refl; form = refl; silent = refl }
-served commands.CancelSmResp = record { known = refl; number = refl; form = refl; silent = refl }
-served commands.Unbind = record { known = refl; number = refl; form = refl; silent = refl }
-served commands.UnbindResp = record { known = refl; number = refl; form = refl; silent = refl }
-served commands.EnquireLink = record { known = refl; number = refl; form = refl; silent = refl }
-served commands.EnquireLinkResp = record { known = refl; number = refl; form = refl; silent = refl }
-served commands.GenericNack = record { known = refl; number = refl; form = refl; silent = refl }
+served commands.BindReceiver = record { known = refl; number = refl; form = refl; told = refl }
+served commands.BindReceiverResp = record { known = refl; number = refl; form = refl; told = refl }
+served commands.BindTransmitter = record { known = refl; number = refl; form = refl; told = refl }
+served commands.BindTransmitterResp = record { known = refl; number = refl; form = refl; told = refl }
+served commands.BindTransceiver = record { known = refl; number = refl; form = refl; told = refl }
+served commands.BindTransceiverResp = record { known = refl; number = refl; form = refl; told = refl }
+served commands.SubmitSm = record { known = refl; number = refl; form = refl; told = refl }
+served commands.SubmitSmResp = record { known = refl; number = refl; form = refl; told = refl }
+served commands.DeliverSm = record { known = refl; number = refl; form = refl; told = refl }
+served commands.DeliverSmResp = record { known = refl; number = refl; form = refl; told = refl }
+served commands.QuerySm = record { known = refl; number = refl; form = refl; told = refl }
+served commands.QuerySmResp = record { known = refl; number = refl; form = refl; told = refl }
+served commands.CancelSm = record { known = refl; number = refl; form = refl; told = refl }
+served commands.CancelSmResp = record { known = refl; number = refl; form = refl; told = refl }
+served commands.Unbind = record { known = refl; number = refl; form = refl; told = refl }
+served commands.UnbindResp = record { known = refl; number = refl; form = refl; told = refl }
+served commands.EnquireLink = record { known = refl; number = refl; form = refl; told = refl }
+served commands.EnquireLinkResp = record { known = refl; number = refl; form = refl; told = refl }
+served commands.GenericNack = record { known = refl; number = refl; form = refl; told = refl }
 
 -- ---- bodies
 

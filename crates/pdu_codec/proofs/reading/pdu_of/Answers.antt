@@ -4,7 +4,7 @@ use Rattle.pdu_tables.specs.CommandCodes.{command_of}
 use Rattle.pdu_codec.specs.Bodies.{body_at}
 use Rattle.pdu_codec.specs.Pdu.{read_pdu}
 use Rattle.pdu_codec.proofs.PduLaws.{Fails-then, with_body, read_pdu-whole, Gives-from_made, IsOk-from_made}
-use Rattle.pdu_codec.proofs.NoMemory.{read_pdu-no_memory}
+use Rattle.pdu_codec.proofs.BodyFaults.{read_pdu-no_memory}
 use Rattle.pdu_codec.proofs.reading.pdu_of.Goals as goal
 
 pub returns-in_err-body-clause-exact : goal.returns-in_err-body-clause-exact
