@@ -1,6 +1,7 @@
 //! The frames of a stream, with one buffer of 8,192 octets.
 
-ghost use Rattle.std.specs.Prelude.{◌≡◌, ◌<◌, ◌≤◌, ◌↔◌, ◌⊎◌, ◌++◌, [], true, false, min, take, length, vec_capacity, IsTrue, IsSome, IfSome, IfOk, IfErr, OnOk, OnErr};
+ghost use Rattle.std.specs.Prelude.{◌≡◌, ◌<◌, ◌≤◌, ◌↔◌, ◌⊎◌, ◌++◌, [], true, false, min, take, length, vec_capacity, IsTrue, IsSome, IfSome, IfOk, IfErr};
+ghost use Rattle.std.specs.Prelude.{OnOk, OnErr};
 ghost use Rattle.pdu_codec.specs.declared.fault.PduFault.TheVariants.{Length, Memory};
 ghost use Rattle.pdu_frames.specs.Frames as spec;
 ghost use Rattle.pdu_frames.specs.Frames.{IsFrame, IsPart, HasWrongLength, IsOfOneFrame};
@@ -51,7 +52,6 @@ impl Framer {
     /// it holds then, or up to the end of a wrong command_length. So of a piece with octets it takes none only if a whole
     /// frame is held. `Err(Length)` if a wrong command_length stands next: then it takes none, and what is held stays. It
     /// takes no memory.
-    #[tactic(auto, using(crate::proofs::Fronts::added_in_two))]
     pub fn feed(&mut self, piece: &[u8]) -> Result<usize, PduFault>
         ensures within { IfOk result (λ count. count ≤ length piece.now) }
         ensures taken { IfOk result (λ count. Leads self.old (TakesIn (take count piece.now)) self.new) }
