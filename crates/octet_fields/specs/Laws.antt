@@ -2,7 +2,8 @@
 use Rattle.std.specs.Prelude.{◌≡◌, ◌<◌, ◌⊎◌, ℕ, List, [], ◌∷◌, ◌++◌, length, Ok, Err, IsTrue}
 use Rattle.octet_fields.specs.declared.defect.Defect.{Defect}
 use Rattle.octet_fields.specs.Texts.{IsOctets}
-use Rattle.octet_fields.specs.Kinds.{Kind, Number, Text, Counted, Parameters, Content, spelling, IsWithin, Part, Contents, spellings, AreWithin, are_delimited, are_closed}
+use Rattle.octet_fields.specs.Kinds.{Kind, Number, Text, Counted, Parameters, Content, spelling, IsWithin, Part, Contents, spellings, AreWithin}
+use Rattle.octet_fields.specs.Kinds.{are_delimited, are_closed}
 use Rattle.octet_fields.specs.Reading.{front_at, contents_at}
 
 -- What is read is spelled so, each octet of it, and within its limits.
@@ -44,5 +45,6 @@ IsFirstFault extra (first ∷ others) octets fault =
     ⊎ ((content : Content first.kind) × (rest : List ℕ) × Stands first.kind octets content rest × IsFirstFault extra others rest fault)
 
 abbrev pub FirstFaultIsTold : Type 0 → Type 0
-FirstFaultIsTold E = (extra : E) (parts : List (Part E)) (octets : List ℕ) (fault : E) → IsOctets octets → IsTrue (are_closed parts) → contents_at extra parts octets ≡ Err fault
+FirstFaultIsTold E = (extra : E) (parts : List (Part E)) (octets : List ℕ) (fault : E) → IsOctets octets → IsTrue (are_closed parts)
+    → contents_at extra parts octets ≡ Err fault
     → IsFirstFault extra parts octets fault

@@ -5,9 +5,12 @@ use Rattle.pdu_tables.specs.declared.command.Command.TheVariants as commands
 use Rattle.pdu_codec.specs.declared.fault.PduFault.{PduFault}
 use Rattle.pdu_codec.specs.declared.fault.PduFault.TheVariants as faults
 use Rattle.pdu_codec.specs.declared.pdu.Body.{Body}
-use Rattle.pdu_codec.specs.declared.pdu.Body.TheVariants.{BindReceiver, BindReceiverResp, BindTransmitter, BindTransmitterResp, BindTransceiver, BindTransceiverResp, SubmitSm, SubmitSmResp, DeliverSm, DeliverSmResp, QuerySm, QuerySmResp, CancelSm, CancelSmResp, Unbind, UnbindResp, EnquireLink, EnquireLinkResp, GenericNack}
+use Rattle.pdu_codec.specs.declared.pdu.Body.TheVariants.{BindReceiver, BindReceiverResp, BindTransmitter, BindTransmitterResp, BindTransceiver}
+use Rattle.pdu_codec.specs.declared.pdu.Body.TheVariants.{BindTransceiverResp, SubmitSm, SubmitSmResp, DeliverSm, DeliverSmResp, QuerySm, QuerySmResp}
+use Rattle.pdu_codec.specs.declared.pdu.Body.TheVariants.{CancelSm, CancelSmResp, Unbind, UnbindResp, EnquireLink, EnquireLinkResp, GenericNack}
 use Rattle.pdu_codec.specs.Grammar.{contents_at, ◌>>=◌}
-use Rattle.pdu_codec.specs.Contents.{bind_contents, bind_from, bind_answer_contents, bind_answer_from, message_contents, message_from, message_id_contents, message_id_from, query_contents, query_from, query_answer_contents, query_answer_from, cancel_contents, cancel_from}
+use Rattle.pdu_codec.specs.Contents.{bind_contents, bind_from, bind_answer_contents, bind_answer_from, message_contents, message_from, message_id_contents}
+use Rattle.pdu_codec.specs.Contents.{message_id_from, query_contents, query_from, query_answer_contents, query_answer_from, cancel_contents, cancel_from}
 use Rattle.pdu_codec.specs.Forms.{form_of, Filling, filling_octets, FillingFits, filling_at}
 
 -- a command, and what stands in its form

@@ -1,9 +1,12 @@
 -- The form of each command (SMPP 3.4, 4): which fields stand behind its header, and whether it may leave them out.
 use Rattle.std.specs.Prelude.{◌==◌, List, [], length, Option, Some, None, Result, Ok, if◌then◌else◌, IfSome, ℕ}
 use Rattle.pdu_tables.specs.declared.command.Command.{Command}
-use Rattle.pdu_tables.specs.declared.command.Command.TheVariants.{GenericNack, BindReceiver, BindReceiverResp, BindTransmitter, BindTransmitterResp, QuerySm, QuerySmResp, SubmitSm, SubmitSmResp, DeliverSm, DeliverSmResp, Unbind, UnbindResp, CancelSm, CancelSmResp, BindTransceiver, BindTransceiverResp, EnquireLink, EnquireLinkResp}
+use Rattle.pdu_tables.specs.declared.command.Command.TheVariants.{GenericNack, BindReceiver, BindReceiverResp, BindTransmitter, BindTransmitterResp, QuerySm}
+use Rattle.pdu_tables.specs.declared.command.Command.TheVariants.{QuerySmResp, SubmitSm, SubmitSmResp, DeliverSm, DeliverSmResp, Unbind, UnbindResp, CancelSm}
+use Rattle.pdu_tables.specs.declared.command.Command.TheVariants.{CancelSmResp, BindTransceiver, BindTransceiverResp, EnquireLink, EnquireLinkResp}
 use Rattle.pdu_codec.specs.declared.fault.PduFault.{PduFault}
-use Rattle.pdu_codec.specs.Grammar.{Parts, Contents, spellings, AreWithin, contents_at, ◌>>=◌, bind_parts, bind_answer_parts, message_parts, message_id_parts, query_parts, query_answer_parts, cancel_parts}
+use Rattle.pdu_codec.specs.Grammar.{Parts, Contents, spellings, AreWithin, contents_at, ◌>>=◌, bind_parts, bind_answer_parts, message_parts, message_id_parts}
+use Rattle.pdu_codec.specs.Grammar.{query_parts, query_answer_parts, cancel_parts}
 
 -- A command has these fields; or, in a response, it may have them: one of 16 octets has none of them (own).
 pub data Form : Type 0 where

@@ -10,7 +10,11 @@ use Rattle.octet_fields.specs.Reading as fields
 pub use Rattle.octet_fields.specs.Kinds.{Contents, spellings, AreWithin}
 pub use Rattle.octet_fields.specs.Reading.{◌>>=◌, front_at, IsRead}
 use Rattle.pdu_codec.specs.declared.fault.Field.{Field}
-use Rattle.pdu_codec.specs.declared.fault.Field.TheVariants.{SystemId, Password, SystemType, InterfaceVersion, AddrTon, AddrNpi, AddressRange, ServiceType, SourceAddrTon, SourceAddrNpi, SourceAddr, DestAddrTon, DestAddrNpi, DestinationAddr, EsmClass, ProtocolId, PriorityFlag, ScheduleDeliveryTime, ValidityPeriod, RegisteredDelivery, ReplaceIfPresentFlag, DataCoding, SmDefaultMsgId, SmLength, ShortMessage, MessageId, FinalDate, MessageState, ErrorCode}
+use Rattle.pdu_codec.specs.declared.fault.Field.TheVariants.{SystemId, Password, SystemType, InterfaceVersion, AddrTon, AddrNpi, AddressRange, ServiceType}
+use Rattle.pdu_codec.specs.declared.fault.Field.TheVariants.{SourceAddrTon, SourceAddrNpi, SourceAddr, DestAddrTon, DestAddrNpi, DestinationAddr, EsmClass}
+use Rattle.pdu_codec.specs.declared.fault.Field.TheVariants.{ProtocolId, PriorityFlag, ScheduleDeliveryTime, ValidityPeriod, RegisteredDelivery}
+use Rattle.pdu_codec.specs.declared.fault.Field.TheVariants.{ReplaceIfPresentFlag, DataCoding, SmDefaultMsgId, SmLength, ShortMessage, MessageId, FinalDate}
+use Rattle.pdu_codec.specs.declared.fault.Field.TheVariants.{MessageState, ErrorCode}
 use Rattle.pdu_codec.specs.declared.fault.PduFault.{PduFault}
 use Rattle.pdu_codec.specs.declared.fault.PduFault.TheVariants.{Cut, LongText, TextLength, Tlvs, Extra}
 

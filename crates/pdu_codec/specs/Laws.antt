@@ -21,4 +21,5 @@ WrittenIsRead = (pdu : Pdu) → Fits pdu → read_pdu (octets_of pdu) ≡ Ok pdu
 -- The fault of a body is the first from the left: in front of it stand the fields before, and no content of its field; or
 -- all fields stand there, and octets behind them.
 abbrev pub FirstFaultIsTold : Type 0
-FirstFaultIsTold = (command : Command) (octets : List ℕ) (fault : PduFault) → IsOctets octets → body_at (Some command) octets ≡ Err fault → IsFirstFault Extra (parts_of (form_of command)) octets fault
+FirstFaultIsTold = (command : Command) (octets : List ℕ) (fault : PduFault) → IsOctets octets → body_at (Some command) octets ≡ Err fault
+    → IsFirstFault Extra (parts_of (form_of command)) octets fault

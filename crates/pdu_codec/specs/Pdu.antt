@@ -33,7 +33,8 @@ has_wrong_length octets = nat_lt (length octets) 16 || nat_lt 8192 (length octet
 unfoldable pub read_pdu : List ℕ → Result Pdu PduFault
 read_pdu octets =
     if has_wrong_length octets then Err faults.Length
-    else body_at (command_of (word_at 4 octets)) (drop 16 octets) >>= λ body. Ok (record { status = word_at 8 octets; sequence = word_at 12 octets; body = body })
+    else body_at (command_of (word_at 4 octets)) (drop 16 octets)
+    >>= λ body. Ok (record { status = word_at 8 octets; sequence = word_at 12 octets; body = body })
 
 -- What a function returned is what reading gives, unless memory ran out.
 abbrev pub Gives : {A : Type 0} → Result A PduFault → Result A PduFault → Type 0

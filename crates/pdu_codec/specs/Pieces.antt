@@ -3,8 +3,10 @@ use Rattle.std.specs.Prelude.{ℕ, List, [], ◌∷◌, ◌++◌, Result, Ok, Is
 use Rattle.octet_fields.specs.Kinds.{join}
 use Rattle.octet_fields.specs.Reading.{content_at, told, nothing_at}
 use Rattle.pdu_codec.specs.declared.fault.Field.{Field}
-use Rattle.pdu_codec.specs.declared.fault.Field.TheVariants.{ServiceType, MessageId, SourceAddrTon, SourceAddrNpi, SourceAddr, DestAddrTon, DestAddrNpi, DestinationAddr}
-use Rattle.pdu_codec.specs.declared.fault.Field.TheVariants.{EsmClass, ProtocolId, PriorityFlag, ScheduleDeliveryTime, ValidityPeriod, RegisteredDelivery, ReplaceIfPresentFlag, DataCoding, SmDefaultMsgId}
+use Rattle.pdu_codec.specs.declared.fault.Field.TheVariants.{ServiceType, MessageId, SourceAddrTon, SourceAddrNpi, SourceAddr, DestAddrTon, DestAddrNpi}
+use Rattle.pdu_codec.specs.declared.fault.Field.TheVariants.{DestinationAddr}
+use Rattle.pdu_codec.specs.declared.fault.Field.TheVariants.{EsmClass, ProtocolId, PriorityFlag, ScheduleDeliveryTime, ValidityPeriod, RegisteredDelivery}
+use Rattle.pdu_codec.specs.declared.fault.Field.TheVariants.{ReplaceIfPresentFlag, DataCoding, SmDefaultMsgId}
 use Rattle.pdu_codec.specs.declared.fault.PduFault.{PduFault}
 use Rattle.pdu_codec.specs.declared.fault.PduFault.TheVariants.{Extra}
 use Rattle.pdu_codec.specs.declared.address.AddressOctets.{AddressOctets}
@@ -17,7 +19,8 @@ use Rattle.pdu_codec.specs.declared.message.Class.{Class}
 use Rattle.pdu_codec.specs.declared.message.TimesOctets.{TimesOctets}
 use Rattle.pdu_codec.specs.declared.message.Flags.{Flags}
 use Rattle.pdu_codec.specs.declared.message.Handling.{Handling}
-use Rattle.pdu_codec.specs.Grammar.{Parts, Contents, ◌>>=◌, text, octet, address_parts, source_parts, destination_parts, envelope_parts, handling_parts, text_parts, message_parts, bind_parts, cancel_parts, front_at, optional_at}
+use Rattle.pdu_codec.specs.Grammar.{Parts, Contents, ◌>>=◌, text, octet, address_parts, source_parts, destination_parts, envelope_parts, handling_parts}
+use Rattle.pdu_codec.specs.Grammar.{text_parts, message_parts, bind_parts, cancel_parts, front_at, optional_at}
 use Rattle.pdu_codec.specs.Text.{IsText, IsShortMessage}
 use Rattle.pdu_codec.specs.Tlv.{tlvs_in}
 
@@ -59,7 +62,8 @@ parties_contents p =
 
 abbrev pub message_seen : MessageOctets → Contents message_parts
 message_seen m =
-    join envelope_parts (handling_parts ++ text_parts) (envelope_contents m.envelope) (join handling_parts text_parts (handling_contents m.handling) (m.short_message.now, (tlvs_in m.tlvs.now, tt)))
+    join envelope_parts (handling_parts ++ text_parts) (envelope_contents m.envelope)
+    (join handling_parts text_parts (handling_contents m.handling) (m.short_message.now, (tlvs_in m.tlvs.now, tt)))
 
 -- what stands where texts and optional parameters are to stand is such
 pub record HasTexts (m : MessageOctets) : Type 0 where
@@ -92,15 +96,18 @@ destination_at octets = address_at DestAddrTon DestAddrNpi DestinationAddr octet
 
 unfoldable pub envelope_at : List ℕ → Result (Contents envelope_parts × List ℕ) PduFault
 envelope_at octets =
-    told (text ServiceType 6).fault (content_at (text ServiceType 6).kind octets) >>= λ x. source_at x.1 >>= λ y. destination_at y.1 >>= λ z. Ok ((x.0, join source_parts destination_parts y.0 z.0), z.1)
+    told (text ServiceType 6).fault (content_at (text ServiceType 6).kind octets) >>= λ x. source_at x.1 >>= λ y. destination_at y.1
+    >>= λ z. Ok ((x.0, join source_parts destination_parts y.0 z.0), z.1)
 
 unfoldable pub handling_at : List ℕ → Result (Contents handling_parts × List ℕ) PduFault
 handling_at octets =
-    front_at class_parts octets >>= λ x. front_at times_parts x.1 >>= λ y. front_at flags_parts y.1 >>= λ z. Ok (join class_parts (times_parts ++ flags_parts) x.0 (join times_parts flags_parts y.0 z.0), z.1)
+    front_at class_parts octets >>= λ x. front_at times_parts x.1 >>= λ y. front_at flags_parts y.1
+    >>= λ z. Ok (join class_parts (times_parts ++ flags_parts) x.0 (join times_parts flags_parts y.0 z.0), z.1)
 
 unfoldable pub message_at : List ℕ → Result (Contents message_parts) PduFault
 message_at octets =
-    envelope_at octets >>= λ x. handling_at x.1 >>= λ y. front_at text_parts y.1 >>= λ z. nothing_at Extra z.1 >>= λ _. Ok (join envelope_parts (handling_parts ++ text_parts) x.0 (join handling_parts text_parts y.0 z.0))
+    envelope_at octets >>= λ x. handling_at x.1 >>= λ y. front_at text_parts y.1 >>= λ z. nothing_at Extra z.1
+    >>= λ _. Ok (join envelope_parts (handling_parts ++ text_parts) x.0 (join handling_parts text_parts y.0 z.0))
 
 -- of a cancel_sm what stands in front of the addresses
 abbrev pub cancelled_parts : Parts
@@ -108,4 +115,5 @@ cancelled_parts = text ServiceType 6 ∷ text MessageId 65 ∷ []
 
 unfoldable pub cancel_at : List ℕ → Result (Contents cancel_parts) PduFault
 cancel_at octets =
-    front_at cancelled_parts octets >>= λ x. source_at x.1 >>= λ y. destination_at y.1 >>= λ z. nothing_at Extra z.1 >>= λ _. Ok (join cancelled_parts (source_parts ++ destination_parts) x.0 (join source_parts destination_parts y.0 z.0))
+    front_at cancelled_parts octets >>= λ x. source_at x.1 >>= λ y. destination_at y.1 >>= λ z. nothing_at Extra z.1
+    >>= λ _. Ok (join cancelled_parts (source_parts ++ destination_parts) x.0 (join source_parts destination_parts y.0 z.0))

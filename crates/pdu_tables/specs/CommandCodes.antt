@@ -1,7 +1,9 @@
 -- The table of command_id numbers (SMPP 3.4, 5.1.2.1).
 use Rattle.std.specs.Prelude.{ℕ, List, [], ◌∷◌, Option, find, ◌==◌}
 use Rattle.pdu_tables.specs.declared.command.Command.{Command}
-use Rattle.pdu_tables.specs.declared.command.Command.TheVariants.{GenericNack, BindReceiver, BindReceiverResp, BindTransmitter, BindTransmitterResp, QuerySm, QuerySmResp, SubmitSm, SubmitSmResp, DeliverSm, DeliverSmResp, Unbind, UnbindResp, CancelSm, CancelSmResp, BindTransceiver, BindTransceiverResp, EnquireLink, EnquireLinkResp}
+use Rattle.pdu_tables.specs.declared.command.Command.TheVariants.{GenericNack, BindReceiver, BindReceiverResp, BindTransmitter, BindTransmitterResp, QuerySm}
+use Rattle.pdu_tables.specs.declared.command.Command.TheVariants.{QuerySmResp, SubmitSm, SubmitSmResp, DeliverSm, DeliverSmResp, Unbind, UnbindResp, CancelSm}
+use Rattle.pdu_tables.specs.declared.command.Command.TheVariants.{CancelSmResp, BindTransceiver, BindTransceiverResp, EnquireLink, EnquireLinkResp}
 
 abbrev pub command_code : Command → ℕ
 command_code GenericNack = 0x8000_0000

@@ -1,7 +1,12 @@
 -- The table of command_status numbers (SMPP 3.4, 5.1.3).
 use Rattle.std.specs.Prelude.{ℕ, List, [], ◌∷◌, Option, find, ◌==◌}
 use Rattle.pdu_tables.specs.declared.status.Status.{Status}
-use Rattle.pdu_tables.specs.declared.status.Status.TheVariants.{Ok, InvalidMessageLength, InvalidCommandLength, InvalidCommandId, InvalidBindStatus, AlreadyBound, InvalidRegisteredDelivery, SystemError, InvalidSourceAddress, InvalidDestinationAddress, InvalidMessageId, BindFailed, InvalidPassword, InvalidSystemId, CancelFailed, MessageQueueFull, InvalidServiceType, InvalidSystemType, Throttled, InvalidSchedule, InvalidExpiry, TemporaryApplicationError, PermanentApplicationError, RejectedByApplication, QueryFailed, InvalidOptionalParameters}
+use Rattle.pdu_tables.specs.declared.status.Status.TheVariants.{Ok, InvalidMessageLength, InvalidCommandLength, InvalidCommandId, InvalidBindStatus}
+use Rattle.pdu_tables.specs.declared.status.Status.TheVariants.{AlreadyBound, InvalidRegisteredDelivery, SystemError, InvalidSourceAddress}
+use Rattle.pdu_tables.specs.declared.status.Status.TheVariants.{InvalidDestinationAddress, InvalidMessageId, BindFailed, InvalidPassword, InvalidSystemId}
+use Rattle.pdu_tables.specs.declared.status.Status.TheVariants.{CancelFailed, MessageQueueFull, InvalidServiceType, InvalidSystemType, Throttled}
+use Rattle.pdu_tables.specs.declared.status.Status.TheVariants.{InvalidSchedule, InvalidExpiry, TemporaryApplicationError, PermanentApplicationError}
+use Rattle.pdu_tables.specs.declared.status.Status.TheVariants.{RejectedByApplication, QueryFailed, InvalidOptionalParameters}
 
 abbrev pub status_code : Status → ℕ
 status_code Ok = 0x0000_0000

@@ -1,7 +1,8 @@
 -- The table of tag numbers (SMPP 3.4, 5.3.2).
 use Rattle.std.specs.Prelude.{ℕ, List, [], ◌∷◌, Option, find, ◌==◌}
 use Rattle.pdu_tables.specs.declared.tag.Tag.{Tag}
-use Rattle.pdu_tables.specs.declared.tag.Tag.TheVariants.{ReceiptedMessageId, UserMessageReference, SarMsgRefNum, SarTotalSegments, SarSegmentSeqnum, ScInterfaceVersion, MessagePayload, MessageState}
+use Rattle.pdu_tables.specs.declared.tag.Tag.TheVariants.{ReceiptedMessageId, UserMessageReference, SarMsgRefNum, SarTotalSegments, SarSegmentSeqnum}
+use Rattle.pdu_tables.specs.declared.tag.Tag.TheVariants.{ScInterfaceVersion, MessagePayload, MessageState}
 
 abbrev pub tag_code : Tag → ℕ
 tag_code ReceiptedMessageId = 0x001e
