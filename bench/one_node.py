@@ -3,8 +3,9 @@
 
 Of ten lines one is a settle, one a cancel and four are queries; the other four are submits, up to the 10,000 that one
 script may have accepted in a calm run, and queries after that. Each script has ten ticks, evenly apart. A tick is 60,000
-seconds after the one before, so that messages expire, which are valid for 259,200 seconds. GNU time (Debian's `time`) measures,
-since the peak memory of a process that Python starts begins at Python's own. Give the built program as the argument:
+seconds after the one before, so that messages expire, which are valid for 259,200 seconds. The best of five runs counts. GNU time
+(Debian's `time`) measures the memory, in a run of its own, since the peak of a process that Python starts begins at Python's own; it
+tells the time to hundredths of a second alone, so that comes from the kernel. Give the built program as the argument:
 
     python3 bench/one_node.py crates/centre/out/centre
 """
@@ -15,6 +16,7 @@ import tempfile
 
 BIND = "0000001e000000090000000000000001736d653100707731000034000000"
 SUBMIT = "0000002900000004000000000000000200010131343400010131353500000000000000000000024869"
+RUNS = 5
 TICKS = 10
 START = 946_684_800
 TICK = 60_000
@@ -52,19 +54,32 @@ def script(lines):
     return "\n".join(out) + "\n"
 
 
-def run(program, text):
-    with tempfile.TemporaryFile() as source, tempfile.TemporaryFile() as sink:
-        source.write(text.encode())
-        source.seek(0)
-        run = subprocess.run(
-            ["/usr/bin/time", "-f", "%U %S %M", program, "script"], stdin=source, stdout=sink, stderr=subprocess.PIPE, text=True
-        )
-        sink.seek(0)
-        answers = sum(1 for _ in sink)
+def processor_time(program, source, sink):
+    """The processor time of one run, in seconds."""
+    source.seek(0)
+    ends = [(os.POSIX_SPAWN_DUP2, source.fileno(), 0), (os.POSIX_SPAWN_DUP2, sink.fileno(), 1)]
+    _, _, used = os.wait4(os.posix_spawn(program, [program, "script"], os.environ, file_actions=ends), 0)
+    return used.ru_utime + used.ru_stime
+
+
+def peak_memory(program, source, sink):
+    """The peak memory of one run, in KiB."""
+    source.seek(0)
+    run = subprocess.run(["/usr/bin/time", "-f", "%M", program, "script"], stdin=source, stdout=sink, stderr=subprocess.PIPE, text=True)
     if run.returncode != 0:
         sys.exit(f"the program ended with status {run.returncode}")
-    user, system, kib = run.stderr.split()[-3:]
-    return float(user) + float(system), int(kib), answers
+    return int(run.stderr.split()[-1])
+
+
+def run(program, text):
+    """The best time of some runs in seconds, the peak memory in KiB, and the lines that the program writes."""
+    with tempfile.TemporaryFile() as source, tempfile.TemporaryFile() as sink, open(os.devnull, "wb") as nowhere:
+        source.write(text.encode())
+        source.flush()
+        kib = peak_memory(program, source, sink)
+        seconds = min(processor_time(program, source, nowhere) for _ in range(RUNS))
+        sink.seek(0)
+        return seconds, kib, sum(1 for _ in sink)
 
 
 def main():
@@ -72,7 +87,7 @@ def main():
     before = None
     for lines in (1_000, 10_000, 100_000):
         text = script(lines)
-        seconds, kib, answers = min(run(program, text) for _ in range(3))
+        seconds, kib, answers = run(program, text)
         ratio = f", {seconds / before:.1f} times the time at a tenth" if before else ""
         print(f"{lines} lines: {lines / seconds:.0f} lines a second, {answers} answers, {kib / 1024:.1f} MiB{ratio}")
         before = seconds
