@@ -20,7 +20,7 @@ use Rattle.node_model.specs.Kept.{Held, Kept, message_at}
 use Rattle.node_model.specs.Proposer.{Start}
 use Rattle.node_model.specs.Rules.{Fitting, attempt_rule, first_rule, fitting, idle_rule, is_attempt_by, known_rule, own_rule}
 use Rattle.node_model.specs.Starts.{delete_for, delete_of}
-use Rattle.node_laws.specs.Answering.{ArePlaced}
+use Rattle.node_model.specs.Acceptor.{ArePlaced}
 use Rattle.mc_model.specs.node.Alone.{Node}
 use Rattle.node_laws.specs.Stands.{Agrees, HasAttempts, IsHeld}
 use Rattle.node_laws.proofs.Decided.{Decided}

@@ -19,9 +19,9 @@ use Rattle.node_model.specs.Kept.{Held, Kept, message_at}
 use Rattle.node_model.specs.Requests.{higher_top, id_of, is_higher}
 use Rattle.node_model.specs.Starts.{follow, is_ahead}
 use Rattle.node_model.specs.Rules.{followed, shown_to}
-use Rattle.node_laws.specs.Answering.{ArePlaced}
+use Rattle.node_model.specs.Acceptor.{ArePlaced}
 use Rattle.node_laws.specs.Stands.{IsHeld, IsHighestTold}
-use Rattle.node_laws.proofs.Accepting.{told_is}
+use Rattle.node_model.proofs.Told.{told_is}
 use Rattle.node_laws.proofs.Held.{kept_as, waits_among}
 use Rattle.node_laws.proofs.Decided.{Decided}
 

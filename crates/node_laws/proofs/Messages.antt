@@ -7,7 +7,7 @@ use Rattle.std.specs.BTreeMap.{insert_entry, is_at}
 use Rattle.std.proofs.lemmas.Bool.{eqb-false, eqb-true}
 use Rattle.node_model.specs.Message.{Message}
 use Rattle.node_model.specs.Kept.{Kept, message_at, with_message}
-use Rattle.node_laws.proofs.Places.{elsewhere, here, message_elsewhere, message_here}
+use Rattle.node_model.proofs.Places.{elsewhere, here, message_elsewhere, message_here}
 
 -- of the message itself, and of the others
 pub each_with : (P : ℕ → Message → Type 0) (k : Kept) (id : ℕ) (m : Message) → P id m →

@@ -26,13 +26,13 @@ use Rattle.node_model.specs.Message.{Message, most_places}
 use Rattle.node_model.specs.Proposer.{Start, highest_round, is_free, prepared_at, started}
 use Rattle.node_model.specs.Rules.{Fitting}
 use Rattle.node_model.specs.Ticks.{abandoned, given_up}
-use Rattle.node_laws.specs.Answering.{ArePlaced}
+use Rattle.node_model.specs.Acceptor.{ArePlaced}
 use Rattle.node_laws.specs.Stands.{Agrees, HasAttempts, IsBehind, IsCoherent, IsQuiet}
 use Rattle.node_laws.proofs.Closing.{closed_agrees}
 use Rattle.node_laws.proofs.FirstRule.{AgreesOn, same_rule}
 use Rattle.node_laws.proofs.Owning.{IsGround, own_later}
 use Rattle.node_laws.proofs.Orders.{in_mapped}
-use Rattle.node_laws.proofs.Places.{message_elsewhere, message_here}
+use Rattle.node_model.proofs.Places.{message_elsewhere, message_here}
 use Rattle.node_laws.proofs.RuleChains.{after_rule, one_place, received_still, rule_next, rule_place}
 use Rattle.node_laws.proofs.Started.{IsDueStart}
 

@@ -54,7 +54,7 @@ use Rattle.node_laws.proofs.Deleting.{deletes_start}
 use Rattle.node_laws.proofs.Held.{kept_as, waits_among}
 use Rattle.node_laws.proofs.KnownRules.{delete_decided}
 use Rattle.node_laws.proofs.Orders.{in_mapped}
-use Rattle.node_laws.proofs.Places.{message_elsewhere, message_here}
+use Rattle.node_model.proofs.Places.{message_elsewhere, message_here}
 use Rattle.node_laws.proofs.Promising.{slots_tested}
 use Rattle.node_laws.proofs.Replied.{cancels_of, replies_of, waits_on}
 use Rattle.node_laws.proofs.Reporting.{Reported, reported}
