@@ -21,7 +21,7 @@ use Rattle.node_laws.specs.Steps.{IsAtWork, StepsAs}
 use Rattle.node_model.proofs.Told.{told_is}
 use Rattle.node_laws.proofs.AsideSteps.{heard, stands_later, answered, answered_with, ignored, same_with, stands_heard, unchanged}
 
-prepare_aside : (sender ballot : ℕ) (slot : Slot) → IsAside (Prepare sender slot ballot)
+pub prepare_aside : (sender ballot : ℕ) (slot : Slot) → IsAside (Prepare sender slot ballot)
 prepare_aside sender ballot slot = record {
   votes = λ voter other vote same. absurd (cc);
   promises = λ acceptor at other report same. absurd (cc);
@@ -29,7 +29,7 @@ prepare_aside sender ballot slot = record {
   tells = λ teller name told same. absurd (cc);
 }
 
-propose_aside : (sender : ℕ) (slot : Slot) (vote : Vote) → IsAside (Propose sender slot vote)
+pub propose_aside : (sender : ℕ) (slot : Slot) (vote : Vote) → IsAside (Propose sender slot vote)
 propose_aside sender slot vote = record {
   votes = λ voter other cast same. absurd (cc);
   promises = λ acceptor at other report same. absurd (cc);
@@ -67,7 +67,7 @@ module _ (setup : Setup) (k : Kept) (s : Node) (stands : Stands setup k s) (work
   -- ---- a Prepare
 
   -- what was voted for before the packet came
-  voted_before : (packet : Packet) (aside : IsAside packet) (slot : Slot) (cast : Vote) → (k.records slot).vote ≡ Some cast → IsPlaced slot cast × StandsAt (heard setup s packet aside k stands) slot cast.chain
+  pub voted_before : (packet : Packet) (aside : IsAside packet) (slot : Slot) (cast : Vote) → (k.records slot).vote ≡ Some cast → IsPlaced slot cast × StandsAt (heard setup s packet aside k stands) slot cast.chain
   voted_before packet aside slot cast voted = (stands.agrees.placed slot cast voted, stands_later setup s packet aside k stands slot cast.chain (stands.agrees.voted slot cast voted))
 
   on_prepare_steps : (sender ballot : ℕ) (slot : Slot) → IsMember setup.nodes sender → StepsAs setup s (Delivery (Prepare sender slot ballot)) (on_prepare setup k slot ballot)

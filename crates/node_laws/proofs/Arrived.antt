@@ -99,7 +99,7 @@ module _ (setup : Setup) (k : Kept) (s : Node) (agrees : Agrees setup k s) (requ
 
   message_then : (id : ℕ) → IsMessage setup s id (message_at k id) → IsMessage setup arrived id (message_at k id)
   message_then id is =
-      message_changed setup s (next_serial request s.actor.serial) (suc s.actor.ticket) (s.actor.waiting ++ came ∷ []) s.actor.granted s.actor.closed id (ground id) (message_at k id)
+      message_changed setup s s.actor.up (next_serial request s.actor.serial) (suc s.actor.ticket) (s.actor.waiting ++ came ∷ []) s.actor.granted s.actor.closed id (ground id) (message_at k id)
       (message_at k id).granted
       (message_at k id).closed
       is

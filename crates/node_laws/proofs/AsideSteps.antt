@@ -140,7 +140,7 @@ module _ (setup : Setup) (s : Node) (packet : Packet) (aside : IsAside packet) (
 
   -- ---- what is kept stands for it then
 
-  same_message : (slot : Slot) (new : SlotRecord) (id : ℕ) → message_at (saved k slot new) id ≡ message_at k id
+  pub same_message : (slot : Slot) (new : SlotRecord) (id : ℕ) → message_at (saved k slot new) id ≡ message_at k id
   same_message slot new id = elim (cases_Bool (id == slot.id)) [
     | inl same ↦
         let is = eqb-true id slot.id same in
@@ -187,7 +187,7 @@ module _ (setup : Setup) (s : Node) (packet : Packet) (aside : IsAside packet) (
   coherent_still : IsCoherent setup.node heard.actor
   coherent_still = coherent_heard setup.node s.actor packet (aside_fits setup.node s.actor packet aside) stands.agrees.coherent
 
-  stands_saved : (slot : Slot) (new : SlotRecord) (records : Records) → ((other : Slot) → with_record k.records slot new other ≡ records other) →
+  pub stands_saved : (slot : Slot) (new : SlotRecord) (records : Records) → ((other : Slot) → with_record k.records slot new other ≡ records other) →
       ((cast : Vote) → new.vote ≡ Some cast → IsPlaced slot cast × StandsAt heard slot cast.chain) → Stands setup (saved k slot new) (later setup s records packet aside)
   stands_saved slot new records leaves fits = record {
     agrees = record {

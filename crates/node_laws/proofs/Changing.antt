@@ -1,4 +1,5 @@
--- What is kept of a message agrees with an actor at which other requests wait, or other attempts were granted or closed.
+-- What is kept of a message agrees with an actor that has stopped, or at which other requests wait, or other attempts were granted
+-- or closed.
 use Rattle.std.proofs.Common.{ℕ, Bool, List, Option, Some, None, inl, inr}
 use Rattle.mc_model.specs.synod.Lists.{In}
 use Rattle.mc_model.specs.synod.Packet.{Slot, slot_at}
@@ -11,10 +12,11 @@ use Rattle.node_model.specs.Message.{Message, Round}
 use Rattle.node_laws.specs.Stands.{CoversGrant, HasAttempts, IsHighestSeen, IsMessage, IsRoundOf, WasSeen}
 use Rattle.node_laws.proofs.Owning.{IsGround, own_later}
 
-module _ (setup : Setup) (s : Node) (serial ticket : ℕ) (waiting : List Waiting) (granted : List Slot) (closed : List (Slot × Outcome)) where
+module _ (setup : Setup) (s : Node) (up : Bool) (serial ticket : ℕ) (waiting : List Waiting) (granted : List Slot) (closed : List (Slot × Outcome)) where
   abbrev pub changed : Node
   changed = record {
     actor = record s.actor {
+      up = up;
       serial = serial;
       ticket = ticket;
       waiting = waiting;

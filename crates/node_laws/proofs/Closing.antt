@@ -39,7 +39,7 @@ module _ (setup : Setup) (s : Node) (slot : Slot) (outcome : Outcome) where
   with_attempts : (id : ℕ) (m : Message) (given : ℕ → Bool) (ended : ℕ → Option Outcome) → IsMessage setup s id m → HasAttempts closed.actor id (record m { granted = given; closed = ended }) →
       IsMessage setup closed id (record m { granted = given; closed = ended })
   with_attempts id m given ended is attempts =
-      message_changed setup s s.actor.serial s.actor.ticket s.actor.waiting s.actor.granted ((slot, outcome) ∷ s.actor.closed) id (ground id) m given ended is attempts is.covers
+      message_changed setup s s.actor.up s.actor.serial s.actor.ticket s.actor.waiting s.actor.granted ((slot, outcome) ∷ s.actor.closed) id (ground id) m given ended is attempts is.covers
 
   -- ---- another message
 

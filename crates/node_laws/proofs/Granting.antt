@@ -91,14 +91,14 @@ module _ (setup : Setup) (k : Kept) (s : Node) (stands : Stands setup k s) (slot
 
   message_here : IsMessage setup granted slot.id (record m { granted = given })
   message_here =
-      message_changed setup s s.actor.serial s.actor.ticket s.actor.waiting (slot ∷ s.actor.granted) s.actor.closed slot.id (ground slot.id) m given m.closed is
+      message_changed setup s s.actor.up s.actor.serial s.actor.ticket s.actor.waiting (slot ∷ s.actor.granted) s.actor.closed slot.id (ground slot.id) m given m.closed is
       (record { granted = given_now; closed = is.attempts.closed })
       covers_now
 
   message_other : (id : ℕ) → (id ≡ slot.id → ⊥) → IsMessage setup granted id (message_at k id)
   message_other id apart =
       let old = stands.agrees.message id in
-      message_changed setup s s.actor.serial s.actor.ticket s.actor.waiting (slot ∷ s.actor.granted) s.actor.closed id (ground id) (message_at k id) (message_at k id).granted (message_at k id).closed old
+      message_changed setup s s.actor.up s.actor.serial s.actor.ticket s.actor.waiting (slot ∷ s.actor.granted) s.actor.closed id (ground id) (message_at k id) (message_at k id).granted (message_at k id).closed old
       (record {
         granted = λ place. (
           λ t. inr ((old.attempts.granted place).0 t),

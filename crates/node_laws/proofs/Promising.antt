@@ -79,7 +79,7 @@ was_sent node slot ballot (packet ∷ sent) = elim (was_sent node slot ballot se
     is_it (Ask sender id name) = inr (λ same. absurd (cc))
     is_it (Tell sender name told) = inr (λ same. absurd (cc))
 
-was_asked : (node : ℕ) (a : Actor) (slot : Slot) (ballot : ℕ) → WasAskedFor node a slot ballot ⊎ (WasAskedFor node a slot ballot → ⊥)
+pub was_asked : (node : ℕ) (a : Actor) (slot : Slot) (ballot : ℕ) → WasAskedFor node a slot ballot ⊎ (WasAskedFor node a slot ballot → ⊥)
 was_asked node a slot ballot = elim (was_sent node slot ballot a.sent) [
   | inl sent ↦ inl (λ own. sent)
   | inr none ↦ by_own ((proposer_of ballot == node) && (incarnation_in ballot == a.incarnation)) refl none

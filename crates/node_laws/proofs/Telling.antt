@@ -71,7 +71,7 @@ module _ (setup : Setup) (k : Kept) (s : Node) (stands : Stands setup k s) (tell
   abbrev IsOwnName : Type 0
   IsOwnName = (name.node ≡ setup.node) × (name.incarnation ≡ s.actor.incarnation)
 
-  own_decides : Decides (is_own_name setup k name) IsOwnName
+  pub own_decides : Decides (is_own_name setup k name) IsOwnName
   own_decides =
       let is = Decides-and _ _ (Decides-eqb name.node setup.node) (Decides-eqb name.incarnation k.incarnation) in
       let same = stands.agrees.incarnation in
@@ -688,7 +688,7 @@ module _ (setup : Setup) (k : Kept) (s : Node) (stands : Stands setup k s) (tell
 
   -- ---- any Tell
 
-  tells_decides : (it : Option TopVote) (of : ℕ) → Decides (tells_about it of) (TellsAbout it of)
+  pub tells_decides : (it : Option TopVote) (of : ℕ) → Decides (tells_about it of) (TellsAbout it of)
   tells_decides None of = ((λ passes. tt), (λ about. refl))
   tells_decides (Some top) of = Decides-eqb top.id of
 

@@ -500,7 +500,7 @@ module _ (setup : Setup) (k : Kept) (s : Node) (stands : Stands setup k s) where
       (λ given. elim given [ inl older ↦ inl (omega arith) | inr now ↦ let at = now.0 in let below = now.1 in inr (omega arith, omega arith) ])
       is
 
-  concerns_decides : (slot : Slot) (vote : Vote) →
+  pub concerns_decides : (slot : Slot) (vote : Vote) →
       Decides (vote_concerns setup k slot vote) ((slot ≡ slot_of slot.id vote.chain) × (node_of slot.id ≡ setup.node → WasGiven s.actor slot.id))
   concerns_decides slot vote = Decides-and _ _ slot_decides mine_decides
     where

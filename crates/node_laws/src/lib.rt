@@ -23,7 +23,9 @@ pub use packets::{
 };
 pub use requests::an_arrival_is_exact;
 pub use rules::the_first_rule_is_found;
-pub use steps::{a_refusal_is_exact, a_step_of_an_acceptor_is_exact, an_opening_is_exact};
+pub use steps::{
+    a_refusal_is_exact, a_step_of_an_acceptor_is_exact, a_stop_is_exact, an_opening_is_exact,
+};
 pub use synod::{
     a_set_decides_a_majority, an_acceptor_answers_as_the_actor, votes_are_compared_exactly,
     what_is_heard_is_known,

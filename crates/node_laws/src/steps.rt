@@ -1,16 +1,16 @@
 //! Steps of what is kept, as steps of the actor.
 
-ghost use Rattle.std.specs.Prelude.{◌≡◌, ◌+◌, ◌<◌, ◌≤◌, ℕ};
+ghost use Rattle.std.specs.Prelude.{◌≡◌, ◌+◌, ◌<◌, ◌≤◌, ℕ, Bool};
 ghost use Rattle.mc_model.specs.synod.OneSlot.{Vote};
-ghost use Rattle.mc_model.specs.synod.Packet.{Ask, Name, Prepare, Propose, Slot};
+ghost use Rattle.mc_model.specs.synod.Packet.{Ask, Name, Packet, Prepare, Propose, Slot};
 ghost use Rattle.mc_model.specs.node.Alone.{Node, opened_new as node_new};
 ghost use Rattle.mc_model.specs.node.Core.{IsRefusal};
-ghost use Rattle.mc_model.specs.node.Input.{Delivery, Refusal, Restart};
+ghost use Rattle.mc_model.specs.node.Input.{Crash, Delivery, Refusal, Restart};
 ghost use Rattle.mc_model.specs.node.Setup.{Setup};
 ghost use Rattle.node_model.specs.Kept.{Kept};
 ghost use Rattle.node_model.specs.Stepped.{opened_new, stepped};
 ghost use Rattle.node_laws.specs.Stands.{IsPlaced, Stands};
-ghost use Rattle.node_laws.specs.Steps.{IsAtWork, StepsAs};
+ghost use Rattle.node_laws.specs.Steps.{IsAtWork, IsWellMade, StepsAs};
 
 /// What a node keeps, to which a Prepare, a Propose or a question comes, takes an exact step of every actor that it stands for,
 /// which that one may take by itself; it gives out the same, and stands for the next one. A Propose names the slot of its chain.
@@ -40,4 +40,11 @@ pub fn an_opening_is_exact()
 pub fn a_refusal_is_exact()
     ensures { (setup : Setup) (k : Kept) (s : Node) → Stands setup k s → (status : ℕ) → IsAtWork setup s → IsRefusal s.actor status →
         StepsAs setup s (Refusal status) (stepped setup k (Refusal status)) }
+{}
+
+/// A node stops as a packet comes to it, before it has saved what that one has it save, or after it. What is kept then stands for the
+/// actor that stopped so, by an exact step.
+pub fn a_stop_is_exact()
+    ensures { (setup : Setup) (k : Kept) (s : Node) → Stands setup k s → IsAtWork setup s → (packet : Packet) (after : Bool) →
+        IsWellMade packet → StepsAs setup s (Crash packet after) (stepped setup k (Crash packet after)) }
 {}
