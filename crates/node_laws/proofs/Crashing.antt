@@ -1,7 +1,6 @@
 -- The step of a node that stops, before it has saved what a packet has it save, or after it.
 use Rattle.std.proofs.Common.{◌≡◌, ◌⊎◌, ℕ, ◌<◌, ◌≤◌, Bool, true, false, List, [], ◌∷◌, Option, Some, None, refl, sym, ap, subst, ◌∙◌, inl, inr, arith}
-use Rattle.std.specs.Prelude.{◌==◌, ◌&&◌, if◌then◌else◌, nat_le, nat_lt, reverse}
-use Rattle.std.specs.Bool.{Decides}
+use Rattle.std.specs.Prelude.{if◌then◌else◌, nat_le, nat_lt, reverse}
 use Rattle.std.proofs.lemmas.Bool.{true≢false}
 use Rattle.std.proofs.lemmas.Bool.Decides.{Decides-ltb, nat_tests}
 use Rattle.mc_model.specs.message.Decree.{Decree}
@@ -39,7 +38,7 @@ use Rattle.node_model.specs.Message.{Message}
 use Rattle.node_model.specs.Packets.{is_member, is_own_name, tells_about, vote_concerns}
 use Rattle.node_model.specs.Requests.{held_at, id_of, settles}
 use Rattle.node_laws.specs.Stands.{IsAside, IsPlaced}
-use Rattle.node_laws.proofs.Accepting.{same_record}
+use Rattle.node_model.proofs.Records.{same_record}
 use Rattle.node_laws.proofs.AcceptorSteps.{member_is, member_test, prepare_aside, propose_aside, voted_before}
 use Rattle.node_laws.proofs.Aside.{knows_before, later, promise_before}
 use Rattle.node_laws.proofs.AsideSteps.{none_due, none_due_once, same_with, stands_saved}
@@ -53,7 +52,7 @@ use Rattle.node_laws.proofs.Voting.{concerns_decides}
 use Rattle.shelf.proofs.Entries.{still_ascends}
 use Rattle.node_laws.proofs.Changing.{message_changed}
 use Rattle.node_laws.proofs.Coherence.{fit_later}
-use Rattle.node_laws.proofs.Deciding.{IsCalm, calm_of, quiet_of}
+use Rattle.node_laws.proofs.Deciding.{calm_of, quiet_of}
 use Rattle.node_laws.proofs.Owning.{IsGround}
 
 -- ---- a node that has stopped

@@ -1,4 +1,3 @@
-pub mod Places
 pub mod Messages
 pub mod Learning
 pub mod Accepting

@@ -1,42 +1,39 @@
 -- The step of a node to which a Tell comes.
-use Rattle.std.proofs.Common.{◌≡◌, ◌↔◌, ◌⊎◌, ℕ, pred, ◌<◌, ◌≤◌, Bool, true, false, cond, List, [], ◌∷◌, length, map, Option, Some, None, refl, sym, ap, subst, subst₂, ◌∙◌, inl, inr, arith}
+use Rattle.std.proofs.Common.{◌≡◌, ◌↔◌, ◌⊎◌, ℕ, pred, ◌<◌, Bool, true, false, cond, List, [], ◌∷◌, length, map, Option, Some, None, refl, sym, ap, subst, ◌∙◌, inl, inr, arith}
 use Rattle.std.specs.Prelude.{◌==◌, ◌&&◌, filter, if◌then◌else◌, nat_lt, not}
 use Rattle.std.specs.Bool.{Decides}
 use Rattle.std.specs.Option.{is_none}
 use Rattle.std.specs.List.Sorted.{IsStrictlyIncreasing}
-use Rattle.std.proofs.lemmas.Bool.{and_from, and_parts, eqb-false, eqb-true, true≢false}
+use Rattle.std.proofs.lemmas.Bool.{and_parts, eqb-false, eqb-true, true≢false}
 use Rattle.std.proofs.lemmas.Bool.Decides.{Decides-and, Decides-eqb, Decides-ltb}
 use Rattle.mc_model.specs.message.Ids.{IsNode}
 use Rattle.mc_model.specs.message.Submission.{Submission}
-use Rattle.mc_model.specs.message.Decree.{Decree, Deleted, Fate}
+use Rattle.mc_model.specs.message.Decree.{Decree}
 use Rattle.mc_model.specs.message.Chain.{taken_in}
 use Rattle.mc_model.specs.synod.Lists.{In}
 use Rattle.mc_model.specs.synod.Majority.{Majority}
-use Rattle.mc_model.specs.synod.OneSlot.{Vote, vote_at}
-use Rattle.mc_model.specs.synod.Packet.{Name, Packet, Promise, Refused, Slot, Tell, TopVote, Voted, slot_at, slot_of, top_at}
+use Rattle.mc_model.specs.synod.Packet.{Name, Packet, Tell, TopVote, slot_at, top_at}
 use Rattle.mc_model.specs.node.Act.{Act, Proposes, Reports}
 use Rattle.mc_model.specs.node.Actor.{Actor, Waiting, id_in, name_of}
 use Rattle.mc_model.specs.node.Alone.{Node, StandsAt}
-use Rattle.mc_model.specs.node.Causes.{Causes, CausesDelete, CausesFollow, ShowsMore, WasSettled}
-use Rattle.mc_model.specs.node.Concerns.{Concerns, IsExpected, IsMember, TellsAbout}
+use Rattle.mc_model.specs.node.Causes.{Causes, CausesDelete, CausesFollow, ShowsMore}
+use Rattle.mc_model.specs.node.Concerns.{Concerns, IsMember, TellsAbout}
 use Rattle.mc_model.specs.node.Input.{Delivery}
 use Rattle.mc_model.specs.node.Knowledge.{IsKnown, Knows}
 use Rattle.mc_model.specs.node.Phases.{DueToPropose, DueToReport}
-use Rattle.mc_model.specs.node.Proposal.{IsCancelled}
 use Rattle.mc_model.specs.node.Replies.{Answer}
-use Rattle.mc_model.specs.node.Rounds.{IsPromised}
 use Rattle.mc_model.specs.node.Rules.{FitsDelete, IsAhead, IsHighest, ToldBy}
 use Rattle.mc_model.specs.node.Setup.{Setup}
 use Rattle.mc_model.specs.node.Settling.{HasTold, IsReached}
 use Rattle.mc_parts.proofs.Known.{knows_one}
 use Rattle.node_model.specs.Answers.{answer_to, replied}
 use Rattle.node_model.specs.Kept.{Held, Kept, message_at}
-use Rattle.node_model.specs.Outputs.{Stepped, leaves, sends}
-use Rattle.node_model.specs.Packets.{answer_told, is_member, is_own_name, on_tell, settled_told, start_told, tell_held, tells_about, told_to}
+use Rattle.node_model.specs.Outputs.{leaves, sends}
+use Rattle.node_model.specs.Packets.{answer_told, is_member, is_own_name, on_tell, start_told, tell_held, tells_about, told_to}
 use Rattle.node_model.specs.Proposer.{Prepared, Start, started}
 use Rattle.node_model.specs.Requests.{held_at, id_of, is_cancel, is_settled, settled_by, settles, ticket_of, told_by, with_held}
 use Rattle.node_model.specs.Sets.{is_majority}
-use Rattle.node_model.specs.Starts.{cancels, delete_for, delete_of, follow, follow_told, is_ahead, is_idle, start_behind}
+use Rattle.node_model.specs.Starts.{delete_for, delete_of, follow, follow_told, is_ahead}
 use Rattle.node_model.specs.Stepped.{stepped}
 use Rattle.node_laws.specs.Stands.{Agrees, IsBehind, IsFit, IsHeld, IsHighestTold, IsWithin, Stands}
 use Rattle.node_laws.specs.Steps.{IsAtWork, StepsAs}
@@ -47,7 +44,7 @@ use Rattle.node_laws.proofs.Deciding.{IsCalm, calm_of, known_for, not_false}
 use Rattle.node_laws.proofs.Hearing.{received}
 use Rattle.node_laws.proofs.Held.{kept_as, waits_among}
 use Rattle.node_laws.proofs.Learning.{majority_decides}
-use Rattle.node_laws.proofs.Orders.{Ascend, ascend_from, in_mapped, one_of_ticket}
+use Rattle.node_laws.proofs.Orders.{Ascend, ascend_from, one_of_ticket}
 use Rattle.node_laws.proofs.Plain.{plain_steps}
 use Rattle.node_laws.proofs.Busy.{busy_steps, same_id}
 use Rattle.node_laws.proofs.Decided.{Decided}

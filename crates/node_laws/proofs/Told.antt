@@ -1,24 +1,22 @@
 -- What is kept of requests once something is told to one.
-use Rattle.std.proofs.Common.{◌≡◌, ◌↔◌, ◌⊎◌, ℕ, ◌<◌, ◌≤◌, Bool, true, false, cond, List, [], ◌∷◌, map, Option, Some, None, refl, sym, ap, subst, subst₂, ◌∙◌, inl, inr, arith}
-use Rattle.std.specs.Prelude.{◌==◌, filter, if◌then◌else◌, not}
-use Rattle.std.specs.Bool.{Decides}
+use Rattle.std.proofs.Common.{◌≡◌, ◌↔◌, ◌⊎◌, ℕ, ◌<◌, Bool, true, false, cond, List, [], ◌∷◌, map, Option, Some, None, refl, sym, ap, subst, ◌∙◌, inl, inr, arith}
+use Rattle.std.specs.Prelude.{◌==◌, if◌then◌else◌}
 use Rattle.std.specs.List.Sorted.{IsStrictlyIncreasing}
 use Rattle.std.proofs.lemmas.Bool.{cases_lt, eqb-false, eqb-true, true≢false}
 use Rattle.std.proofs.lemmas.Bool.Decides.{Decides-eqb, Decides-like, Decides-or}
 use Rattle.mc_model.specs.synod.Lists.{In}
-use Rattle.mc_model.specs.synod.OneSlot.{Vote}
-use Rattle.mc_model.specs.synod.Packet.{Name, Packet, Promise, Refused, Slot, Tell, TopVote, Voted, slot_at}
-use Rattle.mc_model.specs.node.Actor.{Actor, Waiting, id_in, name_of}
+use Rattle.mc_model.specs.synod.Packet.{Name, Packet, Tell, TopVote}
+use Rattle.mc_model.specs.node.Actor.{id_in, name_of}
 use Rattle.mc_model.specs.node.Alone.{Node}
 use Rattle.mc_model.specs.node.Setup.{Setup}
 use Rattle.mc_model.specs.node.Settling.{HasTold}
 use Rattle.node_model.specs.Kept.{Held, Kept, message_at}
-use Rattle.node_model.specs.Requests.{held_at, higher_top, id_of, is_higher, ticket_of, told_by, with_held}
+use Rattle.node_model.specs.Requests.{held_at, higher_top, is_higher, ticket_of, told_by, with_held}
 use Rattle.node_model.specs.Sets.{with_node}
-use Rattle.node_laws.specs.Stands.{Agrees, IsBelow, IsFit, IsHeld, IsHighestTold, IsMessage}
+use Rattle.node_laws.specs.Stands.{Agrees, IsBelow, IsFit, IsHeld, IsHighestTold}
 use Rattle.node_laws.proofs.Coherence.{coherent_heard}
 use Rattle.node_laws.proofs.FollowRule.{higher_decides}
-use Rattle.node_laws.proofs.Hearing.{IsElsewhere, message_heard, received, stands_heard}
+use Rattle.node_laws.proofs.Hearing.{message_heard, received, stands_heard}
 
 -- ---- the request of a ticket
 
