@@ -56,3 +56,4 @@ pub mod Telling
 pub mod AnyPacket
 pub mod Judging
 pub mod Crashing
+pub mod WholeSteps

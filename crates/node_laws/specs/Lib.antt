@@ -3,3 +3,4 @@ pub mod Examples
 pub mod Stands
 pub mod Answering
 pub mod Steps
+pub mod Runs

@@ -3,6 +3,7 @@
 
 mod attempts;
 mod examples;
+mod inputs;
 mod packets;
 mod requests;
 mod rules;
@@ -17,6 +18,7 @@ pub use examples::{
     a_node_of_three_waits_for_others, a_query_is_answered_alone,
     a_refused_round_is_followed_by_a_greater_one, an_attempt_is_lost_by_a_restart,
 };
+pub use inputs::{a_run_is_exact, a_step_is_exact};
 pub use packets::{
     a_promise_is_exact, a_refused_ballot_is_exact, a_step_of_a_packet_is_exact, a_tell_is_exact,
     a_vote_is_exact,
