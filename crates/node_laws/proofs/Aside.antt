@@ -1,6 +1,6 @@
 -- What a packet leaves as it was that tells of no vote, no promise, no refusal and of nothing that a request asked: a Prepare, a
 -- Propose or a question.
-use Rattle.std.proofs.Common.{ℕ, List, [], ◌∷◌, Option, Some, None, ap, inl, inr}
+use Rattle.std.proofs.Common.{refl, ℕ, List, [], ◌∷◌, Option, Some, None, ap, inl, inr}
 use Rattle.mc_model.specs.message.Submission.{Submission}
 use Rattle.mc_model.specs.message.Decree.{Attempt, Author, Decree, Deleted, Failed, Fate, Kind, Taken}
 use Rattle.mc_model.specs.synod.Lists.{In}
@@ -19,6 +19,7 @@ use Rattle.mc_model.specs.node.Setup.{Setup}
 use Rattle.mc_parts.proofs.Learning.{known_stays, learned_still}
 use Rattle.node_model.specs.Message.{Message, Round}
 use Rattle.node_model.specs.Kept.{Held}
+use Rattle.node_laws.proofs.Seeing.{highest_as, seen_later}
 use Rattle.node_laws.specs.Stands.{IsAside, IsBehind, IsHeld, IsHighestReport, IsHighestSeen, IsHighestTold, IsMessage, IsQuiet, IsRoundOf, WasSeen}
 use Rattle.node_laws.proofs.Learning.{heard_still}
 
@@ -244,34 +245,15 @@ module _ (setup : Setup) (s : Node) (records : Records) (packet : Packet) (aside
   stands_still slot chain (inr (inr (inr (inr began)))) = inr (inr (inr (inr began)))
 
   seen_before : (slot : Slot) (round : ℕ) → WasSeen setup.node later.actor slot round → WasSeen setup.node s.actor slot round
-  seen_before slot round (inl refused) = inl (record {
-    sender = refused.sender;
-    ballot = refused.ballot;
-    promised = refused.promised;
-    heard = refusal_before setup.nodes setup.node s.actor packet aside refused.sender refused.ballot refused.promised slot refused.heard;
-    proposer = refused.proposer;
-    incarnation = refused.incarnation;
-    names = refused.names;
-  })
-  seen_before slot round (inr prepared) = inr (record { ballot = prepared.ballot; sent = prepared.sent; names = prepared.names })
+  seen_before slot = seen_later setup.node later.actor s.actor slot refl
+      (λ sender ballot promised heard. refusal_before setup.nodes setup.node s.actor packet aside sender ballot promised slot heard)
+      (λ ballot sent. sent)
 
   seen_still : (slot : Slot) (round : ℕ) → WasSeen setup.node s.actor slot round → WasSeen setup.node later.actor slot round
-  seen_still slot round (inl refused) = inl (record {
-    sender = refused.sender;
-    ballot = refused.ballot;
-    promised = refused.promised;
-    heard = inr refused.heard;
-    proposer = refused.proposer;
-    incarnation = refused.incarnation;
-    names = refused.names;
-  })
-  seen_still slot round (inr prepared) = inr (record { ballot = prepared.ballot; sent = prepared.sent; names = prepared.names })
+  seen_still slot = seen_later setup.node s.actor later.actor slot refl (λ sender ballot promised heard. inr heard) (λ ballot sent. sent)
 
   highest_still : (slot : Slot) (round : ℕ) → IsHighestSeen setup.node s.actor slot round → IsHighestSeen setup.node later.actor slot round
-  highest_still slot round highest = record {
-    seen = elim highest.seen [ inl none ↦ inl none | inr seen ↦ inr (seen_still slot round seen) ];
-    most = λ other seen. highest.most other (seen_before slot other seen);
-  }
+  highest_still slot = highest_as setup.node s.actor later.actor slot (seen_still slot) (seen_before slot)
 
   report_still : (slot : Slot) (ballot : ℕ) (highest : Option Vote) → IsHighestReport s.actor.received slot ballot highest → IsHighestReport later.actor.received slot ballot highest
   report_still slot ballot None none = λ acceptor vote heard. none acceptor vote (promise_before setup.nodes setup.node s.actor packet aside acceptor ballot slot (Some vote) heard)

@@ -1,6 +1,6 @@
 -- What is kept of a message agrees with an actor that has stopped, or at which other requests wait, or other attempts were granted
 -- or closed.
-use Rattle.std.proofs.Common.{ℕ, Bool, List, Option, Some, None, inl, inr}
+use Rattle.std.proofs.Common.{refl, ℕ, Bool, List, Option, Some, None, inl, inr}
 use Rattle.mc_model.specs.synod.Lists.{In}
 use Rattle.mc_model.specs.synod.Packet.{Slot, slot_at}
 use Rattle.mc_model.specs.node.Actor.{Waiting}
@@ -9,6 +9,7 @@ use Rattle.mc_model.specs.node.Outcome.{Outcome}
 use Rattle.mc_model.specs.node.Rounds.{IsRunning}
 use Rattle.mc_model.specs.node.Setup.{Setup}
 use Rattle.node_model.specs.Message.{Message, Round}
+use Rattle.node_laws.proofs.Seeing.{highest_as, seen_later}
 use Rattle.node_laws.specs.Stands.{CoversGrant, HasAttempts, IsHighestSeen, IsMessage, IsRoundOf, WasSeen}
 use Rattle.node_laws.proofs.Owning.{IsGround, own_later}
 
@@ -28,34 +29,13 @@ module _ (setup : Setup) (s : Node) (up : Bool) (serial ticket : ℕ) (waiting :
   }
 
   seen_still : (other : Slot) (round : ℕ) → WasSeen setup.node s.actor other round → WasSeen setup.node changed.actor other round
-  seen_still other round (inl refused) = inl (record {
-    sender = refused.sender;
-    ballot = refused.ballot;
-    promised = refused.promised;
-    heard = refused.heard;
-    proposer = refused.proposer;
-    incarnation = refused.incarnation;
-    names = refused.names;
-  })
-  seen_still other round (inr sent) = inr (record { ballot = sent.ballot; sent = sent.sent; names = sent.names })
+  seen_still other = seen_later setup.node s.actor changed.actor other refl (λ sender ballot promised heard. heard) (λ ballot sent. sent)
 
   seen_before : (other : Slot) (round : ℕ) → WasSeen setup.node changed.actor other round → WasSeen setup.node s.actor other round
-  seen_before other round (inl refused) = inl (record {
-    sender = refused.sender;
-    ballot = refused.ballot;
-    promised = refused.promised;
-    heard = refused.heard;
-    proposer = refused.proposer;
-    incarnation = refused.incarnation;
-    names = refused.names;
-  })
-  seen_before other round (inr sent) = inr (record { ballot = sent.ballot; sent = sent.sent; names = sent.names })
+  seen_before other = seen_later setup.node changed.actor s.actor other refl (λ sender ballot promised heard. heard) (λ ballot sent. sent)
 
   highest_still : (other : Slot) (round : ℕ) → IsHighestSeen setup.node s.actor other round → IsHighestSeen setup.node changed.actor other round
-  highest_still other round highest = record {
-    seen = elim highest.seen [ inl none ↦ inl none | inr seen ↦ inr (seen_still other round seen) ];
-    most = λ above seen. highest.most above (seen_before other above seen);
-  }
+  highest_still other = highest_as setup.node s.actor changed.actor other (seen_still other) (seen_before other)
 
   running_still : (other : Slot) (ballot : ℕ) → IsRunning setup.nodes setup.node s.actor other ballot → IsRunning setup.nodes setup.node changed.actor other ballot
   running_still other ballot runs = record {

@@ -14,6 +14,7 @@ use Rattle.mc_parts.proofs.Learning.{learned_still}
 use Rattle.mc_parts.proofs.Membership.{in_right}
 use Rattle.node_model.specs.Kept.{Held}
 use Rattle.node_model.specs.Message.{Message, Round}
+use Rattle.node_laws.proofs.Seeing.{highest_as, seen_later}
 use Rattle.node_laws.specs.Stands.{IsBehind, IsHeld, IsHighestReport, IsHighestSeen, IsHighestTold, IsMessage, IsRoundOf as IsKeptRound, TellsOfNone, WasSeen}
 use Rattle.node_laws.proofs.Answered.{known_is}
 use Rattle.node_laws.proofs.AsideSteps.{TellsNobody}
@@ -137,16 +138,7 @@ module _ (setup : Setup) (s : Node) (packet : Packet) where
   -- ---- rounds that were seen
 
   pub seen_heard : (slot : Slot) (round : ℕ) → WasSeen setup.node s.actor slot round → WasSeen setup.node t.actor slot round
-  seen_heard slot round (inl refused) = inl (record {
-    sender = refused.sender;
-    ballot = refused.ballot;
-    promised = refused.promised;
-    heard = inr refused.heard;
-    proposer = refused.proposer;
-    incarnation = refused.incarnation;
-    names = refused.names;
-  })
-  seen_heard slot round (inr sent) = inr (record { ballot = sent.ballot; sent = sent.sent; names = sent.names })
+  seen_heard slot = seen_later setup.node s.actor t.actor slot refl (λ sender ballot promised heard. inr heard) (λ ballot sent. sent)
 
   pub highest_heard : (slot : Slot) (round : ℕ) →
       ((ballot sender promised : ℕ) → OwnBallot setup.node s.actor ballot → Refused sender slot ballot promised ≡ packet → ⊥) →

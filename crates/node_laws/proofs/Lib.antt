@@ -1,3 +1,4 @@
+pub mod Seeing
 pub mod Messages
 pub mod Learning
 pub mod Accepting

@@ -9,6 +9,7 @@ use Rattle.mc_model.specs.node.Setup.{Setup}
 use Rattle.node_model.specs.Kept.{Kept, message_at}
 use Rattle.node_model.specs.Message.{Message, Round}
 use Rattle.node_model.specs.Sets.{is_majority}
+use Rattle.node_laws.proofs.Seeing.{highest_as, seen_later}
 use Rattle.node_laws.specs.Stands.{Agrees, IsCoherent, IsHighestSeen, IsMessage, IsRoundOf as IsKeptRound, WasSeen}
 use Rattle.node_laws.proofs.Coherence.{IsLater, fit_later}
 use Rattle.node_laws.proofs.Owning.{IsGround, own_later}
@@ -95,37 +96,14 @@ module _ (setup : Setup) (s : Node) (slot : Slot) (vote : Vote) where
   -- ---- rounds that were seen
 
   seen_before : (other : Slot) (round : ℕ) → WasSeen setup.node proposed.actor other round → WasSeen setup.node s.actor other round
-  seen_before other round (inl refused) = inl (record {
-    sender = refused.sender;
-    ballot = refused.ballot;
-    promised = refused.promised;
-    heard = refused.heard;
-    proposer = refused.proposer;
-    incarnation = refused.incarnation;
-    names = refused.names;
-  })
-  seen_before other round (inr prepared) = elim prepared.sent [
-    | inl now ↦ absurd (cc)
-    | inr before ↦ inr (record { ballot = prepared.ballot; sent = before; names = prepared.names })
-  ]
+  seen_before other = seen_later setup.node proposed.actor s.actor other refl (λ sender ballot promised heard. heard)
+      (λ ballot sent. elim sent [ inl now ↦ absurd (cc) | inr before ↦ before ])
 
   seen_still : (other : Slot) (round : ℕ) → WasSeen setup.node s.actor other round → WasSeen setup.node proposed.actor other round
-  seen_still other round (inl refused) = inl (record {
-    sender = refused.sender;
-    ballot = refused.ballot;
-    promised = refused.promised;
-    heard = refused.heard;
-    proposer = refused.proposer;
-    incarnation = refused.incarnation;
-    names = refused.names;
-  })
-  seen_still other round (inr prepared) = inr (record { ballot = prepared.ballot; sent = inr prepared.sent; names = prepared.names })
+  seen_still other = seen_later setup.node s.actor proposed.actor other refl (λ sender ballot promised heard. heard) (λ ballot sent. inr sent)
 
   highest_still : (other : Slot) (round : ℕ) → IsHighestSeen setup.node s.actor other round → IsHighestSeen setup.node proposed.actor other round
-  highest_still other round highest = record {
-    seen = elim highest.seen [ inl none ↦ inl none | inr seen ↦ inr (seen_still other round seen) ];
-    most = λ above seen. highest.most above (seen_before other above seen);
-  }
+  highest_still other = highest_as setup.node s.actor proposed.actor other (seen_still other) (seen_before other)
 
   -- ---- what is kept agrees
 

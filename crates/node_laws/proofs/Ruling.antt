@@ -33,6 +33,7 @@ use Rattle.node_laws.proofs.FirstRule.{AgreesOn, same_rule}
 use Rattle.node_laws.proofs.Owning.{IsGround, own_later}
 use Rattle.node_laws.proofs.Orders.{in_mapped}
 use Rattle.node_model.proofs.Places.{message_elsewhere, message_here}
+use Rattle.node_laws.proofs.Seeing.{seen_later as seen_of_slot}
 use Rattle.node_laws.proofs.RuleChains.{after_rule, one_place, received_still, rule_next, rule_place}
 use Rattle.node_laws.proofs.Started.{IsDueStart}
 
@@ -122,29 +123,14 @@ module _ (setup : Setup) (s : Node) where
 
     seen_before : (slot : Slot) → slot.id ≡ id → (round : ℕ) → HasSeen setup.node (later slots offers).actor s.records slot round → HasSeen setup.node s.actor s.records slot round
     seen_before slot about round (inl own) = inl own
-    seen_before slot about round (inr (inl refused)) = inr (inl (record {
-      sender = refused.sender;
-      ballot = refused.ballot;
-      promised = refused.promised;
-      heard = refused.heard;
-      proposer = refused.proposer;
-      incarnation = refused.incarnation;
-      names = refused.names;
-    }))
-    seen_before slot about round (inr (inr sent)) = inr (inr (record { ballot = sent.ballot; sent = prepared_before slot sent.ballot about sent.sent; names = sent.names }))
+    seen_before slot about round (inr seen) =
+        inr (seen_of_slot setup.node (later slots offers).actor s.actor slot refl (λ sender ballot promised heard. heard) (λ ballot sent. prepared_before slot ballot about sent) round seen)
 
     seen_later : (slot : Slot) (round : ℕ) → HasSeen setup.node s.actor s.records slot round → HasSeen setup.node (later slots offers).actor s.records slot round
     seen_later slot round (inl own) = inl own
-    seen_later slot round (inr (inl refused)) = inr (inl (record {
-      sender = refused.sender;
-      ballot = refused.ballot;
-      promised = refused.promised;
-      heard = refused.heard;
-      proposer = refused.proposer;
-      incarnation = refused.incarnation;
-      names = refused.names;
-    }))
-    seen_later slot round (inr (inr sent)) = inr (inr (record { ballot = sent.ballot; sent = in_right (Prepare setup.node slot sent.ballot) (map packet_of offers) s.actor.sent sent.sent; names = sent.names }))
+    seen_later slot round (inr seen) =
+        inr (seen_of_slot setup.node s.actor (later slots offers).actor slot refl (λ sender ballot promised heard. heard)
+        (λ ballot sent. in_right (Prepare setup.node slot ballot) (map packet_of offers) s.actor.sent sent) round seen)
 
     pub may_before : RunsNone setup.nodes setup.node s.actor id → (slot : Slot) (ballot : ℕ) → slot.id ≡ id →
         MayPrepare setup.nodes setup.node (later slots offers).actor s.records slot ballot → MayPrepare setup.nodes setup.node s.actor s.records slot ballot

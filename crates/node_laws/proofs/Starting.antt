@@ -17,6 +17,7 @@ use Rattle.mc_model.specs.node.Rules.{IsAhead}
 use Rattle.mc_model.specs.node.Setup.{Setup}
 use Rattle.node_model.specs.Message.{Message, Round, most_places}
 use Rattle.node_model.specs.Proposer.{started_at}
+use Rattle.node_laws.proofs.Seeing.{highest_as, seen_later}
 use Rattle.node_laws.specs.Stands.{IsBehind, IsCoherent, IsHighestSeen, IsMessage, IsRoundOf as IsKeptRound, WasSeen}
 use Rattle.node_laws.proofs.Coherence.{IsLater, fit_later}
 use Rattle.node_laws.proofs.Owning.{IsGround, own_later}
@@ -51,38 +52,15 @@ module _ (setup : Setup) (s : Node) (slot : Slot) (ballot : ℕ) (chain : List D
   }
 
   seen_still : (other : Slot) (round : ℕ) → WasSeen setup.node s.actor other round → WasSeen setup.node prepared.actor other round
-  seen_still other round (inl refused) = inl (record {
-    sender = refused.sender;
-    ballot = refused.ballot;
-    promised = refused.promised;
-    heard = refused.heard;
-    proposer = refused.proposer;
-    incarnation = refused.incarnation;
-    names = refused.names;
-  })
-  seen_still other round (inr sent) = inr (record { ballot = sent.ballot; sent = inr sent.sent; names = sent.names })
+  seen_still other = seen_later setup.node s.actor prepared.actor other refl (λ sender ballot promised heard. heard) (λ ballot sent. inr sent)
 
   seen_before : (other : Slot) → (other ≡ slot → ⊥) → (round : ℕ) → WasSeen setup.node prepared.actor other round → WasSeen setup.node s.actor other round
-  seen_before other differs round (inl refused) = inl (record {
-    sender = refused.sender;
-    ballot = refused.ballot;
-    promised = refused.promised;
-    heard = refused.heard;
-    proposer = refused.proposer;
-    incarnation = refused.incarnation;
-    names = refused.names;
-  })
-  seen_before other differs round (inr sent) = elim sent.sent [
-    | inl now ↦ let slots : other ≡ slot = cc in absurd (differs slots)
-    | inr before ↦ inr (record { ballot = sent.ballot; sent = before; names = sent.names })
-  ]
+  seen_before other differs = seen_later setup.node prepared.actor s.actor other refl (λ sender ballot promised heard. heard)
+      (λ ballot sent. elim sent [ inl now ↦ (let slots : other ≡ slot = cc in absurd (differs slots)) | inr before ↦ before ])
 
   highest_other : (other : Slot) → (other ≡ slot → ⊥) → (round : ℕ) → IsHighestSeen setup.node s.actor other round →
       IsHighestSeen setup.node prepared.actor other round
-  highest_other other differs round highest = record {
-    seen = elim highest.seen [ inl none ↦ inl none | inr seen ↦ inr (seen_still other round seen) ];
-    most = λ above seen. highest.most above (seen_before other differs above seen);
-  }
+  highest_other other differs = highest_as setup.node s.actor prepared.actor other (seen_still other) (seen_before other differs)
 
   same_ground : (id : ℕ) → IsGround setup.nodes id s.actor prepared.actor
   same_ground id = record {

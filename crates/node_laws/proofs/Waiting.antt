@@ -16,6 +16,7 @@ use Rattle.mc_model.specs.node.Setup.{Setup}
 use Rattle.node_model.specs.Kept.{Held, Kept, message_at}
 use Rattle.node_model.specs.Message.{Message, Round}
 use Rattle.node_model.specs.Requests.{ticket_of}
+use Rattle.node_laws.proofs.Seeing.{highest_as, seen_later}
 use Rattle.node_laws.specs.Stands.{Agrees, IsCoherent, IsHeld, IsHighestSeen, IsMessage, IsRoundOf as IsKeptRound, WasSeen}
 use Rattle.node_laws.proofs.Coherence.{fit_later}
 
@@ -120,34 +121,13 @@ module _ (setup : Setup) (s : Node) (ws : List Waiting) where
   }
 
   seen_waits : (slot : Slot) (round : ℕ) → WasSeen setup.node s.actor slot round → WasSeen setup.node waits.actor slot round
-  seen_waits slot round (inl refused) = inl (record {
-    sender = refused.sender;
-    ballot = refused.ballot;
-    promised = refused.promised;
-    heard = refused.heard;
-    proposer = refused.proposer;
-    incarnation = refused.incarnation;
-    names = refused.names;
-  })
-  seen_waits slot round (inr prepared) = inr (record { ballot = prepared.ballot; sent = prepared.sent; names = prepared.names })
+  seen_waits slot = seen_later setup.node s.actor waits.actor slot refl (λ sender ballot promised heard. heard) (λ ballot sent. sent)
 
   seen_before : (slot : Slot) (round : ℕ) → WasSeen setup.node waits.actor slot round → WasSeen setup.node s.actor slot round
-  seen_before slot round (inl refused) = inl (record {
-    sender = refused.sender;
-    ballot = refused.ballot;
-    promised = refused.promised;
-    heard = refused.heard;
-    proposer = refused.proposer;
-    incarnation = refused.incarnation;
-    names = refused.names;
-  })
-  seen_before slot round (inr prepared) = inr (record { ballot = prepared.ballot; sent = prepared.sent; names = prepared.names })
+  seen_before slot = seen_later setup.node waits.actor s.actor slot refl (λ sender ballot promised heard. heard) (λ ballot sent. sent)
 
   highest_waits : (slot : Slot) (round : ℕ) → IsHighestSeen setup.node s.actor slot round → IsHighestSeen setup.node waits.actor slot round
-  highest_waits slot round highest = record {
-    seen = elim highest.seen [ inl none ↦ inl none | inr seen ↦ inr (seen_waits slot round seen) ];
-    most = λ other seen. highest.most other (seen_before slot other seen);
-  }
+  highest_waits slot = highest_as setup.node s.actor waits.actor slot (seen_waits slot) (seen_before slot)
 
   pub message_waits : (id : ℕ) (m : Message) → StaysFree id m.round → IsMessage setup s id m → IsMessage setup waits id m
   message_waits id m stays is = record {
