@@ -26,6 +26,7 @@ use Rattle.node_laws.specs.Stands.{Agrees, HasAttempts, IsHeld}
 use Rattle.node_laws.proofs.Decided.{Decided}
 use Rattle.node_laws.proofs.FollowRule.{follow_decided}
 use Rattle.node_laws.proofs.KnownRules.{attempt_decides, close_decided, delete_decided, expire_decided, give_up_decided, lose_decided, try_decided, undeliver_decided}
+use Rattle.node_laws.proofs.RuleChains.{goes_on}
 use Rattle.node_laws.proofs.TakeRule.{take_decided}
 
 -- what the rules of a message look at is kept as the actor has it
@@ -130,23 +131,6 @@ module _ (setup : Setup) (a : Actor) (records : Records) (k : Kept) (up : List �
   passed rule none None others = rule_then rule None None none others
   passed rule none (Some fit) others = rule_then rule None (Some fit) none others
 
-  -- ---- from the third on they go further from what is known
-
-  record GoesOn (place : ℕ) (chain : List Decree) : Type 0 where
-    kind : Kind
-    further : GoesFurther setup.nodes setup.node a id place chain kind
-
-  goes_on : (rule : Rule) (place : ℕ) (chain : List Decree) → 3 ≤ order_of rule → Fits rule place chain → GoesOn place chain
-  goes_on Take place chain late fits = absurd (omega arith)
-  goes_on Follow place chain late fits = absurd (omega arith)
-  goes_on Close place chain late fits = record { kind = _; further = fits.further }
-  goes_on Lose place chain late fits = record { kind = _; further = fits.further }
-  goes_on GiveUp place chain late fits = record { kind = _; further = fits.further }
-  goes_on Delete place chain late fits = record { kind = _; further = fits.further }
-  goes_on Expire place chain late fits = record { kind = _; further = fits.further }
-  goes_on Undeliver place chain late fits = record { kind = _; further = fits.due.further }
-  goes_on Try place chain late fits = record { kind = _; further = fits.due.further }
-
   module _ (agrees : AgreesOn setup a records k id) where
     -- behind an attempt of the node no rule fits that is for a message that waits, and behind another decree none that is for one
     module _ (newest : Decree) (older : List Decree) (taken : Submission) (known : Knows setup.nodes a.received id (newest ∷ older))
@@ -227,7 +211,7 @@ module _ (setup : Setup) (a : Actor) (records : Records) (k : Kept) (up : List �
     -- if nothing is known that a decree could follow
     none_further : ((newest : Decree) (older : List Decree) (taken : Submission) → Knows setup.nodes a.received id (newest ∷ older) → taken_in (newest ∷ older) ≡ Some taken → ⊥) → FoundFrom 3 None
     none_further none rule place chain late fits =
-        let it = goes_on rule place chain late fits in none it.further.newest it.further.older it.further.taken it.further.known it.further.message
+        let it = goes_on setup.nodes setup.node a records up id rule place chain late fits in none it.further.newest it.further.older it.further.taken it.further.known it.further.message
 
     known_found : (known : Option (List Decree)) → IsKnown setup.nodes a.received id known → FoundFrom 3 (known_rule setup k up id known)
     known_found None nothing = none_further (λ newest older taken known message. nothing _ _ known.learned)

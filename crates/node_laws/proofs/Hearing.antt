@@ -14,7 +14,7 @@ use Rattle.mc_parts.proofs.Learning.{learned_still}
 use Rattle.mc_parts.proofs.Membership.{in_right}
 use Rattle.node_model.specs.Kept.{Held}
 use Rattle.node_model.specs.Message.{Message, Round}
-use Rattle.node_laws.proofs.Seeing.{highest_as, seen_later}
+use Rattle.node_laws.proofs.Seeing.{seen_later}
 use Rattle.node_laws.specs.Stands.{IsBehind, IsHeld, IsHighestReport, IsHighestSeen, IsHighestTold, IsMessage, IsRoundOf as IsKeptRound, TellsOfNone, WasSeen}
 use Rattle.node_laws.proofs.Answered.{known_is}
 use Rattle.node_laws.proofs.AsideSteps.{TellsNobody}

@@ -5,7 +5,7 @@ use Rattle.std.specs.Bool.{Decides}
 use Rattle.std.specs.List.{list_any}
 use Rattle.std.specs.Option.{is_none}
 use Rattle.std.proofs.lemmas.Bool.{true≢false}
-use Rattle.std.proofs.lemmas.Bool.Decides.{Decides-and, Decides-eqb, Decides-ltb, leb_tells}
+use Rattle.std.proofs.lemmas.Bool.Decides.{Decides-and, Decides-eqb, Decides-ltb}
 use Rattle.mc_model.specs.message.Submission.{Submission}
 use Rattle.mc_model.specs.message.Decree.{Attempt, Author, Decree, Deleted, Expired, Failed, Fate, Kind, Taken, Undeliverable}
 use Rattle.mc_model.specs.message.Neighbours.{MayFollow, most_attempts, retry_delay}
@@ -24,14 +24,9 @@ use Rattle.node_model.specs.Message.{Message}
 use Rattle.node_model.specs.Starts.{cancels, delete_of, is_idle, moment_behind, start_behind}
 use Rattle.node_model.specs.Rules.{closing, expiring, giving_up, if_so, is_attempt_by, losing, tried, undelivered}
 use Rattle.node_laws.specs.Stands.{HasAttempts}
+use Rattle.node_laws.proofs.Answered.{most_decides}
 use Rattle.node_laws.proofs.Cancelling.{cancelled_decides}
 use Rattle.node_laws.proofs.Decided.{Decided}
-
-pub most_is : (a b : ℕ) → Decides (nat_le a b) (a ≤ b)
-most_is a b = elim (leb_tells a b) [
-  | inl holds ↦ ((λ t. holds.1), (λ below. holds.0))
-  | inr fails ↦ ((λ t. absurd (true≢false (sym t ∙ fails.0))), (λ below. let above = fails.1 in absurd (omega arith)))
-]
 
 -- ---- kinds
 
@@ -59,9 +54,9 @@ attempt_decides node newest = (
 -- a message expires behind its taking or a failure, from its expiry on
 expires : (kind : Kind) (message : Submission) (attempt before moment : ℕ) (old author : Author) →
     Decides (is_idle kind && nat_le message.expiry moment) (MayFollow message attempt old before kind author moment (Fate Expired 0))
-expires (Taken taken) message attempt before moment old author = most_is message.expiry moment
+expires (Taken taken) message attempt before moment old author = most_decides message.expiry moment
 expires (Attempt number) message attempt before moment old author = ((λ t. absurd (true≢false (sym t))), (λ none. absurd none))
-expires (Failed error) message attempt before moment old author = most_is message.expiry moment
+expires (Failed error) message attempt before moment old author = most_decides message.expiry moment
 expires (Fate final error) message attempt before moment old author = ((λ t. absurd (true≢false (sym t))), (λ none. absurd none))
 
 -- ---- behind this decree of what is known
@@ -312,7 +307,7 @@ module _ (setup : Setup) (a : Actor) (k : Kept) (id : ℕ) (incarnation : k.inca
 
     first_decides : Decides (nat_le taken.schedule (moment_behind k newest) && nat_lt (moment_behind k newest) taken.expiry) ((taken.schedule ≤ max a.clock newest.moment) × (max a.clock newest.moment < taken.expiry))
     first_decides = subst (λ (c : ℕ). Decides (nat_le taken.schedule c && nat_lt c taken.expiry) ((taken.schedule ≤ max a.clock newest.moment) × (max a.clock newest.moment < taken.expiry))) (sym moment_is)
-        (Decides-and _ _ (most_is taken.schedule (max a.clock newest.moment)) (Decides-ltb (max a.clock newest.moment) taken.expiry))
+        (Decides-and _ _ (most_decides taken.schedule (max a.clock newest.moment)) (Decides-ltb (max a.clock newest.moment) taken.expiry))
 
     abbrev attempts : ℕ
     attempts = attempts_in (newest ∷ older)
@@ -326,7 +321,7 @@ module _ (setup : Setup) (a : Actor) (k : Kept) (id : ℕ) (incarnation : k.inca
     again_decides : Decides (again (moment_behind k newest)) MayAgain
     again_decides = subst (λ (c : ℕ). Decides (again c) MayAgain) (sym moment_is)
         (Decides-and _ _ (Decides-ltb attempts most_attempts)
-        (Decides-and _ _ (Decides-ltb (max a.clock newest.moment) taken.expiry) (most_is (newest.moment + retry_delay * attempts) (max a.clock newest.moment))))
+        (Decides-and _ _ (Decides-ltb (max a.clock newest.moment) taken.expiry) (most_decides (newest.moment + retry_delay * attempts) (max a.clock newest.moment))))
 
     first_tried : (of : Submission) → newest.kind ≡ Taken of → up taken.target ≡ true → (test : Bool) → (nat_le taken.schedule (moment_behind k newest) && nat_lt (moment_behind k newest) taken.expiry) ≡ test →
         Decided (if test then Some (start_behind setup k newest older (Attempt 1)) else None) Tries

@@ -21,7 +21,7 @@ use Rattle.node_model.specs.Kept.{Held}
 use Rattle.node_model.specs.Requests.{id_of, ticket_of}
 use Rattle.node_model.specs.Ticks.{is_late, late_reply}
 use Rattle.node_laws.proofs.Held.{kept_as, waits_among}
-use Rattle.node_laws.proofs.KnownRules.{most_is}
+use Rattle.node_laws.proofs.Answered.{most_decides}
 use Rattle.node_laws.proofs.Orders.{Ascend, acts_fall, ascend_filter, filter_in, filter_passes, in_mapped, in_reverse, mapped_in, reverse_in}
 use Rattle.node_laws.proofs.Runs.{did_more, packets_more, receipts_more, replies_more, run_more, saved_more}
 use Rattle.mc_parts.proofs.Membership.{in_filter}
@@ -139,7 +139,7 @@ module _ (a : Actor) (held : List Held) (waiting : map (λ h. h.waiting) held �
       ticket_is = refl;
       about = refl;
     };
-    late = (most_is (h.waiting.since + longest_wait) a.clock).0 (filter_passes (is_late a.clock) held h among);
+    late = (most_decides (h.waiting.since + longest_wait) a.clock).0 (filter_passes (is_late a.clock) held h among);
   }
 
   due_only : (act : Act) → In act (late_acts late) → Due act
@@ -151,7 +151,7 @@ module _ (a : Actor) (held : List Held) (waiting : map (λ h. h.waiting) held �
   due_all (Replies ticket id TooLate) due =
       let kept = kept_as held due.asked.waiting (subst (λ (ws : List Waiting). In due.asked.waiting ws) (sym waiting) due.asked.waits) in
       let too_late : is_late a.clock kept.request ≡ true =
-      (most_is (kept.request.waiting.since + longest_wait) a.clock).1 (subst (λ (w : Waiting). w.since + longest_wait ≤ a.clock) (sym kept.same) due.late) in
+      (most_decides (kept.request.waiting.since + longest_wait) a.clock).1 (subst (λ (w : Waiting). w.since + longest_wait ≤ a.clock) (sym kept.same) due.late) in
       let same : late_act kept.request ≡ Replies ticket id TooLate =
       λ i. Replies ((ap (λ (w : Waiting). w.ticket) kept.same ∙ due.asked.ticket_is) i) ((ap (λ (w : Waiting). id_in w.request) kept.same ∙ due.asked.about) i) TooLate in
       subst (λ (act : Act). In act (late_acts late)) same
