@@ -12,7 +12,8 @@ use Rattle.mc_model.specs.synod.Packet.{Name, Packet, Tell, TopVote}
 use Rattle.mc_model.specs.node.Actor.{Actor, Cancel, Query, Request, Submit, Waiting, id_in, name_of}
 use Rattle.mc_model.specs.node.Knowledge.{IsKnown, Knows}
 use Rattle.mc_model.specs.node.Proposal.{IsMatch}
-use Rattle.mc_model.specs.node.Replies.{Accepted, Answer, FitsCancel, FitsQuery, FitsRequest, FitsSubmit, Kept, KeepsMessage, NotMatched, NotOwner, Removed, Shown, Unknown}
+use Rattle.mc_model.specs.node.Replies.{Accepted, Answer, FitsCancel, FitsQuery, FitsRequest, FitsSubmit, Kept, KeepsMessage, NotMatched, NotOwner, Removed}
+use Rattle.mc_model.specs.node.Replies.{Shown, Unknown}
 use Rattle.mc_model.specs.node.Settling.{HasTold, IsReached, IsSettled}
 use Rattle.mc_parts.proofs.Known.{knows_one}
 use Rattle.node_model.specs.Kept.{Held}
@@ -101,7 +102,10 @@ module _ (nodes node : ℕ) (a : Actor) (h : Held) (is : IsHeld a.received (name
 
   submit_is : (message : Submission) (known : Option (List Decree)) → IsKnown nodes a.received id known → (reached settled : Bool) → (of : ℕ) → of ≡ id →
       AnswerIs (answer_by known reached settled (Submit of message)) (FitsSubmit nodes a of)
-  submit_is message (Some chain) knows reached settled of same = record { chain = chain; known = subst (λ (i : ℕ). Knows nodes a.received i chain) (sym same) knows }
+  submit_is message (Some chain) knows reached settled of same = record {
+    chain = chain;
+    known = subst (λ (i : ℕ). Knows nodes a.received i chain) (sym same) knows;
+  }
   submit_is message None nothing reached settled of same = none
     where
       none : (answer : Answer) → FitsSubmit nodes a of answer → ⊥
@@ -134,8 +138,10 @@ module _ (nodes node : ℕ) (a : Actor) (h : Held) (is : IsHeld a.received (name
     query_open chain knows settled answer fits = fits
 
     query_none : (chain : List Decree) → Knows nodes a.received id chain → taken_in chain ≡ None → (answer : Answer) → QueryFits answer → ⊥
-    query_none chain knows none (Shown other) fits = let both : Some fits.taken ≡ None = sym fits.message ∙ ap taken_in (one_known chain other knows fits.known) ∙ none in absurd (cc)
-    query_none chain knows none NotOwner fits = let both : Some fits.taken ≡ None = sym fits.message ∙ ap taken_in (one_known chain fits.chain knows fits.known) ∙ none in absurd (cc)
+    query_none chain knows none (Shown other) fits = let both : Some fits.taken ≡ None = sym fits.message
+        ∙ ap taken_in (one_known chain other knows fits.known) ∙ none in absurd (cc)
+    query_none chain knows none NotOwner fits = let both : Some fits.taken ≡ None = sym fits.message
+        ∙ ap taken_in (one_known chain fits.chain knows fits.known) ∙ none in absurd (cc)
     query_none chain knows none Unknown fits = fits.nothing _ _ knows.learned
     query_none chain knows none answer fits = fits
 
@@ -146,7 +152,13 @@ module _ (nodes node : ℕ) (a : Actor) (h : Held) (is : IsHeld a.received (name
     query_taken chain knows settled (Some taken) message = by_owner (is_owner taken account source) refl
       where
         by_owner : (owner : Bool) → is_owner taken account source ≡ owner → AnswerIs (if owner then Some (Shown chain) else Some NotOwner) QueryFits
-        by_owner true owner = record { taken = taken; known = knows; settled = settled_is (Some chain) settled; message = message; owner = (owner_decides taken account source).0 owner }
+        by_owner true owner = record {
+          taken = taken;
+          known = knows;
+          settled = settled_is (Some chain) settled;
+          message = message;
+          owner = (owner_decides taken account source).0 owner;
+        }
         by_owner false other = record {
           chain = chain;
           taken = taken;
@@ -187,9 +199,12 @@ module _ (nodes node : ℕ) (a : Actor) (h : Held) (is : IsHeld a.received (name
     cancel_open chain knows early answer fits = fits
 
     cancel_none : (chain : List Decree) → Knows nodes a.received id chain → taken_in chain ≡ None → (answer : Answer) → CancelFits answer → ⊥
-    cancel_none chain knows none (Removed other) fits = let both : Some fits.taken ≡ None = sym fits.message ∙ ap taken_in (one_known chain other knows fits.known) ∙ none in absurd (cc)
-    cancel_none chain knows none (Kept other) fits = let both : Some fits.taken ≡ None = sym fits.message ∙ ap taken_in (one_known chain other knows fits.known) ∙ none in absurd (cc)
-    cancel_none chain knows none (NotMatched other) fits = let both : Some fits.taken ≡ None = sym fits.message ∙ ap taken_in (one_known chain other knows fits.known) ∙ none in absurd (cc)
+    cancel_none chain knows none (Removed other) fits = let both : Some fits.taken ≡ None = sym fits.message
+        ∙ ap taken_in (one_known chain other knows fits.known) ∙ none in absurd (cc)
+    cancel_none chain knows none (Kept other) fits = let both : Some fits.taken ≡ None = sym fits.message
+        ∙ ap taken_in (one_known chain other knows fits.known) ∙ none in absurd (cc)
+    cancel_none chain knows none (NotMatched other) fits = let both : Some fits.taken ≡ None = sym fits.message
+        ∙ ap taken_in (one_known chain other knows fits.known) ∙ none in absurd (cc)
     cancel_none chain knows none Unknown fits = fits.nothing _ _ knows.learned
     cancel_none chain knows none answer fits = fits
 
@@ -197,13 +212,15 @@ module _ (nodes node : ℕ) (a : Actor) (h : Held) (is : IsHeld a.received (name
     cancel_waits : (newest : Decree) (older : List Decree) (taken : Submission) → Knows nodes a.received id (newest ∷ older) →
         taken_in (newest ∷ older) ≡ Some taken → IsMatch taken account source destination →
         (final_by newest.kind ≡ Some Deleted → ⊥) → (KeepsMessage newest.kind → ⊥) → (answer : Answer) → CancelFits answer → ⊥
-    cancel_waits newest older taken knows message matched deleted keeps (Removed other) fits = deleted (ap final_in (sym (one_known (newest ∷ older) other knows fits.known)) ∙ fits.deleted)
+    cancel_waits newest older taken knows message matched deleted keeps (Removed other) fits =
+        deleted (ap final_in (sym (one_known (newest ∷ older) other knows fits.known)) ∙ fits.deleted)
     cancel_waits newest older taken knows message matched deleted keeps (Kept other) fits =
         let same : newest ∷ older ≡ fits.newest ∷ fits.older = sym (one_known (newest ∷ older) other knows fits.known) ∙ fits.chain_is in
         let first : newest ≡ fits.newest = cc in
         keeps (subst (λ (d : Decree). KeepsMessage d.kind) (sym first) fits.kept)
     cancel_waits newest older taken knows message matched deleted keeps (NotMatched other) fits =
-        fits.other (subst (λ (s : Submission). IsMatch s account source destination) (sym (one_taken (newest ∷ older) other taken fits.taken (one_known (newest ∷ older) other knows fits.known) message fits.message)) matched)
+        fits.other (subst (λ (s : Submission). IsMatch s account source destination)
+        (sym (one_taken (newest ∷ older) other taken fits.taken (one_known (newest ∷ older) other knows fits.known) message fits.message)) matched)
     cancel_waits newest older taken knows message matched deleted keeps Unknown fits = fits.nothing _ _ knows.learned
     cancel_waits newest older taken knows message matched deleted keeps answer fits = fits
 
@@ -213,7 +230,17 @@ module _ (nodes node : ℕ) (a : Actor) (h : Held) (is : IsHeld a.received (name
     cancel_matched newest older taken knows settled message matched kind is = by_kind kind is
       where
         keeps : KeepsMessage newest.kind → CancelFits (Kept (newest ∷ older))
-        keeps kept = record { taken = taken; newest = newest; older = older; known = knows; settled = settled; message = message; matched = matched; chain_is = refl; kept = kept }
+        keeps kept = record {
+          taken = taken;
+          newest = newest;
+          older = older;
+          known = knows;
+          settled = settled;
+          message = message;
+          matched = matched;
+          chain_is = refl;
+          kept = kept;
+        }
 
         waits : (kind : Kind) → newest.kind ≡ kind → (final_by kind ≡ Some Deleted → ⊥) → (KeepsMessage kind → ⊥) → (answer : Answer) → CancelFits answer → ⊥
         waits kind is deleted kept =
@@ -225,7 +252,14 @@ module _ (nodes node : ℕ) (a : Actor) (h : Held) (is : IsHeld a.received (name
         by_kind (Failed error) is = waits (Failed error) is (λ d. absurd (cc)) (λ none. none)
         by_kind (Fate Delivered error) is = keeps (subst KeepsMessage (sym is) tt)
         by_kind (Fate Expired error) is = keeps (subst KeepsMessage (sym is) tt)
-        by_kind (Fate Deleted error) is = record { taken = taken; known = knows; settled = settled; message = message; matched = matched; deleted = ap final_by is }
+        by_kind (Fate Deleted error) is = record {
+          taken = taken;
+          known = knows;
+          settled = settled;
+          message = message;
+          matched = matched;
+          deleted = ap final_by is;
+        }
         by_kind (Fate Undeliverable error) is = keeps (subst KeepsMessage (sym is) tt)
         by_kind (Fate Rejected error) is = keeps (subst KeepsMessage (sym is) tt)
 
@@ -237,7 +271,8 @@ module _ (nodes node : ℕ) (a : Actor) (h : Held) (is : IsHeld a.received (name
       where
         by_match : (matched : Bool) → is_match taken account source destination ≡ matched →
             AnswerIs (if matched then cancel_answer_of (newest ∷ older) else Some (NotMatched (newest ∷ older))) CancelFits
-        by_match true matched = cancel_matched newest older taken knows settled message ((match_decides taken account source destination).0 matched) newest.kind refl
+        by_match true matched = cancel_matched newest older taken knows settled message
+            ((match_decides taken account source destination).0 matched) newest.kind refl
         by_match false other = record {
           taken = taken;
           known = knows;

@@ -49,12 +49,14 @@ abbrev pub TellsNobody : Packet → Type 0
 TellsNobody packet = (teller : ℕ) (name : Name) (told : Option TopVote) → Tell teller name told ≡ packet → ⊥
 
 -- a round is started by a Tell alone, and by one that concerns the node
-pub follows_concern : (nodes node : ℕ) (before a : Actor) (packet : Packet) (id place : ℕ) (chain : List Decree) → CausesFollow nodes node before a (Delivery packet) id place chain →
+pub follows_concern : (nodes node : ℕ) (before a : Actor) (packet : Packet) (id place : ℕ) (chain : List Decree) →
+    CausesFollow nodes node before a (Delivery packet) id place chain →
     Concerns nodes node before packet
 follows_concern nodes node before a (Tell teller name told) id place chain follows = follows.0
 follows_concern nodes node before a packet id place chain follows = absurd follows
 
-pub follows_none : (nodes node : ℕ) (before a : Actor) (packet : Packet) (id place : ℕ) (chain : List Decree) → TellsNobody packet → CausesFollow nodes node before a (Delivery packet) id place chain → ⊥
+pub follows_none : (nodes node : ℕ) (before a : Actor) (packet : Packet) (id place : ℕ) (chain : List Decree) → TellsNobody packet →
+    CausesFollow nodes node before a (Delivery packet) id place chain → ⊥
 follows_none nodes node before a (Tell teller name told) id place chain none follows = none teller name told refl
 follows_none nodes node before a packet id place chain none follows = follows
 
@@ -115,7 +117,8 @@ module _ (setup : Setup) (s : Node) (packet : Packet) (aside : IsAside packet) (
   reports_none act due = due
 
   -- the packet is received, and the acceptor answers by one act that changes nothing else of the actor
-  exact : (core : List Act) → did setup.node s.actor core ≡ heard.actor → IsCore setup s.actor s.records (Delivery packet) core → IsExact setup s.actor s.records (Delivery packet) core
+  exact : (core : List Act) → did setup.node s.actor core ≡ heard.actor → IsCore setup s.actor s.records (Delivery packet) core →
+      IsExact setup s.actor s.records (Delivery packet) core
   exact core is core_is = record {
     core = core;
     settles = [];
@@ -131,8 +134,10 @@ module _ (setup : Setup) (s : Node) (packet : Packet) (aside : IsAside packet) (
     settled = subst (λ (x : Actor). AreDue (DueToSettle setup.nodes setup.node x) []) (sym is) (none_due _ settles_none);
     ended = subst (λ (x : Actor). AreDue (DueToEnd (Delivery packet) x) []) (sym is) (none_due _ ends_none);
     asked = subst (λ (x : Actor). AreDue (DueToAsk setup.nodes setup.node s.actor x (Delivery packet)) []) (sym is) (none_due _ asks_none);
-    abandoned = subst (λ (x : Actor). AreDue (DueToAbandon setup.nodes setup.node x (saved_by s.records core) (Delivery packet)) []) (sym is) (none_due _ (abandons_none (saved_by s.records core)));
-    prepared = subst (λ (x : Actor). AreDueOnce (DueToPrepare setup.nodes setup.node s.actor x (saved_by s.records core) (Delivery packet)) []) (sym is) (none_due_once _ (prepares_none (saved_by s.records core)));
+    abandoned = subst (λ (x : Actor). AreDue (DueToAbandon setup.nodes setup.node x (saved_by s.records core) (Delivery packet)) []) (sym is)
+        (none_due _ (abandons_none (saved_by s.records core)));
+    prepared = subst (λ (x : Actor). AreDueOnce (DueToPrepare setup.nodes setup.node s.actor x (saved_by s.records core) (Delivery packet)) []) (sym is)
+        (none_due_once _ (prepares_none (saved_by s.records core)));
     proposed = subst (λ (x : Actor). AreDueOnce (DueToPropose setup.nodes setup.node s.actor x) []) (sym is) (none_due_once _ proposes_none);
     replied = subst (λ (x : Actor). AreDue (DueToReply setup.nodes setup.node x) []) (sym is) (none_due _ replies_none);
     reported = subst (λ (x : Actor). AreDue (DueToReport setup.nodes setup.node s.actor x) []) (sym is) (none_due _ reports_none);
@@ -155,7 +160,8 @@ module _ (setup : Setup) (s : Node) (packet : Packet) (aside : IsAside packet) (
       IsSome (lookup (is_at (nat_cmp other.id)) (insert_entry nat_cmp k.messages slot.id (message_at k slot.id)))
   listed_still slot other new vote voted = by_id (other.id == slot.id) refl
     where
-      by_id : (same : Bool) → (other.id == slot.id) ≡ same → IsSome (lookup (is_at (nat_cmp other.id)) (insert_entry nat_cmp k.messages slot.id (message_at k slot.id)))
+      by_id : (same : Bool) → (other.id == slot.id) ≡ same → IsSome (lookup (is_at (nat_cmp other.id))
+          (insert_entry nat_cmp k.messages slot.id (message_at k slot.id)))
       by_id true same =
           let is = eqb-true other.id slot.id same in
           subst (λ (i : ℕ). IsSome (lookup (is_at (nat_cmp i)) (insert_entry nat_cmp k.messages slot.id (message_at k slot.id)))) (sym is)
@@ -188,7 +194,8 @@ module _ (setup : Setup) (s : Node) (packet : Packet) (aside : IsAside packet) (
   coherent_still = coherent_heard setup.node s.actor packet (aside_fits setup.node s.actor packet aside) stands.agrees.coherent
 
   pub stands_saved : (slot : Slot) (new : SlotRecord) (records : Records) → ((other : Slot) → with_record k.records slot new other ≡ records other) →
-      ((cast : Vote) → new.vote ≡ Some cast → IsPlaced slot cast × StandsAt heard slot cast.chain) → Stands setup (saved k slot new) (later setup s records packet aside)
+      ((cast : Vote) → new.vote ≡ Some cast → IsPlaced slot cast × StandsAt heard slot cast.chain) →
+      Stands setup (saved k slot new) (later setup s records packet aside)
   stands_saved slot new records leaves fits = record {
     agrees = record {
       up = stands.agrees.up;
@@ -214,7 +221,8 @@ module _ (setup : Setup) (s : Node) (packet : Packet) (aside : IsAside packet) (
 
   -- ---- a step by one act that answers
 
-  pub same_with : (slot : Slot) (new other_new : SlotRecord) → new ≡ other_new → (other : Slot) → with_record k.records slot new other ≡ with_record s.records slot other_new other
+  pub same_with : (slot : Slot) (new other_new : SlotRecord) → new ≡ other_new → (other : Slot) →
+      with_record k.records slot new other ≡ with_record s.records slot other_new other
   same_with slot new other_new same other = λ i. if same_slot other slot then same i else stands.agrees.records other i
 
   pub unchanged : (slot other : Slot) → with_record k.records slot (k.records slot) other ≡ s.records other
@@ -255,7 +263,8 @@ module _ (setup : Setup) (s : Node) (packet : Packet) (aside : IsAside packet) (
     pub replies : AcceptorReplies s.records packet (act ∷ [])
     pub gives : packets_by setup.node heard.actor s.records act ≡ answer ∷ []
 
-  pub answered_with : (act : Act) (answer : Packet) (kept : Kept) → Answers act answer → Stands setup kept (later setup s (records_by s.records act) packet aside) →
+  pub answered_with : (act : Act) (answer : Packet) (kept : Kept) → Answers act answer →
+      Stands setup kept (later setup s (records_by s.records act) packet aside) →
       StepsAs setup s (Delivery packet) (sends kept (answer ∷ []) [] [])
   answered_with act answer kept a after = record {
     acts = act ∷ Receives packet ∷ [];
@@ -375,13 +384,16 @@ module _ (setup : Setup) (s : Node) (k : Kept) (stands : Stands setup k s) where
   idle_asks packet (Asks id ticket) due = due
   idle_asks packet act due = due
 
-  idle_causes : (packet : Packet) → (Concerns setup.nodes setup.node s.actor packet → ⊥) → (id place : ℕ) (chain : List Decree) → Causes setup.nodes setup.node s.actor s.actor (Delivery packet) id place chain → ⊥
+  idle_causes : (packet : Packet) → (Concerns setup.nodes setup.node s.actor packet → ⊥) → (id place : ℕ) (chain : List Decree) →
+      Causes setup.nodes setup.node s.actor s.actor (Delivery packet) id place chain → ⊥
   idle_causes packet strange id place chain (inl take) = take
   idle_causes packet strange id place chain (inr (inl close)) = close
-  idle_causes packet strange id place chain (inr (inr (inl follows))) = strange (follows_concern setup.nodes setup.node s.actor s.actor packet id place chain follows)
+  idle_causes packet strange id place chain (inr (inr (inl follows))) =
+      strange (follows_concern setup.nodes setup.node s.actor s.actor packet id place chain follows)
   idle_causes packet strange id place chain (inr (inr (inr deletes))) = idle_deletes id place chain deletes
 
-  idle_prepares : (packet : Packet) → (Concerns setup.nodes setup.node s.actor packet → ⊥) → (act : Act) → DueToPrepare setup.nodes setup.node s.actor s.actor s.records (Delivery packet) act → ⊥
+  idle_prepares : (packet : Packet) → (Concerns setup.nodes setup.node s.actor packet → ⊥) → (act : Act) →
+      DueToPrepare setup.nodes setup.node s.actor s.actor s.records (Delivery packet) act → ⊥
   idle_prepares packet strange (Prepares slot ballot chain) due = idle_causes packet strange slot.id slot.place chain due.0
   idle_prepares packet strange act due = due
 

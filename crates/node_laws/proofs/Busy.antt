@@ -32,9 +32,11 @@ use Rattle.node_laws.proofs.AsideSteps.{none_due, none_due_once}
 use Rattle.node_laws.proofs.Deciding.{IsCalm, known_for, quiet_of}
 use Rattle.node_laws.proofs.Hearing.{received}
 use Rattle.node_laws.proofs.Orders.{filter_passes, in_mapped}
-use Rattle.node_laws.proofs.Replied.{replied_agrees, replies_due, replies_lead, replies_of, replies_out, replies_packets, replies_receipts, replies_run, reply_acts, waits_on}
+use Rattle.node_laws.proofs.Replied.{replied_agrees, replies_due, replies_lead, replies_of, replies_out, replies_packets, replies_receipts, replies_run}
+use Rattle.node_laws.proofs.Replied.{reply_acts, waits_on}
 use Rattle.node_laws.proofs.Runs.{packets_more, reached_actor, reached_more, receipts_more, replies_more, run_more, saved_more}
-use Rattle.node_laws.proofs.Settled.{all_settled, settled_acts, settled_agrees, settles_due, settles_lead, settles_packets, settles_receipts, settles_records, settles_replies, settles_run}
+use Rattle.node_laws.proofs.Settled.{all_settled, settled_acts, settled_agrees, settles_due, settles_lead, settles_packets, settles_receipts, settles_records}
+use Rattle.node_laws.proofs.Settled.{settles_replies, settles_run}
 use Rattle.node_laws.proofs.Started.{IsToPrepare, StartsAs}
 use Rattle.node_laws.proofs.Waiting.{waits}
 use Rattle.mc_parts.proofs.Membership.{in_filter, of_only}
@@ -222,7 +224,8 @@ module _ (setup : Setup) (k : Kept) (s : Node) (stands : Stands setup k s) (work
       ended = none_due _ (λ act due. due);
       asked = none_due _ (λ act due. asks_none act (subst (λ (x : Actor). DueToAsk setup.nodes setup.node s.actor x (Delivery packet) act) actor_2 due));
       abandoned = none_due _ (λ act due. due);
-      prepared = subst (λ (x : Actor). AreDueOnce (DueToPrepare setup.nodes setup.node s.actor x s.records (Delivery packet)) starts.acts) (sym actor_2) prepares_due;
+      prepared = subst (λ (x : Actor). AreDueOnce (DueToPrepare setup.nodes setup.node s.actor x s.records (Delivery packet)) starts.acts)
+          (sym actor_2) prepares_due;
       proposed = subst (λ (x : Actor). AreDueOnce (DueToPropose setup.nodes setup.node s.actor x) []) (sym actor_2) (none_due_once _ unproposed);
       replied = subst (λ (x : Actor). AreDue (DueToReply setup.nodes setup.node x) answers) (sym actor_2) answers_due;
       reported = reports_due report reported;
@@ -275,7 +278,8 @@ module _ (setup : Setup) (k : Kept) (s : Node) (stands : Stands setup k s) (work
         run_more setup.nodes setup.node s reports (answers ++ (starts.acts ++ (settled ++ core)))
         (subst (λ (x : Node). IsRunAlone setup.nodes setup.node x reports) (sym lead_answers) (reports_run report reported))
         (run_more setup.nodes setup.node s answers (starts.acts ++ (settled ++ core))
-        (subst (λ (x : Node). IsRunAlone setup.nodes setup.node x answers) (sym lead_3) (replies_run setup new.kept s3 starts.agrees works_3 answer same_answer))
+        (subst (λ (x : Node). IsRunAlone setup.nodes setup.node x answers) (sym lead_3)
+        (replies_run setup new.kept s3 starts.agrees works_3 answer same_answer))
         (run_more setup.nodes setup.node s starts.acts (settled ++ core)
         (subst (λ (x : Node). IsRunAlone setup.nodes setup.node x starts.acts) (sym lead_2) starts.run)
         (run_more setup.nodes setup.node s settled core (settles_run setup k1 s1 agrees works_1)
@@ -307,7 +311,8 @@ module _ (setup : Setup) (k : Kept) (s : Node) (stands : Stands setup k s) (work
     packets_settled : packets_in setup.node s.actor s.records (settled ++ core) ≡ []
     packets_settled =
         packets_more setup.node s.actor s.records settled core
-        ∙ ap (λ (ps : List Packet). ps ++ []) (settles_packets setup.node (did setup.node s.actor core) s.records (filter (λ h. settles setup.nodes (known_for k1 h) h) k1.held))
+        ∙ ap (λ (ps : List Packet). ps ++ []) (settles_packets setup.node (did setup.node s.actor core) s.records
+        (filter (λ h. settles setup.nodes (known_for k1 h) h) k1.held))
 
     saved_settled : saved s.records (settled ++ core) ≡ s.records
     saved_settled = saved_more s.records settled core ∙ settles_records s.records (filter (λ h. settles setup.nodes (known_for k1 h) h) k1.held)
@@ -318,10 +323,12 @@ module _ (setup : Setup) (k : Kept) (s : Node) (stands : Stands setup k s) (work
         ∙ (λ i. packets_in setup.node (actor_2 i) (saved_settled i) starts.acts ++ packets_settled i)
         ∙ append-nil (packets_in setup.node s2.actor s.records starts.acts)
 
-    packets_answered : packets_in setup.node s.actor s.records (answers ++ (starts.acts ++ (settled ++ core))) ≡ packets_in setup.node s2.actor s.records starts.acts
+    packets_answered : packets_in setup.node s.actor s.records (answers ++
+        (starts.acts ++ (settled ++ core))) ≡ packets_in setup.node s2.actor s.records starts.acts
     packets_answered =
         packets_more setup.node s.actor s.records answers (starts.acts ++ (settled ++ core))
-        ∙ (λ i. replies_packets answer setup.node (did setup.node s.actor (starts.acts ++ (settled ++ core))) (saved s.records (starts.acts ++ (settled ++ core))) new.kept.held i ++ packets_started i)
+        ∙ (λ i. replies_packets answer setup.node (did setup.node s.actor (starts.acts ++ (settled ++ core)))
+        (saved s.records (starts.acts ++ (settled ++ core))) new.kept.held i ++ packets_started i)
 
     report_packets : (it : Option (List Decree)) (others : List Act) →
         packets_in setup.node s.actor s.records (report_acts id it ++ others) ≡ packets_in setup.node s.actor s.records others
@@ -338,7 +345,8 @@ module _ (setup : Setup) (k : Kept) (s : Node) (stands : Stands setup k s) (work
     none_replied : replies_in (starts.acts ++ (settled ++ core)) ≡ []
     none_replied =
         replies_more starts.acts (settled ++ core)
-        ∙ (λ i. starts.no_replies i ++ (replies_more settled core ∙ ap (λ (rs : List Reply). rs ++ []) (settles_replies (filter (λ h. settles setup.nodes (known_for k1 h) h) k1.held))) i)
+        ∙ (λ i. starts.no_replies i ++ (replies_more settled core ∙ ap (λ (rs : List Reply). rs ++ [])
+        (settles_replies (filter (λ h. settles setup.nodes (known_for k1 h) h) k1.held))) i)
 
     answers_out : replies_of answer new.kept.held ≡ reverse (replies_in acts)
     answers_out = sym (
@@ -354,7 +362,8 @@ module _ (setup : Setup) (k : Kept) (s : Node) (stands : Stands setup k s) (work
         receipts_more answers (starts.acts ++ (settled ++ core))
         ∙ (λ i. replies_receipts answer new.kept.held i
         ++ (receipts_more starts.acts (settled ++ core)
-        ∙ (λ j. starts.no_receipts j ++ (receipts_more settled core ∙ ap (λ (rs : List Receipt). rs ++ []) (settles_receipts (filter (λ h. settles setup.nodes (known_for k1 h) h) k1.held))) j)) i)
+        ∙ (λ j. starts.no_receipts j ++ (receipts_more settled core ∙ ap (λ (rs : List Receipt). rs ++ [])
+        (settles_receipts (filter (λ h. settles setup.nodes (known_for k1 h) h) k1.held))) j)) i)
 
     report_receipts : (it : Option (List Decree)) (others : List Act) → receipts_in others ≡ [] →
         report_out id it ≡ reverse (receipts_in (report_acts id it ++ others))

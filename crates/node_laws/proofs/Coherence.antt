@@ -23,7 +23,11 @@ module _ (node : ℕ) (before after : Actor) (later : IsLater node before after)
   pub fit_later : (packet : Packet) → IsFit node before packet → IsFit node after packet
   fit_later (Promise acceptor slot ballot report) fit = λ own. later.sent slot ballot (fit (own.0, own.1 ∙ later.incarnation))
   fit_later (Voted voter slot vote) fit = (fit.0, λ mine. given_later slot.id (fit.1 mine))
-  fit_later (Tell teller name told) fit = (fit.0, λ mine now. let less = fit.1 mine (now ∙ later.incarnation) in let more = later.ticket in omega (arith, less, more))
+  fit_later (Tell teller name told) fit = (
+    fit.0,
+    λ mine now. let less = fit.1 mine (now ∙ later.incarnation) in let more = later.ticket in
+        omega (arith, less, more),
+  )
   fit_later (Prepare sender slot ballot) fit = tt
   fit_later (Propose sender slot vote) fit = tt
   fit_later (Refused sender slot ballot promised) fit = tt

@@ -75,7 +75,12 @@ module _ (setup : Setup) (s : Node) where
   coherent_down is = record {
     life = is.life;
     ticked = is.ticked;
-    fits = λ packet came. fit_later setup.node s.actor down.actor (record { incarnation = refl; sent = λ slot ballot sent. sent; ticket = omega arith; serial = omega arith }) packet (is.fits packet came);
+    fits = λ packet came. fit_later setup.node s.actor down.actor (record {
+      incarnation = refl;
+      sent = λ slot ballot sent. sent;
+      ticket = omega arith;
+      serial = omega arith;
+    }) packet (is.fits packet came);
     own = is.own;
     prepared = is.prepared;
     outcomes = is.outcomes;
@@ -91,7 +96,8 @@ module _ (setup : Setup) (s : Node) where
     records = agrees.records;
     message = λ id.
         let is = agrees.message id in
-        message_changed setup s false s.actor.serial s.actor.ticket s.actor.waiting s.actor.granted s.actor.closed id (ground id) (message_at k id) (message_at k id).granted (message_at k id).closed is
+        message_changed setup s false s.actor.serial s.actor.ticket s.actor.waiting s.actor.granted s.actor.closed id (ground id) (message_at k id)
+        (message_at k id).granted (message_at k id).closed is
         (record { granted = is.attempts.granted; closed = is.attempts.closed }) is.covers;
     waiting = agrees.waiting;
     told = agrees.told;
@@ -125,7 +131,8 @@ pub record CameTo (setup : Setup) (s t : Node) (before : List Act) : Type 0 wher
   pub waited : (w : Waiting) → In w t.actor.waiting → In w s.actor.waiting
   pub promised : (slot : Slot) (ballot : ℕ) → IsPromised setup.nodes t.actor slot ballot → IsPromised setup.nodes s.actor slot ballot
 
-module _ (setup : Setup) (s t : Node) (before : List Act) (came : CameTo setup s t before) (k : Kept) (stands : Stands setup k t) (works : IsAtWork setup s) (up : t.actor.up ≡ true)
+module _ (setup : Setup) (s t : Node) (before : List Act) (came : CameTo setup s t before) (k : Kept) (stands : Stands setup k t) (works : IsAtWork setup s)
+    (up : t.actor.up ≡ true)
     (packet : Packet) (after : Bool) where
   abbrev b : Actor
   b = (down setup t).actor
@@ -236,7 +243,8 @@ module _ (setup : Setup) (k : Kept) (s : Node) (stands : Stands setup k s) where
   vote_concern : (sender : ℕ) (slot : Slot) (vote : Vote) → IsMember setup.nodes sender → (test : Bool) → vote_concerns setup k slot vote ≡ test →
       IsConcerned (Voted sender slot vote)
   vote_concern sender slot vote member true is = let both = (concerns_decides setup k s stands slot vote).0 is in inl (member, both.0, both.1)
-  vote_concern sender slot vote member false is = inr (λ concerned. true≢false (sym ((concerns_decides setup k s stands slot vote).1 (concerned.1, concerned.2)) ∙ is))
+  vote_concern sender slot vote member false is = inr (λ concerned. true≢false
+      (sym ((concerns_decides setup k s stands slot vote).1 (concerned.1, concerned.2)) ∙ is))
 
   module _ (sender : ℕ) (name : Name) (told : Option TopVote) (member : IsMember setup.nodes sender) where
     abbrev IsOwn : Type 0
@@ -278,12 +286,15 @@ module _ (setup : Setup) (k : Kept) (s : Node) (stands : Stands setup k s) where
             about = λ waiting waits ticket.
                 let kept = kept_of waiting waits in
                 let one : kept.request ≡ h =
-                one_of_ticket k.held (ascend_from k.held stands.agrees.tickets) kept.request h kept.among found.among (ap (λ (w : Waiting). w.ticket) kept.same ∙ ticket ∙ sym found.ticket_is) in
-                subst (TellsAbout told) (ap id_of (sym one) ∙ ap (λ (w : Waiting). id_in w.request) kept.same) ((tells_decides setup k s stands sender name told told (id_of h)).0 about);
+                one_of_ticket k.held (ascend_from k.held stands.agrees.tickets) kept.request h kept.among found.among
+                (ap (λ (w : Waiting). w.ticket) kept.same ∙ ticket ∙ sym found.ticket_is) in
+                subst (TellsAbout told) (ap id_of (sym one) ∙ ap (λ (w : Waiting). id_in w.request) kept.same)
+                ((tells_decides setup k s stands sender name told told (id_of h)).0 about);
           },
         )
         by_about false other = inr (λ concerned.
-            true≢false (sym ((tells_decides setup k s stands sender name told told (id_of h)).1 ((concerned.1 own.0 own.1).about h.waiting (held_waits h found.among) found.ticket_is)) ∙ other))
+            true≢false (sym ((tells_decides setup k s stands sender name told told (id_of h)).1
+            ((concerned.1 own.0 own.1).about h.waiting (held_waits h found.among) found.ticket_is)) ∙ other))
 
     tell_concern : (own : Bool) → is_own_name setup k name ≡ own → IsConcerned (Tell sender name told)
     tell_concern true own = told_concern ((own_decides setup k s stands sender name told).0 own) (held_at k.held name.ticket) refl
@@ -297,9 +308,12 @@ module _ (setup : Setup) (k : Kept) (s : Node) (stands : Stands setup k s) where
   concern_decided (Refused sender slot ballot promised) = of_member sender (Refused sender slot ballot promised) (λ member. inl member) (λ concerned. concerned)
   concern_decided (Ask sender id name) = of_member sender (Ask sender id name) (λ member. inl member) (λ concerned. concerned)
   concern_decided (Promise sender slot ballot report) = of_member sender (Promise sender slot ballot report)
-      (λ member. elim (was_asked setup.node s.actor slot ballot) [ inl asked ↦ inl (member, asked) | inr strange ↦ inr (λ concerned. strange concerned.1) ]) (λ concerned. concerned.0)
-  concern_decided (Voted sender slot vote) = of_member sender (Voted sender slot vote) (λ member. vote_concern sender slot vote member (vote_concerns setup k slot vote) refl) (λ concerned. concerned.0)
-  concern_decided (Tell sender name told) = of_member sender (Tell sender name told) (λ member. tell_concern sender name told member (is_own_name setup k name) refl) (λ concerned. concerned.0)
+      (λ member. elim (was_asked setup.node s.actor slot ballot) [ inl asked ↦ inl (member, asked) | inr strange ↦ inr (λ concerned. strange concerned.1) ])
+      (λ concerned. concerned.0)
+  concern_decided (Voted sender slot vote) = of_member sender (Voted sender slot vote)
+      (λ member. vote_concern sender slot vote member (vote_concerns setup k slot vote) refl) (λ concerned. concerned.0)
+  concern_decided (Tell sender name told) = of_member sender (Tell sender name told)
+      (λ member. tell_concern sender name told member (is_own_name setup k name) refl) (λ concerned. concerned.0)
 
   -- ---- it saves nothing
 
@@ -352,7 +366,8 @@ module _ (setup : Setup) (k : Kept) (s : Node) (stands : Stands setup k s) where
         tickets = stands.agrees.tickets;
         given = stands.agrees.given;
         listed = λ other vote voted.
-            listed_with k.messages slot.id (message_at k slot.id) other.id (stands.agrees.listed other vote (ap (λ (r : SlotRecord). r.vote) (same other) ∙ voted));
+            listed_with k.messages slot.id (message_at k slot.id) other.id
+            (stands.agrees.listed other vote (ap (λ (r : SlotRecord). r.vote) (same other) ∙ voted));
         ascends = still_ascends k.messages slot.id (message_at k slot.id) stands.agrees.ascends;
         placed = λ other vote voted. stands.agrees.placed other vote (ap (λ (r : SlotRecord). r.vote) (same other) ∙ voted);
         voted = λ other vote voted. stands.agrees.voted other vote (ap (λ (r : SlotRecord). r.vote) (same other) ∙ voted);
@@ -387,7 +402,8 @@ module _ (setup : Setup) (k : Kept) (s : Node) (stands : Stands setup k s) where
     }
 
   saved_prepare : IsAtWork setup s → (sender ballot : ℕ) (slot : Slot) → IsMember setup.nodes sender →
-      StepsAs setup s (Crash (Prepare sender slot ballot) true) (leaves (record (saved k slot (prepare_judged setup.node slot ballot (k.records slot)).after) { up = false }))
+      StepsAs setup s (Crash (Prepare sender slot ballot) true) (leaves
+      (record (saved k slot (prepare_judged setup.node slot ballot (k.records slot)).after) { up = false }))
   saved_prepare works sender ballot slot member = by_test (nat_lt (k.records slot).promised ballot) refl
     where
       aside : IsAside (Prepare sender slot ballot)
@@ -406,15 +422,21 @@ module _ (setup : Setup) (k : Kept) (s : Node) (stands : Stands setup k s) where
           let before : (k.records slot).promised < ballot = grind (arith, nat_tests) in
           let may : (s.records slot).promised < ballot = subst (λ (r : SlotRecord). r.promised < ballot) same before in
           let records = with_record s.records slot (after_promise (s.records slot) ballot) in
-          crash_from setup s (later setup s records (Prepare sender slot ballot) aside) (Promises slot ballot false ∷ Receives (Prepare sender slot ballot) ∷ [])
+          crash_from setup s (later setup s records (Prepare sender slot ballot) aside)
+          (Promises slot ballot false ∷ Receives (Prepare sender slot ballot) ∷ [])
           (saves_by works (Prepare sender slot ballot) aside (Promises slot ballot false) records refl refl refl refl refl
           (record { least = works.least; most = works.most; up = works.up; needs = record { sender = sender; prepared = inl refl; may = may } }))
           (saved k slot (after_promise (k.records slot) ballot))
           (stands_saved setup s (Prepare sender slot ballot) aside k stands slot (after_promise (k.records slot) ballot) records
-          (same_with setup s (Prepare sender slot ballot) aside k stands slot (after_promise (k.records slot) ballot) (after_promise (s.records slot) ballot) (ap (λ (r : SlotRecord). after_promise r ballot) same))
+          (same_with setup s (Prepare sender slot ballot) aside k stands slot (after_promise (k.records slot) ballot) (after_promise (s.records slot) ballot)
+          (ap (λ (r : SlotRecord). after_promise r ballot) same))
           (voted_before setup k s stands works (Prepare sender slot ballot) aside slot))
           works works.up (Prepare sender slot ballot) true
-          (record { before = Promises slot ballot false ∷ Receives (Prepare sender slot ballot) ∷ []; handled = inl (member, inl (may, refl)); acts_are = refl })
+          (record {
+            before = Promises slot ballot false ∷ Receives (Prepare sender slot ballot) ∷ [];
+            handled = inl (member, inl (may, refl));
+            acts_are = refl;
+          })
       by_test false above =
           let same = stands.agrees.records slot in
           let before : ballot ≤ (k.records slot).promised = grind (arith, nat_tests) in
@@ -423,7 +445,8 @@ module _ (setup : Setup) (k : Kept) (s : Node) (stands : Stands setup k s) where
           (record { before = []; handled = inl (member, inr (may, refl)); acts_are = refl })
 
   saved_propose : IsAtWork setup s → (sender : ℕ) (slot : Slot) (vote : Vote) → IsPlaced slot vote → IsMember setup.nodes sender →
-      StepsAs setup s (Crash (Propose sender slot vote) true) (leaves (record (saved k slot (propose_judged setup.node slot vote (k.records slot)).after) { up = false }))
+      StepsAs setup s (Crash (Propose sender slot vote) true) (leaves (record
+      (saved k slot (propose_judged setup.node slot vote (k.records slot)).after) { up = false }))
   saved_propose works sender slot vote fits member = by_test (nat_le (k.records slot).promised vote.ballot) refl
     where
       aside : IsAside (Propose sender slot vote)
@@ -448,7 +471,11 @@ module _ (setup : Setup) (k : Kept) (s : Node) (stands : Stands setup k s) where
           (saved k slot (after_vote vote))
           (stands_saved setup s (Propose sender slot vote) aside k stands slot (after_vote vote) records
           (same_with setup s (Propose sender slot vote) aside k stands slot (after_vote vote) (after_vote vote) refl)
-          (λ cast voted. let casts : vote ≡ cast = cc in (subst (IsPlaced slot) casts fits, inl (sender, cast.ballot, inl (λ i. Propose sender slot (sym casts i))))))
+          (λ cast voted. let casts : vote ≡ cast = cc in (
+            subst (IsPlaced slot) casts fits,
+            inl
+                (sender, cast.ballot, inl (λ i. Propose sender slot (sym casts i))),
+          )))
           works works.up (Propose sender slot vote) true
           (record { before = Votes slot vote false ∷ Receives (Propose sender slot vote) ∷ []; handled = inl (member, inl (may, refl)); acts_are = refl })
       by_test false above =
@@ -471,7 +498,8 @@ module _ (setup : Setup) (k : Kept) (s : Node) (stands : Stands setup k s) where
   -- or one that was not sent by a node
   strange_after : IsAtWork setup s → (packet : Packet) → (Concerns setup.nodes setup.node s.actor packet → ⊥) →
       StepsAs setup s (Crash packet true) (leaves (record k { up = false }))
-  strange_after works packet strange = crash_from setup s s [] nothing_done k stands works works.up packet true (record { before = []; handled = inr (strange, refl); acts_are = refl })
+  strange_after works packet strange = crash_from setup s s [] nothing_done k stands works works.up packet true
+      (record { before = []; handled = inr (strange, refl); acts_are = refl })
 
   unsaved : IsAtWork setup s → (packet : Packet) → IsSaved s.records packet [] → (member : Bool) →
       StepsAs setup s (Crash packet true) (leaves (if member then record k { up = false } else record k { up = false }))
@@ -482,13 +510,17 @@ module _ (setup : Setup) (k : Kept) (s : Node) (stands : Stands setup k s) where
   after_steps works (Prepare sender slot ballot) made = by_member (is_member setup sender) refl
     where
       by_member : (member : Bool) → is_member setup sender ≡ member → StepsAs setup s (Crash (Prepare sender slot ballot) true)
-          (leaves (if member then record (saved k slot (prepare_judged setup.node slot ballot (k.records slot)).after) { up = false } else record k { up = false }))
+          (leaves (if member then record (saved k slot (prepare_judged setup.node slot ballot (k.records slot)).after) { up = false } else record k {
+            up = false;
+          }))
       by_member true is = saved_prepare works sender ballot slot (member_is setup sender is)
       by_member false is = strange_after works (Prepare sender slot ballot) (λ concerned. true≢false (sym (member_test setup sender concerned) ∙ is))
   after_steps works (Propose sender slot vote) made = by_member (is_member setup sender) refl
     where
       by_member : (member : Bool) → is_member setup sender ≡ member → StepsAs setup s (Crash (Propose sender slot vote) true)
-          (leaves (if member then record (saved k slot (propose_judged setup.node slot vote (k.records slot)).after) { up = false } else record k { up = false }))
+          (leaves (if member then record (saved k slot (propose_judged setup.node slot vote (k.records slot)).after) { up = false } else record k {
+            up = false;
+          }))
       by_member true is = saved_propose works sender slot vote made (member_is setup sender is)
       by_member false is = strange_after works (Propose sender slot vote) (λ concerned. true≢false (sym (member_test setup sender concerned) ∙ is))
   after_steps works (Promise sender slot ballot report) made = unsaved works (Promise sender slot ballot report) refl (is_member setup sender)

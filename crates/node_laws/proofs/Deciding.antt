@@ -66,12 +66,18 @@ module _ (setup : Setup) (k : Kept) (s : Node) (agrees : Agrees setup k s) where
   -- ---- settled
 
   settles_decides : (h : Held) → In h k.held → (known : Option (List Decree)) →
-      (settles setup.nodes known h ≡ true) ↔ (IsCancelRequest h.waiting.request × ((h.waiting.settled ≡ false) × IsSettled setup.nodes s.actor.received (name_of setup.node s.actor h.waiting) known))
+      (settles setup.nodes known h ≡ true) ↔ (IsCancelRequest h.waiting.request ×
+      ((h.waiting.settled ≡ false) × IsSettled setup.nodes s.actor.received (name_of setup.node s.actor h.waiting) known))
   settles_decides h among known = (
     λ passes.
         let parts = and_parts (is_cancel h.waiting.request) (not h.waiting.settled && is_settled setup.nodes known h) passes in
-        let others = and_parts (not h.waiting.settled) (is_settled setup.nodes known h) parts.1 in
-        (cancel_is h.waiting.request parts.0, (not_false h.waiting.settled others.0, (settled_decides setup.nodes s.actor.received (name_of setup.node s.actor h.waiting) h (agrees.told h among) known).0 others.1)),
+        let others = and_parts (not h.waiting.settled) (is_settled setup.nodes known h) parts.1 in (
+          cancel_is h.waiting.request parts.0,
+          (
+            not_false h.waiting.settled others.0,
+            (settled_decides setup.nodes s.actor.received (name_of setup.node s.actor h.waiting) h (agrees.told h among) known).0 others.1,
+          ),
+        ),
     λ due.
         and_from (is_cancel h.waiting.request) (not h.waiting.settled && is_settled setup.nodes known h) (is_one h.waiting.request due.0)
         (and_from (not h.waiting.settled) (is_settled setup.nodes known h) (ap not due.1.0)
@@ -130,7 +136,8 @@ module _ (setup : Setup) (k : Kept) (s : Node) (agrees : Agrees setup k s) where
   pub to_answer : (ticket id : ℕ) (answer : Answer) → AnswersIn setup.nodes k ticket id answer → IsDueReply setup.nodes setup.node s.actor ticket id answer
   to_answer ticket id answer it = record {
     asked = record { waiting = it.request.waiting; waits = waits it.request it.among; ticket_is = it.ticket_is; about = it.about };
-    fits = subst (λ (x : Option Answer). AnswerIs x (FitsRequest setup.nodes setup.node s.actor it.request.waiting it.request.waiting.request)) it.answers (fits_of it.request it.among);
+    fits = subst (λ (x : Option Answer). AnswerIs x (FitsRequest setup.nodes setup.node s.actor it.request.waiting it.request.waiting.request)) it.answers
+        (fits_of it.request it.among);
   }
 
   pub answered_in : (ticket id : ℕ) (answer : Answer) → IsDueReply setup.nodes setup.node s.actor ticket id answer → AnswersIn setup.nodes k ticket id answer
@@ -162,12 +169,14 @@ module _ (setup : Setup) (k : Kept) (s : Node) (agrees : Agrees setup k s) where
   }
     where
       by_test : (h : Held) → In h k.held → (test : Bool) → settles setup.nodes (known_for k h) h ≡ test → test ≡ false
-      by_test h among true is = absurd (quiet.settled (ticket_of h) (to_settle (ticket_of h) (record { request = h; among = among; ticket_is = refl; settled = is })))
+      by_test h among true is = absurd (quiet.settled (ticket_of h) (to_settle (ticket_of h)
+          (record { request = h; among = among; ticket_is = refl; settled = is })))
       by_test h among false is = refl
 
       by_answer : (h : Held) → In h k.held → (x : Option Answer) → answer_to setup.nodes (known_for k h) h ≡ x → x ≡ None
       by_answer h among (Some answer) is =
-          absurd (quiet.answered (ticket_of h) (id_of h) answer (to_answer (ticket_of h) (id_of h) answer (record { request = h; among = among; ticket_is = refl; about = refl; answers = is })))
+          absurd (quiet.answered (ticket_of h) (id_of h) answer (to_answer (ticket_of h) (id_of h) answer
+          (record { request = h; among = among; ticket_is = refl; about = refl; answers = is })))
       by_answer h among None is = refl
 
   pub quiet_of : IsCalm setup.nodes k → IsQuiet setup.nodes setup.node s.actor

@@ -73,7 +73,8 @@ one_round node a one other at above ids first second =
 pub round_sent : (node : ℕ) (a : Actor) (slot : Slot) (ballot : ℕ) → IsRoundOf node a slot ballot → In (Prepare node slot ballot) a.sent
 round_sent node a slot ballot round =
     in_taken (length a.sent - a.before_tick) a.sent (Prepare node slot ballot)
-    (subst (λ (ps : List Packet). In (Prepare node slot ballot) ps) (sym round.split) (in_right (Prepare node slot ballot) round.newer (Prepare node slot ballot ∷ round.older) (inl refl)))
+    (subst (λ (ps : List Packet). In (Prepare node slot ballot) ps) (sym round.split)
+    (in_right (Prepare node slot ballot) round.newer (Prepare node slot ballot ∷ round.older) (inl refl)))
   where
     in_taken : (n : ℕ) (ps : List Packet) (p : Packet) → In p (take n ps) → In p ps
     in_taken zero ps p is_in = absurd is_in
@@ -165,7 +166,8 @@ module _ (setup : Setup) (s : Node) (packet : Packet) where
 
   -- ---- a round that runs, if what is known of its message stays
 
-  module _ (id : ℕ) (known : Option (List Decree)) (before : IsKnown setup.nodes s.actor.received id known) (now : IsKnown setup.nodes t.actor.received id known) where
+  module _ (id : ℕ) (known : Option (List Decree)) (before : IsKnown setup.nodes s.actor.received id known)
+      (now : IsKnown setup.nodes t.actor.received id known) where
     knows_still : (chain : List Decree) → Knows setup.nodes s.actor.received id chain → Knows setup.nodes t.actor.received id chain
     knows_still chain knows = subst (IsKnown setup.nodes t.actor.received id) (known_is setup.nodes id s.actor.received known chain before knows) now
 
@@ -199,7 +201,12 @@ module _ (setup : Setup) (s : Node) (packet : Packet) where
         IsRunning setup.nodes setup.node s.actor slot ballot
     running_before slot ballot about runs = record {
       round = record { newer = runs.round.newer; older = runs.round.older; split = runs.round.split; newest = runs.round.newest };
-      accepted = λ refused. runs.accepted (record { sender = refused.sender; promised = refused.promised; heard = inr refused.heard; greater = refused.greater });
+      accepted = λ refused. runs.accepted (record {
+        sender = refused.sender;
+        promised = refused.promised;
+        heard = inr refused.heard;
+        greater = refused.greater;
+      });
       short = λ reached. runs.short (record {
         chain = reached.chain;
         known = subst (λ (i : ℕ). Knows setup.nodes t.actor.received i reached.chain) (sym about)
@@ -255,7 +262,8 @@ module _ (setup : Setup) (s : Node) (packet : Packet) where
       record {
         heard = heard;
         places = is.places;
-        seen = λ place within. highest_heard (slot_at id place) _ (λ ballot sender promised own same. away.refusals (slot_at id place) ballot sender promised refl same) (is.seen place within);
+        seen = λ place within. highest_heard (slot_at id place) _ (λ ballot sender promised own same. away.refusals
+            (slot_at id place) ballot sender promised refl same) (is.seen place within);
         round = round_heard id m.known is.heard.known heard.known m.round (away_unpromised id away m.round is.round)
             (away_unrefused id away m.round is.round) is.round;
         attempts = record { granted = is.attempts.granted; closed = is.attempts.closed };

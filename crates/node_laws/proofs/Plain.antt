@@ -46,7 +46,8 @@ calm_still nodes before after same calm = record {
 }
 
 module _ (setup : Setup) (k : Kept) (s : Node) (stands : Stands setup k s) (packet : Packet)
-    (follows : (id place : ℕ) (chain : List Decree) → CausesFollow setup.nodes setup.node s.actor (received s packet).actor (Delivery packet) id place chain → ⊥) (k' : Kept)
+    (follows : (id place : ℕ) (chain : List Decree) → CausesFollow setup.nodes setup.node s.actor (received s packet).actor
+    (Delivery packet) id place chain → ⊥) (k' : Kept)
     (after : Agrees setup k' (received s packet)) (same : IsUnmoved k k') where
   abbrev t : Node
   t = received s packet
@@ -57,7 +58,8 @@ module _ (setup : Setup) (k : Kept) (s : Node) (stands : Stands setup k s) (pack
   -- what it knows then it knew
   pub knew : (id : ℕ) (chain : List Decree) → Knows setup.nodes t.actor.received id chain → Knows setup.nodes s.actor.received id chain
   knew id chain knows =
-      let now : (message_at k' id).known ≡ Some chain = known_is setup.nodes id t.actor.received (message_at k' id).known chain (after.message id).heard.known knows in
+      let now : (message_at k' id).known ≡ Some chain = known_is setup.nodes id t.actor.received (message_at k' id).known chain
+      (after.message id).heard.known knows in
       subst (IsKnown setup.nodes s.actor.received id) (sym (same.known id) ∙ now) (stands.agrees.message id).heard.known
 
   settles_none : (act : Act) → DueToSettle setup.nodes setup.node t.actor act → ⊥

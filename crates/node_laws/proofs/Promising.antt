@@ -1,5 +1,6 @@
 -- The step of a node to which a promise comes.
-use Rattle.std.proofs.Common.{◌≡◌, ◌↔◌, ◌⊎◌, ℕ, ◌<◌, ◌≤◌, Bool, true, false, List, [], ◌∷◌, Option, Some, None, refl, sym, ap, subst, subst₂, ◌∙◌, inl, inr, arith}
+use Rattle.std.proofs.Common.{◌≡◌, ◌↔◌, ◌⊎◌, ℕ, ◌<◌, ◌≤◌, Bool, true, false, List, [], ◌∷◌, Option, Some, None, refl, sym, ap, subst, subst₂, ◌∙◌, inl, inr}
+use Rattle.std.proofs.Common.{arith}
 use Rattle.std.specs.Prelude.{◌==◌, ◌&&◌, nat_lt, not, if◌then◌else◌}
 use Rattle.std.specs.Bool.{Decides}
 use Rattle.std.proofs.lemmas.Bool.{and_from, and_parts, eqb-false, eqb-true, true≢false}
@@ -35,7 +36,8 @@ use Rattle.node_laws.proofs.AcceptorSteps.{member_is, member_test, stepped_is}
 use Rattle.node_laws.proofs.Agreeing.{agrees_heard, agrees_with}
 use Rattle.node_laws.proofs.AsideSteps.{TellsNobody, ignored}
 use Rattle.node_laws.proofs.Deciding.{not_false, quiet_of}
-use Rattle.node_laws.proofs.Hearing.{RefusesNone, behind_heard, free_heard, highest_heard, message_heard, one_round, received, round_heard, round_sent, running_before, running_heard}
+use Rattle.node_laws.proofs.Hearing.{RefusesNone, behind_heard, free_heard, highest_heard, message_heard, one_round, received, round_heard, round_sent}
+use Rattle.node_laws.proofs.Hearing.{running_before, running_heard}
 use Rattle.node_laws.proofs.Learning.{heard_still, majority_decides}
 use Rattle.node_laws.proofs.Messages.{each_with}
 use Rattle.node_laws.proofs.Plain.{IsUnmoved, calm_then, plain_steps, received_exact}
@@ -43,7 +45,8 @@ use Rattle.node_laws.proofs.Proposed.{IsComplete, agrees_proposed, proposed}
 
 pub slots_tested : (a b : Slot) → a ≡ b → same_slot a b ≡ true
 slots_tested a b same =
-    and_from (a.id == b.id) (a.place == b.place) ((Decides-eqb a.id b.id).1 (ap (λ (x : Slot). x.id) same)) ((Decides-eqb a.place b.place).1 (ap (λ (x : Slot). x.place) same))
+    and_from (a.id == b.id) (a.place == b.place) ((Decides-eqb a.id b.id).1 (ap (λ (x : Slot). x.id) same))
+    ((Decides-eqb a.place b.place).1 (ap (λ (x : Slot). x.place) same))
 
 -- ---- whether a promise was asked for
 
@@ -126,7 +129,8 @@ module _ (setup : Setup) (k : Kept) (s : Node) (stands : Stands setup k s) (send
   }) (stands.agrees.message id)
 
   running_then : (other : Slot) (above : ℕ) → IsRunning setup.nodes setup.node t.actor other above → IsRunning setup.nodes setup.node s.actor other above
-  running_then other above runs = running_before setup s packet other.id _ (stands.agrees.message other.id).heard.known (heard_then other.id).known other above refl runs
+  running_then other above runs = running_before setup s packet other.id _ (stands.agrees.message other.id).heard.known
+      (heard_then other.id).known other above refl runs
 
   -- a promise for another slot or ballot was there before
   promised_before : (other : Slot) (above : ℕ) → (other ≡ slot → above ≡ ballot → ⊥) → IsPromised setup.nodes t.actor other above →
@@ -148,7 +152,8 @@ module _ (setup : Setup) (k : Kept) (s : Node) (stands : Stands setup k s) (send
     idle_proposes : (act : Act) → DueToPropose setup.nodes setup.node s.actor t.actor act → ⊥
     idle_proposes (Proposes other vote) due =
         due.0.new (promised_before other vote.ballot
-        (λ slots ballots. none (subst₂ (λ (x : Slot) (b : ℕ). IsRunning setup.nodes setup.node s.actor x b) slots ballots (running_then other vote.ballot due.0.running)))
+        (λ slots ballots. none (subst₂ (λ (x : Slot) (b : ℕ). IsRunning setup.nodes setup.node s.actor x b) slots ballots
+        (running_then other vote.ballot due.0.running)))
         due.0.promised)
     idle_proposes act due = due
 
@@ -246,7 +251,8 @@ module _ (setup : Setup) (k : Kept) (s : Node) (stands : Stands setup k s) (send
     highest_is None (Some vote) same none = record {
       reported = (sender, inl (λ i. Promise sender (same_slots i) (same_ballots i) (same i)));
       highest = λ acceptor other came. elim (reported_before acceptor other came) [
-        | inl now ↦ let both : Some vote ≡ Some other = same ∙ now in let votes : vote ≡ other = cc in let ballots = ap (λ (v : Vote). v.ballot) votes in omega arith
+        | inl now ↦ let both : Some vote ≡ Some other = same ∙ now in let votes : vote ≡ other = cc in let ballots = ap (λ (v : Vote). v.ballot) votes in
+            omega arith
         | inr before ↦ absurd (none acceptor other before)
       ];
     }
@@ -256,7 +262,8 @@ module _ (setup : Setup) (k : Kept) (s : Node) (stands : Stands setup k s) (send
         by_test true below = record {
           reported = (sender, inl (λ i. Promise sender (same_slots i) (same_ballots i) (same i)));
           highest = λ acceptor other came. elim (reported_before acceptor other came) [
-            | inl now ↦ let both : Some vote ≡ Some other = same ∙ now in let votes : vote ≡ other = cc in let ballots = ap (λ (v : Vote). v.ballot) votes in omega arith
+            | inl now ↦ let both : Some vote ≡ Some other = same ∙ now in let votes : vote ≡ other = cc in let ballots = ap (λ (v : Vote). v.ballot) votes in
+                omega arith
             | inr before ↦ let most = highest.highest acceptor other before in let less : top.ballot < vote.ballot = grind (arith, nat_tests) in omega arith
           ];
         }
@@ -279,7 +286,8 @@ module _ (setup : Setup) (k : Kept) (s : Node) (stands : Stands setup k s) (send
     -- ---- a majority of them
 
     most_before : (is_majority setup.nodes r.promised ≡ true) ↔ IsPromised setup.nodes s.actor r.slot r.ballot
-    most_before = majority_decides setup.nodes (λ acceptor. (it : Option Vote) × In (Promise acceptor r.slot r.ballot it) s.actor.received) r.promised is.promised
+    most_before = majority_decides setup.nodes (λ acceptor. (it : Option Vote) × In
+        (Promise acceptor r.slot r.ballot it) s.actor.received) r.promised is.promised
 
     most_now : (is_majority setup.nodes new.promised ≡ true) ↔ IsPromised setup.nodes t.actor r.slot r.ballot
     most_now = majority_decides setup.nodes HasPromised new.promised promised_is
@@ -302,7 +310,8 @@ module _ (setup : Setup) (k : Kept) (s : Node) (stands : Stands setup k s) (send
     round_now : IsRound setup.nodes setup.node t slot.id new
     round_now = record {
       about = is.about;
-      running = running_heard setup s packet slot.id m.known old.heard.known (heard_then slot.id).known r.slot r.ballot is.about (refuses_none r.slot r.ballot) is.running;
+      running = running_heard setup s packet slot.id m.known old.heard.known (heard_then slot.id).known r.slot r.ballot is.about
+          (refuses_none r.slot r.ballot) is.running;
       promised = promised_is;
       highest = report_is;
       offered = is.offered;
@@ -324,7 +333,11 @@ module _ (setup : Setup) (k : Kept) (s : Node) (stands : Stands setup k s) (send
         other_message
 
     unmoved : IsUnmoved k k'
-    unmoved = record { held = refl; known = each_with (λ id it. it.known ≡ (message_at k id).known) k slot.id (record m { round = Some new }) refl (λ id apart. refl) }
+    unmoved = record {
+      held = refl;
+      known = each_with (λ id it. it.known ≡ (message_at k id).known) k slot.id (record m { round = Some new }) refl
+          (λ id apart. refl);
+    }
 
     -- ---- what is due to be proposed
 
@@ -341,7 +354,8 @@ module _ (setup : Setup) (k : Kept) (s : Node) (stands : Stands setup k s) (send
             (slots_same other slot parts.0 ∙ sym same_slots, eqb-true vote.ballot ballot parts.1 ∙ sym same_ballots)
         by_test false differs =
             absurd (due.0.new (promised_before other vote.ballot
-            (λ slots ballots. true≢false (sym (and_from (same_slot other slot) (vote.ballot == ballot) (slots_tested other slot slots) ((Decides-eqb vote.ballot ballot).1 ballots)) ∙ differs))
+            (λ slots ballots. true≢false (sym (and_from (same_slot other slot) (vote.ballot == ballot) (slots_tested other slot slots)
+            ((Decides-eqb vote.ballot ballot).1 ballots)) ∙ differs))
             due.0.promised))
 
     carried : (top : Option Vote) → new.highest ≡ top → IsHighestReport t.actor.received r.slot r.ballot top →
@@ -369,10 +383,12 @@ module _ (setup : Setup) (k : Kept) (s : Node) (stands : Stands setup k s) (send
     incomplete_due : completes setup.nodes r sender ≡ false → (act : Act) → DueToPropose setup.nodes setup.node s.actor t.actor act → ⊥
     incomplete_due few (Proposes other vote) due =
         let at = due_slot other vote due in
-        let promised : IsPromised setup.nodes t.actor r.slot r.ballot = subst₂ (λ (x : Slot) (b : ℕ). IsPromised setup.nodes t.actor x b) at.0 at.1 due.0.promised in
+        let promised : IsPromised setup.nodes t.actor r.slot r.ballot =
+        subst₂ (λ (x : Slot) (b : ℕ). IsPromised setup.nodes t.actor x b) at.0 at.1 due.0.promised in
         let fresh : IsPromised setup.nodes s.actor r.slot r.ballot → ⊥ =
         λ before. due.0.new (subst₂ (λ (x : Slot) (b : ℕ). IsPromised setup.nodes s.actor x b) (sym at.0) (sym at.1) before) in
-        true≢false (sym (and_from (not (is_majority setup.nodes r.promised)) (is_majority setup.nodes new.promised) (was_few fresh) (most_now.1 promised)) ∙ few)
+        true≢false (sym (and_from (not (is_majority setup.nodes r.promised)) (is_majority setup.nodes new.promised) (was_few fresh) (most_now.1 promised))
+        ∙ few)
       where
         was_few : (IsPromised setup.nodes s.actor r.slot r.ballot → ⊥) → not (is_majority setup.nodes r.promised) ≡ true
         was_few fresh = by_test (is_majority setup.nodes r.promised) refl
@@ -407,8 +423,10 @@ module _ (setup : Setup) (k : Kept) (s : Node) (stands : Stands setup k s) (send
     of_highest (Some top) reports = (refl, (reports.reported.0, reports.reported.1))
 
     free_of : (top : Option Vote) → IsFree top (StandsAt t r.slot (chain_offered top r.own))
-        ((r.slot ≡ slot_of r.slot.id (chain_offered top r.own)) × IsOwn (IsLearned setup.nodes t.actor.received) setup.node t.actor r.slot.id (chain_offered top r.own))
-    free_of None = subst (λ (id : ℕ). StandsAt t r.slot r.own ⊎ ((r.slot ≡ slot_of id r.own) × IsOwn (IsLearned setup.nodes t.actor.received) setup.node t.actor id r.own)) (sym is.about) round_now.free
+        ((r.slot ≡ slot_of r.slot.id (chain_offered top r.own)) × IsOwn (IsLearned setup.nodes t.actor.received) setup.node t.actor r.slot.id
+        (chain_offered top r.own))
+    free_of None = subst (λ (id : ℕ). StandsAt t r.slot r.own ⊎ ((r.slot ≡ slot_of id r.own) × IsOwn
+        (IsLearned setup.nodes t.actor.received) setup.node t.actor id r.own)) (sym is.about) round_now.free
     free_of (Some top) = tt
 
     may_propose : completes setup.nodes r sender ≡ true →
@@ -438,7 +456,8 @@ module _ (setup : Setup) (k : Kept) (s : Node) (stands : Stands setup k s) (send
 
     others_complete : completes setup.nodes r sender ≡ true → (id : ℕ) → IsComplete setup t r.slot (offered new) (message_at k' id).round
     others_complete completes = each_with (λ id it. IsComplete setup t r.slot (offered new) it.round) k slot.id (record m { round = Some new })
-        (λ few same. let parts = and_parts (not (is_majority setup.nodes r.promised)) (is_majority setup.nodes new.promised) completes in true≢false (sym parts.1 ∙ few))
+        (λ few same. let parts = and_parts (not (is_majority setup.nodes r.promised)) (is_majority setup.nodes new.promised) completes in
+        true≢false (sym parts.1 ∙ few))
         (λ id apart. elsewhere_complete id apart (message_at k id).round (stands.agrees.message id).round)
       where
         elsewhere_complete : (id : ℕ) → (id ≡ slot.id → ⊥) → (round : Option Round) → IsKeptRound setup.nodes setup.node s id round →
@@ -455,10 +474,18 @@ module _ (setup : Setup) (k : Kept) (s : Node) (stands : Stands setup k s) (send
         record {
           acts = Proposes r.slot (offered new) ∷ Receives packet ∷ [];
           taken = record {
-            run = (record { least = works.least; most = works.most; up = works.up; needs = may_propose completes }, (record { least = works.least; most = works.most; up = works.up; needs = tt }, tt));
-            exact = received_exact setup k s stands packet follows_nothing k' agrees_now unmoved (Proposes r.slot (offered new) ∷ []) (due_once completes) (member, asked) refl;
+            run = (
+              record { least = works.least; most = works.most; up = works.up; needs = may_propose completes },
+              (record { least = works.least; most = works.most; up = works.up; needs = tt }, tt),
+            );
+            exact = received_exact setup k s stands packet follows_nothing k' agrees_now unmoved (Proposes r.slot (offered new) ∷ []) (due_once completes)
+                (member, asked) refl;
           };
-          stands = record { agrees = agrees; quiet = quiet_of setup k' (proposed setup t r.slot (offered new)) agrees (calm_then setup k s stands packet follows_nothing k' agrees_now unmoved) };
+          stands = record {
+            agrees = agrees;
+            quiet = quiet_of setup k' (proposed setup t r.slot (offered new)) agrees
+                (calm_then setup k s stands packet follows_nothing k' agrees_now unmoved);
+          };
           outputs = refl;
         }
 
@@ -470,7 +497,8 @@ module _ (setup : Setup) (k : Kept) (s : Node) (stands : Stands setup k s) (send
   by_round works member (Some r) is = by_test (runs_at (Some r) slot ballot) refl
     where
       by_test : (runs : Bool) → runs_at (Some r) slot ballot ≡ runs →
-          StepsAs setup s (Delivery packet) (if runs then sends (with_message k slot.id (record m { round = Some (promised_by r sender report) })) (proposals setup r sender report) [] [] else leaves k)
+          StepsAs setup s (Delivery packet) (if runs then sends (with_message k slot.id (record m { round = Some (promised_by r sender report) }))
+          (proposals setup r sender report) [] [] else leaves k)
       by_test true runs =
           let parts = and_parts (same_slot r.slot slot) (r.ballot == ballot) runs in
           running_steps r is (slots_same r.slot slot parts.0) (eqb-true r.ballot ballot parts.1) works member (completes setup.nodes r sender) refl
@@ -478,7 +506,8 @@ module _ (setup : Setup) (k : Kept) (s : Node) (stands : Stands setup k s) (send
           let one = one_round setup.node s.actor r.slot slot r.ballot ballot is.about
           (record { newer = is.running.round.newer; older = is.running.round.older; split = is.running.round.split; newest = is.running.round.newest })
           (record { newer = running.round.newer; older = running.round.older; split = running.round.split; newest = running.round.newest }) in
-          true≢false (sym (and_from (same_slot r.slot slot) (r.ballot == ballot) (slots_tested r.slot slot one.0) ((Decides-eqb r.ballot ballot).1 one.1)) ∙ differs)) works member
+          true≢false (sym (and_from (same_slot r.slot slot) (r.ballot == ballot) (slots_tested r.slot slot one.0) ((Decides-eqb r.ballot ballot).1 one.1))
+          ∙ differs)) works member
 
   pub promise_steps : IsAtWork setup s → StepsAs setup s (Delivery packet) (stepped setup k (Delivery packet))
   promise_steps works = subst (StepsAs setup s (Delivery packet)) (sym (stepped_is setup k s packet stands works)) (by_member (is_member setup sender) refl)

@@ -1,5 +1,6 @@
 -- The step of a node to which a refusal comes.
-use Rattle.std.proofs.Common.{List, ◌≡◌, ℕ, ◌<◌, ◌≤◌, max, Bool, true, false, get_or, set, Option, Some, None, refl, sym, ap, subst, subst₂, ◌∙◌, inl, inr, arith}
+use Rattle.std.proofs.Common.{List, ◌≡◌, ℕ, ◌<◌, ◌≤◌, max, Bool, true, false, get_or, set, Option, Some, None, refl, sym, ap, subst, subst₂, ◌∙◌, inl, inr}
+use Rattle.std.proofs.Common.{arith}
 use Rattle.std.specs.Prelude.{◌==◌, ◌&&◌, nat_lt, if◌then◌else◌}
 use Rattle.std.specs.Bool.{Decides}
 use Rattle.std.proofs.lemmas.Bool.{and_from, and_parts, cases_lt, eqb-false, eqb-true, true≢false}
@@ -31,7 +32,8 @@ use Rattle.node_laws.specs.Steps.{IsAtWork, StepsAs}
 use Rattle.node_laws.proofs.AcceptorSteps.{member_is, member_test, stepped_is}
 use Rattle.node_laws.proofs.AsideSteps.{TellsNobody, ignored}
 use Rattle.node_laws.proofs.Agreeing.{agrees_heard, agrees_with}
-use Rattle.node_laws.proofs.Hearing.{PromisesNone, RefusesNone, highest_heard, message_heard, one_round, received, round_heard, round_sent, running_before, seen_heard}
+use Rattle.node_laws.proofs.Hearing.{PromisesNone, RefusesNone, highest_heard, message_heard, one_round, received, round_heard, round_sent, running_before}
+use Rattle.node_laws.proofs.Hearing.{seen_heard}
 use Rattle.node_laws.proofs.Learning.{heard_still}
 use Rattle.node_laws.proofs.Messages.{each_with}
 use Rattle.node_laws.proofs.Plain.{plain_steps}
@@ -203,11 +205,13 @@ module _ (setup : Setup) (k : Kept) (s : Node) (stands : Stands setup k s) (send
     )
       where
         same_itself : (a b : Slot) → a ≡ b → same_slot a b ≡ true
-        same_itself a b same = and_from (a.id == b.id) (a.place == b.place) ((Decides-eqb a.id b.id).1 (ap (λ (x : Slot). x.id) same)) ((Decides-eqb a.place b.place).1 (ap (λ (x : Slot). x.place) same))
+        same_itself a b same = and_from (a.id == b.id) (a.place == b.place) ((Decides-eqb a.id b.id).1 (ap (λ (x : Slot). x.id) same))
+            ((Decides-eqb a.place b.place).1 (ap (λ (x : Slot). x.place) same))
 
     round_then : (round : Option Round) → IsKeptRound setup.nodes setup.node s slot.id round →
         IsKeptRound setup.nodes setup.node t slot.id (if runs_at round slot ballot && nat_lt ballot promised then None else round)
-    round_then None none = λ other above about runs. none other above about (running_before setup s packet slot.id m.known old.heard.known (heard_then slot.id).known other above about runs)
+    round_then None none = λ other above about runs. none other above about
+        (running_before setup s packet slot.id m.known old.heard.known (heard_then slot.id).known other above about runs)
     round_then (Some r) is = by_test (runs_at (Some r) slot ballot && nat_lt ballot promised) refl
       where
         by_test : (test : Bool) → runs_at (Some r) slot ballot && nat_lt ballot promised ≡ test →
@@ -232,14 +236,19 @@ module _ (setup : Setup) (k : Kept) (s : Node) (stands : Stands setup k s) (send
     own_steps works member =
         plain_steps setup k s stands packet follows_nothing (with_message k slot.id (refused m slot ballot promised))
         (agrees_with setup k s stands.agrees packet tells_nobody tt slot.id (refused m slot ballot promised) message_then other_message)
-        (record { held = refl; known = each_with (λ id it. it.known ≡ (message_at k id).known) k slot.id (refused m slot ballot promised) refl (λ id apart. refl) })
+        (record {
+          held = refl;
+          known = each_with (λ id it. it.known ≡ (message_at k id).known) k slot.id (refused m slot ballot promised) refl
+              (λ id apart. refl);
+        })
         works member refl proposes_none
 
   -- ---- at another ballot
 
   module _ (strange : OwnBallot setup.node s.actor ballot → ⊥) where
     round_stays : (round : Option Round) → IsKeptRound setup.nodes setup.node s slot.id round → IsKeptRound setup.nodes setup.node t slot.id round
-    round_stays None none = λ other above about runs. none other above about (running_before setup s packet slot.id m.known old.heard.known (heard_then slot.id).known other above about runs)
+    round_stays None none = λ other above about runs. none other above about
+        (running_before setup s packet slot.id m.known old.heard.known (heard_then slot.id).known other above about runs)
     round_stays (Some r) is = still_runs r is (λ all. strange (subst (OwnBallot setup.node s.actor) all.1.0 (own_round r is)))
 
     message_stays : (id : ℕ) → IsMessage setup t id (message_at k id)

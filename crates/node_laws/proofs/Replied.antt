@@ -1,5 +1,6 @@
 -- Each request that has an answer is answered, by ascending tickets, and waits no more.
-use Rattle.std.proofs.Common.{◌≡◌, ◌⊎◌, ℕ, pred, ◌<◌, Bool, true, false, cond, List, [], ◌∷◌, ◌++◌, length, map, Option, Some, None, refl, sym, ap, subst, subst₂, ◌∙◌, append-nil, inl, inr, arith}
+use Rattle.std.proofs.Common.{◌≡◌, ◌⊎◌, ℕ, pred, ◌<◌, Bool, true, false, cond, List, [], ◌∷◌, ◌++◌, length, map, Option, Some, None, refl, sym, ap, subst}
+use Rattle.std.proofs.Common.{subst₂, ◌∙◌, append-nil, inl, inr, arith}
 use Rattle.std.specs.Prelude.{◌==◌, filter, if◌then◌else◌, not, reverse}
 use Rattle.std.specs.Option.{is_none}
 use Rattle.std.proofs.lemmas.Bool.{eqb-false, eqb-true}
@@ -65,7 +66,13 @@ module _ (answer : Held → Option Answer) where
   replied_in : (held : List Held) (act : Act) → In act (reply_acts held) → IsReplied held act
   replied_in [] act none = absurd none
   replied_in (h ∷ others) act is_in = elim (in_either act (reply_acts others) (reply_with h (answer h)) is_in) [
-    | inl later ↦ let it = replied_in others act later in record { request = it.request; with = it.with; among = inr it.among; answers = it.answers; is = it.is }
+    | inl later ↦ let it = replied_in others act later in record {
+      request = it.request;
+      with = it.with;
+      among = inr it.among;
+      answers = it.answers;
+      is = it.is;
+    }
     | inr now ↦ first (answer h) refl now
   ]
     where
@@ -158,7 +165,8 @@ module _ (answer : Held → Option Answer) where
       filter (other_than ticket) (map (λ h. h.waiting) held) ≡ map (λ h. h.waiting) held
   none_gone ticket [] below = refl
   none_gone ticket (h ∷ others) below =
-      ap (λ (b : Bool). cond b (h.waiting ∷ filter (other_than ticket) (map (λ it. it.waiting) others)) (filter (other_than ticket) (map (λ it. it.waiting) others)))
+      ap (λ (b : Bool). cond b (h.waiting ∷ filter (other_than ticket) (map (λ it. it.waiting) others))
+      (filter (other_than ticket) (map (λ it. it.waiting) others)))
       (is_other h.waiting ticket (λ same. let less = below h (inl refl) in absurd (omega arith)))
       ∙ ap (λ (ws : List Waiting). h.waiting ∷ ws) (none_gone ticket others (λ it among. below it (inr among)))
 
@@ -173,7 +181,8 @@ module _ (answer : Held → Option Answer) where
           without_first h.waiting others (map (λ it. it.waiting) others) ascends.0
           ∙ ap (λ (ws : List Waiting). h.waiting ∷ ws) rest
       by_answer (Some it) rest =
-          ap (λ (b : Bool). without others (cond b (h.waiting ∷ filter (other_than (ticket_of h)) (map (λ x. x.waiting) others)) (filter (other_than (ticket_of h)) (map (λ x. x.waiting) others))))
+          ap (λ (b : Bool). without others (cond b (h.waiting ∷ filter (other_than (ticket_of h)) (map (λ x. x.waiting) others))
+          (filter (other_than (ticket_of h)) (map (λ x. x.waiting) others))))
           (is_own h.waiting (ticket_of h) refl)
           ∙ ap (without others) (none_gone (ticket_of h) others ascends.0)
           ∙ rest
@@ -212,15 +221,27 @@ module _ (answer : Held → Option Answer) where
       one (Some it) = refl
 
   pub reached_replies : (node : ℕ) (s : Node) (held : List Held) →
-      reached_alone node s (reply_acts held) ≡ record { actor = record s.actor { waiting = without held s.actor.waiting }; records = s.records; began = s.began }
+      reached_alone node s (reply_acts held) ≡ record {
+        actor = record s.actor { waiting = without held s.actor.waiting };
+        records = s.records;
+        began = s.began;
+      }
   reached_replies node s [] = refl
   reached_replies node s (h ∷ others) =
       reached_more node s (reply_acts others) (reply_with h (answer h))
       ∙ ap (λ (x : Node). reached_alone node x (reply_acts others)) (one (answer h))
-      ∙ reached_replies node (record { actor = record s.actor { waiting = without_one (ticket_of h) (answer h) s.actor.waiting }; records = s.records; began = s.began }) others
+      ∙ reached_replies node (record {
+        actor = record s.actor { waiting = without_one (ticket_of h) (answer h) s.actor.waiting };
+        records = s.records;
+        began = s.began;
+      }) others
     where
       one : (x : Option Answer) →
-          reached_alone node s (reply_with h x) ≡ record { actor = record s.actor { waiting = without_one (ticket_of h) x s.actor.waiting }; records = s.records; began = s.began }
+          reached_alone node s (reply_with h x) ≡ record {
+            actor = record s.actor { waiting = without_one (ticket_of h) x s.actor.waiting };
+            records = s.records;
+            began = s.began;
+          }
       one None = refl
       one (Some it) = refl
 
@@ -243,7 +264,8 @@ module _ (answer : Held → Option Answer) where
 
       by_answer : (x : Option Answer) → answer h ≡ x → Rest → IsRunAlone setup.nodes setup.node s (reply_acts others ++ reply_with h x)
       by_answer None is rest =
-          run_more setup.nodes setup.node s (reply_acts others) [] (rest s works (λ it among. waits it (inr among)) (λ it with among. fits it with (inr among))) tt
+          run_more setup.nodes setup.node s (reply_acts others) [] (rest s works (λ it among. waits it (inr among))
+          (λ it with among. fits it with (inr among))) tt
       by_answer (Some it) is rest =
           run_more setup.nodes setup.node s (reply_acts others) (Replies (ticket_of h) (id_of h) it ∷ [])
           (rest (after_alone setup.node s (Replies (ticket_of h) (id_of h) it)) (record { least = works.least; most = works.most; up = works.up })
@@ -292,7 +314,8 @@ cancel_open id taken newest older reached settled (Query other account source) i
 cancel_open id taken newest older reached settled (Cancel other account source destination) is taking cancels idle =
     ap (λ (b : Bool). if b then cancel_decided account source destination (newest ∷ older) (taken_in (newest ∷ older)) else None) is
     ∙ ap (cancel_decided account source destination (newest ∷ older)) taking
-    ∙ ap (λ (b : Bool). if b then cancel_answer newest.kind (newest ∷ older) else Some (NotMatched (newest ∷ older))) ((match_decides taken account source destination).1 cancels.1)
+    ∙ ap (λ (b : Bool). if b then cancel_answer newest.kind (newest ∷ older) else Some (NotMatched (newest ∷ older)))
+    ((match_decides taken account source destination).1 cancels.1)
     ∙ idle_answer newest.kind (newest ∷ older) idle
 
 pub cancels_of : (request : Request) (id : ℕ) (taken : Submission) → Cancels request id taken → id_in request ≡ id
@@ -330,7 +353,8 @@ module _ (setup : Setup) (k : Kept) (s : Node) (agrees : Agrees setup k s) (work
   due_all : (act : Act) → Due act → In act acts
   due_all (Replies ticket id with) due =
       let it = answered_in setup k s agrees ticket id with due in
-      subst₂ (λ (n i : ℕ). In (Replies n i with) acts) it.ticket_is it.about (in_replied answer k.held it.request with it.among (is it.request it.among ∙ it.answers))
+      subst₂ (λ (n i : ℕ). In (Replies n i with) acts) it.ticket_is it.about
+      (in_replied answer k.held it.request with it.among (is it.request it.among ∙ it.answers))
   due_all act due = absurd due
 
   pub replies_due : AreDue Due acts
@@ -374,7 +398,8 @@ module _ (setup : Setup) (k : Kept) (s : Node) (agrees : Agrees setup k s) (work
       (h : Held) (message : Submission) → In h k.held → h.waiting.request ≡ Submit id message → answer h ≡ None
   submit_waits id r only running chain_is slot_is h message among submits =
       let about : id_of h ≡ id = ap id_in submits in
-      let none : known_for k h ≡ None = ap (λ (i : ℕ). (message_at k i).known) about ∙ none_known id r only running chain_is slot_is (message_at k id).known (agrees.message id).heard.known in
+      let none : known_for k h ≡ None = ap (λ (i : ℕ). (message_at k i).known) about
+      ∙ none_known id r only running chain_is slot_is (message_at k id).known (agrees.message id).heard.known in
       is h among
       ∙ ap (λ (known : Option (List Decree)). answer_to setup.nodes known h) none
       ∙ ap (answer_by None (is_settled setup.nodes None h) h.waiting.settled) submits
@@ -385,7 +410,8 @@ module _ (setup : Setup) (k : Kept) (s : Node) (agrees : Agrees setup k s) (work
   cancel_waits id newest older taken knows h among settled taking cancels idle =
       let about : id_of h ≡ id = cancels_of h.waiting.request id taken cancels in
       let some : known_for k h ≡ Some (newest ∷ older) =
-      ap (λ (i : ℕ). (message_at k i).known) about ∙ known_is setup.nodes id s.actor.received (message_at k id).known (newest ∷ older) (agrees.message id).heard.known knows in
+      ap (λ (i : ℕ). (message_at k i).known) about ∙ known_is setup.nodes id s.actor.received (message_at k id).known (newest ∷ older)
+      (agrees.message id).heard.known knows in
       is h among
       ∙ ap (λ (known : Option (List Decree)). answer_to setup.nodes known h) some
       ∙ cancel_open id taken newest older (is_settled setup.nodes (Some (newest ∷ older)) h) h.waiting.settled h.waiting.request settled taking cancels idle
@@ -403,7 +429,8 @@ module _ (setup : Setup) (k : Kept) (s : Node) (agrees : Agrees setup k s) (work
         subst (λ (x : Waiting). In x (map (λ it. it.waiting) left)) kept.same
         (unanswered_in kept.request kept.among
         (submit_waits id r only running chain_is slot_is kept.request message kept.among (ap (λ (x : Waiting). x.request) kept.same ∙ submits)));
-    cancelled = λ w next newest older taken also waits settled taking cancels idle. let none : only ∷ [] ≡ next ∷ newest ∷ older = sym chain_is ∙ also in absurd (cc);
+    cancelled = λ w next newest older taken also waits settled taking cancels idle. let none : only ∷ [] ≡ next ∷ newest ∷ older = sym chain_is ∙ also in
+        absurd (cc);
   })
   keeps_ground id r running slot_is (next ∷ newest ∷ older) chain_is (inl stood) = inl stood
   keeps_ground id r running slot_is (next ∷ newest ∷ older) chain_is (inr knows) = inr (record {

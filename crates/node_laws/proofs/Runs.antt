@@ -37,7 +37,8 @@ pub packets_more : (node : ℕ) (a : Actor) (records : Records) (newer older : L
 packets_more node a records [] older = refl
 packets_more node a records (act ∷ newer) older =
     (λ i. packets_by node (did_more node a newer older i) (saved_more records newer older i) act ++ packets_more node a records newer older i)
-    ∙ sym (append_assoc (packets_by node (did node (did node a older) newer) (saved (saved records older) newer) act) (packets_in node (did node a older) (saved records older) newer) (packets_in node a records older))
+    ∙ sym (append_assoc (packets_by node (did node (did node a older) newer) (saved (saved records older) newer) act)
+    (packets_in node (did node a older) (saved records older) newer) (packets_in node a records older))
 
 reply_first : (act : Act) (older : List Act) → replies_in (act ∷ older) ≡ replies_in (act ∷ []) ++ replies_in older
 reply_first (Replies ticket id answer) older = refl

@@ -70,14 +70,16 @@ settle_none : (ticket : ℕ) (held : List Held) → ((h : Held) → In h held �
     map (settle ticket) (map (λ h. h.waiting) held) ≡ map (λ h. h.waiting) held
 settle_none ticket [] below = refl
 settle_none ticket (h ∷ held) below =
-    (λ i. settle_other ticket h.waiting (λ same. let less = below h (inl refl) in absurd (omega arith)) i ∷ settle_none ticket held (λ it among. below it (inr among)) i)
+    (λ i. settle_other ticket h.waiting (λ same. let less = below h (inl refl) in absurd (omega arith)) i ∷ settle_none ticket held
+    (λ it among. below it (inr among)) i)
 
 -- one that stands before all that are settled stays
 settled_first : (w : Waiting) (held : List Held) (waiting : List Waiting) → ((h : Held) → In h held → w.ticket < ticket_of h) →
     settled_waiting held (w ∷ waiting) ≡ w ∷ settled_waiting held waiting
 settled_first w [] waiting below = refl
 settled_first w (h ∷ held) waiting below =
-    ap (λ (x : Waiting). settled_waiting held (x ∷ map (settle (ticket_of h)) waiting)) (settle_other (ticket_of h) w (λ same. let less = below h (inl refl) in absurd (omega arith)))
+    ap (λ (x : Waiting). settled_waiting held (x ∷ map (settle (ticket_of h)) waiting))
+    (settle_other (ticket_of h) w (λ same. let less = below h (inl refl) in absurd (omega arith)))
     ∙ settled_first w held (map (settle (ticket_of h)) waiting) (λ it among. below it (inr among))
 
 abbrev as_settled : Bool → Held → Held
@@ -91,10 +93,12 @@ module _ (test : Held → Bool) where
     where
       by_test : (b : Bool) →
           settled_waiting (filter test held) (map (λ it. it.waiting) held) ≡ map (λ it. it.waiting) (map (λ it. as_settled (test it) it) held) →
-          settled_waiting (cond b (h ∷ filter test held) (filter test held)) (h.waiting ∷ map (λ it. it.waiting) held) ≡ (as_settled b h).waiting ∷ map (λ it. it.waiting) (map (λ it. as_settled (test it) it) held)
+          settled_waiting (cond b (h ∷ filter test held) (filter test held)) (h.waiting ∷ map (λ it. it.waiting) held) ≡ (as_settled b h).waiting ∷ map
+          (λ it. it.waiting) (map (λ it. as_settled (test it) it) held)
       by_test true rest =
           (λ i. settled_waiting (filter test held) (settle_own h.waiting i ∷ settle_none (ticket_of h) held ascends.0 i))
-          ∙ settled_first (record h.waiting { settled = true }) (filter test held) (map (λ it. it.waiting) held) (λ it among. ascends.0 it (in_filter test held it among))
+          ∙ settled_first (record h.waiting { settled = true }) (filter test held) (map (λ it. it.waiting) held)
+          (λ it among. ascends.0 it (in_filter test held it among))
           ∙ ap (λ (ws : List Waiting). record h.waiting { settled = true } ∷ ws) rest
       by_test false rest =
           settled_first h.waiting (filter test held) (map (λ it. it.waiting) held) (λ it among. ascends.0 it (in_filter test held it among))
@@ -135,7 +139,11 @@ reached_settles node s (h ∷ held) =
     ap (reached_alone node s) (settle_first h held)
     ∙ reached_more node s (settle_acts held) (settle_act h ∷ [])
     ∙ reached_settles node (after_alone node s (settle_act h)) held
-    ∙ sym (λ i. record { actor = (ap (did node s.actor) (settle_first h held) ∙ did_more node s.actor (settle_acts held) (settle_act h ∷ [])) i; records = s.records; began = s.began })
+    ∙ sym (λ i. record {
+      actor = (ap (did node s.actor) (settle_first h held) ∙ did_more node s.actor (settle_acts held) (settle_act h ∷ [])) i;
+      records = s.records;
+      began = s.began;
+    })
 
 -- ---- by what is kept
 
@@ -168,13 +176,15 @@ module _ (setup : Setup) (k : Kept) (s : Node) (agrees : Agrees setup k s) (work
   due_all (Settles ticket) due =
       let it = settled_in setup k s agrees ticket due in
       subst (λ (n : ℕ). In (Settles n) settled_acts) it.ticket_is
-      (reverse_in (settle_act it.request) (map settle_act (filter test k.held)) (mapped_in settle_act (filter test k.held) it.request (filter_in test k.held it.request it.among it.settled)))
+      (reverse_in (settle_act it.request) (map settle_act (filter test k.held))
+      (mapped_in settle_act (filter test k.held) it.request (filter_in test k.held it.request it.among it.settled)))
   due_all act due = absurd due
 
   pub settles_due : AreDue Due settled_acts
   settles_due = record {
     each = λ act. (
-      λ is_in. let it = in_mapped settle_act (filter test k.held) act (in_reverse act (map settle_act (filter test k.held)) is_in) in subst Due (sym it.is) (due_of it.from it.among),
+      λ is_in. let it = in_mapped settle_act (filter test k.held) act (in_reverse act (map settle_act (filter test k.held)) is_in) in
+          subst Due (sym it.is) (due_of it.from it.among),
       due_all act,
     );
     order = acts_fall settle_act (λ h. refl) (filter test k.held) (ascend_filter test k.held ascends);
@@ -248,7 +258,8 @@ module _ (setup : Setup) (k : Kept) (s : Node) (agrees : Agrees setup k s) (work
       (λ h among.
       let it = in_mapped (λ x. as_settled (test x) x) k.held h among in
       subst (λ (x : Held). IsHeld s.actor.received (name_of setup.node s.actor x.waiting) x) (sym it.is)
-      (subst (λ (n : ℕ). IsHeld s.actor.received (record { node = setup.node; incarnation = s.actor.incarnation; ticket = n }) (as_settled (test it.from) it.from)) (sym (same_ticket (test it.from) it.from))
+      (subst (λ (n : ℕ). IsHeld s.actor.received (record { node = setup.node; incarnation = s.actor.incarnation; ticket = n })
+      (as_settled (test it.from) it.from)) (sym (same_ticket (test it.from) it.from))
       (held_settled s.actor.received (name_of setup.node s.actor it.from.waiting) (test it.from) it.from (agrees.told it.from it.among))))
       (subst IsStrictlyIncreasing (sym (same_tickets k.held)) agrees.tickets)
       (λ h among.
@@ -268,7 +279,8 @@ settles_packets node a records (h ∷ held) =
 
 pub settles_records : (records : Records) (held : List Held) → saved records (settle_acts held) ≡ records
 settles_records records [] = refl
-settles_records records (h ∷ held) = ap (saved records) (settle_first h held) ∙ saved_more records (settle_acts held) (settle_act h ∷ []) ∙ settles_records records held
+settles_records records (h ∷ held) = ap (saved records) (settle_first h held) ∙ saved_more records (settle_acts held) (settle_act h ∷ [])
+    ∙ settles_records records held
 
 pub settles_replies : (held : List Held) → replies_in (settle_acts held) ≡ []
 settles_replies [] = refl

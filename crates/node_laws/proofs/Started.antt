@@ -1,5 +1,6 @@
 -- A round starts for a chain exactly if one is due, no round of the message runs and there is a round left.
-use Rattle.std.proofs.Common.{◌≡◌, ◌⊎◌, ℕ, suc, ◌<◌, ◌≤◌, Bool, true, false, List, [], ◌∷◌, get_or, Option, Some, None, refl, sym, ap, subst, ◌∙◌, inl, inr, arith}
+use Rattle.std.proofs.Common.{◌≡◌, ◌⊎◌, ℕ, suc, ◌<◌, ◌≤◌, Bool, true, false, List, [], ◌∷◌, get_or, Option, Some, None, refl, sym, ap, subst, ◌∙◌, inl, inr}
+use Rattle.std.proofs.Common.{arith}
 use Rattle.std.specs.Prelude.{◌&&◌, is_some, not, nat_lt, if◌then◌else◌, reverse}
 use Rattle.std.proofs.lemmas.Bool.{and_parts, cases_lt, true≢false}
 use Rattle.std.proofs.lemmas.Bool.Decides.{nat_tests}
@@ -37,7 +38,8 @@ pub record IsDueStart (setup : Setup) (s : Node) (id : ℕ) (Due : ℕ → List 
   pub only : (place : ℕ) (chain : List Decree) → Due place chain → place ≡ start.place
   pub within : start.place < most_places
   pub ahead : IsAhead setup.nodes s.actor id start.place
-  pub free : StandsAt s (slot_at id start.place) start.chain ⊎ ((slot_at id start.place ≡ slot_of id start.chain) × IsOwn (IsLearned setup.nodes s.actor.received) setup.node s.actor id start.chain)
+  pub free : StandsAt s (slot_at id start.place) start.chain ⊎ ((slot_at id start.place ≡ slot_of id start.chain) × IsOwn
+      (IsLearned setup.nodes s.actor.received) setup.node s.actor id start.chain)
   pub behind : IsBehind setup.nodes s.actor.received id (StandsAt s (slot_at id start.place) start.chain) start.chain
 
 abbrev pub IsStartOf : Setup → Node → ℕ → (ℕ → List Decree → Type 0) → Option Start → Type 0
@@ -122,7 +124,8 @@ module _ (setup : Setup) (k : Kept) (s : Node) (agrees : Agrees setup k s) (slot
 
 -- ---- it starts, or not
 
-module _ (setup : Setup) (k : Kept) (s : Node) (agrees : Agrees setup k s) (mine : IsNode setup.node) (works : IsAtWork setup s) (id : ℕ) (Due : ℕ → List Decree → Type 0) where
+module _ (setup : Setup) (k : Kept) (s : Node) (agrees : Agrees setup k s) (mine : IsNode setup.node) (works : IsAtWork setup s) (id : ℕ)
+    (Due : ℕ → List Decree → Type 0) where
   stays : ((act : Act) → IsToPrepare setup s id Due act → ⊥) → StartsAs setup k s id Due (record { kept = k; packets = [] })
   stays none = record {
     acts = [];
@@ -239,6 +242,7 @@ module _ (setup : Setup) (k : Kept) (s : Node) (agrees : Agrees setup k s) (mine
   started_as (Some start) is = by_free (is_free k (slot_at id start.place)) refl
     where
       by_free : (free : Bool) → is_free k (slot_at id start.place) ≡ free →
-          StartsAs setup k s id Due (if free then prepared_at setup k (slot_at id start.place) (suc (highest_round k.records (message_at k id) (slot_at id start.place))) start.chain else record { kept = k; packets = [] })
+          StartsAs setup k s id Due (if free then prepared_at setup k (slot_at id start.place)
+          (suc (highest_round k.records (message_at k id) (slot_at id start.place))) start.chain else record { kept = k; packets = [] })
       by_free true free = prepares start is free
       by_free false gone = stays (not_free_then start is gone)

@@ -1,5 +1,6 @@
 -- What a round that starts leaves: a Prepare at the next ballot, and what is kept of its message.
-use Rattle.std.proofs.Common.{◌≡◌, ◌⊎◌, ℕ, suc, ◌-◌, ◌<◌, ◌≤◌, Bool, true, false, List, [], ◌∷◌, ◌++◌, length, get_or, set, take, Option, Some, None, refl, sym, ap, subst, ◌∙◌, inl, inr, arith}
+use Rattle.std.proofs.Common.{◌≡◌, ◌⊎◌, ℕ, suc, ◌-◌, ◌<◌, ◌≤◌, Bool, true, false, List, [], ◌∷◌, ◌++◌, length, get_or, set, take, Option, Some, None, refl}
+use Rattle.std.proofs.Common.{sym, ap, subst, ◌∙◌, inl, inr, arith}
 use Rattle.std.specs.Prelude.{◌==◌}
 use Rattle.std.proofs.lemmas.Bool.{eqb-false, eqb-true, true≢false}
 use Rattle.std.proofs.lemmas.List.{get_or-set_other, get_or-set_same, length-set}
@@ -237,7 +238,8 @@ module _ (setup : Setup) (s : Node) (slot : Slot) (ballot : ℕ) (chain : List D
             let same : at ≡ ballot = cc in
             let rounds : round ≡ number = names ∙ ap round_in same ∙ names_number in
             omega arith
-        most_sent round at (inr before) names = let most = (is.seen slot.place within).most round (inr (record { ballot = at; sent = before; names = names })) in omega arith
+        most_sent round at (inr before) names = let most = (is.seen slot.place within).most round
+            (inr (record { ballot = at; sent = before; names = names })) in omega arith
 
     seen_here : (place : ℕ) → place < most_places →
         IsHighestSeen setup.node prepared.actor (slot_at slot.id place) (get_or (set m.seen slot.place number) place 0)

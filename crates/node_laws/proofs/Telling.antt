@@ -1,5 +1,6 @@
 -- The step of a node to which a Tell comes.
-use Rattle.std.proofs.Common.{◌≡◌, ◌↔◌, ◌⊎◌, ℕ, pred, ◌<◌, Bool, true, false, cond, List, [], ◌∷◌, length, map, Option, Some, None, refl, sym, ap, subst, ◌∙◌, inl, inr, arith}
+use Rattle.std.proofs.Common.{◌≡◌, ◌↔◌, ◌⊎◌, ℕ, pred, ◌<◌, Bool, true, false, cond, List, [], ◌∷◌, length, map, Option, Some, None, refl, sym, ap, subst, ◌∙◌}
+use Rattle.std.proofs.Common.{inl, inr, arith}
 use Rattle.std.specs.Prelude.{◌==◌, ◌&&◌, filter, if◌then◌else◌, nat_lt, not}
 use Rattle.std.specs.Bool.{Decides}
 use Rattle.std.specs.Option.{is_none}
@@ -208,7 +209,8 @@ module _ (setup : Setup) (k : Kept) (s : Node) (stands : Stands setup k s) (tell
     held_2 = all_settled setup.nodes k1
 
     settled_same : (g : Held) → In g k.held →
-        settled_by setup.nodes (known_for k1 (if ticket_of g == ticket_of new0 then new0 else g)) (if ticket_of g == ticket_of new0 then new0 else g) ≡ (if ticket_of g == ticket_of new then new else g)
+        settled_by setup.nodes (known_for k1 (if ticket_of g == ticket_of new0 then new0 else g)) (if ticket_of g == ticket_of new0 then new0 else g) ≡
+        (if ticket_of g == ticket_of new then new else g)
     settled_same g among =
         by_ticket (ticket_of g == ticket_of new0)
         ∙ ap (λ (n : ℕ). if ticket_of g == n then new else g) (sym ticket_new)
@@ -251,7 +253,8 @@ module _ (setup : Setup) (k : Kept) (s : Node) (stands : Stands setup k s) (tell
         elim (in_held kept.request kept.among) [
           | inl same ↦ inl (sym kept.same ∙ ap (λ (g : Held). g.waiting) same)
           | inr other ↦ inr (
-            subst (λ (x : Waiting). In x s.actor.waiting) kept.same (subst (λ (ws : List Waiting). In kept.request.waiting ws) stands.agrees.waiting (waits_among k.held kept.request other.0)),
+            subst (λ (x : Waiting). In x s.actor.waiting) kept.same (subst (λ (ws : List Waiting). In kept.request.waiting ws) stands.agrees.waiting
+                (waits_among k.held kept.request other.0)),
             λ same. other.1 (ap (λ (x : Waiting). x.ticket) kept.same ∙ same),
           )
         ]
@@ -260,11 +263,15 @@ module _ (setup : Setup) (k : Kept) (s : Node) (stands : Stands setup k s) (tell
     h_waits = subst (λ (ws : List Waiting). In h.waiting ws) stands.agrees.waiting (waits_among k.held h found.among)
 
     new_told : IsHeld t.actor.received name new
-    new_told = subst (λ (n : Name). IsHeld t.actor.received n new) (ap (λ (n : ℕ). record { node = setup.node; incarnation = s.actor.incarnation; ticket = n }) ticket_new ∙ name_is) (agrees_2.told new new_among)
+    new_told =
+        subst (λ (n : Name). IsHeld t.actor.received n new)
+        (ap (λ (n : ℕ). record { node = setup.node; incarnation = s.actor.incarnation; ticket = n }) ticket_new ∙ name_is)
+        (agrees_2.told new new_among)
 
     knew : (other : ℕ) (chain : List Decree) → Knows setup.nodes t.actor.received other chain → Knows setup.nodes s.actor.received other chain
     knew other chain knows =
-        let is : (message_at k other).known ≡ Some chain = known_is setup.nodes other t.actor.received (message_at k other).known chain (agrees.message other).heard.known knows in
+        let is : (message_at k other).known ≡ Some chain = known_is setup.nodes other t.actor.received (message_at k other).known chain
+        (agrees.message other).heard.known knows in
         subst (IsKnown setup.nodes s.actor.received other) is (stands.agrees.message other).heard.known
 
     known_now : IsKnown setup.nodes t.actor.received N known
@@ -302,7 +309,8 @@ module _ (setup : Setup) (k : Kept) (s : Node) (stands : Stands setup k s) (tell
         let c = it.deletes.cancelled in
         elim (waited c.waiting c.waits) [
           | inl same ↦ same
-          | inr before ↦ absurd (it.new (record { waiting = c.waiting; waits = before.0; ticket_is = refl; settled = c.settled }) (knew other _ it.deletes.further.known))
+          | inr before ↦ absurd (it.new (record { waiting = c.waiting; waits = before.0; ticket_is = refl; settled = c.settled })
+              (knew other _ it.deletes.further.known))
         ]
 
     deletes_this : (other place : ℕ) (chain : List Decree) → Deletes other place chain → other ≡ N
@@ -365,7 +373,15 @@ module _ (setup : Setup) (k : Kept) (s : Node) (stands : Stands setup k s) (tell
           let g = it.deletes.further in
           let c = it.deletes.cancelled in
           record {
-            further = record { newest = g.newest; older = g.older; taken = g.taken; known = g.known; behind = g.behind; message = g.message; chain_is = g.chain_is };
+            further = record {
+              newest = g.newest;
+              older = g.older;
+              taken = g.taken;
+              known = g.known;
+              behind = g.behind;
+              message = g.message;
+              chain_is = g.chain_is;
+            };
             idle = it.deletes.idle;
             cancelled = record { waiting = c.waiting; waits = inl (deletes_by N place chain it); settled = c.settled; cancels = c.cancels };
           }
@@ -376,16 +392,30 @@ module _ (setup : Setup) (k : Kept) (s : Node) (stands : Stands setup k s) (tell
           let g = fits.further in
           let c = fits.cancelled in
           record {
-            further = record { newest = g.newest; older = g.older; taken = g.taken; known = g.known; behind = g.behind; message = g.message; chain_is = g.chain_is };
+            further = record {
+              newest = g.newest;
+              older = g.older;
+              taken = g.taken;
+              known = g.known;
+              behind = g.behind;
+              message = g.message;
+              chain_is = g.chain_is;
+            };
             idle = fits.idle;
-            cancelled = record { waiting = c.waiting; waits = of_only (λ w. In w s_2.actor.waiting) new.waiting c.waiting new_waits c.waits; settled = c.settled; cancels = c.cancels };
+            cancelled = record {
+              waiting = c.waiting;
+              waits = of_only (λ w. In w s_2.actor.waiting) new.waiting c.waiting new_waits c.waits;
+              settled = c.settled;
+              cancels = c.cancels;
+            };
           }
 
       deletes_now : (place : ℕ) (chain : List Decree) → FitsDelete setup.nodes setup.node alone N place chain → Deletes N place chain
       deletes_now place chain fits = record {
         deletes = fits_among place chain fits;
         new = λ was knows.
-            let at : fits.cancelled.waiting.ticket ≡ ticket_of h = of_only (λ w. w.ticket ≡ ticket_of h) new.waiting fits.cancelled.waiting ticket_new fits.cancelled.waits in
+            let at : fits.cancelled.waiting.ticket ≡ ticket_of h = of_only
+            (λ w. w.ticket ≡ ticket_of h) new.waiting fits.cancelled.waiting ticket_new fits.cancelled.waits in
             let kept = kept_as k.held was.waiting (subst (λ (ws : List Waiting). In was.waiting ws) (sym stands.agrees.waiting) was.waits) in
             let one : kept.request ≡ h = only_one kept.request kept.among (ap (λ (w : Waiting). w.ticket) kept.same ∙ was.ticket_is ∙ at) in
             let settled : h.waiting.settled ≡ true = ap (λ (x : Held). x.waiting.settled) (sym one) ∙ ap (λ (w : Waiting). w.settled) kept.same ∙ was.settled in
@@ -396,7 +426,8 @@ module _ (setup : Setup) (k : Kept) (s : Node) (stands : Stands setup k s) (tell
           FitsDelete setup.nodes setup.node alone N at of → at ≡ place
       one_place place at chain of fits other =
           let same : other.further.newest ∷ other.further.older ≡ fits.further.newest ∷ fits.further.older =
-          knows_one setup.nodes t.actor.received N (other.further.newest ∷ other.further.older) (fits.further.newest ∷ fits.further.older) other.further.known fits.further.known in
+          knows_one setup.nodes t.actor.received N (other.further.newest ∷ other.further.older)
+          (fits.further.newest ∷ fits.further.older) other.further.known fits.further.known in
           other.further.behind ∙ ap length same ∙ sym fits.further.behind
 
       starts_alone : (place : ℕ) (chain : List Decree) → Starts N place chain → FitsDelete setup.nodes setup.node alone N place chain
@@ -414,7 +445,8 @@ module _ (setup : Setup) (k : Kept) (s : Node) (stands : Stands setup k s) (tell
       none_taken : (chain : List Decree) → known ≡ Some chain → taken_in chain ≡ None → (place : ℕ) (of : List Decree) →
           FitsDelete setup.nodes setup.node alone N place of → ⊥
       none_taken chain is none place of fits =
-          let some : Some (fits.further.newest ∷ fits.further.older) ≡ Some chain = sym (known_one (fits.further.newest ∷ fits.further.older) fits.further.known) ∙ is in
+          let some : Some (fits.further.newest ∷ fits.further.older) ≡ Some chain =
+          sym (known_one (fits.further.newest ∷ fits.further.older) fits.further.known) ∙ is in
           let same : fits.further.newest ∷ fits.further.older ≡ chain = cc in
           let both : Some fits.further.taken ≡ None = sym fits.further.message ∙ ap taken_in same ∙ none in
           absurd (cc)
@@ -427,7 +459,8 @@ module _ (setup : Setup) (k : Kept) (s : Node) (stands : Stands setup k s) (tell
           (subst (IsKnown setup.nodes t.actor.received N) is known_now) message refl
 
       delete_is : (it : Option (List Decree)) → known ≡ it → Decided (delete_for setup k N (new ∷ []) it) (FitsDelete setup.nodes setup.node alone N)
-      delete_is None is = λ place chain fits. let both : None ≡ Some (fits.further.newest ∷ fits.further.older) = sym is ∙ known_one (fits.further.newest ∷ fits.further.older) fits.further.known in absurd (cc)
+      delete_is None is = λ place chain fits. let both : None ≡ Some (fits.further.newest ∷ fits.further.older) = sym is
+          ∙ known_one (fits.further.newest ∷ fits.further.older) fits.further.known in absurd (cc)
       delete_is (Some []) is = none_taken [] is refl
       delete_is (Some (newest ∷ older)) is = delete_taken newest older is (taken_in (newest ∷ older)) refl
 
@@ -443,7 +476,8 @@ module _ (setup : Setup) (k : Kept) (s : Node) (stands : Stands setup k s) (tell
       deletes_none : (place : ℕ) (chain : List Decree) → Deletes N place chain → ⊥
       deletes_none place chain it =
           deletes_fresh N place chain it
-          (ap (λ (x : Held). x.waiting.settled) (sym new_still) ∙ ap (λ (w : Waiting). w.settled) (sym (deletes_by N place chain it)) ∙ it.deletes.cancelled.settled)
+          (ap (λ (x : Held). x.waiting.settled) (sym new_still) ∙ ap (λ (w : Waiting). w.settled) (sym (deletes_by N place chain it))
+          ∙ it.deletes.cancelled.settled)
 
       top_at_is : (top : TopVote) → top.id ≡ N → top_at (slot_at N top.place) top.vote ≡ top
       top_at_is top of = λ i. record { id = sym of i; place = top.place; vote = top.vote }
@@ -453,7 +487,8 @@ module _ (setup : Setup) (k : Kept) (s : Node) (stands : Stands setup k s) (tell
       highest_of top highest = record {
         shown = record {
           teller = highest.told.0;
-          heard = subst (λ (it : TopVote). In (Tell highest.told.0 name (Some it)) t.actor.received) (sym (top_at_is top (new_told.about highest.told.0 top highest.told.1))) highest.told.1;
+          heard = subst (λ (it : TopVote). In (Tell highest.told.0 name (Some it)) t.actor.received)
+              (sym (top_at_is top (new_told.about highest.told.0 top highest.told.1))) highest.told.1;
         };
         place_most = λ place vote shown. elim (highest.highest shown.teller (top_at (slot_at N place) vote) shown.heard) [
           | inl below ↦ omega arith
@@ -522,7 +557,11 @@ module _ (setup : Setup) (k : Kept) (s : Node) (stands : Stands setup k s) (tell
           }
 
       none_shown : ((place : ℕ) (chain : List Decree) → Shows N place chain → ⊥) → (place : ℕ) (chain : List Decree) → Starts N place chain → ⊥
-      none_shown none place chain starts = elim (either_of N place chain starts) [ inl shows ↦ none place chain shows | inr deletes ↦ deletes_none place chain deletes ]
+      none_shown none place chain starts = elim (either_of N place chain starts) [
+        | inl shows ↦ none place chain shows
+        | inr deletes ↦
+            deletes_none place chain deletes
+      ]
 
       by_ahead : is_majority setup.nodes new.tellers ≡ true → (top : TopVote) → IsHighestTold t.actor.received name (Some top) → (ahead : Bool) →
           is_ahead known top.place ≡ ahead →
@@ -627,7 +666,8 @@ module _ (setup : Setup) (k : Kept) (s : Node) (stands : Stands setup k s) (tell
         filter (waits_on answer_2) held ≡ filter is_this held
     others_left it is [] each = refl
     others_left it is (g ∷ others) each =
-        (λ i. cond (head (each g (inl refl)) i) (g ∷ others_left it is others (λ x among. each x (inr among)) i) (others_left it is others (λ x among. each x (inr among)) i))
+        (λ i. cond (head (each g (inl refl)) i) (g ∷ others_left it is others (λ x among. each x (inr among)) i)
+        (others_left it is others (λ x among. each x (inr among)) i))
       where
         head : (g ≡ new) ⊎ (In g k.held × (ticket_of g ≡ ticket_of new → ⊥)) → waits_on answer_2 g ≡ is_this g
         head (inl same) = subst (λ (x : Held). waits_on answer_2 x ≡ is_this x) (sym same) (ap is_none is ∙ sym own_false)
@@ -664,7 +704,8 @@ module _ (setup : Setup) (k : Kept) (s : Node) (stands : Stands setup k s) (tell
     ]
 
     same_step : (x : Option Answer) → answer_to setup.nodes known new ≡ x →
-        sends (record after.kept { held = filter (waits_on answer_2) after.kept.held }) after.packets (replies_of answer_2 after.kept.held) [] ≡ answer_told after new x
+        sends (record after.kept { held = filter (waits_on answer_2) after.kept.held }) after.packets
+        (replies_of answer_2 after.kept.held) [] ≡ answer_told after new x
     same_step None none =
         let held_is : filter (waits_on answer_2) after.kept.held ≡ after.kept.held =
         ap (filter (waits_on answer_2)) starts.held ∙ none_left held_2 (all_none none) ∙ sym starts.held in
@@ -679,7 +720,8 @@ module _ (setup : Setup) (k : Kept) (s : Node) (stands : Stands setup k s) (tell
 
     told_steps : StepsAs setup s (Delivery packet) (told_to setup k known new0)
     told_steps =
-        subst (λ (held : List Held). StepsAs setup s (Delivery packet) (answer_told (started setup (record k { held = held }) N start) new (answer_to setup.nodes known new))) held_same
+        subst (λ (held : List Held). StepsAs setup s (Delivery packet) (answer_told (started setup (record k { held = held }) N start) new
+        (answer_to setup.nodes known new))) held_same
         (subst (StepsAs setup s (Delivery packet)) (same_step (answer_to setup.nodes known new) refl)
         (busy_steps setup k s stands works packet concerned refl k1 agrees N after starts elsewhere unproposed_2 None unreported))
 
@@ -737,7 +779,8 @@ module _ (setup : Setup) (k : Kept) (s : Node) (stands : Stands setup k s) (tell
       works
 
   pub tell_steps : IsWithin told → IsAtWork setup s → IsNode setup.node → StepsAs setup s (Delivery packet) (stepped setup k (Delivery packet))
-  tell_steps within works mine = subst (StepsAs setup s (Delivery packet)) (sym (stepped_is setup k s packet stands works)) (by_member (is_member setup teller) refl)
+  tell_steps within works mine = subst (StepsAs setup s (Delivery packet)) (sym (stepped_is setup k s packet stands works))
+      (by_member (is_member setup teller) refl)
     where
       by_member : (member : Bool) → is_member setup teller ≡ member →
           StepsAs setup s (Delivery packet) (if member then on_tell setup k teller name told else leaves k)

@@ -1,5 +1,6 @@
 -- The step of a node that is told of a vote.
-use Rattle.std.proofs.Common.{◌≡◌, ◌⊎◌, ℕ, pred, ◌<◌, ◌≤◌, Bool, true, false, cond, List, [], ◌∷◌, length, map, Option, Some, None, refl, sym, ap, subst, ◌∙◌, inl, inr, arith}
+use Rattle.std.proofs.Common.{◌≡◌, ◌⊎◌, ℕ, pred, ◌<◌, ◌≤◌, Bool, true, false, cond, List, [], ◌∷◌, length, map, Option, Some, None, refl, sym, ap, subst, ◌∙◌}
+use Rattle.std.proofs.Common.{inl, inr, arith}
 use Rattle.std.specs.Prelude.{◌==◌, ◌||◌, filter, if◌then◌else◌, nat_le, not}
 use Rattle.std.specs.Bool.{Decides}
 use Rattle.std.specs.Option.{is_none}
@@ -119,7 +120,8 @@ module _ (setup : Setup) (k : Kept) (s : Node) (stands : Stands setup k s) (vote
 
     round_now : (round : Option Round) → IsKeptRound setup.nodes setup.node s id round → IsKeptRound setup.nodes setup.node t id round
     round_now None is = round_heard setup s packet id m.known old.heard.known heard_now.known None tt tt is
-    round_now (Some r) is = round_heard setup s packet id m.known old.heard.known heard_now.known (Some r) (promises_none r.slot r.ballot) (refuses_none r.slot r.ballot) is
+    round_now (Some r) is = round_heard setup s packet id m.known old.heard.known heard_now.known (Some r) (promises_none r.slot r.ballot)
+        (refuses_none r.slot r.ballot) is
 
     message_now : IsMessage setup t id new
     message_now = record {
@@ -138,7 +140,10 @@ module _ (setup : Setup) (k : Kept) (s : Node) (stands : Stands setup k s) (vote
     heard_steps : IsAtWork setup s → Concerns setup.nodes setup.node s.actor packet → StepsAs setup s (Delivery packet) (leaves (with_message k id new))
     heard_steps works concerned =
         plain_steps setup k s stands packet follows_nothing (with_message k id new)
-        (agrees_with setup k s stands.agrees packet tells_nobody (record { slot_is = refl; permitted = permitted }, concerned.2) id new message_now other_message)
+        (agrees_with setup k s stands.agrees packet tells_nobody (
+          record { slot_is = refl; permitted = permitted },
+          concerned.2,
+        ) id new message_now other_message)
         (record { held = refl; known = each_with (λ other it. it.known ≡ (message_at k other).known) k id new refl (λ other apart. refl) })
         works concerned refl idle_proposes
 
@@ -176,11 +181,20 @@ module _ (setup : Setup) (k : Kept) (s : Node) (stands : Stands setup k s) (vote
         IsRunning setup.nodes setup.node s.actor at ballot
     running_before at ballot about runs = record {
       round = record { newer = runs.round.newer; older = runs.round.older; split = runs.round.split; newest = runs.round.newest };
-      accepted = λ refused. runs.accepted (record { sender = refused.sender; promised = refused.promised; heard = inr refused.heard; greater = refused.greater });
+      accepted = λ refused. runs.accepted (record {
+        sender = refused.sender;
+        promised = refused.promised;
+        heard = inr refused.heard;
+        greater = refused.greater;
+      });
       short = λ reached.
           let less = shorter reached.chain (subst (λ (i : ℕ). Knows setup.nodes s.actor.received i reached.chain) about reached.known) in
           let far = reached.far in
-          runs.short (record { chain = vote.chain; known = subst (λ (i : ℕ). Knows setup.nodes t.actor.received i vote.chain) (sym about) knows_now; far = omega arith });
+          runs.short (record {
+            chain = vote.chain;
+            known = subst (λ (i : ℕ). Knows setup.nodes t.actor.received i vote.chain) (sym about) knows_now;
+            far = omega arith;
+          });
     }
 
     -- a round that is not reached goes on
@@ -250,7 +264,11 @@ module _ (setup : Setup) (k : Kept) (s : Node) (stands : Stands setup k s) (vote
             (record { newer = is.running.round.newer; older = is.running.round.older; split = is.running.round.split; newest = is.running.round.newest }) in
             let places : at.place ≡ r.slot.place = ap (λ (x : Slot). x.place) one.0 in
             let far : r.slot.place ≤ pred (length vote.chain) = grind (arith, nat_tests) in
-            runs.short (record { chain = vote.chain; known = subst (λ (i : ℕ). Knows setup.nodes t.actor.received i vote.chain) (sym about) knows_now; far = omega arith })
+            runs.short (record {
+              chain = vote.chain;
+              known = subst (λ (i : ℕ). Knows setup.nodes t.actor.received i vote.chain) (sym about) knows_now;
+              far = omega arith;
+            })
         by_place false beyond = unreached r is beyond
 
     -- an attempt that was granted is behind it now
@@ -337,16 +355,20 @@ module _ (setup : Setup) (k : Kept) (s : Node) (stands : Stands setup k s) (vote
       settled_before other apart w waits about =
           let kept = kept_as held_2 w waits in
           let it = in_mapped (λ h. settled_by setup.nodes (known_for k1 h) h) k1.held kept.request kept.among in
-          let of : id_of it.from ≡ other = sym (same_id setup.nodes (known_for k1 it.from) it.from) ∙ ap id_of (sym it.is) ∙ ap (λ (x : Waiting). id_in x.request) kept.same ∙ about in
+          let of : id_of it.from ≡ other = sym (same_id setup.nodes (known_for k1 it.from) it.from) ∙ ap id_of (sym it.is)
+          ∙ ap (λ (x : Waiting). id_in x.request) kept.same ∙ about in
           let same : it.from.waiting ≡ w =
-          ap (λ (h : Held). h.waiting) (sym (settled_elsewhere it.from it.among (λ is. apart (sym of ∙ is)))) ∙ ap (λ (h : Held). h.waiting) (sym it.is) ∙ kept.same in
-          subst (λ (x : Waiting). In x s.actor.waiting) same (subst (λ (ws : List Waiting). In it.from.waiting ws) stands.agrees.waiting (waits_among k.held it.from it.among))
+          ap (λ (h : Held). h.waiting) (sym (settled_elsewhere it.from it.among (λ is. apart (sym of ∙ is)))) ∙ ap (λ (h : Held). h.waiting) (sym it.is)
+          ∙ kept.same in
+          subst (λ (x : Waiting). In x s.actor.waiting) same (subst (λ (ws : List Waiting). In it.from.waiting ws) stands.agrees.waiting
+          (waits_among k.held it.from it.among))
 
       knew_elsewhere : (other : ℕ) → (other ≡ id → ⊥) → (chain : List Decree) → Knows setup.nodes t.actor.received other chain →
           Knows setup.nodes s.actor.received other chain
       knew_elsewhere other apart chain knows =
           let is : (message_at k other).known ≡ Some chain =
-          ap (λ (x : Message). x.known) (sym (message_elsewhere k id other known apart)) ∙ known_is setup.nodes other t.actor.received (message_at k1 other).known chain (agrees.message other).heard.known knows in
+          ap (λ (x : Message). x.known) (sym (message_elsewhere k id other known apart))
+          ∙ known_is setup.nodes other t.actor.received (message_at k1 other).known chain (agrees.message other).heard.known knows in
           subst (IsKnown setup.nodes s.actor.received other) is (stands.agrees.message other).heard.known
 
       elsewhere : (other place : ℕ) (chain : List Decree) → Starts other place chain → other ≡ id
@@ -368,7 +390,8 @@ module _ (setup : Setup) (k : Kept) (s : Node) (stands : Stands setup k s) (vote
               (knew_elsewhere other apart _ it.deletes.further.known))
 
       unproposed : (act : Act) → DueToPropose setup.nodes setup.node s.actor s_2.actor act → ⊥
-      unproposed (Proposes at cast) due = due.0.new (promised_before at cast.ballot (record { test = due.0.promised.test; most = due.0.promised.most; each = due.0.promised.each }))
+      unproposed (Proposes at cast) due = due.0.new (promised_before at cast.ballot
+          (record { test = due.0.promised.test; most = due.0.promised.most; each = due.0.promised.each }))
       unproposed act due = due
 
       -- ---- the deletion
@@ -379,14 +402,16 @@ module _ (setup : Setup) (k : Kept) (s : Node) (stands : Stands setup k s) (vote
       due_of : (place : ℕ) (chain : List Decree) → FitsDelete setup.nodes setup.node s_2.actor id place chain → Starts id place chain
       due_of place chain fits = inr (inr (inr (record {
         deletes = fits;
-        new = λ was knew. not_known_before (subst (Knows setup.nodes s.actor.received id) (one_known (fits.further.newest ∷ fits.further.older) fits.further.known) knew);
+        new = λ was knew. not_known_before (subst (Knows setup.nodes s.actor.received id)
+            (one_known (fits.further.newest ∷ fits.further.older) fits.further.known) knew);
       })))
 
       one_place : (place at : ℕ) (chain of : List Decree) → FitsDelete setup.nodes setup.node s_2.actor id place chain →
           FitsDelete setup.nodes setup.node s_2.actor id at of → at ≡ place
       one_place place at chain of fits other =
           let same : other.further.newest ∷ other.further.older ≡ fits.further.newest ∷ fits.further.older =
-          one_known (other.further.newest ∷ other.further.older) other.further.known ∙ sym (one_known (fits.further.newest ∷ fits.further.older) fits.further.known) in
+          one_known (other.further.newest ∷ other.further.older) other.further.known
+          ∙ sym (one_known (fits.further.newest ∷ fits.further.older) fits.further.known) in
           other.further.behind ∙ ap length same ∙ sym fits.further.behind
 
       decided_start : (start : Option Start) → Decided start (FitsDelete setup.nodes setup.node s_2.actor id) → IsStartOf setup s_2 id (Starts id) start
@@ -407,7 +432,8 @@ module _ (setup : Setup) (k : Kept) (s : Node) (stands : Stands setup k s) (vote
           Decided (delete_of setup k_2 id held_2 newest older taken) (FitsDelete setup.nodes setup.node s_2.actor id)
       delete_taken newest older is None none = none_taken (newest ∷ older) is none
       delete_taken newest older is (Some taken) message =
-          delete_decided setup s_2.actor k_2 id agrees_2.incarnation agrees_2.clock newest older taken (subst (Knows setup.nodes t.actor.received id) is knows_now) message agrees_2.waiting
+          delete_decided setup s_2.actor k_2 id agrees_2.incarnation agrees_2.clock newest older taken
+          (subst (Knows setup.nodes t.actor.received id) is knows_now) message agrees_2.waiting
 
       delete_is : (chain : List Decree) → vote.chain ≡ chain →
           Decided (delete_for setup k_2 id held_2 (Some chain)) (FitsDelete setup.nodes setup.node s_2.actor id)
@@ -418,7 +444,8 @@ module _ (setup : Setup) (k : Kept) (s : Node) (stands : Stands setup k s) (vote
       start = delete_for setup k_2 id held_2 (Some vote.chain)
 
       starts : StartsAs setup k_2 s_2 id (Starts id) (started setup k_2 id start)
-      starts = started_as setup k_2 s_2 agrees_2 mine (record { least = works.least; most = works.most; up = works.up }) id (Starts id) start (decided_start start (delete_is vote.chain refl))
+      starts = started_as setup k_2 s_2 agrees_2 mine (record { least = works.least; most = works.most; up = works.up }) id (Starts id) start
+          (decided_start start (delete_is vote.chain refl))
 
       -- ---- who is answered
 
@@ -446,11 +473,13 @@ module _ (setup : Setup) (k : Kept) (s : Node) (stands : Stands setup k s) (vote
       left_same : (held : List Held) → ((h : Held) → In h held → In h held_2) →
           filter (still_waits setup.nodes (Some vote.chain) id) held ≡ filter (waits_on answer_2) held
       left_same [] among = refl
-      left_same (h ∷ held) among = λ i. cond (is_none (answer_same h (among h (inl refl)) i)) (h ∷ left_same held (λ it is_in. among it (inr is_in)) i) (left_same held (λ it is_in. among it (inr is_in)) i)
+      left_same (h ∷ held) among = λ i. cond (is_none (answer_same h (among h (inl refl)) i)) (h ∷ left_same held (λ it is_in. among it (inr is_in)) i)
+          (left_same held (λ it is_in. among it (inr is_in)) i)
 
       -- ---- the step
 
-      receipt : Reported setup.nodes setup.node s.actor t.actor id m.known vote.chain old.heard.known knows_now knew_elsewhere (receipts_of setup.node id m.known vote.chain)
+      receipt : Reported setup.nodes setup.node s.actor t.actor id m.known vote.chain old.heard.known knows_now knew_elsewhere
+          (receipts_of setup.node id m.known vote.chain)
       receipt = reported setup.nodes setup.node s.actor t.actor id m.known vote.chain old.heard.known knows_now knew_elsewhere
 
       abbrev after : Prepared
@@ -466,14 +495,16 @@ module _ (setup : Setup) (k : Kept) (s : Node) (stands : Stands setup k s) (vote
           replies_are : replies_of answer_2 after.kept.held ≡ replies_to setup.nodes (Some vote.chain) id held_2
           replies_are = ap (replies_of answer_2) starts.held ∙ sym (replies_same held_2 (λ h among. among))
 
-          same_step : sends (record after.kept { held = filter (waits_on answer_2) after.kept.held }) after.packets (replies_of answer_2 after.kept.held) (report_out id receipt.report) ≡
+          same_step : sends (record after.kept { held = filter (waits_on answer_2) after.kept.held }) after.packets (replies_of answer_2 after.kept.held)
+              (report_out id receipt.report) ≡
               answered_then setup k_2 id m.known vote.chain after
           same_step = λ i. sends (record after.kept { held = held_is i }) after.packets (replies_are i) (sym receipt.out i)
 
       on_known_steps : StepsAs setup s (Delivery packet) (on_known setup k id new vote.chain)
       on_known_steps =
           subst (λ (held : List Held). StepsAs setup s (Delivery packet)
-          (answered_then setup (record k1 { held = held }) id m.known vote.chain (started setup (record k1 { held = held }) id (delete_for setup (record k1 { held = held }) id held (Some vote.chain)))))
+          (answered_then setup (record k1 { held = held }) id m.known vote.chain
+          (started setup (record k1 { held = held }) id (delete_for setup (record k1 { held = held }) id held (Some vote.chain)))))
           (sym (held_same k.held (λ h among. among))) known_steps
 
   -- ---- a vote that concerns the node
@@ -492,7 +523,8 @@ module _ (setup : Setup) (k : Kept) (s : Node) (stands : Stands setup k s) (vote
 module _ (setup : Setup) (k : Kept) (s : Node) (stands : Stands setup k s) where
   given_decides : (id : ℕ) → Decides (was_given k id) (WasGiven s.actor id)
   given_decides id =
-      let is = Decides-or _ _ (Decides-ltb (incarnation_of id) k.incarnation) (Decides-and _ _ (Decides-eqb (incarnation_of id) k.incarnation) (Decides-ltb (serial_of id) k.serial)) in
+      let is = Decides-or _ _ (Decides-ltb (incarnation_of id) k.incarnation)
+      (Decides-and _ _ (Decides-eqb (incarnation_of id) k.incarnation) (Decides-ltb (serial_of id) k.serial)) in
       let incarnations = stands.agrees.incarnation in
       let serials = stands.agrees.serial in
       Decides-like (was_given k id)
@@ -526,14 +558,17 @@ module _ (setup : Setup) (k : Kept) (s : Node) (stands : Stands setup k s) where
   pub voted_steps : (voter : ℕ) (slot : Slot) (vote : Vote) → IsPermitted slot.id vote.chain → IsAtWork setup s → IsNode setup.node →
       StepsAs setup s (Delivery (Voted voter slot vote)) (stepped setup k (Delivery (Voted voter slot vote)))
   voted_steps voter slot vote permitted works mine =
-      subst (StepsAs setup s (Delivery (Voted voter slot vote))) (sym (stepped_is setup k s (Voted voter slot vote) stands works)) (by_member (is_member setup voter) refl)
+      subst (StepsAs setup s (Delivery (Voted voter slot vote))) (sym (stepped_is setup k s (Voted voter slot vote) stands works))
+      (by_member (is_member setup voter) refl)
     where
       by_concern : IsMember setup.nodes voter → (concerns : Bool) → vote_concerns setup k slot vote ≡ concerns →
           StepsAs setup s (Delivery (Voted voter slot vote)) (if concerns then on_voted setup k voter slot vote else leaves k)
       by_concern member true is = let both = (concerns_decides slot vote).0 is in placed_steps voter slot vote permitted works mine (member, both.0, both.1)
-      by_concern member false is = ignored setup s k stands (Voted voter slot vote) (λ concerned. true≢false (sym ((concerns_decides slot vote).1 (concerned.1, concerned.2)) ∙ is))
+      by_concern member false is = ignored setup s k stands (Voted voter slot vote)
+          (λ concerned. true≢false (sym ((concerns_decides slot vote).1 (concerned.1, concerned.2)) ∙ is))
 
       by_member : (member : Bool) → is_member setup voter ≡ member →
-          StepsAs setup s (Delivery (Voted voter slot vote)) (if member then (if vote_concerns setup k slot vote then on_voted setup k voter slot vote else leaves k) else leaves k)
+          StepsAs setup s (Delivery (Voted voter slot vote)) (if member then
+          (if vote_concerns setup k slot vote then on_voted setup k voter slot vote else leaves k) else leaves k)
       by_member true is = by_concern (member_is setup voter is) (vote_concerns setup k slot vote) refl
       by_member false is = ignored setup s k stands (Voted voter slot vote) (λ concerned. true≢false (sym (member_test setup voter concerned.0) ∙ is))

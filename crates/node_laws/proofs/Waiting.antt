@@ -75,8 +75,10 @@ module _ (setup : Setup) (s : Node) (ws : List Waiting) where
     moment = further.moment;
     message = further.message;
     may = further.may;
-    allowed = allows_waits _ further.taken further.taken further.newest.author further.next.author _ further.newest.moment further.next.moment further.newest.kind further.next.kind
-        (λ w waits settled cancels idle. ground.cancelled w further.next further.newest further.older further.taken further.chain_is waits settled further.message cancels idle)
+    allowed = allows_waits _ further.taken further.taken further.newest.author further.next.author _
+        further.newest.moment further.next.moment further.newest.kind further.next.kind
+        (λ w waits settled cancels idle.
+        ground.cancelled w further.next further.newest further.older further.taken further.chain_is waits settled further.message cancels idle)
         further.may.1
         further.allowed;
     error = further.error;
@@ -143,7 +145,12 @@ module _ (setup : Setup) (s : Node) (ws : List Waiting) where
   coherent_waits is = record {
     life = is.life;
     ticked = is.ticked;
-    fits = λ packet came. fit_later setup.node s.actor waits.actor (record { incarnation = refl; sent = λ slot ballot sent. sent; ticket = omega arith; serial = omega arith }) packet (is.fits packet came);
+    fits = λ packet came. fit_later setup.node s.actor waits.actor (record {
+      incarnation = refl;
+      sent = λ slot ballot sent. sent;
+      ticket = omega arith;
+      serial = omega arith;
+    }) packet (is.fits packet came);
     own = is.own;
     prepared = is.prepared;
     outcomes = is.outcomes;
