@@ -43,7 +43,9 @@ front : (parts : Parts) (octets : List ℕ) → tell_body parts ≡ true → Tel
 front [] octets tell = tt
 front (first ∷ others) octets tell =
     let both = and_parts (tells_body first) (tell_body others) tell in
-    bind (told first.fault (content_at first.kind octets)) (λ x. front_at others x.1 >>= λ y. Ok ((x.0, y.0), y.1)) (named first (content_at first.kind octets) both.0) (λ x. bind (front_at others x.1) (λ y. Ok ((x.0, y.0), y.1)) (front others x.1 both.1) (λ y. tt))
+    bind (told first.fault (content_at first.kind octets)) (λ x. front_at others x.1 >>= λ y. Ok ((x.0, y.0), y.1))
+    (named first (content_at first.kind octets) both.0)
+    (λ x. bind (front_at others x.1) (λ y. Ok ((x.0, y.0), y.1)) (front others x.1 both.1) (λ y. tt))
 
 ended : {A : Type 0} (c : A) (rest : List ℕ) → TellsBody (nothing_at faults.Extra rest >>= λ _. Ok c)
 ended c [] = tt
@@ -56,7 +58,8 @@ contents parts octets tell =
 filled : (form : Form) (octets : List ℕ) → tell_body (parts_of form) ≡ true → TellsBody (filling_at form octets)
 filled (Has parts) octets tell = contents parts octets tell
 filled (MayHave parts) octets tell =
-    choice (eqb (length octets) 0) (Ok None) (contents_at parts octets >>= λ c. Ok (Some c)) tt (bind (contents_at parts octets) (λ c. Ok (Some c)) (contents parts octets tell) (λ c. tt))
+    choice (eqb (length octets) 0) (Ok None) (contents_at parts octets >>= λ c. Ok (Some c)) tt
+    (bind (contents_at parts octets) (λ c. Ok (Some c)) (contents parts octets tell) (λ c. tt))
 
 pub body-tells : (command : Option Command) (octets : List ℕ) → TellsBody (body_at command octets)
 unfolding body_at

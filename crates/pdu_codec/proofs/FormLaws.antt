@@ -1,5 +1,6 @@
 -- Forms: what is read is spelled so and within its limits, and what is spelled so is read.
-use Rattle.std.proofs.Common.{◌≡◌, ℕ, ◌+◌, ◌<◌, ◌≤◌, Bool, true, false, ◌&&◌, eqb, leb, cond, List, [], ◌∷◌, length, Option, Some, None, Result, Ok, Err, refl, ap, ◌∙◌, arith, length-append}
+use Rattle.std.proofs.Common.{◌≡◌, ℕ, ◌+◌, ◌<◌, ◌≤◌, Bool, true, false, ◌&&◌, eqb, leb, cond, List, [], ◌∷◌, length, Option, Some, None, Result, Ok, Err, refl, ap}
+use Rattle.std.proofs.Common.{◌∙◌, arith, length-append}
 use Rattle.std.proofs.lemmas.Bool.{and_parts, false≢true, ne_eqb, eqb-true, leb-true}
 use Rattle.std.proofs.lemmas.List.{nil_from_length}
 use Rattle.octet_fields.specs.declared.defect.Defect.{Defect}
@@ -75,7 +76,8 @@ is_of_body other = true
 -- each defect of the part is called a fault of a body
 abbrev pub tells_body : Part PduFault → Bool
 tells_body part =
-    is_of_body (part.fault Cut) && (is_of_body (part.fault Few) && (is_of_body (part.fault Long) && (is_of_body (part.fault Unfit) && is_of_body (part.fault defects.Extra))))
+    is_of_body (part.fault Cut)
+    && (is_of_body (part.fault Few) && (is_of_body (part.fault Long) && (is_of_body (part.fault Unfit) && is_of_body (part.fault defects.Extra))))
 
 abbrev pub tell_body : Parts → Bool
 tell_body [] = true
