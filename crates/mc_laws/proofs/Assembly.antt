@@ -144,7 +144,7 @@ came_by_input w (Restart lost) other came none = absurd none
 
 -- ---- a run goes on by the acts of one node
 
-acts_on : (node : ℕ) (more : List Act) (acts : List (ℕ × Act)) → acts_of node (by_node node more ++ acts) ≡ more ++ acts_of node acts
+pub acts_on : (node : ℕ) (more : List Act) (acts : List (ℕ × Act)) → acts_of node (by_node node more ++ acts) ≡ more ++ acts_of node acts
 acts_on node [] acts = refl
 acts_on node (newest ∷ older) acts = acts_here node (node, newest) (by_node node older ++ acts) refl ∙ ap (λ (xs : List Act). newest ∷ xs) (acts_on node older acts)
 
@@ -188,7 +188,7 @@ step_together cluster acts node input more run step came =
 
 -- ---- the steps of all nodes
 
-passed_by : (other node : ℕ) (acts : List Act) (rest : List (ℕ × Act)) → (other == node) ≡ false → acts_of node (by_node other acts ++ rest) ≡ acts_of node rest
+pub passed_by : (other node : ℕ) (acts : List Act) (rest : List (ℕ × Act)) → (other == node) ≡ false → acts_of node (by_node other acts ++ rest) ≡ acts_of node rest
 passed_by other node [] rest apart = refl
 passed_by other node (newest ∷ older) rest apart = acts_apart node (other, newest) (by_node other older ++ rest) apart ∙ passed_by other node older rest apart
 

@@ -58,3 +58,4 @@ pub mod AnyPacket
 pub mod Judging
 pub mod Crashing
 pub mod WholeSteps
+pub mod Clustered

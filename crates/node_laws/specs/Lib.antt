@@ -4,3 +4,4 @@ pub mod Stands
 pub mod Answering
 pub mod Steps
 pub mod Runs
+pub mod Clusters

@@ -1,0 +1,88 @@
+-- A cluster of nodes by what they keep, and the packets between them.
+use Rattle.std.specs.Prelude.{◌≡◌, ℕ, List, [], ◌∷◌, ◌++◌, map, reverse}
+use Rattle.mc_model.specs.synod.Lists.{In}
+use Rattle.mc_model.specs.synod.Packet.{Packet}
+use Rattle.mc_model.specs.node.Alone.{opened_new as node_new, reached_alone}
+use Rattle.mc_model.specs.node.Input.{Crash, Delivery, Input}
+use Rattle.mc_model.specs.node.Outputs.{Outputs, outputs_of}
+use Rattle.mc_model.specs.cluster.Assembly.{acts_of}
+use Rattle.mc_model.specs.cluster.Steps.{AreSteps, Cluster, Step, acts_in, setup_of}
+use Rattle.mc_model.specs.cluster.World.{World, changed, reached, start}
+use Rattle.node_model.specs.Kept.{Kept}
+use Rattle.node_model.specs.Outputs.{Stepped}
+use Rattle.node_model.specs.Stepped.{opened_new, stepped}
+use Rattle.node_laws.specs.Runs.{IsOneOf, IsUpFor, MayCome}
+use Rattle.node_laws.specs.Stands.{Stands}
+
+-- what each node keeps, and every packet that was ever sent, the newest first
+pub record KeptCluster : Type 0 where
+  pub kept : ℕ → Kept
+  pub packets : List Packet
+
+-- what comes to which node
+pub record NodeInput : Type 0 where
+  pub node : ℕ
+  pub input : Input
+
+-- all nodes open with new stores
+abbrev pub kept_start : Cluster → KeptCluster
+kept_start cluster = record { kept = λ node. opened_new (setup_of cluster node); packets = [] }
+
+abbrev pub step_at : Cluster → KeptCluster → NodeInput → Stepped
+step_at cluster w next = stepped (setup_of cluster next.node) (w.kept next.node) next.input
+
+abbrev pub kept_next : KeptCluster → ℕ → Stepped → KeptCluster
+kept_next w node step = record {
+  kept = changed w.kept node step.kept;
+  packets = reverse step.outputs.packets ++ w.packets;
+}
+
+-- where inputs lead it, the newest first
+abbrev pub kept_reached : Cluster → List NodeInput → KeptCluster
+kept_reached cluster [] = kept_start cluster
+kept_reached cluster (newest ∷ older) =
+    kept_next (kept_reached cluster older) newest.node (step_at cluster (kept_reached cluster older) newest)
+
+-- a packet that comes was sent, to whomever
+abbrev pub WasSentBefore : List Packet → Input → Type 0
+WasSentBefore packets (Delivery packet) = In packet packets
+WasSentBefore packets (Crash packet after) = In packet packets
+WasSentBefore packets input = Unit {0}
+
+-- Packets may be lost, repeated and reordered, and nodes may stop and start anew: any input may come that may come to the node, and
+-- whose packet was sent.
+abbrev pub MayHappen : Cluster → List NodeInput → Type 0
+MayHappen cluster [] = Unit {0}
+MayHappen cluster (newest ∷ older) =
+    IsOneOf (setup_of cluster newest.node)
+    × IsUpFor ((kept_reached cluster older).kept newest.node) newest.input
+    × MayCome (setup_of cluster newest.node) ((kept_reached cluster older).kept newest.node) newest.input
+    × WasSentBefore (kept_reached cluster older).packets newest.input
+    × MayHappen cluster older
+
+-- ---- as a run of the model
+
+abbrev pub cluster_outputs : Cluster → List NodeInput → List Outputs
+cluster_outputs cluster [] = []
+cluster_outputs cluster (newest ∷ older) =
+    (step_at cluster (kept_reached cluster older) newest).outputs ∷ cluster_outputs cluster older
+
+abbrev pub world_at : Cluster → List Step → World
+world_at cluster steps = reached (start cluster.nodes cluster.serials) (acts_in steps)
+
+abbrev pub step_outputs : Cluster → List Step → List Outputs
+step_outputs cluster [] = []
+step_outputs cluster (newest ∷ older) =
+    outputs_of newest.node ((world_at cluster older).actors newest.node) ((world_at cluster older).records newest.node) newest.input newest.acts
+    ∷ step_outputs cluster older
+
+-- By exact steps of the same inputs the cluster of the model sends the same packets and gives out the same, and what each node keeps
+-- stands for what its actor remembers.
+pub record RunsTogether (cluster : Cluster) (inputs : List NodeInput) : Type 0 where
+  pub steps : List Step
+  pub inputs_are : map (λ step. record { node = step.node; input = step.input }) steps ≡ inputs
+  pub are : AreSteps cluster (start cluster.nodes cluster.serials) steps
+  pub packets : (kept_reached cluster inputs).packets ≡ (world_at cluster steps).packets
+  pub outputs : cluster_outputs cluster inputs ≡ step_outputs cluster steps
+  pub stands : (node : ℕ) → Stands (setup_of cluster node) ((kept_reached cluster inputs).kept node)
+      (reached_alone node (node_new (cluster.serials node)) (acts_of node (acts_in steps)))
