@@ -25,7 +25,7 @@ use Rattle.node_laws.proofs.WholeSteps.{whole_steps}
 swapped : (a b : ℕ) → (a == b) ≡ false → (b == a) ≡ false
 swapped a b differs = grind (arith, nat_tests)
 
-reached_all : (first : World) (newer older : List (ℕ × Act)) → reached first (newer ++ older) ≡ reached (reached first older) newer
+pub reached_all : (first : World) (newer older : List (ℕ × Act)) → reached first (newer ++ older) ≡ reached (reached first older) newer
 reached_all first [] older = refl
 reached_all first (deed ∷ newer) older = ap (λ (w : World). after w deed.0 deed.1) (reached_all first newer older)
 

@@ -59,3 +59,4 @@ pub mod Judging
 pub mod Crashing
 pub mod WholeSteps
 pub mod Clustered
+pub mod Stated

@@ -1,10 +1,13 @@
 -- A cluster of nodes by what they keep, and the packets between them.
-use Rattle.std.specs.Prelude.{◌≡◌, ℕ, List, [], ◌∷◌, ◌++◌, map, reverse}
+use Rattle.std.specs.Prelude.{◌≡◌, ◌⊎◌, ℕ, List, [], ◌∷◌, ◌++◌, map, reverse, Some}
+use Rattle.mc_model.specs.message.Decree.{Decree, Final}
+use Rattle.mc_model.specs.message.Chain.{final_in}
 use Rattle.mc_model.specs.synod.Lists.{In}
 use Rattle.mc_model.specs.synod.Packet.{Packet}
 use Rattle.mc_model.specs.node.Alone.{opened_new as node_new, reached_alone}
 use Rattle.mc_model.specs.node.Input.{Crash, Delivery, Input}
-use Rattle.mc_model.specs.node.Outputs.{Outputs, outputs_of}
+use Rattle.mc_model.specs.node.Outputs.{Outputs, Reply, outputs_of}
+use Rattle.mc_model.specs.cluster.Fate.{shown_by}
 use Rattle.mc_model.specs.cluster.Assembly.{acts_of}
 use Rattle.mc_model.specs.cluster.Steps.{AreSteps, Cluster, Step, acts_in, setup_of}
 use Rattle.mc_model.specs.cluster.World.{World, changed, reached, start}
@@ -86,3 +89,18 @@ pub record RunsTogether (cluster : Cluster) (inputs : List NodeInput) : Type 0 w
   pub outputs : cluster_outputs cluster inputs ≡ step_outputs cluster steps
   pub stands : (node : ℕ) → Stands (setup_of cluster node) ((kept_reached cluster inputs).kept node)
       (reached_alone node (node_new (cluster.serials node)) (acts_of node (acts_in steps)))
+
+-- ---- what is stated
+
+-- a query_sm_resp, or a cancel_sm_resp with ESME_ROK, tells of a chain of a message
+pub record RepliesWith (outputs : Outputs) (id : ℕ) (chain : List Decree) : Type 0 where
+  pub reply : Reply
+  pub among : In reply outputs.replies
+  pub about : reply.id ≡ id
+  pub shown : shown_by reply.answer ≡ Some chain
+
+-- so does a receipt, and one of them tells of a final state
+pub record StatesFinal (outputs : Outputs) (id : ℕ) (final : Final) : Type 0 where
+  pub chain : List Decree
+  pub tells : RepliesWith outputs id chain ⊎ In (record { id = id; chain = chain }) outputs.receipts
+  pub state : final_in chain ≡ Some final
