@@ -60,3 +60,4 @@ pub mod Crashing
 pub mod WholeSteps
 pub mod Clustered
 pub mod Stated
+pub mod NoGrant

@@ -84,12 +84,12 @@ module _ (cluster : Cluster) where
 
   -- ---- a statement is one of the model
 
-  record IsStatedIn (w : World) (id : ℕ) (final : Final) : Type 0 where
-    deed : Deed
-    past : In deed w.past
-    states : States deed id final
+  pub record IsStatedIn (w : World) (id : ℕ) (final : Final) : Type 0 where
+    pub deed : Deed
+    pub past : In deed w.past
+    pub states : States deed id final
 
-  stated : (steps : List Step) (outputs : Outputs) → In outputs (step_outputs cluster steps) → (id : ℕ) (final : Final) → StatesFinal outputs id final → IsStatedIn (world_at cluster steps) id final
+  pub stated : (steps : List Step) (outputs : Outputs) → In outputs (step_outputs cluster steps) → (id : ℕ) (final : Final) → StatesFinal outputs id final → IsStatedIn (world_at cluster steps) id final
   stated steps outputs among id final says = elim says.tells [
     | inl replies ↦
         let act = Replies replies.reply.ticket replies.reply.id replies.reply.answer in

@@ -3,7 +3,7 @@ use Rattle.std.specs.Prelude.{◌≡◌, ◌⊎◌, ℕ, List, [], ◌∷◌, �
 use Rattle.mc_model.specs.message.Decree.{Decree, Final}
 use Rattle.mc_model.specs.message.Chain.{final_in}
 use Rattle.mc_model.specs.synod.Lists.{In}
-use Rattle.mc_model.specs.synod.Packet.{Packet}
+use Rattle.mc_model.specs.synod.Packet.{Packet, Slot}
 use Rattle.mc_model.specs.node.Alone.{opened_new as node_new, reached_alone}
 use Rattle.mc_model.specs.node.Input.{Crash, Delivery, Input}
 use Rattle.mc_model.specs.node.Outputs.{Outputs, Reply, outputs_of}
@@ -104,3 +104,16 @@ pub record StatesFinal (outputs : Outputs) (id : ℕ) (final : Final) : Type 0 w
   pub chain : List Decree
   pub tells : RepliesWith outputs id chain ⊎ In (record { id = id; chain = chain }) outputs.receipts
   pub state : final_in chain ≡ Some final
+
+-- an attempt of a message is granted
+pub record GrantsOut (outputs : Outputs) (id : ℕ) : Type 0 where
+  pub slot : Slot
+  pub granted : outputs.granted ≡ Some slot
+  pub about : slot.id ≡ id
+
+-- of what is given out, the newest first, one came before another
+pub record CameEarlier (first second : Outputs) (given : List Outputs) : Type 0 where
+  pub newer : List Outputs
+  pub older : List Outputs
+  pub split : given ≡ newer ++ second ∷ older
+  pub before : In first older

@@ -14,7 +14,9 @@ mod tables;
 mod ticks;
 
 pub use attempts::{a_grant_is_exact, a_grant_is_judged, a_response_is_exact};
-pub use clusters::{a_cluster_of_nodes_runs, one_fate_is_given_out};
+pub use clusters::{
+    a_cluster_of_nodes_runs, no_attempt_is_granted_after_a_fate, one_fate_is_given_out,
+};
 pub use examples::{
     a_message_is_cancelled_alone, a_message_is_delivered_alone, a_message_is_taken_alone,
     a_node_of_three_waits_for_others, a_query_is_answered_alone,
