@@ -1,5 +1,5 @@
 -- A step that answers by a verdict is the model's.
-use Rattle.std.proofs.Common.{◌≡◌, ◌⊎◌, ℕ, Bool, true, false, List, [], ◌∷◌, map, Option, Some, None, refl, sym, ap, subst, ◌∙◌, inl, inr}
+use Rattle.std.proofs.Common.{◌≡◌, ℕ, Bool, true, List, [], ◌∷◌, map, Option, Some, None, refl, sym, ap, subst, ◌∙◌}
 use Rattle.std.proofs.Math.Path.{fun_ext}
 use Rattle.std.specs.Prelude.{IfOk, Result, Ok, Err, option_map, if◌then◌else◌}
 use Rattle.std.specs.Option.{unwrap_or}
@@ -15,12 +15,10 @@ use Rattle.node_model.specs.Outputs.{Stepped, leaves, nothing}
 use Rattle.node_model.specs.Packets.{if_member, is_member, judged}
 use Rattle.node_model.proofs.Records.{same_record}
 use Rattle.shelf.specs.Shelved.{value_at, with_value}
-use Rattle.synod_acceptor.specs.Packets.{packet_of}
 use Rattle.synod_acceptor.specs.Records.{record_at}
 use Rattle.synod_acceptor.specs.Verdicts.{Changes}
-use Rattle.synod_acceptor.specs.Votes.{record_of, slot_recorded}
+use Rattle.synod_acceptor.specs.Votes.{record_of}
 use Rattle.synod_acceptor.specs.declared.acceptor.Verdict.{Verdict}
-use Rattle.synod_acceptor.specs.declared.packet.Packet.{Packet as Cast}
 use Rattle.synod_acceptor.specs.declared.record.Change.{Change}
 use Rattle.synod_learner.specs.Counts.{Learned}
 use Rattle.synod_proposer.specs.Proposing.{Proposing}
@@ -29,7 +27,7 @@ use Rattle.node_core.specs.declared.message.Message.{Message as Filed}
 use Rattle.node_core.specs.declared.step.Step.{Step}
 use Rattle.node_core.specs.Keeping.{AreOf, IsTaken, acceptor_in, filed_as, kept_of, kept_with, records_of}
 use Rattle.node_core.specs.Messages.{IsJudged, IsOf, changed_by, message_of}
-use Rattle.node_core.specs.Steps.{IsAnswer, IsStep, entries_after}
+use Rattle.node_core.specs.Steps.{IsAnswer, IsStep}
 use Rattle.node_core.proofs.Entries.{message_looked_up, message_put, own_at, own_put, records_put}
 
 -- ---- a message that is taken out
@@ -109,9 +107,7 @@ module _ (k : Holding) (slot : Slot) (taken new : Filed) (judgement : SlotRecord
   pub answered : IsStep k (judged (kept_of k) slot Judged) step
   answered = record {
     kept = ap (λ (es : List (ℕ × Filed)). kept_with k.setup k.incarnation es) is_answer.entries ∙ kept_then;
-    outputs =
-        ap (λ (packets : List Cast). record nothing { packets = map packet_of packets }) is_answer.outputs
-        ∙ ap (λ (packet : Packet). record nothing { packets = packet ∷ [] }) (is_judged.answer ∙ ap (λ (j : Judgement). j.answer) judged_here);
+    outputs = is_answer.outputs ∙ ap (λ (packet : Packet). record nothing { packets = packet ∷ [] }) (is_judged.answer ∙ ap (λ (j : Judgement). j.answer) judged_here);
     saves = λ other.
         ap (λ (es : List (ℕ × Filed)). records_of es other) is_answer.entries
         ∙ records_then other

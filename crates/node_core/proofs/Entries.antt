@@ -1,17 +1,16 @@
 -- The messages that the code keeps, as a list of the model's, and their records.
-use Rattle.std.proofs.Common.{◌≡◌, ◌⊎◌, ℕ, Bool, true, false, cond, List, [], ◌∷◌, map, Option, Some, None, refl, sym, ap, subst, ◌∙◌, inl, inr, arith}
+use Rattle.std.proofs.Common.{◌≡◌, ℕ, Bool, true, false, cond, List, [], ◌∷◌, map, Option, Some, refl, sym, ap, subst, ◌∙◌, inl, inr, arith}
 use Rattle.std.specs.Prelude.{◌==◌, option_map, if◌then◌else◌}
-use Rattle.std.specs.Option.{unwrap_or}
 use Rattle.std.specs.Map.{lookup}
 use Rattle.std.specs.Ordering.{is_eq, nat_cmp, match_ordering}
 use Rattle.std.specs.declared.cmp.Ordering.{Ordering}
 use Rattle.std.specs.declared.cmp.Ordering.TheVariants.{Less, Equal, Greater}
 use Rattle.std.specs.BTreeMap.{insert_entry, is_at}
-use Rattle.std.proofs.lemmas.Bool.{and_parts, cases_Bool, eq-eqb, eqb-false, true≢false}
+use Rattle.std.proofs.lemmas.Bool.{and_parts, cases_Bool, eq-eqb, true≢false}
 use Rattle.std.proofs.lemmas.Bool.Decides.{Decides-eqb, nat_tests}
 use Rattle.mc_model.specs.synod.Packet.{Slot, same_slot, slot_at}
-use Rattle.mc_model.specs.synod.Acceptor.{Records, SlotRecord, with_record}
-use Rattle.node_model.specs.Message.{Message, unseen}
+use Rattle.mc_model.specs.synod.Acceptor.{SlotRecord, with_record}
+use Rattle.node_model.specs.Message.{Message}
 use Rattle.mc_model.specs.node.Setup.{Setup}
 use Rattle.node_model.proofs.Records.{same_record}
 use Rattle.node_model.proofs.Places.{here, elsewhere}

@@ -8,11 +8,11 @@ use Rattle.std.specs.BTreeMap.{insert_entry}
 use Rattle.mc_model.specs.synod.Ballot.{incarnation_in, proposer_of}
 use Rattle.mc_model.specs.synod.OneSlot.{Vote}
 use Rattle.mc_model.specs.synod.Packet.{Packet, Propose, Slot, slot_at}
-use Rattle.mc_model.specs.node.Outputs.{Outputs}
+use Rattle.mc_model.specs.node.Outputs.{Receipt}
 use Rattle.mc_model.specs.node.Setup.{Setup}
 use Rattle.node_model.specs.Kept.{Kept, message_at, with_message}
 use Rattle.node_model.specs.Message.{Message, Round}
-use Rattle.node_model.specs.Outputs.{Stepped, leaves, nothing, sends}
+use Rattle.node_model.specs.Outputs.{Stepped, leaves, sends}
 use Rattle.node_model.specs.Packets.{on_promise, on_refused, promised_in, proposals}
 use Rattle.node_model.specs.Proposer.{completes, is_own_ballot, offered, promised_by, refused, runs_at}
 use Rattle.synod_acceptor.specs.Packets.{packet_of}
@@ -25,12 +25,13 @@ use Rattle.node_core.specs.declared.kept.Kept.{Kept as Holding}
 use Rattle.node_core.specs.declared.message.Message.{Message as Filed}
 use Rattle.node_core.specs.declared.step.Step.{Step}
 use Rattle.node_core.specs.Keeping.{AreOf, AreOwn, IsTaken, filed_as, kept_of, kept_with, records_of}
-use Rattle.node_core.specs.Messages.{IsOf, IsOfSame, IsPromised, IsRefused, changed_by, message_of}
-use Rattle.node_core.specs.Steps.{IsLeft, IsStep, packets_in}
+use Rattle.node_core.specs.Messages.{IsOfSame, IsPromised, IsRefused, changed_by, message_of}
+use Rattle.node_core.specs.Steps.{IsLeft, IsStep}
+use Rattle.node_core.specs.Lists.{listed}
 use Rattle.node_core.proofs.Entries.{message_put, own_put, records_kept}
 
-module _ (k : Holding) (id : ℕ) (taken new : Filed) (to : Message) (packets : List Packet) (step : Step)
-    (is_taken : IsTaken k id taken) (same : IsOfSame taken new) (is : message_of id new ≡ to) (is_left : IsLeft k id new packets step) where
+module _ (k : Holding) (id : ℕ) (taken new : Filed) (to : Message) (packets : List Packet) (receipts : List Receipt) (step : Step)
+    (is_taken : IsTaken k id taken) (same : IsOfSame taken new) (is : message_of id new ≡ to) (is_left : IsLeft k id new packets receipts step) where
   abbrev Entries : List (ℕ × Filed)
   Entries = k.messages.entries
 
@@ -43,7 +44,7 @@ module _ (k : Holding) (id : ℕ) (taken new : Filed) (to : Message) (packets : 
     messages = (message_put Entries id new ∙ ap (λ (m : Message). insert_entry nat_cmp (map filed_as Entries) id m) is) i;
   }
 
-  pub left : IsStep k (sends (with_message (kept_of k) id to) packets [] []) step
+  pub left : IsStep k (sends (with_message (kept_of k) id to) packets [] receipts) step
   left = record {
     kept = ap (λ (es : List (ℕ × Filed)). kept_with k.setup k.incarnation es) is_left.entries ∙ kept_then;
     outputs = is_left.outputs;
@@ -58,13 +59,13 @@ module _ (k : Holding) (id : ℕ) (taken new : Filed) (to : Message) (packets : 
 
 -- ---- a refusal
 
-pub refused_own : (k : Holding) (slot : Slot) (ballot promised : ℕ) (taken new : Filed) (step : Step) → AreOwn k → is_own_ballot k.setup (kept_of k) ballot ≡ true → IsTaken k slot.id taken → IsRefused taken slot ballot promised new → IsLeft k slot.id new [] step → IsStep k (on_refused k.setup (kept_of k) slot ballot promised) step
+pub refused_own : (k : Holding) (slot : Slot) (ballot promised : ℕ) (taken new : Filed) (step : Step) → AreOwn k → is_own_ballot k.setup (kept_of k) ballot ≡ true → IsTaken k slot.id taken → IsRefused taken slot ballot promised new → IsLeft k slot.id new [] [] step → IsStep k (on_refused k.setup (kept_of k) slot ballot promised) step
 refused_own k slot ballot promised taken new step own test is_taken is_refused is_left =
     let of = is_taken.own own in
     let also : is_own taken.proposer ballot ≡ true = (λ i. (proposer_of ballot == of.node i) && (incarnation_in ballot == of.incarnation i)) ∙ test in
     let message = is_refused.message slot.id also ∙ ap (λ (m : Message). refused m slot ballot promised) is_taken.message in
     subst (λ (s : Stepped). IsStep k s step) (sym (ap (λ (b : Bool). if b then leaves (with_message (kept_of k) slot.id (refused (message_at (kept_of k) slot.id) slot ballot promised)) else leaves (kept_of k)) test))
-    (left k slot.id taken new (refused (message_at (kept_of k) slot.id) slot ballot promised) [] step is_taken is_refused.same message is_left)
+    (left k slot.id taken new (refused (message_at (kept_of k) slot.id) slot ballot promised) [] [] step is_taken is_refused.same message is_left)
 
 pub refused_other : (k : Holding) (slot : Slot) (ballot promised : ℕ) (step : Step) → is_own_ballot k.setup (kept_of k) ballot ≡ false → IsStep k (leaves (kept_of k)) step → IsStep k (on_refused k.setup (kept_of k) slot ballot promised) step
 refused_other k slot ballot promised step test is =
@@ -83,25 +84,25 @@ promised_elsewhere k sender slot ballot report step test is =
     subst (λ (s : Stepped). IsStep k s step) (sym (promise_ignored k.setup (kept_of k) m m.round sender slot ballot report test)) is
 
 proposal_is : (setup : Setup) (r : Round) (sender : ℕ) (report : Option Vote) (test : Bool) →
-    packets_in (if test then Some (Propose setup.node r.slot (offered (promised_by r sender report))) else None) ≡ (if test then Propose setup.node r.slot (offered (promised_by r sender report)) ∷ [] else [])
+    listed (if test then Some (Propose setup.node r.slot (offered (promised_by r sender report))) else None) ≡ (if test then Propose setup.node r.slot (offered (promised_by r sender report)) ∷ [] else [])
 proposal_is setup r sender report true = refl
 proposal_is setup r sender report false = refl
 
 promise_counted : (setup : Setup) (k : Kept) (m : Message) (round : Option Round) (sender : ℕ) (slot : Slot) (ballot : ℕ) (report : Option Vote) → runs_at round slot ballot ≡ true →
-    sends (with_message k slot.id (record m { round = option_map (λ r. promised_by r sender report) round })) (packets_in (proposed_in setup.node setup.nodes round sender report)) [] [] ≡ promised_in setup k m round sender slot ballot report
+    sends (with_message k slot.id (record m { round = option_map (λ r. promised_by r sender report) round })) (listed (proposed_in setup.node setup.nodes round sender report)) [] [] ≡ promised_in setup k m round sender slot ballot report
 promise_counted setup k m None sender slot ballot report test = absurd (true≢false (sym test))
 promise_counted setup k m (Some r) sender slot ballot report test =
     ap (λ (packets : List Packet). sends (with_message k slot.id (record m { round = Some (promised_by r sender report) })) packets [] []) (proposal_is setup r sender report (completes setup.nodes r sender))
     ∙ sym (ap (λ (b : Bool). if b then sends (with_message k slot.id (record m { round = Some (promised_by r sender report) })) (proposals setup r sender report) [] [] else leaves k) test)
 
-pub promised_here : (k : Holding) (sender : ℕ) (slot : Slot) (ballot : ℕ) (report : Option Vote) (taken new : Filed) (packet : Option Cast) (step : Step) → AreOwn k → runs_at (message_at (kept_of k) slot.id).round slot ballot ≡ true → IsTaken k slot.id taken → IsPromised taken sender ballot slot report new packet → IsLeft k slot.id new (packets_in (option_map packet_of packet)) step → IsStep k (on_promise k.setup (kept_of k) sender slot ballot report) step
+pub promised_here : (k : Holding) (sender : ℕ) (slot : Slot) (ballot : ℕ) (report : Option Vote) (taken new : Filed) (packet : Option Cast) (step : Step) → AreOwn k → runs_at (message_at (kept_of k) slot.id).round slot ballot ≡ true → IsTaken k slot.id taken → IsPromised taken sender ballot slot report new packet → IsLeft k slot.id new (listed (option_map packet_of packet)) [] step → IsStep k (on_promise k.setup (kept_of k) sender slot ballot report) step
 promised_here k sender slot ballot report taken new packet step own test is_taken is_promised is_left =
     let m = message_at (kept_of k) slot.id in
     let of = is_taken.own own in
     let runs : runs_at (message_of slot.id taken).round slot ballot ≡ true = ap (λ (n : Message). runs_at n.round slot ballot) is_taken.message ∙ test in
     let message = is_promised.message slot.id runs ∙ ap (λ (n : Message). counted_in n sender report) is_taken.message in
     let packets : option_map packet_of packet ≡ proposed_in k.setup.node k.setup.nodes m.round sender report =
-        is_promised.proposes slot.id runs ∙ (λ i. proposed_in (of.node i) (of.proposer i) (is_taken.message i).round sender report) in
+    is_promised.proposes slot.id runs ∙ (λ i. proposed_in (of.node i) (of.proposer i) (is_taken.message i).round sender report) in
     subst (λ (s : Stepped). IsStep k s step) (promise_counted k.setup (kept_of k) m m.round sender slot ballot report test)
-    (left k slot.id taken new (counted_in m sender report) (packets_in (proposed_in k.setup.node k.setup.nodes m.round sender report)) step is_taken is_promised.same message
-    (subst (λ (p : Option Packet). IsLeft k slot.id new (packets_in p) step) packets is_left))
+    (left k slot.id taken new (counted_in m sender report) (listed (proposed_in k.setup.node k.setup.nodes m.round sender report)) [] step is_taken is_promised.same message
+    (subst (λ (p : Option Packet). IsLeft k slot.id new (listed p) [] step) packets is_left))

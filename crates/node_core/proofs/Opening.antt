@@ -1,5 +1,5 @@
 -- What a node keeps that opens over the records of its store.
-use Rattle.std.proofs.Common.{◌≡◌, ◌⊎◌, ℕ, Bool, true, false, cond, List, [], ◌∷◌, ◌++◌, map, Option, Some, None, refl, sym, ap, subst, ◌∙◌, inl, inr, arith}
+use Rattle.std.proofs.Common.{◌≡◌, ℕ, Bool, true, false, cond, List, [], ◌∷◌, ◌++◌, map, Option, Some, None, refl, sym, ap, subst, ◌∙◌, inl, inr, arith}
 use Rattle.std.specs.Prelude.{if◌then◌else◌}
 use Rattle.std.specs.Option.{unwrap_or}
 use Rattle.std.proofs.Math.Path.{fun_ext}
@@ -16,8 +16,7 @@ use Rattle.mc_model.specs.synod.Packet.{Slot, same_slot, slot_at}
 use Rattle.mc_model.specs.synod.Acceptor.{Records, SlotRecord, blank, with_record}
 use Rattle.mc_model.specs.node.Setup.{Setup}
 use Rattle.mc_parts.proofs.Membership.{slots_same}
-use Rattle.node_model.specs.Kept.{message_at}
-use Rattle.node_model.specs.Message.{Message, unseen}
+use Rattle.node_model.specs.Message.{unseen}
 use Rattle.node_model.specs.Stepped.{opened_over}
 use Rattle.shelf.specs.Shelved.{value_at, with_value}
 use Rattle.synod_acceptor.proofs.Slots.{is_same}
@@ -27,7 +26,7 @@ use Rattle.synod_acceptor.specs.declared.record.Record.{Record}
 use Rattle.node_core.specs.declared.kept.Kept.{Kept as Holding}
 use Rattle.node_core.specs.declared.life.Life.{Life}
 use Rattle.node_core.specs.declared.message.Message.{Message as Filed}
-use Rattle.node_core.specs.Keeping.{AreOf, AreOwn, AreUnseen, IsFiled, IsOpen, IsTaken, acceptor_in, filed_as, kept_of, records_of}
+use Rattle.node_core.specs.Keeping.{AreOf, AreOwn, AreUnseen, IsFiled, IsOpen, IsTaken, acceptor_in, filed_as, records_of}
 use Rattle.node_core.specs.Messages.{IsOf, message_of}
 use Rattle.node_core.specs.Nodes.{HasOpened, Standing}
 use Rattle.node_core.proofs.Entries.{own_put, records_put, same_key}
@@ -62,8 +61,8 @@ filed old new kept id taken m about is_taken records same of entries setup incar
   records = λ slot.
       ap (λ (es : List (ℕ × Filed)). records_of es slot) entries
       ∙ records_put old.messages.entries id m (slot_recorded kept) (record_of kept) (sym about)
-        (λ place. records (slot_at id place) ∙ ap (λ (r : SlotRecord). if same_slot (slot_at id place) (slot_recorded kept) then record_of kept else r) (is_taken.records place))
-        slot;
+      (λ place. records (slot_at id place) ∙ ap (λ (r : SlotRecord). if same_slot (slot_at id place) (slot_recorded kept) then record_of kept else r) (is_taken.records place))
+      slot;
   own = λ own. record {
     each = subst (λ (es : List (ℕ × Filed)). AreOf new.setup new.incarnation es) (sym entries)
         (subst (λ (s : Setup). AreOf s new.incarnation (with_value old.messages.entries id m)) (sym setup)

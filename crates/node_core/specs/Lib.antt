@@ -1,5 +1,7 @@
+pub mod Lists
 pub mod Messages
 pub mod Keeping
 pub mod Steps
 pub mod Pendings
 pub mod Nodes
+pub mod Voting

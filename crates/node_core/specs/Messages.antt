@@ -1,9 +1,10 @@
 -- What the code keeps of a message, as the node's model says it.
-use Rattle.std.specs.Prelude.{◌≡◌, ℕ, true, Option, Some, None, option_map}
+use Rattle.std.specs.Prelude.{◌≡◌, ℕ, Bool, true, Option, Some, None, option_map}
 use Rattle.mc_model.specs.synod.OneSlot.{Vote}
 use Rattle.mc_model.specs.synod.Packet.{Slot}
 use Rattle.mc_model.specs.synod.Acceptor.{Records, with_record}
 use Rattle.node_model.specs.Acceptor.{Judgement}
+use Rattle.node_model.specs.Learner.{heard, makes_known}
 use Rattle.node_model.specs.Message.{Message, unseen}
 use Rattle.node_model.specs.Proposer.{refused, runs_at}
 use Rattle.synod_acceptor.specs.declared.acceptor.Verdict.{Verdict}
@@ -12,8 +13,9 @@ use Rattle.synod_acceptor.specs.declared.record.Change.{Change}
 use Rattle.synod_acceptor.specs.Packets.{packet_of}
 use Rattle.synod_acceptor.specs.Records.{record_at}
 use Rattle.synod_acceptor.specs.Verdicts.{Changes}
-use Rattle.synod_acceptor.specs.Votes.{record_of, slot_recorded}
-use Rattle.synod_learner.specs.Hearing.{message_in}
+use Rattle.synod_acceptor.specs.Votes.{record_of, slot_recorded, vote_of}
+use Rattle.synod_acceptor.specs.declared.vote.Vote.{Vote as Cast}
+use Rattle.synod_learner.specs.Hearing.{known_if, message_in}
 use Rattle.synod_proposer.specs.Proposing.{counted_in, is_own, message_of as message_proposed, proposed_in}
 use Rattle.node_core.specs.declared.message.Message.{Message as Filed}
 
@@ -50,6 +52,12 @@ pub record IsPromised (old : Filed) (sender ballot : ℕ) (slot : Slot) (report 
 pub record IsRefused (old : Filed) (slot : Slot) (ballot promised : ℕ) (new : Filed) : Type 0 where
   pub same : IsOfSame old new
   pub message : (id : ℕ) → is_own old.proposer ballot ≡ true → message_of id new ≡ refused (message_of id old) slot ballot promised
+
+-- A vote is counted; its chain is known from then on, or not.
+pub record IsHeard (old : Filed) (sender : ℕ) (vote : Cast) (new : Filed) (grows : Bool) : Type 0 where
+  pub same : IsOfSame old new
+  pub decides : grows ≡ makes_known old.learner.nodes (heard (message_of vote.chain.id old) sender (vote_of vote)) (vote_of vote)
+  pub message : message_of vote.chain.id new ≡ known_if grows (heard (message_of vote.chain.id old) sender (vote_of vote)) vote.chain.decrees
 
 -- the records after a change, if there is one
 abbrev pub changed_by : Option Change → Records → Records

@@ -1,13 +1,13 @@
 -- A step of the code, as a step of the node's model.
 use Rattle.std.specs.Prelude.{◌≡◌, ℕ, ◌<◌, ◌-◌, max, List, [], ◌∷◌, length, map, Option, Some, None}
 use Rattle.std.specs.Box.{box_value}
-use Rattle.mc_model.specs.synod.Packet.{Ask, Packet, Prepare, Promise, Propose, Refused, Slot, Tell}
+use Rattle.mc_model.specs.message.Chain.{Chain}
+use Rattle.mc_model.specs.synod.Packet.{Packet, Slot}
 use Rattle.mc_model.specs.node.Input.{Delivery, Input}
-use Rattle.mc_model.specs.node.Outputs.{Outputs}
+use Rattle.mc_model.specs.node.Outputs.{Outputs, Receipt}
 use Rattle.node_model.specs.Outputs.{Stepped, nothing}
 use Rattle.shelf.specs.Shelved.{Shelved, value_at, with_value}
 use Rattle.synod_acceptor.specs.Packets.{packet_of}
-use Rattle.synod_acceptor.specs.Votes.{report_of, slot_in, slot_reported, told_vote, vote_of}
 use Rattle.synod_acceptor.specs.declared.acceptor.Verdict.{Verdict}
 use Rattle.node_core.specs.declared.input.Input.{Input as Given}
 use Rattle.node_core.specs.declared.input.Input.TheVariants as given
@@ -20,20 +20,15 @@ use Rattle.node_core.specs.Keeping.{AreOf, AreOwn, kept_with, records_of}
 use Rattle.node_core.specs.Messages.{changed_by}
 
 -- what comes to the code
-abbrev pub packet_in : Given → Packet
-packet_in (given.Prepare from slot ballot) = Prepare from slot ballot
-packet_in (given.Propose from vote) = Propose from (slot_in vote) (vote_of vote)
-packet_in (given.Ask from id name) = Ask from id name
-packet_in (given.Promise from ballot report) = Promise from (slot_reported report) ballot (report_of report)
-packet_in (given.Refused from slot ballot promised) = Refused from slot ballot promised
-packet_in (given.Tell from name told) = Tell from name (told_vote told)
-
 abbrev pub input_of : Given → Input
-input_of input = Delivery (packet_in input)
+input_of (given.Packet packet) = Delivery (packet_of packet)
 
--- what it gives out
+-- what it gives out, receipts by the chains of their messages
+abbrev pub receipt_of : Chain → Receipt
+receipt_of chain = record { id = chain.id; chain = chain.decrees }
+
 abbrev pub outputs_of : Sent → Outputs
-outputs_of o = record nothing { packets = map packet_of o.packets.items }
+outputs_of o = record nothing { packets = map packet_of o.packets.items; receipts = map receipt_of o.receipts.items }
 
 -- ---- what a step keeps
 
@@ -63,19 +58,14 @@ pub record IsStep (k : Holding) (to : Stepped) (step : Step) : Type 0 where
 
 -- it answers by a verdict, and keeps this message
 pub record IsAnswer (k : Holding) (id : ℕ) (m : Filed) (verdict : Verdict) (step : Step) : Type 0 where
-  pub outputs : step.outputs.packets.items ≡ verdict.answer ∷ []
+  pub outputs : outputs_of step.outputs ≡ record nothing { packets = packet_of verdict.answer ∷ [] }
   pub change : step.change ≡ verdict.change
   pub entries : entries_after k.messages.entries step.next ≡ with_value k.messages.entries id m
   pub room : HasRoom k.messages step.next
 
--- at most one packet
-abbrev pub packets_in : Option Packet → List Packet
-packets_in None = []
-packets_in (Some packet) = packet ∷ []
-
--- it sends these packets, saves nothing, and keeps this message
-pub record IsLeft (k : Holding) (id : ℕ) (m : Filed) (packets : List Packet) (step : Step) : Type 0 where
-  pub outputs : outputs_of step.outputs ≡ record nothing { packets = packets }
+-- it sends these packets and writes these receipts, saves nothing, and keeps this message
+pub record IsLeft (k : Holding) (id : ℕ) (m : Filed) (packets : List Packet) (receipts : List Receipt) (step : Step) : Type 0 where
+  pub outputs : outputs_of step.outputs ≡ record nothing { packets = packets; receipts = receipts }
   pub change : step.change ≡ None
   pub entries : entries_after k.messages.entries step.next ≡ with_value k.messages.entries id m
   pub room : HasRoom k.messages step.next

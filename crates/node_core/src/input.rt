@@ -2,64 +2,29 @@
 
 ghost use Rattle.std.specs.Prelude.{◌≡◌};
 ghost use Rattle.node_model.specs.Stepped.{sender_of};
-ghost use Rattle.node_core.specs.Steps.{packet_in};
+ghost use Rattle.synod_acceptor.specs.Packets.{packet_of};
 
-use mc_types::{Ballot, MsgId, NodeNo, Slot};
-use synod_acceptor::{Name, Report, Vote};
+use mc_types::NodeNo;
+use synod_acceptor::Packet;
 
-/// A packet that comes to a node, with its sender.
+/// What comes to a node.
 #[derive(Debug, Drop)]
 pub enum Input {
-    /// A node asks for a promise at a ballot.
-    Prepare {
-        from: NodeNo,
-        slot: Slot,
-        ballot: Ballot,
-    },
-    /// A node asks for a vote.
-    Propose {
-        from: NodeNo,
-        vote: Vote,
-    },
-    /// A node asks how far the chain of a message has come.
-    Ask {
-        from: NodeNo,
-        id: MsgId,
-        name: Name,
-    },
-    /// A node promises to vote below the ballot no more, and reports the vote of the slot.
-    Promise {
-        from: NodeNo,
-        ballot: Ballot,
-        report: Report,
-    },
-    /// A node refuses what was asked at a ballot, for a promise at another.
-    Refused {
-        from: NodeNo,
-        slot: Slot,
-        ballot: Ballot,
-        promised: Ballot,
-    },
-    /// A node tells how far the chain of a message has come. No request waits, so nobody asked.
-    Tell {
-        from: NodeNo,
-        name: Name,
-        told: Option<Vote>,
-    },
+    /// A packet that a node sent, or that anybody made up.
+    Packet(Packet),
 }
 
-impl Input {
-    /// The node that sent it.
-    pub fn from(&self) -> NodeNo
-        ensures { result ≡ sender_of (packet_in self.now) }
-    {
-        match self {
-            Input::Prepare { from, .. }
-            | Input::Propose { from, .. }
-            | Input::Ask { from, .. }
-            | Input::Promise { from, .. }
-            | Input::Refused { from, .. }
-            | Input::Tell { from, .. } => *from,
-        }
+/// The node that sent a packet, as the packet says.
+pub fn sender(packet: &Packet) -> NodeNo
+    ensures { result ≡ sender_of (packet_of packet.now) }
+{
+    match packet {
+        Packet::Prepare { from, .. }
+        | Packet::Promise { from, .. }
+        | Packet::Propose { from, .. }
+        | Packet::Voted { from, .. }
+        | Packet::Refused { from, .. }
+        | Packet::Ask { from, .. }
+        | Packet::Tell { from, .. } => *from,
     }
 }

@@ -1,8 +1,10 @@
 //! What a node keeps.
 
-ghost use Rattle.std.specs.Prelude.{◌≡◌, [], None, IfOk, OnOk, option_map};
+ghost use Rattle.std.specs.Prelude.{◌≡◌, ◌&&◌, [], None, IfOk, OnOk, not, option_map};
 ghost use Rattle.std.specs.Option.{option_copied};
 ghost use Rattle.node_model.specs.Acceptor.{told_of};
+ghost use Rattle.fate_chain.specs.Kinds.{final_of};
+ghost use Rattle.node_model.specs.Answers.{is_asked};
 ghost use Rattle.node_model.specs.Outputs.{leaves};
 ghost use Rattle.node_model.specs.Kept.{message_at};
 ghost use Rattle.node_model.specs.Proposer.{is_own_ballot, runs_at};
@@ -12,14 +14,16 @@ ghost use Rattle.shelf.specs.Shelved.{value_at};
 ghost use Rattle.synod_acceptor.specs.Records.{entries_of, record_at};
 ghost use Rattle.synod_acceptor.specs.Votes.{report_of, slot_in, slot_reported, told_vote, vote_of};
 ghost use Rattle.node_core.specs.Keeping.{AreOwn, IsFiled, IsOpen, IsTaken, kept_of};
-ghost use Rattle.node_core.specs.Steps.{HasRoom, IsAnswer, IsLeft, IsNext, IsStep, entries_after, packet_in, packets_in};
+ghost use Rattle.node_core.specs.Lists.{listed};
+ghost use Rattle.node_core.specs.Voting.{id_concerns, receipt_if, voted_in};
+ghost use Rattle.node_core.specs.Steps.{HasRoom, IsAnswer, IsLeft, IsNext, IsStep, entries_after, receipt_of};
 
-use crate::input::Input;
-use crate::message::Message;
+use crate::input::sender;
+use crate::message::{Message, fate_in};
 use crate::outputs::Outputs;
 use crate::setup::Setup;
 use crate::step::{Next, Step};
-use fate_chain::Author;
+use fate_chain::{Author, Chain, Final, Submission};
 use mc_types::{Ballot, Incarnation, MsgId, NodeNo, Slot};
 use shelf::Shelf;
 use std::alloc::{AllocError, Global};
@@ -70,29 +74,30 @@ impl Kept {
 
     /// The step that a packet leads to. It changes nothing, and copies what is kept of the packet's message alone. An `Err` is want of
     /// memory.
-    pub fn step(&self, input: &Input) -> Result<Step, AllocError>
+    pub fn step(&self, packet: &Packet) -> Result<Step, AllocError>
         requires { AreOwn self.now }
-        ensures { IfOk result (IsStep self.now (on_packet self.now.setup (kept_of self.now) (packet_in input.now))) }
+        ensures { IfOk result (IsStep self.now (on_packet self.now.setup (kept_of self.now) (packet_of packet.now))) }
     {
-        if !self.is_member(input.from()) {
+        if !self.is_member(sender(packet)) {
             return Ok(self.same());
         }
-        match input {
-            Input::Prepare { slot, ballot, .. } => self.on_prepare(*slot, *ballot),
-            Input::Propose { vote, .. } => self.on_propose(vote),
-            Input::Ask { id, name, .. } => self.on_ask(*id, *name),
-            Input::Promise {
+        match packet {
+            Packet::Prepare { slot, ballot, .. } => self.on_prepare(*slot, *ballot),
+            Packet::Propose { vote, .. } => self.on_propose(vote),
+            Packet::Ask { id, name, .. } => self.on_ask(*id, *name),
+            Packet::Promise {
                 from,
                 ballot,
                 report,
             } => self.on_promise(*from, *ballot, report),
-            Input::Refused {
+            Packet::Refused {
                 slot,
                 ballot,
                 promised,
                 ..
             } => self.on_refused(*slot, *ballot, *promised),
-            Input::Tell { .. } => Ok(self.same()),
+            Packet::Voted { from, vote } => self.on_voted(*from, vote),
+            Packet::Tell { .. } => Ok(self.same()),
         }
     }
 
@@ -120,14 +125,13 @@ impl Kept {
     /// A step that does nothing.
     fn same(&self) -> Step
         ensures step { IsStep self.now (leaves (kept_of self.now)) result }
-        ensures outputs { result.outputs.packets.items ≡ [] }
+        ensures packets { result.outputs.packets.items ≡ [] }
+        ensures receipts { result.outputs.receipts.items ≡ [] }
         ensures change { result.change ≡ None }
         ensures next { result.next ≡ None }
     {
         Step {
-            outputs: Outputs {
-                packets: Vec::new(self.alloc),
-            },
+            outputs: Outputs::nothing(self.alloc),
             change: None,
             next: None,
         }
@@ -171,12 +175,7 @@ impl Kept {
     }
 
     /// What it does with a promise.
-    fn on_promise(
-        &self,
-        from: NodeNo,
-        ballot: Ballot,
-        report: &Report,
-    ) -> Result<Step, AllocError>
+    fn on_promise(&self, from: NodeNo, ballot: Ballot, report: &Report) -> Result<Step, AllocError>
         requires { AreOwn self.now }
         ensures { IfOk result (IsStep self.now (on_promise self.now.setup (kept_of self.now) from (slot_reported report.now) ballot (report_of report.now))) }
     {
@@ -187,7 +186,7 @@ impl Kept {
         }
         let mut message = self.taken(id)?;
         let packet = message.promised_by(from, ballot, report)?;
-        self.leave(id, message, packet)
+        self.leave(id, message, packet, None)
     }
 
     /// Whether a round of this slot, of the message of this id, runs at this ballot. It takes no memory.
@@ -198,6 +197,53 @@ impl Kept {
             Some(message) => message.runs_at(slot, ballot),
             None => false,
         }
+    }
+
+    /// What it does with a vote that is told.
+    fn on_voted(&self, from: NodeNo, vote: &Vote) -> Result<Step, AllocError>
+        requires { AreOwn self.now }
+        ensures { IfOk result (IsStep self.now (voted_in self.now.setup (kept_of self.now) from (slot_in vote.now) (vote_of vote.now))) }
+    {
+        let id = vote.chain.id();
+        if !self.concerns(id) {
+            return Ok(self.same());
+        }
+        let mut message = self.taken(id)?;
+        let had_fate = message.has_fate(id);
+        let grows = message.heard(from, vote)?;
+        let receipt = self.receipt(grows, had_fate, &vote.chain)?;
+        self.leave(id, message, None, receipt)
+    }
+
+    /// Whether votes on the message of an id concern it: of its own messages only those that it has taken do.
+    fn concerns(&self, id: MsgId) -> bool
+        ensures { result ≡ id_concerns self.now.setup (kept_of self.now) id }
+    {
+        id.node() != self.setup.node
+            || id.incarnation() < self.incarnation
+            || (id.incarnation() == self.incarnation && id.serial() < self.setup.first_serial)
+    }
+
+    /// The chain, once more, if it grows to have the first final state, and this node is to write a receipt of that.
+    fn receipt(
+        &self,
+        grows: bool,
+        had_fate: bool,
+        chain: &Chain,
+    ) -> Result<Option<Chain>, AllocError>
+        ensures { IfOk result (λ receipt. listed (option_map receipt_of receipt)
+            ≡ receipt_if (grows && not had_fate) self.now.setup.node chain.now.id chain.now.decrees) }
+    {
+        if !grows || had_fate {
+            return Ok(None);
+        }
+        let Some(last) = fate_in(chain) else {
+            return Ok(None);
+        };
+        if chain.id().node() != self.node() || !is_asked(last, chain.submission()) {
+            return Ok(None);
+        }
+        Ok(Some(chain.copy()?))
     }
 
     /// What it does with a refusal.
@@ -211,7 +257,7 @@ impl Kept {
         let id = slot.id;
         let mut message = self.taken(id)?;
         message.refused(slot, ballot, promised);
-        self.leave(id, message, None)
+        self.leave(id, message, None, None)
     }
 
     /// Whether the ballot is one of its own, of this incarnation.
@@ -282,31 +328,28 @@ impl Kept {
         ensures { IfOk result (IsAnswer self.now id message verdict) }
     {
         let next = self.next(id, message)?;
-        let mut packets = Vec::new(self.alloc);
-        packets.push(verdict.answer)?;
+        let outputs = Outputs::of(self.alloc, Some(verdict.answer), None)?;
         Ok(Step {
-            outputs: Outputs { packets },
+            outputs,
             change: verdict.change,
             next: Some(next),
         })
     }
 
-    /// The step that sends this packet, if there is one, and keeps this message under the id.
+    /// The step that sends this packet and writes this receipt, as far as there are any, and keeps this message under the id.
     fn leave(
         &self,
         id: MsgId,
         message: Message,
         packet: Option<Packet>,
+        receipt: Option<Chain>,
     ) -> Result<Step, AllocError>
-        ensures { IfOk result (IsLeft self.now id message (packets_in (option_map packet_of packet))) }
+        ensures { IfOk result (IsLeft self.now id message (listed (option_map packet_of packet)) (listed (option_map receipt_of receipt))) }
     {
         let next = self.next(id, message)?;
-        let mut packets = Vec::new(self.alloc);
-        if let Some(packet) = packet {
-            packets.push(packet)?;
-        }
+        let outputs = Outputs::of(self.alloc, packet, receipt)?;
         Ok(Step {
-            outputs: Outputs { packets },
+            outputs,
             change: None,
             next: Some(next),
         })
@@ -321,5 +364,16 @@ impl Kept {
             message: Box::new(self.alloc, message)?,
             room: self.messages.room(self.alloc, 1)?,
         })
+    }
+}
+
+/// Whether a receipt of this final state was asked for: of every one, or of every one but DELIVERED (SMPP 3.4, section 5.2.17).
+fn is_asked(last: Final, taken: &Submission) -> bool
+    ensures { result ≡ is_asked (final_of last) taken.now }
+{
+    match taken.registered_delivery % 4 {
+        1 => true,
+        2 => last != Final::Delivered,
+        _ => false,
     }
 }

@@ -1,17 +1,21 @@
 //! What a node keeps of one message.
 
-ghost use Rattle.std.specs.Prelude.{◌≡◌, ℕ, IfOk, OnOk};
+ghost use Rattle.std.specs.Prelude.{◌≡◌, ℕ, IfOk, OnOk, option_map};
 ghost use Rattle.std.specs.Option.{option_copied};
 ghost use Rattle.mc_model.specs.synod.Packet.{Slot as SlotValue};
 ghost use Rattle.mc_model.specs.synod.Acceptor.{blank, with_record};
 ghost use Rattle.node_model.specs.Acceptor.{prepare_judged, propose_judged, told_of};
 ghost use Rattle.node_model.specs.Message.{unseen};
-ghost use Rattle.node_model.specs.Proposer.{runs_at};
+ghost use Rattle.node_model.specs.Proposer.{runs_at, unless_reached};
+ghost use Rattle.node_model.specs.Answers.{had_fate};
+ghost use Rattle.mc_model.specs.message.Chain.{final_in};
+ghost use Rattle.fate_chain.specs.Kinds.{final_of};
+ghost use Rattle.synod_proposer.specs.Proposing.{IsOfSame as IsOfSameProposer, message_of as message_proposed};
 ghost use Rattle.synod_acceptor.specs.Records.{record_at};
 ghost use Rattle.synod_acceptor.specs.Votes.{record_of, report_of, slot_in, slot_recorded, slot_reported, told_vote, vote_of};
-ghost use Rattle.node_core.specs.Messages.{IsJudged, IsOf, IsPromised, IsRefused, changed_by, message_of};
+ghost use Rattle.node_core.specs.Messages.{IsHeard, IsJudged, IsOf, IsPromised, IsRefused, changed_by, message_of};
 
-use fate_chain::Author;
+use fate_chain::{Author, Chain, Final, Kind};
 use mc_types::{Ballot, MsgId, NodeNo, Slot};
 use std::alloc::{AllocError, Global};
 use synod_acceptor::{Acceptor, Change, Packet, Record, Report, Verdict, Vote};
@@ -86,6 +90,28 @@ impl Message {
         self.proposer.on_promise(from, ballot, report)
     }
 
+    /// Counts a vote that a node tells of. `true` if its chain is known from then on; then a round that it reaches ends. An `Err` is want
+    /// of memory, after which the message is worth nothing.
+    pub fn heard(&mut self, from: NodeNo, vote: &Vote) -> Result<bool, AllocError>
+        ensures { IfOk result (IsHeard self.old from vote.now self.new) }
+    {
+        let grows = self.learner.on_vote(from, vote)?;
+        if grows {
+            end_reached(&mut self.proposer, &vote.chain);
+        }
+        Ok(grows)
+    }
+
+    /// Whether a final state of the message of this id is known. It takes no memory.
+    pub fn has_fate(&self, id: MsgId) -> bool
+        ensures { result ≡ had_fate (message_of id self.now).known }
+    {
+        match self.learner.known(id) {
+            Some(chain) => fate_in(chain).is_some(),
+            None => false,
+        }
+    }
+
     /// Takes in that a ballot was refused for a promise at another; one of another node or incarnation changes nothing. It takes no
     /// memory.
     pub fn refused(&mut self, slot: Slot, ballot: Ballot, promised: Ballot)
@@ -134,4 +160,28 @@ fn take_in(acceptor: &mut Acceptor, change: &Option<Change>) -> Result<(), Alloc
     let after = change.after.copy()?;
     acceptor.apply(Change { after })?;
     Ok(())
+}
+
+/// Ends the round that runs, if the chain reaches its place. It takes no memory.
+fn end_reached(proposer: &mut Proposer, chain: &Chain)
+    ensures round { (message_proposed proposer.new).round ≡ unless_reached chain.now.decrees (message_proposed proposer.old).round }
+    ensures seen { proposer.new.seen ≡ proposer.old.seen }
+    ensures same { IsOfSameProposer proposer.old proposer.new }
+{
+    let Some(slot) = proposer.running() else {
+        return;
+    };
+    if slot.place <= chain.place() {
+        proposer.drop_round();
+    }
+}
+
+/// The final state of a chain, if it has one.
+pub fn fate_in(chain: &Chain) -> Option<Final>
+    ensures { option_map final_of result ≡ final_in chain.now.decrees }
+{
+    match &chain.newest().kind {
+        Kind::Fate(last, _) => Some(*last),
+        _ => None,
+    }
 }

@@ -60,10 +60,9 @@ impl<S: StableStore> Node<S> {
         ensures broken { IsErrOf result Broken ↔ (self.now.broken ≡ true) }
         ensures faults { IfErr result (λ fault. (fault ≡ Broken) ⊎ (fault ≡ Memory)) }
     {
-        if self.broken {
-            return Err(StepFault::Broken);
-        }
-        let step = self.kept.step(&input)?;
+        self.judge()?;
+        let Input::Packet(packet) = &input;
+        let step = self.kept.step(packet)?;
         Ok(Pending {
             input,
             step,
@@ -81,9 +80,7 @@ impl<S: StableStore> Node<S> {
         ensures memory { IsErrOf result Memory → self.new ≡ self.old }
         ensures device { IsErrOf result Device → self.new ≡ record self.old { broken = true } }
     {
-        if self.broken {
-            return Err(StepFault::Broken);
-        }
+        self.judge()?;
         let Step {
             outputs,
             change,
@@ -100,6 +97,17 @@ impl<S: StableStore> Node<S> {
             }
             Err(fault) => Err(fault),
         }
+    }
+
+    /// Broken exactly if a save failed before. It takes no memory.
+    fn judge(&self) -> Result<(), StepFault>
+        ensures broken { IsErrOf result Broken ↔ (self.now.broken ≡ true) }
+        ensures faults { IfErr result (λ fault. fault ≡ Broken) }
+    {
+        if self.broken {
+            return Err(StepFault::Broken);
+        }
+        Ok(())
     }
 
     /// The store, once the node is done with.

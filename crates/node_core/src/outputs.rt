@@ -1,5 +1,10 @@
 //! What a step gives out.
 
+ghost use Rattle.std.specs.Prelude.{◌≡◌, [], IfOk};
+ghost use Rattle.node_core.specs.Lists.{listed};
+
+use fate_chain::Chain;
+use std::alloc::{AllocError, Global};
 use synod_acceptor::Packet;
 
 /// What a step gives out, the oldest first.
@@ -7,4 +12,38 @@ use synod_acceptor::Packet;
 pub struct Outputs {
     /// The packets that it sends, each to all nodes.
     pub packets: Vec<Packet>,
+    /// For each receipt that is due, the chain of its message.
+    pub receipts: Vec<Chain>,
+}
+
+impl Outputs {
+    /// Nothing. It takes no memory.
+    pub(crate) fn nothing(alloc: Global) -> Outputs
+        ensures packets { result.packets.items ≡ [] }
+        ensures receipts { result.receipts.items ≡ [] }
+    {
+        Outputs {
+            packets: Vec::new(alloc),
+            receipts: Vec::new(alloc),
+        }
+    }
+
+    /// A packet and a receipt, as far as there are any.
+    pub(crate) fn of(
+        alloc: Global,
+        packet: Option<Packet>,
+        receipt: Option<Chain>,
+    ) -> Result<Outputs, AllocError>
+        ensures packets { IfOk result (λ outputs. outputs.packets.items ≡ listed packet) }
+        ensures receipts { IfOk result (λ outputs. outputs.receipts.items ≡ listed receipt) }
+    {
+        let mut outputs = Outputs::nothing(alloc);
+        if let Some(packet) = packet {
+            outputs.packets.push(packet)?;
+        }
+        if let Some(chain) = receipt {
+            outputs.receipts.push(chain)?;
+        }
+        Ok(outputs)
+    }
 }

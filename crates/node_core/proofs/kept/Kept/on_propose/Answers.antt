@@ -1,4 +1,3 @@
-use Rattle.std.proofs.Common.{◌≡◌, ap}
 use Rattle.std.proofs.lemmas.Result.{IfOk-weaker}
 use Rattle.node_model.specs.Acceptor.{propose_judged}
 use Rattle.synod_acceptor.specs.Votes.{slot_in, vote_of}
