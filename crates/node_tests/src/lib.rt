@@ -1,0 +1,9 @@
+//! Tests of one node. The crate tested has none of its own, so that it is proved once.
+#![tactic(auto)]
+
+#[cfg(test)]
+mod opening;
+#[cfg(test)]
+mod packets;
+#[cfg(test)]
+mod values;
