@@ -42,21 +42,25 @@ taken_there k id m found = record {
 pub none_kept : (k : Holding) (id : ℕ) → value_at k.messages.entries id ≡ None → message_at (kept_of k) id ≡ unseen
 none_kept k id none = ap (λ (o : Option Message). unwrap_or o unseen) (message_looked_up k.messages.entries id ∙ ap (λ (o : Option Filed). option_map (message_of id) o) none)
 
-pub taken_fresh : (k : Holding) (id : ℕ) (m : Filed) → value_at k.messages.entries id ≡ None → message_of id m ≡ unseen → ((slot : Slot) → record_at m.acceptor slot ≡ blank) → IsOf k.setup.node k.incarnation k.setup.nodes m → IsTaken k id m
+pub taken_fresh : (k : Holding) (id : ℕ) (m : Filed) → value_at k.messages.entries id ≡ None → message_of id m ≡ unseen →
+    ((slot : Slot) → record_at m.acceptor slot ≡ blank) → IsOf k.setup.node k.incarnation k.setup.nodes m → IsTaken k id m
 taken_fresh k id m none is empty of = record {
   own = λ own. of;
   message = is ∙ sym (none_kept k id none);
   records = λ place. empty (slot_at id place) ∙ ap (λ (o : Option Filed). record_at (acceptor_in o) (slot_at id place)) (sym none);
 }
 
-pub fresh_taken : {E : Type 0} (k : Holding) (id : ℕ) (result : Result Filed E) → value_at k.messages.entries id ≡ None → IfOk result (λ m. (slot : Slot) → record_at m.acceptor slot ≡ blank) → IfOk result (λ m. (id : ℕ) → message_of id m ≡ unseen) → IfOk result (IsOf k.setup.node k.incarnation k.setup.nodes) → IfOk result (IsTaken k id)
+pub fresh_taken : {E : Type 0} (k : Holding) (id : ℕ) (result : Result Filed E) → value_at k.messages.entries id ≡ None →
+    IfOk result (λ m. (slot : Slot) → record_at m.acceptor slot ≡ blank) → IfOk result (λ m. (id : ℕ) → message_of id m ≡ unseen) →
+    IfOk result (IsOf k.setup.node k.incarnation k.setup.nodes) → IfOk result (IsTaken k id)
 fresh_taken k id (Ok m) none records is of = taken_fresh k id m none (is id) records of
 fresh_taken k id (Err e) none records is of = tt
 
 -- ---- a verdict
 
 -- the records after its change are those that it leaves
-changed_is : (records : Records) (slot : Slot) (after : SlotRecord) (change : Option Change) → Changes slot (records slot) after change → (other : Slot) → changed_by change records other ≡ with_record records slot after other
+changed_is : (records : Records) (slot : Slot) (after : SlotRecord) (change : Option Change) → Changes slot (records slot) after change →
+    (other : Slot) → changed_by change records other ≡ with_record records slot after other
 changed_is records slot after None same other = same_record records slot other ∙ ap (λ (r : SlotRecord). with_record records slot r other) (sym same)
 changed_is records slot after (Some change) is other =
     ap (λ (s : Slot). with_record records s (record_of change.after) other) is.0 ∙ ap (λ (r : SlotRecord). with_record records slot r other) is.1

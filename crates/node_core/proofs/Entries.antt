@@ -30,7 +30,8 @@ same_key id key is = at_order (nat_cmp id key) refl is
     at_order Equal order is = grind (arith, nat_tests)
     at_order Greater order is = absurd (true≢false (sym is))
 
-pub message_looked_up : (entries : List (ℕ × Filed)) (id : ℕ) → lookup (is_at (nat_cmp id)) (map filed_as entries) ≡ option_map (message_of id) (value_at entries id)
+pub message_looked_up : (entries : List (ℕ × Filed)) (id : ℕ) →
+    lookup (is_at (nat_cmp id)) (map filed_as entries) ≡ option_map (message_of id) (value_at entries id)
 message_looked_up [] id = refl
 message_looked_up (e ∷ es) id = by_test (is_at (nat_cmp id) e.0) refl (message_looked_up es id)
   where
@@ -41,7 +42,8 @@ message_looked_up (e ∷ es) id = by_test (is_at (nat_cmp id) e.0) refl (message
 
 -- ---- a message in the place of what was kept of its id
 
-pub message_put : (entries : List (ℕ × Filed)) (id : ℕ) (m : Filed) → map filed_as (with_value entries id m) ≡ insert_entry nat_cmp (map filed_as entries) id (message_of id m)
+pub message_put : (entries : List (ℕ × Filed)) (id : ℕ) (m : Filed) →
+    map filed_as (with_value entries id m) ≡ insert_entry nat_cmp (map filed_as entries) id (message_of id m)
 message_put [] id m = refl
 message_put (e ∷ es) id m = at_order (nat_cmp id e.0) refl (message_put es id m)
   where
@@ -80,25 +82,31 @@ records_put entries id m slot after of is other = elim (cases_Bool (other.id == 
 
 -- ---- the node of messages
 
-pub own_at : (setup : Setup) (starts : ℕ) (entries : List (ℕ × Filed)) (id : ℕ) (m : Filed) → AreOf setup starts entries → value_at entries id ≡ Some m → IsOf setup.node starts setup.nodes m
+pub own_at : (setup : Setup) (starts : ℕ) (entries : List (ℕ × Filed)) (id : ℕ) (m : Filed) → AreOf setup starts entries →
+    value_at entries id ≡ Some m → IsOf setup.node starts setup.nodes m
 own_at setup starts [] id m own found = absurd (cc)
 own_at setup starts (e ∷ es) id m own found = by_test (is_at (nat_cmp id) e.0) found (own_at setup starts es id m own.1)
   where
-    by_test : (test : Bool) → cond test (Some e.1) (value_at es id) ≡ Some m → (value_at es id ≡ Some m → IsOf setup.node starts setup.nodes m) → IsOf setup.node starts setup.nodes m
+    by_test : (test : Bool) → cond test (Some e.1) (value_at es id) ≡ Some m → (value_at es id ≡ Some m → IsOf setup.node starts setup.nodes m) →
+        IsOf setup.node starts setup.nodes m
     by_test true is rest = let same : e.1 ≡ m = cc in subst (λ (n : Filed). IsOf setup.node starts setup.nodes n) same own.0
     by_test false is rest = rest is
 
-pub own_put : (setup : Setup) (starts : ℕ) (entries : List (ℕ × Filed)) (id : ℕ) (m : Filed) → IsOf setup.node starts setup.nodes m → AreOf setup starts entries → AreOf setup starts (with_value entries id m)
+pub own_put : (setup : Setup) (starts : ℕ) (entries : List (ℕ × Filed)) (id : ℕ) (m : Filed) → IsOf setup.node starts setup.nodes m →
+    AreOf setup starts entries → AreOf setup starts (with_value entries id m)
 own_put setup starts [] id m is own = (is, tt)
 own_put setup starts (e ∷ es) id m is own = at_order (nat_cmp id e.0) (own_put setup starts es id m is own.1)
   where
-    at_order : (o : Ordering) → AreOf setup starts (with_value es id m) → AreOf setup starts (match_ordering o ((id, m) ∷ e ∷ es) ((e.0, m) ∷ es) (e ∷ with_value es id m))
+    at_order : (o : Ordering) → AreOf setup starts (with_value es id m) →
+        AreOf setup starts (match_ordering o ((id, m) ∷ e ∷ es) ((e.0, m) ∷ es) (e ∷ with_value es id m))
     at_order Less rest = (is, own)
     at_order Equal rest = (is, own.1)
     at_order Greater rest = (own.0, rest)
 
 -- the records stay, if the message has the same
-pub records_kept : (entries : List (ℕ × Filed)) (id : ℕ) (m : Filed) → ((place : ℕ) → record_at m.acceptor (slot_at id place) ≡ records_of entries (slot_at id place)) → (other : Slot) → records_of (with_value entries id m) other ≡ records_of entries other
+pub records_kept : (entries : List (ℕ × Filed)) (id : ℕ) (m : Filed) →
+    ((place : ℕ) → record_at m.acceptor (slot_at id place) ≡ records_of entries (slot_at id place)) → (other : Slot) →
+    records_of (with_value entries id m) other ≡ records_of entries other
 records_kept entries id m is other =
     let first = slot_at id 0 in
     records_put entries id m first (records_of entries first) refl (λ place. is place ∙ same_record (records_of entries) first (slot_at id place)) other

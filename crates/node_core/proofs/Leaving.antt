@@ -59,7 +59,9 @@ module _ (k : Holding) (id : ℕ) (taken new : Filed) (to : Message) (packets : 
 
 -- ---- a refusal
 
-pub refused_own : (k : Holding) (slot : Slot) (ballot promised : ℕ) (taken new : Filed) (step : Step) → AreOwn k → is_own_ballot k.setup (kept_of k) ballot ≡ true → IsTaken k slot.id taken → IsRefused taken slot ballot promised new → IsLeft k slot.id new [] [] step → IsStep k (on_refused k.setup (kept_of k) slot ballot promised) step
+pub refused_own : (k : Holding) (slot : Slot) (ballot promised : ℕ) (taken new : Filed) (step : Step) → AreOwn k →
+    is_own_ballot k.setup (kept_of k) ballot ≡ true → IsTaken k slot.id taken → IsRefused taken slot ballot promised new →
+    IsLeft k slot.id new [] [] step → IsStep k (on_refused k.setup (kept_of k) slot ballot promised) step
 refused_own k slot ballot promised taken new step own test is_taken is_refused is_left =
     let of = is_taken.own own in
     let also : is_own taken.proposer ballot ≡ true = (λ i. (proposer_of ballot == of.node i) && (incarnation_in ballot == of.incarnation i)) ∙ test in
@@ -67,18 +69,22 @@ refused_own k slot ballot promised taken new step own test is_taken is_refused i
     subst (λ (s : Stepped). IsStep k s step) (sym (ap (λ (b : Bool). if b then leaves (with_message (kept_of k) slot.id (refused (message_at (kept_of k) slot.id) slot ballot promised)) else leaves (kept_of k)) test))
     (left k slot.id taken new (refused (message_at (kept_of k) slot.id) slot ballot promised) [] [] step is_taken is_refused.same message is_left)
 
-pub refused_other : (k : Holding) (slot : Slot) (ballot promised : ℕ) (step : Step) → is_own_ballot k.setup (kept_of k) ballot ≡ false → IsStep k (leaves (kept_of k)) step → IsStep k (on_refused k.setup (kept_of k) slot ballot promised) step
+pub refused_other : (k : Holding) (slot : Slot) (ballot promised : ℕ) (step : Step) → is_own_ballot k.setup (kept_of k) ballot ≡ false →
+    IsStep k (leaves (kept_of k)) step → IsStep k (on_refused k.setup (kept_of k) slot ballot promised) step
 refused_other k slot ballot promised step test is =
     subst (λ (s : Stepped). IsStep k s step) (sym (ap (λ (b : Bool). if b then leaves (with_message (kept_of k) slot.id (refused (message_at (kept_of k) slot.id) slot ballot promised)) else leaves (kept_of k)) test)) is
 
 -- ---- a promise
 
-promise_ignored : (setup : Setup) (k : Kept) (m : Message) (round : Option Round) (sender : ℕ) (slot : Slot) (ballot : ℕ) (report : Option Vote) → runs_at round slot ballot ≡ false → promised_in setup k m round sender slot ballot report ≡ leaves k
+promise_ignored : (setup : Setup) (k : Kept) (m : Message) (round : Option Round) (sender : ℕ) (slot : Slot) (ballot : ℕ) (report : Option Vote) →
+    runs_at round slot ballot ≡ false → promised_in setup k m round sender slot ballot report ≡ leaves k
 promise_ignored setup k m None sender slot ballot report test = refl
 promise_ignored setup k m (Some r) sender slot ballot report test =
     ap (λ (b : Bool). if b then sends (with_message k slot.id (record m { round = Some (promised_by r sender report) })) (proposals setup r sender report) [] [] else leaves k) test
 
-pub promised_elsewhere : (k : Holding) (sender : ℕ) (slot : Slot) (ballot : ℕ) (report : Option Vote) (step : Step) → runs_at (message_at (kept_of k) slot.id).round slot ballot ≡ false → IsStep k (leaves (kept_of k)) step → IsStep k (on_promise k.setup (kept_of k) sender slot ballot report) step
+pub promised_elsewhere : (k : Holding) (sender : ℕ) (slot : Slot) (ballot : ℕ) (report : Option Vote) (step : Step) →
+    runs_at (message_at (kept_of k) slot.id).round slot ballot ≡ false → IsStep k (leaves (kept_of k)) step →
+    IsStep k (on_promise k.setup (kept_of k) sender slot ballot report) step
 promised_elsewhere k sender slot ballot report step test is =
     let m = message_at (kept_of k) slot.id in
     subst (λ (s : Stepped). IsStep k s step) (sym (promise_ignored k.setup (kept_of k) m m.round sender slot ballot report test)) is
@@ -88,14 +94,18 @@ proposal_is : (setup : Setup) (r : Round) (sender : ℕ) (report : Option Vote) 
 proposal_is setup r sender report true = refl
 proposal_is setup r sender report false = refl
 
-promise_counted : (setup : Setup) (k : Kept) (m : Message) (round : Option Round) (sender : ℕ) (slot : Slot) (ballot : ℕ) (report : Option Vote) → runs_at round slot ballot ≡ true →
+promise_counted : (setup : Setup) (k : Kept) (m : Message) (round : Option Round) (sender : ℕ) (slot : Slot) (ballot : ℕ) (report : Option Vote) →
+    runs_at round slot ballot ≡ true →
     sends (with_message k slot.id (record m { round = option_map (λ r. promised_by r sender report) round })) (listed (proposed_in setup.node setup.nodes round sender report)) [] [] ≡ promised_in setup k m round sender slot ballot report
 promise_counted setup k m None sender slot ballot report test = absurd (true≢false (sym test))
 promise_counted setup k m (Some r) sender slot ballot report test =
     ap (λ (packets : List Packet). sends (with_message k slot.id (record m { round = Some (promised_by r sender report) })) packets [] []) (proposal_is setup r sender report (completes setup.nodes r sender))
     ∙ sym (ap (λ (b : Bool). if b then sends (with_message k slot.id (record m { round = Some (promised_by r sender report) })) (proposals setup r sender report) [] [] else leaves k) test)
 
-pub promised_here : (k : Holding) (sender : ℕ) (slot : Slot) (ballot : ℕ) (report : Option Vote) (taken new : Filed) (packet : Option Cast) (step : Step) → AreOwn k → runs_at (message_at (kept_of k) slot.id).round slot ballot ≡ true → IsTaken k slot.id taken → IsPromised taken sender ballot slot report new packet → IsLeft k slot.id new (listed (option_map packet_of packet)) [] step → IsStep k (on_promise k.setup (kept_of k) sender slot ballot report) step
+pub promised_here : (k : Holding) (sender : ℕ) (slot : Slot) (ballot : ℕ) (report : Option Vote) (taken new : Filed) (packet : Option Cast) (step : Step) →
+    AreOwn k → runs_at (message_at (kept_of k) slot.id).round slot ballot ≡ true → IsTaken k slot.id taken →
+    IsPromised taken sender ballot slot report new packet → IsLeft k slot.id new (listed (option_map packet_of packet)) [] step →
+    IsStep k (on_promise k.setup (kept_of k) sender slot ballot report) step
 promised_here k sender slot ballot report taken new packet step own test is_taken is_promised is_left =
     let m = message_at (kept_of k) slot.id in
     let of = is_taken.own own in

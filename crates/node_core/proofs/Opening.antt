@@ -37,7 +37,8 @@ pub unseen_at : (entries : List (ℕ × Filed)) (id : ℕ) → AreUnseen entries
 unseen_at [] id fresh = refl
 unseen_at (e ∷ es) id fresh = by_test (is_at (nat_cmp id) e.0) (unseen_at es id fresh.1)
   where
-    by_test : (test : Bool) → unwrap_or (lookup (is_at (nat_cmp id)) (map filed_as es)) unseen ≡ unseen → unwrap_or (cond test (Some (message_of e.0 e.1)) (lookup (is_at (nat_cmp id)) (map filed_as es))) unseen ≡ unseen
+    by_test : (test : Bool) → unwrap_or (lookup (is_at (nat_cmp id)) (map filed_as es)) unseen ≡ unseen →
+        unwrap_or (cond test (Some (message_of e.0 e.1)) (lookup (is_at (nat_cmp id)) (map filed_as es))) unseen ≡ unseen
     by_test true rest = fresh.0
     by_test false rest = rest
 
@@ -45,7 +46,8 @@ pub unseen_put : (entries : List (ℕ × Filed)) (id : ℕ) (m : Filed) → mess
 unseen_put [] id m is fresh = (is, tt)
 unseen_put (e ∷ es) id m is fresh = at_order (nat_cmp id e.0) refl (unseen_put es id m is fresh.1)
   where
-    at_order : (o : Ordering) → nat_cmp id e.0 ≡ o → AreUnseen (with_value es id m) → AreUnseen (match_ordering o ((id, m) ∷ e ∷ es) ((e.0, m) ∷ es) (e ∷ with_value es id m))
+    at_order : (o : Ordering) → nat_cmp id e.0 ≡ o → AreUnseen (with_value es id m) →
+        AreUnseen (match_ordering o ((id, m) ∷ e ∷ es) ((e.0, m) ∷ es) (e ∷ with_value es id m))
     at_order Less order rest = (is, fresh)
     at_order Equal order rest = let same : e.0 ≡ id = grind (arith, nat_tests) in (subst (λ (key : ℕ). message_of key m ≡ unseen) (sym same) is, fresh.1)
     at_order Greater order rest = (fresh.0, rest)
@@ -53,7 +55,9 @@ unseen_put (e ∷ es) id m is fresh = at_order (nat_cmp id e.0) refl (unseen_put
 -- ---- one record more
 
 pub filed : (old new : Holding) (kept : Record) (id : ℕ) (taken m : Filed) → id ≡ (slot_recorded kept).id → IsTaken old id taken →
-    ((slot : Slot) → record_at m.acceptor slot ≡ with_record (record_at taken.acceptor) (slot_recorded kept) (record_of kept) slot) → ((id : ℕ) → message_of id m ≡ message_of id taken) → (IsOf old.setup.node old.incarnation old.setup.nodes taken → IsOf old.setup.node old.incarnation old.setup.nodes m) →
+    ((slot : Slot) → record_at m.acceptor slot ≡ with_record (record_at taken.acceptor) (slot_recorded kept) (record_of kept) slot) →
+    ((id : ℕ) → message_of id m ≡ message_of id taken) →
+    (IsOf old.setup.node old.incarnation old.setup.nodes taken → IsOf old.setup.node old.incarnation old.setup.nodes m) →
     new.messages.entries ≡ with_value old.messages.entries id m → new.setup ≡ old.setup → new.incarnation ≡ old.incarnation → IsFiled old kept new
 filed old new kept id taken m about is_taken records same of entries setup incarnation = record {
   setup = setup;
@@ -78,7 +82,8 @@ filed old new kept id taken m about is_taken records same of entries setup incar
 abbrev pub over : List (Slot × SlotRecord) → Records → Slot → SlotRecord
 over entries records slot = unwrap_or (held_at entries slot) (records slot)
 
-pub over_blank : (entries : List (Slot × SlotRecord)) (records : Records) (slot : Slot) → records slot ≡ blank → over entries records slot ≡ record_at entries slot
+pub over_blank : (entries : List (Slot × SlotRecord)) (records : Records) (slot : Slot) → records slot ≡ blank →
+    over entries records slot ≡ record_at entries slot
 over_blank entries records slot is = by_held (held_at entries slot)
   where
     by_held : (held : Option SlotRecord) → unwrap_or held (records slot) ≡ or_blank held
@@ -88,7 +93,8 @@ over_blank entries records slot is = by_held (held_at entries slot)
 over_same : (entries : List (Slot × SlotRecord)) (one other : Records) (slot : Slot) → one slot ≡ other slot → over entries one slot ≡ over entries other slot
 over_same entries one other slot is = ap (λ (r : SlotRecord). unwrap_or (held_at entries slot) r) is
 
-over_last : (entries : List (Slot × SlotRecord)) (last : Slot × SlotRecord) (records : Records) (slot : Slot) → over (entries ++ last ∷ []) records slot ≡ over entries (with_record records last.0 last.1) slot
+over_last : (entries : List (Slot × SlotRecord)) (last : Slot × SlotRecord) (records : Records) (slot : Slot) →
+    over (entries ++ last ∷ []) records slot ≡ over entries (with_record records last.0 last.1) slot
 over_last [] last records slot = elim (cases_Bool (same_slot last.0 slot)) [
   | inl same ↦
       let slots : last.0 ≡ slot = slots_same last.0 slot same in
@@ -112,7 +118,9 @@ over_last (first ∷ others) last records slot = by_test (same_slot first.0 slot
     by_test false rest = rest
 
 -- the last of the records is taken in
-pub over_filed : (records front : List Record) (last : Record) (old new : Holding) (slot : Slot) → records ≡ front ++ last ∷ [] → IsFiled old last new → over (entries_of front) (records_of new.messages.entries) slot ≡ over (entries_of records) (records_of old.messages.entries) slot
+pub over_filed : (records front : List Record) (last : Record) (old new : Holding) (slot : Slot) → records ≡ front ++ last ∷ [] →
+    IsFiled old last new →
+    over (entries_of front) (records_of new.messages.entries) slot ≡ over (entries_of records) (records_of old.messages.entries) slot
 over_filed records front last old new slot split is_filed =
     over_same (entries_of front) (records_of new.messages.entries) (with_record (records_of old.messages.entries) (slot_recorded last) (record_of last)) slot (is_filed.records slot)
     ∙ sym (over_last (entries_of front) (entry_of last) (records_of old.messages.entries) slot)
@@ -127,7 +135,8 @@ pub record IsFiling (with : Setup) (starts : ℕ) (left all : List Record) (k : 
   pub fresh : AreUnseen k.messages.entries
   pub own : AreOwn k
 
-pub filing_begins : (with : Setup) (starts : ℕ) (all : List Record) (k : Holding) → k.setup ≡ with → k.incarnation ≡ starts → k.messages.entries ≡ [] → IsFiling with starts all all k
+pub filing_begins : (with : Setup) (starts : ℕ) (all : List Record) (k : Holding) → k.setup ≡ with → k.incarnation ≡ starts →
+    k.messages.entries ≡ [] → IsFiling with starts all all k
 filing_begins with starts all k setup incarnation none = record {
   setup = setup;
   incarnation = incarnation;
@@ -136,7 +145,8 @@ filing_begins with starts all k setup incarnation none = record {
   own = record { each = subst (λ (es : List (ℕ × Filed)). AreOf k.setup k.incarnation es) (sym none) tt };
 }
 
-pub filing_goes_on : (with : Setup) (starts : ℕ) (left front all : List Record) (last : Record) (old new : Holding) → left ≡ front ++ last ∷ [] → IsFiled old last new → IsFiling with starts left all old → IsFiling with starts front all new
+pub filing_goes_on : (with : Setup) (starts : ℕ) (left front all : List Record) (last : Record) (old new : Holding) → left ≡ front ++ last ∷ [] →
+    IsFiled old last new → IsFiling with starts left all old → IsFiling with starts front all new
 filing_goes_on with starts left front all last old new split is_filed filing = record {
   setup = is_filed.setup ∙ filing.setup;
   incarnation = is_filed.incarnation ∙ filing.incarnation;
@@ -145,7 +155,8 @@ filing_goes_on with starts left front all last old new split is_filed filing = r
   own = is_filed.own filing.own;
 }
 
-pub filing_ends : (with : Setup) (starts : ℕ) (left all : List Record) (k : Holding) → left ≡ [] → IsFiling with starts left all k → IsOpen with starts (record_at (entries_of all)) k
+pub filing_ends : (with : Setup) (starts : ℕ) (left all : List Record) (k : Holding) → left ≡ [] → IsFiling with starts left all k →
+    IsOpen with starts (record_at (entries_of all)) k
 filing_ends with starts left all k none filing = record {
   setup = filing.setup;
   incarnation = filing.incarnation;
@@ -156,7 +167,8 @@ filing_ends with starts left all k none filing = record {
 
 -- ---- a node that opens
 
-pub open_over : (with : Setup) (starts : ℕ) (one other : Records) (k : Holding) → IsOpen with starts one k → ((slot : Slot) → one slot ≡ other slot) → IsOpen with starts other k
+pub open_over : (with : Setup) (starts : ℕ) (one other : Records) (k : Holding) → IsOpen with starts one k → ((slot : Slot) → one slot ≡ other slot) →
+    IsOpen with starts other k
 open_over with starts one other k is same = record {
   setup = is.setup;
   incarnation = is.incarnation;
@@ -176,7 +188,8 @@ listed_in (e ∷ es) id some = elim (cases_Bool (is_at (nat_cmp id) e.0)) [
   | inr differs ↦ inr (listed_in es id (λ none. some (ap (λ (test : Bool). cond test (Some e.1) (value_at es id)) differs ∙ none)))
 ]
 
-pub opened : (with : Setup) (records : Records) (starts : ℕ) (node : Standing) (life : Life) → IsOpen with starts records node.kept → node.broken ≡ false → life.node ≡ with.node → life.incarnation ≡ starts → HasOpened with records starts node life
+pub opened : (with : Setup) (records : Records) (starts : ℕ) (node : Standing) (life : Life) → IsOpen with starts records node.kept →
+    node.broken ≡ false → life.node ≡ with.node → life.incarnation ≡ starts → HasOpened with records starts node life
 opened with records starts node life is works of_node of_start = record {
   ids = keys_of node.kept.messages.entries;
   kept = λ i. record (opened_over records (keys_of node.kept.messages.entries) starts with.first_serial) {

@@ -36,7 +36,8 @@ use Rattle.node_core.proofs.Leaving.{left}
 abbrev with_parts : Filed → Learned → Proposing → Filed
 with_parts old learner proposer = record { acceptor = old.acceptor; learner = learner; proposer = proposer }
 
-still_same : (old : Filed) (learner : Learned) (proposer : Proposing) → learner.nodes ≡ old.learner.nodes → IsOfSameProposer old.proposer proposer → IsOfSame old (with_parts old learner proposer)
+still_same : (old : Filed) (learner : Learned) (proposer : Proposing) → learner.nodes ≡ old.learner.nodes → IsOfSameProposer old.proposer proposer →
+    IsOfSame old (with_parts old learner proposer)
 still_same old learner proposer nodes same = record {
   acceptor = refl;
   of = λ me starts count of. record {
@@ -50,7 +51,9 @@ still_same old learner proposer nodes same = record {
 module _ (old : Filed) (sender : ℕ) (vote : Cast) (learner : Learned) (grows : Bool) (nodes : learner.nodes ≡ old.learner.nodes)
     (decides : grows ≡ makes_known old.learner.nodes (heard (message_in old.learner vote.chain.id) sender (vote_of vote)) (vote_of vote))
     (message : message_in learner vote.chain.id ≡ known_if grows (heard (message_in old.learner vote.chain.id) sender (vote_of vote)) vote.chain.decrees) where
-  pub heard_longer : (proposer : Proposing) → grows ≡ true → (message_proposed proposer).round ≡ unless_reached vote.chain.decrees (message_proposed old.proposer).round → proposer.seen ≡ old.proposer.seen → IsOfSameProposer old.proposer proposer →
+  pub heard_longer : (proposer : Proposing) → grows ≡ true →
+      (message_proposed proposer).round ≡ unless_reached vote.chain.decrees (message_proposed old.proposer).round →
+      proposer.seen ≡ old.proposer.seen → IsOfSameProposer old.proposer proposer →
       IsHeard old sender vote (with_parts old learner proposer) grows
   heard_longer proposer test round seen same =
       let known : message_in learner vote.chain.id ≡ known_then (heard (message_in old.learner vote.chain.id) sender (vote_of vote)) vote.chain.decrees =
@@ -89,15 +92,18 @@ no_delete setup k id (newest ∷ older) = by_taken (taken_in (newest ∷ older))
     by_taken None = refl
     by_taken (Some taken) = by_test (is_idle newest.kind) _
 
-known_alone : (k : Holding) (id : ℕ) (m : Message) (chain : List Decree) → on_known k.setup (kept_of k) id m chain ≡ sends (with_message (kept_of k) id (known_then m chain)) [] [] (receipts_of k.setup.node id m.known chain)
+known_alone : (k : Holding) (id : ℕ) (m : Message) (chain : List Decree) →
+    on_known k.setup (kept_of k) id m chain ≡ sends (with_message (kept_of k) id (known_then m chain)) [] [] (receipts_of k.setup.node id m.known chain)
 known_alone k id m chain =
     let now = with_message (kept_of k) id (known_then m chain) in
     ap (λ (start : Option Start). answered_then k.setup now id m.known chain (started k.setup now id start)) (no_delete k.setup now id chain)
 
-receipts_are : (node id : ℕ) (before : Option (List Decree)) (chain : List Decree) → receipt_if (true && not (had_fate before)) node id chain ≡ receipts_of node id before chain
+receipts_are : (node id : ℕ) (before : Option (List Decree)) (chain : List Decree) →
+    receipt_if (true && not (had_fate before)) node id chain ≡ receipts_of node id before chain
 receipts_are node id before chain = by_tests (node_of id == node) (had_fate before)
   where
-    by_tests : (own fate : Bool) → (if true && not fate then (if own && not false then receipt_by id chain (final_in chain) (taken_in chain) else []) else []) ≡ (if own && not fate then receipt_by id chain (final_in chain) (taken_in chain) else [])
+    by_tests : (own fate : Bool) →
+        (if true && not fate then (if own && not false then receipt_by id chain (final_in chain) (taken_in chain) else []) else []) ≡ (if own && not fate then receipt_by id chain (final_in chain) (taken_in chain) else [])
     by_tests true true = refl
     by_tests true false = refl
     by_tests false true = refl
@@ -114,14 +120,18 @@ voted_by k id m vote false test =
 
 -- ---- whether it concerns the node
 
-concerns : (k : Holding) (vote : Cast) (test : Bool) → id_concerns k.setup (kept_of k) vote.chain.id ≡ test → vote_concerns k.setup (kept_of k) (slot_in vote) (vote_of vote) ≡ test
+concerns : (k : Holding) (vote : Cast) (test : Bool) → id_concerns k.setup (kept_of k) vote.chain.id ≡ test →
+    vote_concerns k.setup (kept_of k) (slot_in vote) (vote_of vote) ≡ test
 concerns k vote test is = ap (λ (b : Bool). b && id_concerns k.setup (kept_of k) vote.chain.id) (is_same (slot_in vote) (slot_in vote) refl) ∙ is
 
-pub voted_elsewhere : (k : Holding) (sender : ℕ) (vote : Cast) (step : Step) → id_concerns k.setup (kept_of k) vote.chain.id ≡ false → IsStep k (leaves (kept_of k)) step → IsStep k (voted_in k.setup (kept_of k) sender (slot_in vote) (vote_of vote)) step
+pub voted_elsewhere : (k : Holding) (sender : ℕ) (vote : Cast) (step : Step) → id_concerns k.setup (kept_of k) vote.chain.id ≡ false →
+    IsStep k (leaves (kept_of k)) step → IsStep k (voted_in k.setup (kept_of k) sender (slot_in vote) (vote_of vote)) step
 voted_elsewhere k sender vote step test is =
     subst (λ (s : Stepped). IsStep k s step) (sym (ap (λ (b : Bool). if b then on_voted k.setup (kept_of k) sender (slot_in vote) (vote_of vote) else leaves (kept_of k)) (concerns k vote false test))) is
 
-pub voted_here : (k : Holding) (sender : ℕ) (vote : Cast) (taken new : Filed) (grows had : Bool) (step : Step) → AreOwn k → id_concerns k.setup (kept_of k) vote.chain.id ≡ true → IsTaken k vote.chain.id taken → had ≡ had_fate (message_of vote.chain.id taken).known → IsHeard taken sender vote new grows →
+pub voted_here : (k : Holding) (sender : ℕ) (vote : Cast) (taken new : Filed) (grows had : Bool) (step : Step) → AreOwn k →
+    id_concerns k.setup (kept_of k) vote.chain.id ≡ true → IsTaken k vote.chain.id taken → had ≡ had_fate (message_of vote.chain.id taken).known →
+    IsHeard taken sender vote new grows →
     IsLeft k vote.chain.id new [] (receipt_if (grows && not had) k.setup.node vote.chain.id vote.chain.decrees) step → IsStep k (voted_in k.setup (kept_of k) sender (slot_in vote) (vote_of vote)) step
 voted_here k sender vote taken new grows had step own test is_taken fate is_heard is_left =
     let id = vote.chain.id in

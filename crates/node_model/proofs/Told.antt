@@ -22,7 +22,8 @@ told_is_below : (records : Records) (id bound : ℕ) → IsToldBelow records id 
 told_is_below records id zero = λ place below. absurd (omega arith)
 told_is_below records id (suc bound) = by_vote (records (slot_at id bound)).vote refl (told_below records id bound) (told_is_below records id bound)
   where
-    by_vote : (vote : Option Vote) → (records (slot_at id bound)).vote ≡ vote → (lower : Option TopVote) → IsToldBelow records id bound lower → IsToldBelow records id (suc bound) (told_with (slot_at id bound) vote lower)
+    by_vote : (vote : Option Vote) → (records (slot_at id bound)).vote ≡ vote → (lower : Option TopVote) → IsToldBelow records id bound lower →
+        IsToldBelow records id (suc bound) (told_with (slot_at id bound) vote lower)
     by_vote (Some vote) is lower before = record { about = refl; voted = is; highest = λ place other below also. omega arith }
     by_vote None is None before = λ place below. elim (cases_lt place bound) [
       | inl lower ↦ before place lower
@@ -41,7 +42,8 @@ told_is_below records id (suc bound) = by_vote (records (slot_at id bound)).vote
     }
 
 -- of a slot at no place of a chain there is no vote
-none_beyond : (records : Records) → ArePlaced records → (id place : ℕ) (found : Option Vote) → (records (slot_at id place)).vote ≡ found → most_places ≤ place → found ≡ None
+none_beyond : (records : Records) → ArePlaced records → (id place : ℕ) (found : Option Vote) → (records (slot_at id place)).vote ≡ found →
+    most_places ≤ place → found ≡ None
 none_beyond records placed id place None is beyond = refl
 none_beyond records placed id place (Some vote) is beyond = absurd (omega (arith, placed (slot_at id place) vote is, beyond))
 
@@ -73,7 +75,8 @@ told_only records id (Some one) (Some other) is also =
     λ i. Some (record { id = (is.about ∙ sym also.about) i; place = places i; vote = votes i })
 
 -- a record is changed
-pub placed_with : (old new : Records) (slot : Slot) (r : SlotRecord) → ArePlaced old → (r.vote ≡ None) ⊎ (slot.place < most_places) → ((other : Slot) → new other ≡ with_record old slot r other) → ArePlaced new
+pub placed_with : (old new : Records) (slot : Slot) (r : SlotRecord) → ArePlaced old → (r.vote ≡ None) ⊎ (slot.place < most_places) →
+    ((other : Slot) → new other ≡ with_record old slot r other) → ArePlaced new
 placed_with old new slot r placed within is other vote voted = by_test (same_slot other slot) refl
   where
     by_test : (test : Bool) → same_slot other slot ≡ test → other.place < most_places

@@ -33,7 +33,8 @@ use Rattle.synod_learner.proofs.Hearing.{learned_of}
 abbrev IsOfFirst : Count → Slot → Vote → ℕ → Type 0
 IsOfFirst first slot vote node = (first.slot ≡ slot) × ((first.vote ≡ vote) × (has first.voters node ≡ true))
 
-first_decides : (first : Count) (slot : Slot) (vote : Vote) (node : ℕ) → Decides (same_slot first.slot slot && (same_vote first.vote vote && has first.voters node)) (IsOfFirst first slot vote node)
+first_decides : (first : Count) (slot : Slot) (vote : Vote) (node : ℕ) →
+    Decides (same_slot first.slot slot && (same_vote first.vote vote && has first.voters node)) (IsOfFirst first slot vote node)
 first_decides first slot vote node =
     Decides-and _ _ (slots_same first.slot slot, is_same first.slot slot) (Decides-and _ _ (vote_decides first.vote vote) ((λ t. t), (λ t. t)))
 
@@ -56,11 +57,13 @@ voter_decides (first ∷ others) slot vote node =
     ]
 
 -- those of a set are counted, and no others
-pub test_is : (counts : List Count) (slot : Slot) (vote : Vote) (voters : ℕ) → ((node : ℕ) → (has voters node ≡ true) ↔ IsCounted counts node slot vote) → is_voter counts slot vote ≡ has voters
+pub test_is : (counts : List Count) (slot : Slot) (vote : Vote) (voters : ℕ) →
+    ((node : ℕ) → (has voters node ≡ true) ↔ IsCounted counts node slot vote) → is_voter counts slot vote ≡ has voters
 test_is counts slot vote voters are = fun_ext λ node.
     both_ways _ _ (λ t. (are node).1 ((voter_decides counts slot vote node).0 t)) (λ t. (voter_decides counts slot vote node).1 ((are node).0 t))
 
-pub counted_are : (counts : List Count) (slot : Slot) (vote : Vote) (voters : ℕ) → AreSingle counts → In (count slot vote voters) counts → (node : ℕ) → (has voters node ≡ true) ↔ IsCounted counts node slot vote
+pub counted_are : (counts : List Count) (slot : Slot) (vote : Vote) (voters : ℕ) → AreSingle counts → In (count slot vote voters) counts →
+    (node : ℕ) → (has voters node ≡ true) ↔ IsCounted counts node slot vote
 counted_are counts slot vote voters single stands node = (
   λ has_it. record { voters = voters; stands = stands; counted = has_it },
   λ counted. subst (λ (v : ℕ). has v node ≡ true) (single_in counts slot vote counted.voters voters single counted.stands stands) counted.counted,
@@ -68,11 +71,13 @@ counted_are counts slot vote voters single stands node = (
 
 -- ---- one more vote
 
-pub votes_heard : (nodes : ℕ) (counts new : List Count) (known : List Chain) (voter : ℕ) (vote : Cast) → IsAdded counts new voter (slot_in vote) (vote_of vote) →
+pub votes_heard : (nodes : ℕ) (counts new : List Count) (known : List Chain) (voter : ℕ) (vote : Cast) →
+    IsAdded counts new voter (slot_in vote) (vote_of vote) →
     (message_in (learned_of nodes new known) vote.chain.id).votes ≡ (heard (message_in (learned_of nodes counts known) vote.chain.id) voter (vote_of vote)).votes
 votes_heard nodes counts new known voter vote added = fun_ext λ other. fun_ext λ node. both_ways _ _ (forth other node) (back other node)
   where
-    forth : (other : Vote) (node : ℕ) → is_voter new (slot_of vote.chain.id other.chain) other node ≡ true → (heard (message_in (learned_of nodes counts known) vote.chain.id) voter (vote_of vote)).votes other node ≡ true
+    forth : (other : Vote) (node : ℕ) → is_voter new (slot_of vote.chain.id other.chain) other node ≡ true →
+        (heard (message_in (learned_of nodes counts known) vote.chain.id) voter (vote_of vote)).votes other node ≡ true
     forth other node t =
         (with_voter (message_in (learned_of nodes counts known) vote.chain.id) voter (vote_of vote) node other).1
         (elim (added.only node (slot_of vote.chain.id other.chain) other ((voter_decides new (slot_of vote.chain.id other.chain) other node).0 t)) [
@@ -83,7 +88,9 @@ votes_heard nodes counts new known voter vote added = fun_ext λ other. fun_ext 
               inr (votes, nodes)
         ])
 
-    back : (other : Vote) (node : ℕ) → (heard (message_in (learned_of nodes counts known) vote.chain.id) voter (vote_of vote)).votes other node ≡ true → is_voter new (slot_of vote.chain.id other.chain) other node ≡ true
+    back : (other : Vote) (node : ℕ) →
+        (heard (message_in (learned_of nodes counts known) vote.chain.id) voter (vote_of vote)).votes other node ≡ true →
+        is_voter new (slot_of vote.chain.id other.chain) other node ≡ true
     back other node t =
         (voter_decides new (slot_of vote.chain.id other.chain) other node).1
         (elim ((with_voter (message_in (learned_of nodes counts known) vote.chain.id) voter (vote_of vote) node other).0 t) [
@@ -97,19 +104,22 @@ shorter_decides : (known : Option (List Decree)) (chain : List Decree) → Decid
 shorter_decides None chain = (λ t. tt, λ t. refl)
 shorter_decides (Some old) chain = Decides-ltb (pred (length old)) (pred (length chain))
 
-makes_decides : (nodes voters : ℕ) (known : Option (List Decree)) (chain : List Decree) → Decides (is_majority nodes (has voters) && is_shorter known chain) (IsMajority nodes (has voters) × IsShorter known chain)
+makes_decides : (nodes voters : ℕ) (known : Option (List Decree)) (chain : List Decree) →
+    Decides (is_majority nodes (has voters) && is_shorter known chain) (IsMajority nodes (has voters) × IsShorter known chain)
 makes_decides nodes voters known chain =
     Decides-and _ _ (Decides-ltb nodes (2 * count_nodes (has voters) nodes)) (shorter_decides known chain)
 
 -- the set of those who cast it decides whether its chain becomes known
-pub grows_is : (nodes voters : ℕ) (test : ℕ → Bool) (known : Option (List Decree)) (chain : List Decree) (grows : Bool) → test ≡ has voters → (IsTrue grows ↔ IsMajority nodes (has voters) × IsShorter known chain) → grows ≡ (is_majority nodes test && is_shorter known chain)
+pub grows_is : (nodes voters : ℕ) (test : ℕ → Bool) (known : Option (List Decree)) (chain : List Decree) (grows : Bool) → test ≡ has voters →
+    (IsTrue grows ↔ IsMajority nodes (has voters) × IsShorter known chain) → grows ≡ (is_majority nodes test && is_shorter known chain)
 grows_is nodes voters test known chain grows same decides =
     both_ways grows (is_majority nodes (has voters) && is_shorter known chain)
     (λ t. (makes_decides nodes voters known chain).1 (decides.0 t))
     (λ t. decides.1 ((makes_decides nodes voters known chain).0 t))
     ∙ ap (λ (f : ℕ → Bool). is_majority nodes f && is_shorter known chain) (sym same)
 
-pub message_is : (grows : Bool) (nodes : ℕ) (counts new : List Count) (known later : List Chain) (voter : ℕ) (vote : Cast) → IsAdded counts new voter (slot_in vote) (vote_of vote) → Grows grows known vote.chain later →
+pub message_is : (grows : Bool) (nodes : ℕ) (counts new : List Count) (known later : List Chain) (voter : ℕ) (vote : Cast) →
+    IsAdded counts new voter (slot_in vote) (vote_of vote) → Grows grows known vote.chain later →
     message_in (learned_of nodes new later) vote.chain.id ≡ known_if grows (heard (message_in (learned_of nodes counts known) vote.chain.id) voter (vote_of vote)) vote.chain.decrees
 message_is false nodes counts new known later voter vote added same = λ i. record unseen {
   votes = votes_heard nodes counts new known voter vote added i;
@@ -129,13 +139,16 @@ shorter_still (Some old) one other is more = omega arith
 not_itself : (n : ℕ) → n < n → ⊥
 not_itself n less = omega arith
 
-pub learned_more : (grows : Bool) (nodes : ℕ) (counts : List Count) (known later : List Chain) (vote : Cast) (place : Option ℕ) (voters : ℕ) → AreLearned nodes counts known → (IsTrue grows ↔ MakesKnown nodes known voters vote) → Grows grows known vote.chain later → AreLearned nodes (with_count counts place (count (slot_in vote) (vote_of vote) voters)) later
+pub learned_more : (grows : Bool) (nodes : ℕ) (counts : List Count) (known later : List Chain) (vote : Cast) (place : Option ℕ) (voters : ℕ) →
+    AreLearned nodes counts known → (IsTrue grows ↔ MakesKnown nodes known voters vote) → Grows grows known vote.chain later →
+    AreLearned nodes (with_count counts place (count (slot_in vote) (vote_of vote) voters)) later
 learned_more false nodes counts known later vote place voters learned decides same = record { each = each }
   where
     none : IsMajority nodes (has voters) → IsShorter (known_in known vote.chain.id) vote.chain.decrees → ⊥
     none most shorter = true≢false (sym (decides.1 (most, shorter)))
 
-    each : (c : Count) → In c (with_count counts place (count (slot_in vote) (vote_of vote) voters)) → IsMajority nodes (has c.voters) → IsShorter (known_in later c.slot.id) c.vote.chain → ⊥
+    each : (c : Count) → In c (with_count counts place (count (slot_in vote) (vote_of vote) voters)) → IsMajority nodes (has c.voters) →
+        IsShorter (known_in later c.slot.id) c.vote.chain → ⊥
     each c is_in most shorter =
         let before = subst (λ (k : List Chain). IsShorter (known_in k c.slot.id) c.vote.chain) same shorter in
         elim (with_from counts place (count (slot_in vote) (vote_of vote) voters) c is_in) [
@@ -147,7 +160,8 @@ learned_more false nodes counts known later vote place voters learned decides sa
         ]
 learned_more true nodes counts known later vote place voters learned decides with = record { each = each }
   where
-    each : (c : Count) → In c (with_count counts place (count (slot_in vote) (vote_of vote) voters)) → IsMajority nodes (has c.voters) → IsShorter (known_in later c.slot.id) c.vote.chain → ⊥
+    each : (c : Count) → In c (with_count counts place (count (slot_in vote) (vote_of vote) voters)) → IsMajority nodes (has c.voters) →
+        IsShorter (known_in later c.slot.id) c.vote.chain → ⊥
     each c is_in most shorter =
         let by : (test : Bool) → (c.slot.id == vote.chain.id) ≡ test → IsShorter (cond test (Some vote.chain.decrees) (known_in known c.slot.id)) c.vote.chain =
         λ test is. subst (λ (k : Option (List Decree)). IsShorter k c.vote.chain) (with.known c.slot.id ∙ ap (λ (b : Bool). cond b (Some vote.chain.decrees) (known_in known c.slot.id)) is) shorter in
@@ -172,7 +186,8 @@ learned_more true nodes counts known later vote place voters learned decides wit
 pub added_again : (counts : List Count) (voter : ℕ) (slot : Slot) (vote : Vote) → IsCounted counts voter slot vote → IsAdded counts counts voter slot vote
 added_again counts voter slot vote counted = record { before = λ node other cast was. was; this = counted; only = λ node other cast is. inl is }
 
-pub grows_again : (nodes : ℕ) (counts : List Count) (known : List Chain) (voter : ℕ) (vote : Cast) → AreSingle counts → AreLearned nodes counts known → IsCounted counts voter (slot_in vote) (vote_of vote) →
+pub grows_again : (nodes : ℕ) (counts : List Count) (known : List Chain) (voter : ℕ) (vote : Cast) → AreSingle counts →
+    AreLearned nodes counts known → IsCounted counts voter (slot_in vote) (vote_of vote) →
     false ≡ makes_known nodes (heard (message_in (learned_of nodes counts known) vote.chain.id) voter (vote_of vote)) (vote_of vote)
 grows_again nodes counts known voter vote single learned counted =
     let votes = votes_heard nodes counts counts known voter vote (added_again counts voter (slot_in vote) (vote_of vote) counted) in
@@ -188,7 +203,9 @@ message_again nodes counts known voter vote counted =
 
 -- ---- one that was not
 
-pub grows_new : (nodes : ℕ) (counts new : List Count) (known : List Chain) (voter : ℕ) (vote : Cast) (voters : ℕ) (grows : Bool) → IsAdded counts new voter (slot_in vote) (vote_of vote) → ((node : ℕ) → (has voters node ≡ true) ↔ IsCounted new node (slot_in vote) (vote_of vote)) → (IsTrue grows ↔ MakesKnown nodes known voters vote) →
+pub grows_new : (nodes : ℕ) (counts new : List Count) (known : List Chain) (voter : ℕ) (vote : Cast) (voters : ℕ) (grows : Bool) →
+    IsAdded counts new voter (slot_in vote) (vote_of vote) →
+    ((node : ℕ) → (has voters node ≡ true) ↔ IsCounted new node (slot_in vote) (vote_of vote)) → (IsTrue grows ↔ MakesKnown nodes known voters vote) →
     grows ≡ makes_known nodes (heard (message_in (learned_of nodes counts known) vote.chain.id) voter (vote_of vote)) (vote_of vote)
 grows_new nodes counts new known voter vote voters grows added are decides =
     let votes = votes_heard nodes counts new known voter vote added in

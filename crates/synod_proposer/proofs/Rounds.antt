@@ -24,7 +24,8 @@ counted_is old new node report is = λ i. record {
   highest = is.highest i;
 }
 
-pub fresh_is : (r : Running) (slot : Slot) (ballot : ℕ) (own : List Decree) → IsFresh r slot ballot own → as_round r ≡ record { slot = slot; ballot = ballot; own = own; promised = nobody; highest = None }
+pub fresh_is : (r : Running) (slot : Slot) (ballot : ℕ) (own : List Decree) → IsFresh r slot ballot own →
+    as_round r ≡ record { slot = slot; ballot = ballot; own = own; promised = nobody; highest = None }
 fresh_is r slot ballot own is = λ i. record {
   slot = is.slot_is i;
   ballot = is.ballot_is i;
@@ -36,7 +37,8 @@ fresh_is r slot ballot own is = λ i. record {
 most_decides : (nodes : ℕ) (members : ℕ → Bool) → Decides (is_majority nodes members) (IsMajority nodes members)
 most_decides nodes members = Decides-ltb nodes (2 * count members nodes)
 
-completes_decides : (nodes : ℕ) (old new : Running) (node : ℕ) (report : Option Vote) → IsCounted old node report new → Decides (completes nodes (as_round old) node) (Completes nodes old new)
+completes_decides : (nodes : ℕ) (old new : Running) (node : ℕ) (report : Option Vote) → IsCounted old node report new →
+    Decides (completes nodes (as_round old) node) (Completes nodes old new)
 completes_decides nodes old new node report is =
     Decides-like (completes nodes (as_round old) node)
     (λ p. record { before = p.0; after = subst (λ (f : ℕ → Bool). IsMajority nodes f) (sym members) p.1 })
@@ -46,7 +48,8 @@ completes_decides nodes old new node report is =
     members : has new.promised ≡ with_node (has old.promised) node
     members = fun_ext is.promised
 
-pub offers_is : (me nodes : ℕ) (old new : Running) (node : ℕ) (report offer : Option Vote) → IsCounted old node report new → Offers nodes old new offer → option_map (λ vote. Propose me old.slot vote) offer ≡ proposed_in me nodes (Some (as_round old)) node report
+pub offers_is : (me nodes : ℕ) (old new : Running) (node : ℕ) (report offer : Option Vote) → IsCounted old node report new →
+    Offers nodes old new offer → option_map (λ vote. Propose me old.slot vote) offer ≡ proposed_in me nodes (Some (as_round old)) node report
 offers_is me nodes old new node report None is none = elim (cases_Bool (completes nodes (as_round old) node)) [
   | inl test ↦ absurd (none ((completes_decides nodes old new node report is).0 test))
   | inr test ↦ sym (ap (λ (b : Bool). if b then Some (Propose me old.slot (offered (promised_by (as_round old) node report))) else None) test)
