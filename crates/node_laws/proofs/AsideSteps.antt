@@ -22,7 +22,7 @@ use Rattle.mc_model.specs.node.Outputs.{receipts_in, replies_in}
 use Rattle.mc_model.specs.node.Phases.{DueToAbandon, DueToAsk, DueToEnd, DueToPrepare, DueToPropose, DueToReply, DueToReport, DueToSettle}
 use Rattle.mc_model.specs.node.Setup.{Setup}
 use Rattle.mc_model.specs.node.Step.{IsExact}
-use Rattle.mc_parts.proofs.Membership.{slots_same}
+use Rattle.node_laws.proofs.Slots.{slot_decides}
 use Rattle.node_model.specs.Acceptor.{Judgement}
 use Rattle.node_model.specs.Kept.{Kept, message_at, saved}
 use Rattle.node_model.specs.Outputs.{leaves, sends}
@@ -176,7 +176,7 @@ module _ (setup : Setup) (s : Node) (packet : Packet) (aside : IsAside packet) (
   placed_still slot other new vote fits = by_slot (same_slot other slot) refl
     where
       by_slot : (same : Bool) → same_slot other slot ≡ same → (if same then new else k.records other).vote ≡ Some vote → IsPlaced other vote
-      by_slot true same voted = subst (λ (x : Slot). IsPlaced x vote) (sym (slots_same other slot same)) (fits vote voted)
+      by_slot true same voted = subst (λ (x : Slot). IsPlaced x vote) (sym ((slot_decides other slot).0 same)) (fits vote voted)
       by_slot false differs voted = stands.agrees.placed other vote voted
 
   pub stands_later : (slot : Slot) (chain : List Decree) → StandsAt s slot chain → StandsAt heard slot chain
@@ -187,7 +187,7 @@ module _ (setup : Setup) (s : Node) (packet : Packet) (aside : IsAside packet) (
   voted_still slot other new vote stood = by_slot (same_slot other slot) refl
     where
       by_slot : (same : Bool) → same_slot other slot ≡ same → (if same then new else k.records other).vote ≡ Some vote → StandsAt heard other vote.chain
-      by_slot true same voted = subst (λ (x : Slot). StandsAt heard x vote.chain) (sym (slots_same other slot same)) (stood vote voted)
+      by_slot true same voted = subst (λ (x : Slot). StandsAt heard x vote.chain) (sym ((slot_decides other slot).0 same)) (stood vote voted)
       by_slot false differs voted = stands_later other vote.chain (stands.agrees.voted other vote voted)
 
   coherent_still : IsCoherent setup.node heard.actor

@@ -1,5 +1,6 @@
 pub mod Seeing
 pub mod Messages
+pub mod Slots
 pub mod Learning
 pub mod Accepting
 pub mod Coherence

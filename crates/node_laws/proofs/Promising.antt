@@ -22,7 +22,7 @@ use Rattle.mc_model.specs.node.Phases.{DueToPropose}
 use Rattle.mc_model.specs.node.Proposal.{IsFree, IsOwn, MayPropose, OwnBallot}
 use Rattle.mc_model.specs.node.Rounds.{IsForRound, IsPromised, IsRunning}
 use Rattle.mc_model.specs.node.Setup.{Setup}
-use Rattle.mc_parts.proofs.Membership.{of_only, slots_same}
+use Rattle.mc_parts.proofs.Membership.{of_only}
 use Rattle.node_model.specs.Kept.{Kept, message_at, with_message}
 use Rattle.node_model.specs.Message.{Message, Round}
 use Rattle.node_model.specs.Outputs.{leaves, sends}
@@ -41,12 +41,8 @@ use Rattle.node_laws.proofs.Hearing.{running_before, running_heard}
 use Rattle.node_laws.proofs.Learning.{heard_still, majority_decides}
 use Rattle.node_laws.proofs.Messages.{each_with}
 use Rattle.node_laws.proofs.Plain.{IsUnmoved, calm_then, plain_steps, received_exact}
+use Rattle.node_laws.proofs.Slots.{slot_decides}
 use Rattle.node_laws.proofs.Proposed.{IsComplete, agrees_proposed, proposed}
-
-pub slots_tested : (a b : Slot) → a ≡ b → same_slot a b ≡ true
-slots_tested a b same =
-    and_from (a.id == b.id) (a.place == b.place) ((Decides-eqb a.id b.id).1 (ap (λ (x : Slot). x.id) same))
-    ((Decides-eqb a.place b.place).1 (ap (λ (x : Slot). x.place) same))
 
 -- ---- whether a promise was asked for
 
@@ -63,7 +59,7 @@ was_sent node slot ballot (packet ∷ sent) = elim (was_sent node slot ballot se
         let parts = and_parts (node == sender) (same_slot slot other && ballot == above) is in
         let both = and_parts (same_slot slot other) (ballot == above) parts.1 in
         let nodes : node ≡ sender = eqb-true node sender parts.0 in
-        let slots : slot ≡ other = slots_same slot other both.0 in
+        let slots : slot ≡ other = (slot_decides slot other).0 both.0 in
         let ballots : ballot ≡ above = eqb-true ballot above both.1 in
         inl (λ i. Prepare (nodes i) (slots i) (ballots i))
     by_parts sender other above false differs = inr (λ same.
@@ -71,7 +67,7 @@ was_sent node slot ballot (packet ∷ sent) = elim (was_sent node slot ballot se
         let slots : slot ≡ other = cc in
         let ballots : ballot ≡ above = cc in
         true≢false (sym (and_from (node == sender) (same_slot slot other && ballot == above) ((Decides-eqb node sender).1 nodes)
-        (and_from (same_slot slot other) (ballot == above) (slots_tested slot other slots) ((Decides-eqb ballot above).1 ballots))) ∙ differs))
+        (and_from (same_slot slot other) (ballot == above) ((slot_decides slot other).1 slots) ((Decides-eqb ballot above).1 ballots))) ∙ differs))
 
     is_it : (packet : Packet) → (Prepare node slot ballot ≡ packet) ⊎ (Prepare node slot ballot ≡ packet → ⊥)
     is_it (Prepare sender other above) = by_parts sender other above ((node == sender) && (same_slot slot other && ballot == above)) refl
@@ -351,10 +347,10 @@ module _ (setup : Setup) (k : Kept) (s : Node) (stands : Stands setup k s) (send
         by_test : (test : Bool) → same_slot other slot && vote.ballot == ballot ≡ test → ((other ≡ r.slot) × (vote.ballot ≡ r.ballot))
         by_test true same =
             let parts = and_parts (same_slot other slot) (vote.ballot == ballot) same in
-            (slots_same other slot parts.0 ∙ sym same_slots, eqb-true vote.ballot ballot parts.1 ∙ sym same_ballots)
+            ((slot_decides other slot).0 parts.0 ∙ sym same_slots, eqb-true vote.ballot ballot parts.1 ∙ sym same_ballots)
         by_test false differs =
             absurd (due.0.new (promised_before other vote.ballot
-            (λ slots ballots. true≢false (sym (and_from (same_slot other slot) (vote.ballot == ballot) (slots_tested other slot slots)
+            (λ slots ballots. true≢false (sym (and_from (same_slot other slot) (vote.ballot == ballot) ((slot_decides other slot).1 slots)
             ((Decides-eqb vote.ballot ballot).1 ballots)) ∙ differs))
             due.0.promised))
 
@@ -501,12 +497,12 @@ module _ (setup : Setup) (k : Kept) (s : Node) (stands : Stands setup k s) (send
           (proposals setup r sender report) [] [] else leaves k)
       by_test true runs =
           let parts = and_parts (same_slot r.slot slot) (r.ballot == ballot) runs in
-          running_steps r is (slots_same r.slot slot parts.0) (eqb-true r.ballot ballot parts.1) works member (completes setup.nodes r sender) refl
+          running_steps r is ((slot_decides r.slot slot).0 parts.0) (eqb-true r.ballot ballot parts.1) works member (completes setup.nodes r sender) refl
       by_test false differs = idle_steps (λ running.
           let one = one_round setup.node s.actor r.slot slot r.ballot ballot is.about
           (record { newer = is.running.round.newer; older = is.running.round.older; split = is.running.round.split; newest = is.running.round.newest })
           (record { newer = running.round.newer; older = running.round.older; split = running.round.split; newest = running.round.newest }) in
-          true≢false (sym (and_from (same_slot r.slot slot) (r.ballot == ballot) (slots_tested r.slot slot one.0) ((Decides-eqb r.ballot ballot).1 one.1))
+          true≢false (sym (and_from (same_slot r.slot slot) (r.ballot == ballot) ((slot_decides r.slot slot).1 one.0) ((Decides-eqb r.ballot ballot).1 one.1))
           ∙ differs)) works member
 
   pub promise_steps : IsAtWork setup s → StepsAs setup s (Delivery packet) (stepped setup k (Delivery packet))

@@ -6,7 +6,7 @@ use Rattle.std.specs.Bool.{Decides}
 use Rattle.std.proofs.lemmas.Bool.{and_from, and_parts, cases_lt, eqb-false, eqb-true, true≢false}
 use Rattle.std.proofs.lemmas.Bool.Decides.{Decides-and, Decides-eqb, Decides-ltb}
 use Rattle.std.proofs.lemmas.List.{get_or-set_other, get_or-set_same, length-set}
-use Rattle.mc_parts.proofs.Membership.{slots_same}
+use Rattle.node_laws.proofs.Slots.{slot_decides}
 use Rattle.mc_model.specs.message.Decree.{Decree}
 use Rattle.mc_model.specs.synod.Ballot.{incarnation_in, proposer_of, round_in}
 use Rattle.mc_model.specs.synod.Lists.{In}
@@ -197,17 +197,12 @@ module _ (setup : Setup) (k : Kept) (s : Node) (stands : Stands setup k s) (send
       λ t.
           let parts = and_parts (runs_at (Some r) slot ballot) (nat_lt ballot promised) t in
           let both = and_parts (same_slot r.slot slot) (r.ballot == ballot) parts.0 in
-          (slots_same r.slot slot both.0, (eqb-true r.ballot ballot both.1, (Decides-ltb ballot promised).0 parts.1)),
+          ((slot_decides r.slot slot).0 both.0, (eqb-true r.ballot ballot both.1, (Decides-ltb ballot promised).0 parts.1)),
       λ all.
           and_from (runs_at (Some r) slot ballot) (nat_lt ballot promised)
-          (and_from (same_slot r.slot slot) (r.ballot == ballot) (same_itself r.slot slot all.0) ((Decides-eqb r.ballot ballot).1 all.1.0))
+          (and_from (same_slot r.slot slot) (r.ballot == ballot) ((slot_decides r.slot slot).1 all.0) ((Decides-eqb r.ballot ballot).1 all.1.0))
           ((Decides-ltb ballot promised).1 all.1.1),
     )
-      where
-        same_itself : (a b : Slot) → a ≡ b → same_slot a b ≡ true
-        same_itself a b same = and_from (a.id == b.id) (a.place == b.place) ((Decides-eqb a.id b.id).1 (ap (λ (x : Slot). x.id) same))
-            ((Decides-eqb a.place b.place).1 (ap (λ (x : Slot). x.place) same))
-
     round_then : (round : Option Round) → IsKeptRound setup.nodes setup.node s slot.id round →
         IsKeptRound setup.nodes setup.node t slot.id (if runs_at round slot ballot && nat_lt ballot promised then None else round)
     round_then None none = λ other above about runs. none other above about

@@ -37,14 +37,9 @@ use Rattle.node_laws.proofs.Closing.{closed, closed_agrees}
 use Rattle.node_laws.proofs.Deciding.{IsCalm, calm_of}
 use Rattle.node_laws.proofs.KnownRules.{goes}
 use Rattle.node_laws.proofs.Messages.{each_with}
+use Rattle.node_laws.proofs.Slots.{slot_decides}
 use Rattle.node_laws.proofs.RuleChains.{rule_next, rule_place}
 use Rattle.node_laws.proofs.Started.{IsDueStart, IsStartOf, IsToPrepare, StartsAs, started_as}
-
-slot_decides : (a b : Slot) → Decides (same_slot a b) (a ≡ b)
-slot_decides a b = Decides-like (same_slot a b)
-    (λ p. λ i. record { id = p.0 i; place = p.1 i })
-    (λ e. (ap (λ (x : Slot). x.id) e, ap (λ (x : Slot). x.place) e))
-    (Decides-and _ _ (Decides-eqb a.id b.id) (Decides-eqb a.place b.place))
 
 module _ (setup : Setup) (k : Kept) (s : Node) (stands : Stands setup k s) (works : IsAtWork setup s) (mine : IsNode setup.node) (slot : Slot) (outcome : Outcome)
     (may : MayConclude s.actor slot outcome) where

@@ -26,7 +26,6 @@ use Rattle.mc_model.specs.node.Proposal.{IsOwn}
 use Rattle.mc_model.specs.node.Rules.{FitsDelete}
 use Rattle.mc_model.specs.node.Setup.{Setup}
 use Rattle.mc_parts.proofs.Known.{knows_one}
-use Rattle.mc_parts.proofs.Membership.{slots_same}
 use Rattle.node_model.specs.Answers.{answer_to, receipts_of, replied, replies_to, reply_of, still_waits}
 use Rattle.node_model.specs.Kept.{Held, Kept, message_at, with_message}
 use Rattle.node_model.specs.Learner.{heard, is_shorter, makes_known}
@@ -56,7 +55,7 @@ use Rattle.node_laws.proofs.Held.{kept_as, waits_among}
 use Rattle.node_laws.proofs.KnownRules.{delete_decided}
 use Rattle.node_laws.proofs.Orders.{in_mapped}
 use Rattle.node_model.proofs.Places.{message_elsewhere, message_here}
-use Rattle.node_laws.proofs.Promising.{slots_tested}
+use Rattle.node_laws.proofs.Slots.{slot_decides}
 use Rattle.node_laws.proofs.Replied.{cancels_of, replies_of, waits_on}
 use Rattle.node_laws.proofs.Reporting.{Reported, reported}
 use Rattle.node_laws.proofs.Settled.{all_settled, settled_agrees}
@@ -534,11 +533,8 @@ module _ (setup : Setup) (k : Kept) (s : Node) (stands : Stands setup k s) where
 
   pub concerns_decides : (slot : Slot) (vote : Vote) →
       Decides (vote_concerns setup k slot vote) ((slot ≡ slot_of slot.id vote.chain) × (node_of slot.id ≡ setup.node → WasGiven s.actor slot.id))
-  concerns_decides slot vote = Decides-and _ _ slot_decides mine_decides
+  concerns_decides slot vote = Decides-and _ _ (slot_decides slot (slot_of slot.id vote.chain)) mine_decides
     where
-      slot_decides : Decides (same_slot slot (slot_of slot.id vote.chain)) (slot ≡ slot_of slot.id vote.chain)
-      slot_decides = (slots_same slot (slot_of slot.id vote.chain), slots_tested slot (slot_of slot.id vote.chain))
-
       by_test : (own given : Bool) → Decides own (node_of slot.id ≡ setup.node) → Decides given (WasGiven s.actor slot.id) →
           Decides (not own || given) (node_of slot.id ≡ setup.node → WasGiven s.actor slot.id)
       by_test true given own_is given_is = ((λ t. λ own. given_is.0 t), (λ holds. given_is.1 (holds (own_is.0 refl))))
