@@ -7,7 +7,7 @@ use Rattle.std.proofs.lemmas.Bool.Decides.{Decides-and, Decides-eqb, Decides-ltb
 use Rattle.mc_model.specs.message.Decree.{Decree}
 use Rattle.mc_model.specs.synod.Lists.{In}
 use Rattle.mc_model.specs.synod.OneSlot.{Vote}
-use Rattle.mc_model.specs.synod.Packet.{Slot, Tell, TopVote, slot_at, top_at}
+use Rattle.mc_model.specs.synod.Packet.{Name, Slot, Tell, TopVote, slot_at, top_at}
 use Rattle.mc_model.specs.synod.Acceptor.{IsTold, Records, SlotRecord}
 use Rattle.mc_model.specs.node.Actor.{Actor, Waiting, id_in, name_of}
 use Rattle.mc_model.specs.node.Knowledge.{IsKnown}
@@ -125,6 +125,29 @@ module _ (P Q : ℕ → Vote → Type 0) where
 
 -- ---- of what was told, and of the node's own votes
 
+-- to the questions of a name, which are all of this message
+module _ (a : Actor) (name : Name) (id : ℕ) (about : (teller : ℕ) (told : TopVote) → In (Tell teller name (Some told)) a.received → told.id ≡ id) where
+  top_is : (top : TopVote) → top.id ≡ id → top_at (slot_at id top.place) top.vote ≡ top
+  top_is top same = λ i. record { id = sym same i; place = top.place; vote = top.vote }
+
+  pub told_highest : (top : Option TopVote) → IsHighestTold a.received name top → HighestOf top (ToldBy a name id)
+  told_highest None none = λ place vote shown. none shown.teller (top_at (slot_at id place) vote) shown.heard
+  told_highest (Some top) highest = record {
+    shown = record {
+      teller = highest.told.0;
+      heard = subst (λ (it : TopVote). In (Tell highest.told.0 name (Some it)) a.received)
+          (sym (top_is top (about highest.told.0 top highest.told.1))) highest.told.1;
+    };
+    place_most = λ place vote shown. elim (highest.highest shown.teller (top_at (slot_at id place) vote) shown.heard) [
+      | inl below ↦ omega arith
+      | inr at ↦ let same = at.0 in omega arith
+    ];
+    ballot_most = λ vote shown. elim (highest.highest shown.teller (top_at (slot_at id top.place) vote) shown.heard) [
+      | inl below ↦ absurd (omega arith)
+      | inr at ↦ at.1
+    ];
+  }
+
 module _ (node : ℕ) (a : Actor) (id : ℕ) where
   -- to the questions of this request, if it is of the message
   record ToldTo (h : Held) (place : ℕ) (vote : Vote) : Type 0 where
@@ -136,33 +159,11 @@ module _ (node : ℕ) (a : Actor) (id : ℕ) where
     among : In request held
     told : ToldTo request place vote
 
-  top_is : (top : TopVote) → top.id ≡ id → top_at (slot_at id top.place) top.vote ≡ top
-  top_is top about = λ i. record { id = sym about i; place = top.place; vote = top.vote }
-
-  told_highest : (h : Held) → IsHeld a.received (name_of node a h.waiting) h → id_of h ≡ id → HighestOf h.top (ToldTo h)
-  told_highest h is about = by_top h.top is.top
-    where
-      by_top : (top : Option TopVote) → IsHighestTold a.received (name_of node a h.waiting) top → HighestOf top (ToldTo h)
-      by_top None none = λ place vote shown. none shown.told.teller (top_at (slot_at id place) vote) shown.told.heard
-      by_top (Some top) highest = record {
-        shown = record {
-          about = about;
-          told = record {
-            teller = highest.told.0;
-            heard = subst (λ (it : TopVote). In (Tell highest.told.0 (name_of node a h.waiting) (Some it)) a.received)
-                (sym (top_is top (is.about highest.told.0 top highest.told.1 ∙ about)))
-                highest.told.1;
-          };
-        };
-        place_most = λ place vote shown. elim (highest.highest shown.told.teller (top_at (slot_at id place) vote) shown.told.heard) [
-          | inl below ↦ omega arith
-          | inr at ↦ let same = at.0 in omega arith
-        ];
-        ballot_most = λ vote shown. elim (highest.highest shown.told.teller (top_at (slot_at id top.place) vote) shown.told.heard) [
-          | inl below ↦ absurd (omega arith)
-          | inr at ↦ at.1
-        ];
-      }
+  told_to_highest : (h : Held) → IsHeld a.received (name_of node a h.waiting) h → id_of h ≡ id → HighestOf h.top (ToldTo h)
+  told_to_highest h is about =
+      highest_as (ToldBy a (name_of node a h.waiting) id) (ToldTo h) h.top (λ place vote told. record { about = about; told = told })
+      (λ place vote shown. shown.told)
+      (told_highest a (name_of node a h.waiting) id (λ teller told heard. is.about teller told heard ∙ about) h.top is.top)
 
   one_highest : (base : Option TopVote) (Base : ℕ → Vote → Type 0) (h : Held) → IsHeld a.received (name_of node a h.waiting) h → HighestOf base Base →
       HighestOf (if id_of h == id then higher_top base h.top else base) (λ place vote. Base place vote ⊎ ToldTo h place vote)
@@ -170,7 +171,7 @@ module _ (node : ℕ) (a : Actor) (id : ℕ) where
     where
       by_test : (test : Bool) → (id_of h == id) ≡ test →
           HighestOf (if test then higher_top base h.top else base) (λ place vote. Base place vote ⊎ ToldTo h place vote)
-      by_test true same = either_highest Base (ToldTo h) base h.top before (told_highest h is (eqb-true (id_of h) id same))
+      by_test true same = either_highest Base (ToldTo h) base h.top before (told_to_highest h is (eqb-true (id_of h) id same))
       by_test false differs =
           highest_as Base (λ place vote. Base place vote ⊎ ToldTo h place vote) base (λ place vote shown. inl shown)
           (λ place vote shown. elim shown [ inl first ↦ first | inr second ↦ absurd (eqb-false (id_of h) id differs second.about) ])
@@ -223,6 +224,16 @@ own_highest records id (Some top) is = record {
 
 -- ---- the rule
 
+pub ahead_decides : (nodes id : ℕ) (a : Actor) (chain : Option (List Decree)) (place : ℕ) → IsKnown nodes a.received id chain →
+    Decides (is_ahead chain place) (IsAhead nodes a id place)
+ahead_decides nodes id a None place nothing = ((λ t. λ chain knows. absurd (nothing _ _ knows.learned)), (λ ahead. refl))
+ahead_decides nodes id a (Some chain) place knows = (
+  λ t. λ other knows_other.
+      let same : other ≡ chain = knows_one nodes a.received id other chain knows_other knows in
+      subst (λ (c : List Decree). pred (length c) < place) (sym same) ((Decides-ltb (pred (length chain)) place).0 t),
+  λ ahead. (Decides-ltb (pred (length chain)) place).1 (ahead chain knows),
+)
+
 module _ (setup : Setup) (a : Actor) (records : Records) (k : Kept) (id : ℕ)
     (same_records : (slot : Slot) → k.records slot ≡ records slot) (placed : ArePlaced k.records)
     (waiting : map (λ h. h.waiting) k.held ≡ a.waiting)
@@ -262,16 +273,6 @@ module _ (setup : Setup) (a : Actor) (records : Records) (k : Kept) (id : ℕ)
             };
           })
 
-  ahead_decides : (chain : Option (List Decree)) (place : ℕ) → IsKnown setup.nodes a.received id chain →
-      Decides (is_ahead chain place) (IsAhead setup.nodes a id place)
-  ahead_decides None place nothing = ((λ t. λ chain knows. absurd (nothing _ _ knows.learned)), (λ ahead. refl))
-  ahead_decides (Some chain) place knows = (
-    λ t. λ other knows_other.
-        let same : other ≡ chain = knows_one setup.nodes a.received id other chain knows_other knows in
-        subst (λ (c : List Decree). pred (length c) < place) (sym same) ((Decides-ltb (pred (length chain)) place).0 t),
-    λ ahead. (Decides-ltb (pred (length chain)) place).1 (ahead chain knows),
-  )
-
   abbrev Fits : ℕ → List Decree → Type 0
   Fits = FitsFollow setup.nodes setup.node a records id
 
@@ -283,7 +284,7 @@ module _ (setup : Setup) (a : Actor) (records : Records) (k : Kept) (id : ℕ)
       by_ahead it highest true ahead = record {
         vote = it.vote;
         highest = highest;
-        ahead = (ahead_decides (message_at k id).known it.place known).0 ahead;
+        ahead = (ahead_decides setup.nodes id a (message_at k id).known it.place known).0 ahead;
         chain_is = refl;
       }
       by_ahead it highest false behind = λ place chain fits.
@@ -291,7 +292,7 @@ module _ (setup : Setup) (a : Actor) (records : Records) (k : Kept) (id : ℕ)
           let least = fits.highest.place_most it.place it.vote highest.shown in
           let same : place ≡ it.place = omega arith in
           let ahead : IsAhead setup.nodes a id it.place = subst (λ (p : ℕ). IsAhead setup.nodes a id p) same fits.ahead in
-          true≢false (sym ((ahead_decides (message_at k id).known it.place known).1 ahead) ∙ behind)
+          true≢false (sym ((ahead_decides setup.nodes id a (message_at k id).known it.place known).1 ahead) ∙ behind)
 
       by_top : (it : Option TopVote) → HighestOf it Shown → Decided (follow (message_at k id).known it) Fits
       by_top None none = λ place chain fits. none place fits.vote fits.highest.shown

@@ -35,7 +35,7 @@ use Rattle.node_laws.proofs.Orders.{in_mapped}
 use Rattle.node_model.proofs.Places.{message_elsewhere, message_here}
 use Rattle.node_laws.proofs.Seeing.{seen_later as seen_of_slot}
 use Rattle.node_laws.proofs.RuleChains.{after_rule, one_place, received_still, rule_next, rule_place}
-use Rattle.node_laws.proofs.Started.{IsDueStart}
+use Rattle.node_laws.proofs.Started.{IsDueStart, behind_stood}
 
 abbrev pub unanswered : Slot → Slot × Outcome
 unanswered slot = (slot, Unanswered no_session_error)
@@ -158,12 +158,6 @@ module _ (setup : Setup) (s : Node) where
       };
     }
 
-  -- a chain that stands already need not go on from what is known
-  behind_stood : (id : ℕ) (Stood : Type 0) (chain : List Decree) → Stood → IsBehind setup.nodes s.actor.received id Stood chain
-  behind_stood id Stood [] stood = tt
-  behind_stood id Stood (only ∷ []) stood = tt
-  behind_stood id Stood (next ∷ newest ∷ older) stood = inl stood
-
   -- ---- the round of a rule may be started
 
   abbrev pub given_slots : Rule → ℕ → ℕ → List Slot
@@ -268,7 +262,7 @@ module _ (setup : Setup) (s : Node) where
           record {
             within = shown_within place fits.vote fits.highest.shown;
             ahead = fits.ahead;
-            behind = behind_stood id (StandsAt (later slots offers) (slot_at id place) chain) chain stands;
+            behind = behind_stood setup.nodes id s.actor.received (StandsAt (later slots offers) (slot_at id place) chain) chain stands;
             free = inl stands;
           }
       ready quiet Close place chain fits = behind_ready Close place chain (omega arith) fits

@@ -9,7 +9,7 @@ use Rattle.mc_model.specs.message.Ids.{IsNode}
 use Rattle.mc_model.specs.synod.Ballot.{ballot_of, incarnation_in, proposer_of, round_in}
 use Rattle.mc_model.specs.synod.Lists.{In}
 use Rattle.mc_model.specs.synod.Acceptor.{SlotRecord}
-use Rattle.mc_model.specs.synod.Packet.{Slot, slot_at, slot_of}
+use Rattle.mc_model.specs.synod.Packet.{Packet, Slot, slot_at, slot_of}
 use Rattle.mc_model.specs.node.Act.{Act, Prepares}
 use Rattle.mc_model.specs.node.Alone.{IsRunAlone, Node, StandsAt, reached_alone}
 use Rattle.mc_model.specs.node.Due.{AreDueOnce, key_of}
@@ -41,6 +41,12 @@ pub record IsDueStart (setup : Setup) (s : Node) (id : ℕ) (Due : ℕ → List 
   pub free : StandsAt s (slot_at id start.place) start.chain ⊎ ((slot_at id start.place ≡ slot_of id start.chain) × IsOwn
       (IsLearned setup.nodes s.actor.received) setup.node s.actor id start.chain)
   pub behind : IsBehind setup.nodes s.actor.received id (StandsAt s (slot_at id start.place) start.chain) start.chain
+
+-- a chain that stands already need not go on from what is known
+pub behind_stood : (nodes id : ℕ) (received : List Packet) (Stood : Type 0) (chain : List Decree) → Stood → IsBehind nodes received id Stood chain
+behind_stood nodes id received Stood [] stood = tt
+behind_stood nodes id received Stood (only ∷ []) stood = tt
+behind_stood nodes id received Stood (next ∷ newest ∷ older) stood = inl stood
 
 abbrev pub IsStartOf : Setup → Node → ℕ → (ℕ → List Decree → Type 0) → Option Start → Type 0
 IsStartOf setup s id Due None = (place : ℕ) (chain : List Decree) → Due place chain → ⊥

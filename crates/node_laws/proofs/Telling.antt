@@ -53,7 +53,8 @@ use Rattle.node_laws.proofs.Deleting.{deletes_start}
 use Rattle.node_laws.proofs.KnownRules.{delete_decided}
 use Rattle.node_laws.proofs.Replied.{cancels_of, replies_of, waits_on}
 use Rattle.node_laws.proofs.Settled.{all_settled, settled_agrees}
-use Rattle.node_laws.proofs.Started.{IsDueStart, IsStartOf, StartsAs, started_as}
+use Rattle.node_laws.proofs.FollowRule.{ahead_decides, told_highest}
+use Rattle.node_laws.proofs.Started.{IsDueStart, IsStartOf, StartsAs, behind_stood, started_as}
 use Rattle.node_laws.proofs.Waiting.{waits}
 use Rattle.mc_parts.proofs.Membership.{of_only}
 use Rattle.node_laws.proofs.Told.{IsFound, agrees_told, found_at, in_with, none_at, tickets_with, told_now, told_other, waiting_with, with_in}
@@ -479,36 +480,11 @@ module _ (setup : Setup) (k : Kept) (s : Node) (stands : Stands setup k s) (tell
           (ap (λ (x : Held). x.waiting.settled) (sym new_still) ∙ ap (λ (w : Waiting). w.settled) (sym (deletes_by N place chain it))
           ∙ it.deletes.cancelled.settled)
 
-      top_at_is : (top : TopVote) → top.id ≡ N → top_at (slot_at N top.place) top.vote ≡ top
-      top_at_is top of = λ i. record { id = sym of i; place = top.place; vote = top.vote }
+      highest_of : (top : TopVote) → IsHighestTold t.actor.received name (Some top) → IsHighest (ToldBy s_2.actor name N) top.place top.vote
+      highest_of top = told_highest s_2.actor name N new_told.about (Some top)
 
-      highest_of : (top : TopVote) → IsHighestTold t.actor.received name (Some top) →
-          IsHighest (λ place vote. ToldBy s_2.actor name N place vote) top.place top.vote
-      highest_of top highest = record {
-        shown = record {
-          teller = highest.told.0;
-          heard = subst (λ (it : TopVote). In (Tell highest.told.0 name (Some it)) t.actor.received)
-              (sym (top_at_is top (new_told.about highest.told.0 top highest.told.1))) highest.told.1;
-        };
-        place_most = λ place vote shown. elim (highest.highest shown.teller (top_at (slot_at N place) vote) shown.heard) [
-          | inl below ↦ omega arith
-          | inr at ↦ let same = at.0 in omega arith
-        ];
-        ballot_most = λ vote shown. elim (highest.highest shown.teller (top_at (slot_at N top.place) vote) shown.heard) [
-          | inl below ↦ absurd (omega arith)
-          | inr at ↦ at.1
-        ];
-      }
-
-      ahead_decides : (it : Option (List Decree)) → IsKnown setup.nodes t.actor.received N it → (place : ℕ) →
-          Decides (is_ahead it place) (IsAhead setup.nodes s_2.actor N place)
-      ahead_decides None nothing place = ((λ passes. λ chain knows. absurd (nothing _ _ knows.learned)), (λ ahead. refl))
-      ahead_decides (Some chain) knows place = (
-        λ passes. λ other also.
-            let same : other ≡ chain = knows_one setup.nodes t.actor.received N other chain also knows in
-            subst (λ (c : List Decree). pred (length c) < place) (sym same) ((Decides-ltb (pred (length chain)) place).0 passes),
-        λ ahead. (Decides-ltb (pred (length chain)) place).1 (ahead chain knows),
-      )
+      abbrev ahead_at : (place : ℕ) → Decides (is_ahead known place) (IsAhead setup.nodes s_2.actor N place)
+      ahead_at place = ahead_decides setup.nodes N s_2.actor known place known_now
 
       most_decides : (is_majority setup.nodes new.tellers ≡ true) ↔ Majority setup.nodes (HasTold t.actor.received name)
       most_decides = majority_decides setup.nodes (HasTold t.actor.received name) new.tellers new_told.tellers
@@ -530,11 +506,6 @@ module _ (setup : Setup) (k : Kept) (s : Node) (stands : Stands setup k s) (tell
         chain_is = refl;
       }
 
-      behind_stood : (Stood : Type 0) (chain : List Decree) → Stood → IsBehind setup.nodes s_2.actor.received N Stood chain
-      behind_stood Stood [] stood = tt
-      behind_stood Stood (only ∷ []) stood = tt
-      behind_stood Stood (next ∷ newest ∷ older) stood = inl stood
-
       follow_start : is_majority setup.nodes new.tellers ≡ true → (top : TopVote) → IsHighestTold t.actor.received name (Some top) →
           IsAhead setup.nodes s_2.actor N top.place →
           IsDueStart setup s_2 N (Starts N) (followed top)
@@ -553,7 +524,7 @@ module _ (setup : Setup) (k : Kept) (s : Node) (stands : Stands setup k s) (tell
             within = (agrees_2.coherent.fits (Tell highest.told.0 name (Some top)) highest.told.1).0;
             ahead = ahead;
             free = inl stood;
-            behind = behind_stood (StandsAt s_2 (slot_at N top.place) top.vote.chain) top.vote.chain stood;
+            behind = behind_stood setup.nodes N s_2.actor.received (StandsAt s_2 (slot_at N top.place) top.vote.chain) top.vote.chain stood;
           }
 
       none_shown : ((place : ℕ) (chain : List Decree) → Shows N place chain → ⊥) → (place : ℕ) (chain : List Decree) → Starts N place chain → ⊥
@@ -566,13 +537,13 @@ module _ (setup : Setup) (k : Kept) (s : Node) (stands : Stands setup k s) (tell
       by_ahead : is_majority setup.nodes new.tellers ≡ true → (top : TopVote) → IsHighestTold t.actor.received name (Some top) → (ahead : Bool) →
           is_ahead known top.place ≡ ahead →
           IsStartOf setup s_2 N (Starts N) (if ahead then Some (followed top) else None)
-      by_ahead most top highest true is = follow_start most top highest ((ahead_decides known known_now top.place).0 is)
+      by_ahead most top highest true is = follow_start most top highest ((ahead_at top.place).0 is)
       by_ahead most top highest false is = none_shown (λ place chain it.
           let shown = (highest_of top highest).shown in
           let up = (highest_of top highest).place_most place it.vote (record { teller = it.highest.shown.teller; heard = it.highest.shown.heard }) in
           let down = it.highest.place_most top.place top.vote (record { teller = shown.teller; heard = shown.heard }) in
           let same : place ≡ top.place = omega arith in
-          true≢false (sym ((ahead_decides known known_now top.place).1 (subst (IsAhead setup.nodes s_2.actor N) same it.ahead)) ∙ is))
+          true≢false (sym ((ahead_at top.place).1 (subst (IsAhead setup.nodes s_2.actor N) same it.ahead)) ∙ is))
 
       by_top : is_majority setup.nodes new.tellers ≡ true → (top : Option TopVote) → IsHighestTold t.actor.received name top →
           IsStartOf setup s_2 N (Starts N) (follow known top)
