@@ -1,4 +1,5 @@
 pub mod Seeing
+pub mod Running
 pub mod Messages
 pub mod Slots
 pub mod Learning

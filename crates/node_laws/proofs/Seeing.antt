@@ -1,5 +1,5 @@
 -- The rounds that an actor has seen for a slot are seen by one that remembers as much of it.
-use Rattle.std.proofs.Common.{◌≡◌, ℕ, sym, ◌∙◌, inl, inr}
+use Rattle.std.proofs.Common.{◌≡◌, ◌↔◌, ℕ, sym, ◌∙◌, inl, inr}
 use Rattle.mc_model.specs.synod.Lists.{In}
 use Rattle.mc_model.specs.synod.Packet.{Prepare, Refused, Slot}
 use Rattle.mc_model.specs.node.Actor.{Actor}
@@ -27,3 +27,12 @@ highest_as node a b slot there back round highest = record {
   seen = elim highest.seen [ inl none ↦ inl none | inr seen ↦ inr (there round seen) ];
   most = λ other seen. highest.most other (back other seen);
 }
+
+-- of two actors that remember the same
+module _ (node : ℕ) (a b : Actor) (slot : Slot) (incarnation : b.incarnation ≡ a.incarnation)
+    (refusals : (sender ballot promised : ℕ) → In (Refused sender slot ballot promised) a.received ↔ In (Refused sender slot ballot promised) b.received)
+    (prepares : (ballot : ℕ) → In (Prepare node slot ballot) a.sent ↔ In (Prepare node slot ballot) b.sent) where
+  pub highest_later : (round : ℕ) → IsHighestSeen node a slot round → IsHighestSeen node b slot round
+  highest_later = highest_as node a b slot
+      (seen_later node a b slot incarnation (λ sender ballot promised. (refusals sender ballot promised).0) (λ ballot. (prepares ballot).0))
+      (seen_later node b a slot (sym incarnation) (λ sender ballot promised. (refusals sender ballot promised).1) (λ ballot. (prepares ballot).1))

@@ -11,13 +11,12 @@ use Rattle.mc_model.specs.node.Actor.{Submit, Waiting, name_of}
 use Rattle.mc_model.specs.node.Alone.{Node, StandsAt}
 use Rattle.mc_model.specs.node.Knowledge.{IsLearned}
 use Rattle.mc_model.specs.node.Proposal.{Allows, Cancels, IsOwn}
-use Rattle.mc_model.specs.node.Rounds.{IsRunning}
 use Rattle.mc_model.specs.node.Setup.{Setup}
 use Rattle.node_model.specs.Kept.{Held, Kept, message_at}
 use Rattle.node_model.specs.Message.{Message, Round}
 use Rattle.node_model.specs.Requests.{ticket_of}
-use Rattle.node_laws.proofs.Seeing.{highest_as, seen_later}
-use Rattle.node_laws.specs.Stands.{Agrees, IsCoherent, IsHeld, IsHighestSeen, IsMessage, IsRoundOf as IsKeptRound, WasSeen}
+use Rattle.node_laws.proofs.Changing.{StaysFree as Freed, message_freed}
+use Rattle.node_laws.specs.Stands.{Agrees, IsCoherent, IsHeld, IsMessage}
 use Rattle.node_laws.proofs.Coherence.{fit_later}
 
 -- a message of this newest decree waits for its next one
@@ -91,55 +90,18 @@ module _ (setup : Setup) (s : Node) (ws : List Waiting) where
   StaysFree id None = Unit {0}
   StaysFree id (Some r) = StandsAt s r.slot r.own ⊎ KeepsGround id r.own
 
-  running_still : (slot : Slot) (ballot : ℕ) → IsRunning setup.nodes setup.node s.actor slot ballot → IsRunning setup.nodes setup.node waits.actor slot ballot
-  running_still slot ballot runs = record {
-    round = record { newer = runs.round.newer; older = runs.round.older; split = runs.round.split; newest = runs.round.newest };
-    accepted = λ refused. runs.accepted (record { sender = refused.sender; promised = refused.promised; heard = refused.heard; greater = refused.greater });
-    short = λ reached. runs.short (record { chain = reached.chain; known = reached.known; far = reached.far });
-  }
-
-  running_before : (slot : Slot) (ballot : ℕ) → IsRunning setup.nodes setup.node waits.actor slot ballot → IsRunning setup.nodes setup.node s.actor slot ballot
-  running_before slot ballot runs = record {
-    round = record { newer = runs.round.newer; older = runs.round.older; split = runs.round.split; newest = runs.round.newest };
-    accepted = λ refused. runs.accepted (record { sender = refused.sender; promised = refused.promised; heard = refused.heard; greater = refused.greater });
-    short = λ reached. runs.short (record { chain = reached.chain; known = reached.known; far = reached.far });
-  }
-
-  round_waits : (id : ℕ) (round : Option Round) → StaysFree id round → IsKeptRound setup.nodes setup.node s id round →
-      IsKeptRound setup.nodes setup.node waits id round
-  round_waits id None stays none = λ slot ballot about runs. none slot ballot about (running_before slot ballot runs)
-  round_waits id (Some r) stays is = record {
-    about = is.about;
-    running = running_still r.slot r.ballot is.running;
-    promised = is.promised;
-    highest = is.highest;
-    offered = is.offered;
-    free = elim stays [
-      | inl stood ↦ inl stood
-      | inr ground ↦ elim is.free [ inl stood ↦ inl stood | inr own ↦ inr (own.0, own_waits id r.own ground own.1) ]
-    ];
-    behind = is.behind;
-    unproposed = is.unproposed;
-  }
-
-  seen_waits : (slot : Slot) (round : ℕ) → WasSeen setup.node s.actor slot round → WasSeen setup.node waits.actor slot round
-  seen_waits slot = seen_later setup.node s.actor waits.actor slot refl (λ sender ballot promised heard. heard) (λ ballot sent. sent)
-
-  seen_before : (slot : Slot) (round : ℕ) → WasSeen setup.node waits.actor slot round → WasSeen setup.node s.actor slot round
-  seen_before slot = seen_later setup.node waits.actor s.actor slot refl (λ sender ballot promised heard. heard) (λ ballot sent. sent)
-
-  highest_waits : (slot : Slot) (round : ℕ) → IsHighestSeen setup.node s.actor slot round → IsHighestSeen setup.node waits.actor slot round
-  highest_waits slot = highest_as setup.node s.actor waits.actor slot (seen_waits slot) (seen_before slot)
+  free_then : (id : ℕ) (round : Option Round) → StaysFree id round →
+      Freed setup s s.actor.up s.actor.serial s.actor.ticket ws s.actor.granted s.actor.closed id round
+  free_then id None stays = tt
+  free_then id (Some r) (inl stood) = inl stood
+  free_then id (Some r) (inr ground) = inr (own_waits id r.own ground)
 
   pub message_waits : (id : ℕ) (m : Message) → StaysFree id m.round → IsMessage setup s id m → IsMessage setup waits id m
-  message_waits id m stays is = record {
-    heard = is.heard;
-    places = is.places;
-    seen = λ place within. highest_waits (slot_at id place) _ (is.seen place within);
-    round = round_waits id m.round stays is.round;
-    attempts = record { granted = is.attempts.granted; closed = is.attempts.closed };
-    covers = is.covers;
-  }
+  message_waits id m stays is =
+      message_freed setup s s.actor.up s.actor.serial s.actor.ticket ws s.actor.granted s.actor.closed id m m.granted m.closed
+      (free_then id m.round stays) is
+      (record { granted = is.attempts.granted; closed = is.attempts.closed })
+      is.covers
 
   pub coherent_waits : IsCoherent setup.node s.actor → IsCoherent setup.node waits.actor
   coherent_waits is = record {
