@@ -19,7 +19,8 @@ use Rattle.mc_model.specs.node.Setup.{Setup}
 use Rattle.mc_parts.proofs.Learning.{known_stays, learned_still}
 use Rattle.node_model.specs.Message.{Message, Round}
 use Rattle.node_model.specs.Kept.{Held}
-use Rattle.node_laws.proofs.Seeing.{highest_as, seen_later}
+use Rattle.node_laws.proofs.Running.{running_later}
+use Rattle.node_laws.proofs.Seeing.{highest_later}
 use Rattle.node_laws.specs.Stands.{IsAside, IsBehind, IsHeld, IsHighestReport, IsHighestSeen, IsHighestTold, IsMessage, IsQuiet, IsRoundOf, WasSeen}
 use Rattle.node_laws.proofs.Learning.{heard_still}
 
@@ -170,28 +171,12 @@ module _ (nodes node : ℕ) (a : Actor) (packet : Packet) (aside : IsAside packe
   -- ---- rounds
 
   pub running_still : (slot : Slot) (ballot : ℕ) → IsRunning nodes node a slot ballot → IsRunning nodes node b slot ballot
-  running_still slot ballot runs = record {
-    round = record { newer = runs.round.newer; older = runs.round.older; split = runs.round.split; newest = runs.round.newest };
-    accepted = λ refused. runs.accepted (record {
-      sender = refused.sender;
-      promised = refused.promised;
-      heard = refusal_before refused.sender ballot refused.promised slot refused.heard;
-      greater = refused.greater;
-    });
-    short = λ reached. runs.short (record { chain = reached.chain; known = knows_before slot.id reached.chain reached.known; far = reached.far });
-  }
+  running_still slot ballot =
+      running_later nodes node a b slot ballot (λ sender promised greater heard. refusal_before sender ballot promised slot heard) (knows_before slot.id) refl
 
   pub running_before : (slot : Slot) (ballot : ℕ) → IsRunning nodes node b slot ballot → IsRunning nodes node a slot ballot
-  running_before slot ballot runs = record {
-    round = record { newer = runs.round.newer; older = runs.round.older; split = runs.round.split; newest = runs.round.newest };
-    accepted = λ refused. runs.accepted (record {
-      sender = refused.sender;
-      promised = refused.promised;
-      heard = inr refused.heard;
-      greater = refused.greater;
-    });
-    short = λ reached. runs.short (record { chain = reached.chain; known = known_still slot.id (Some reached.chain) reached.known; far = reached.far });
-  }
+  running_before slot ballot =
+      running_later nodes node b a slot ballot (λ sender promised greater heard. inr heard) (λ chain. known_still slot.id (Some chain)) refl
 
   -- ---- what it may propose
 
@@ -244,16 +229,13 @@ module _ (setup : Setup) (s : Node) (records : Records) (packet : Packet) (aside
   stands_still slot chain (inr (inr (inr (inl (sender, name, ballot, heard))))) = inr (inr (inr (inl (sender, name, ballot, inr heard))))
   stands_still slot chain (inr (inr (inr (inr began)))) = inr (inr (inr (inr began)))
 
-  seen_before : (slot : Slot) (round : ℕ) → WasSeen setup.node later.actor slot round → WasSeen setup.node s.actor slot round
-  seen_before slot = seen_later setup.node later.actor s.actor slot refl
-      (λ sender ballot promised heard. refusal_before setup.nodes setup.node s.actor packet aside sender ballot promised slot heard)
-      (λ ballot sent. sent)
-
-  seen_still : (slot : Slot) (round : ℕ) → WasSeen setup.node s.actor slot round → WasSeen setup.node later.actor slot round
-  seen_still slot = seen_later setup.node s.actor later.actor slot refl (λ sender ballot promised heard. inr heard) (λ ballot sent. sent)
-
   highest_still : (slot : Slot) (round : ℕ) → IsHighestSeen setup.node s.actor slot round → IsHighestSeen setup.node later.actor slot round
-  highest_still slot = highest_as setup.node s.actor later.actor slot (seen_still slot) (seen_before slot)
+  highest_still slot = highest_later setup.node s.actor later.actor slot refl
+      (λ sender ballot promised. (
+        λ heard. inr heard,
+        λ heard. refusal_before setup.nodes setup.node s.actor packet aside sender ballot promised slot heard,
+      ))
+      (λ ballot. ((λ sent. sent), (λ sent. sent)))
 
   report_still : (slot : Slot) (ballot : ℕ) (highest : Option Vote) → IsHighestReport s.actor.received slot ballot highest → IsHighestReport later.actor.received slot ballot highest
   report_still slot ballot None none = λ acceptor vote heard. none acceptor vote (promise_before setup.nodes setup.node s.actor packet aside acceptor ballot slot (Some vote) heard)

@@ -48,10 +48,10 @@ module _ (setup : Setup) (s : Node) (up : Bool) (serial ticket : ℕ) (waiting :
   round_still : (id : ℕ) (round : Option Round) → StaysFree id round → IsRoundOf setup.nodes setup.node s id round →
       IsRoundOf setup.nodes setup.node changed id round
   round_still id None free none = λ other ballot about runs. none other ballot about
-      (running_later setup.nodes setup.node changed.actor s.actor other ballot (λ sender promised heard. heard) (λ chain knows. knows) refl runs)
+      (running_later setup.nodes setup.node changed.actor s.actor other ballot (λ sender promised greater heard. heard) (λ chain knows. knows) refl runs)
   round_still id (Some r) free is = record {
     about = is.about;
-    running = running_later setup.nodes setup.node s.actor changed.actor r.slot r.ballot (λ sender promised heard. heard) (λ chain knows. knows) refl is.running;
+    running = running_later setup.nodes setup.node s.actor changed.actor r.slot r.ballot (λ sender promised greater heard. heard) (λ chain knows. knows) refl is.running;
     promised = is.promised;
     highest = is.highest;
     offered = is.offered;

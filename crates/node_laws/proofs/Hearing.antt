@@ -14,6 +14,7 @@ use Rattle.mc_parts.proofs.Learning.{learned_still}
 use Rattle.mc_parts.proofs.Membership.{in_right}
 use Rattle.node_model.specs.Kept.{Held}
 use Rattle.node_model.specs.Message.{Message, Round}
+use Rattle.node_laws.proofs.Running.{running_later}
 use Rattle.node_laws.proofs.Seeing.{seen_later}
 use Rattle.node_laws.specs.Stands.{IsBehind, IsHeld, IsHighestReport, IsHighestSeen, IsHighestTold, IsMessage, IsRoundOf as IsKeptRound, TellsOfNone, WasSeen}
 use Rattle.node_laws.proofs.Answered.{known_is}
@@ -176,19 +177,11 @@ module _ (setup : Setup) (s : Node) (packet : Packet) where
 
     pub running_heard : (slot : Slot) (ballot : ℕ) → slot.id ≡ id → RefusesNone packet slot ballot → IsRunning setup.nodes setup.node s.actor slot ballot →
         IsRunning setup.nodes setup.node t.actor slot ballot
-    running_heard slot ballot about refuses runs = record {
-      round = record { newer = runs.round.newer; older = runs.round.older; split = runs.round.split; newest = runs.round.newest };
-      accepted = λ refused. elim refused.heard [
-        | inl same ↦ refuses refused.sender refused.promised refused.greater same
-        | inr heard ↦ runs.accepted (record { sender = refused.sender; promised = refused.promised; heard = heard; greater = refused.greater })
-      ];
-      short = λ reached. runs.short (record {
-        chain = reached.chain;
-        known = subst (λ (i : ℕ). Knows setup.nodes s.actor.received i reached.chain) (sym about)
-            (knew reached.chain (subst (λ (i : ℕ). Knows setup.nodes t.actor.received i reached.chain) about reached.known));
-        far = reached.far;
-      });
-    }
+    running_heard slot ballot about refuses =
+        running_later setup.nodes setup.node s.actor t.actor slot ballot
+        (λ sender promised greater came. elim came [ inl same ↦ absurd (refuses sender promised greater same) | inr heard ↦ heard ])
+        (subst (λ (i : ℕ). (chain : List Decree) → Knows setup.nodes t.actor.received i chain → Knows setup.nodes s.actor.received i chain) (sym about) knew)
+        refl
 
     pub behind_heard : (slot : Slot) (own chain : List Decree) → IsBehind setup.nodes s.actor.received id (StandsAt s slot own) chain →
         IsBehind setup.nodes t.actor.received id (StandsAt t slot own) chain
@@ -199,21 +192,11 @@ module _ (setup : Setup) (s : Node) (packet : Packet) where
 
     pub running_before : (slot : Slot) (ballot : ℕ) → slot.id ≡ id → IsRunning setup.nodes setup.node t.actor slot ballot →
         IsRunning setup.nodes setup.node s.actor slot ballot
-    running_before slot ballot about runs = record {
-      round = record { newer = runs.round.newer; older = runs.round.older; split = runs.round.split; newest = runs.round.newest };
-      accepted = λ refused. runs.accepted (record {
-        sender = refused.sender;
-        promised = refused.promised;
-        heard = inr refused.heard;
-        greater = refused.greater;
-      });
-      short = λ reached. runs.short (record {
-        chain = reached.chain;
-        known = subst (λ (i : ℕ). Knows setup.nodes t.actor.received i reached.chain) (sym about)
-            (knows_still reached.chain (subst (λ (i : ℕ). Knows setup.nodes s.actor.received i reached.chain) about reached.known));
-        far = reached.far;
-      });
-    }
+    running_before slot ballot about =
+        running_later setup.nodes setup.node t.actor s.actor slot ballot (λ sender promised greater heard. inr heard)
+        (subst (λ (i : ℕ). (chain : List Decree) → Knows setup.nodes s.actor.received i chain → Knows setup.nodes t.actor.received i chain) (sym about)
+        knows_still)
+        refl
 
     -- the round that is kept, if it was neither promised nor refused
     pub round_heard : (round : Option Round) → IsUnpromised packet round → IsUnrefused packet round →

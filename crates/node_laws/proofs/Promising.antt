@@ -499,9 +499,7 @@ module _ (setup : Setup) (k : Kept) (s : Node) (stands : Stands setup k s) (send
           let parts = and_parts (same_slot r.slot slot) (r.ballot == ballot) runs in
           running_steps r is ((slot_decides r.slot slot).0 parts.0) (eqb-true r.ballot ballot parts.1) works member (completes setup.nodes r sender) refl
       by_test false differs = idle_steps (λ running.
-          let one = one_round setup.node s.actor r.slot slot r.ballot ballot is.about
-          (record { newer = is.running.round.newer; older = is.running.round.older; split = is.running.round.split; newest = is.running.round.newest })
-          (record { newer = running.round.newer; older = running.round.older; split = running.round.split; newest = running.round.newest }) in
+          let one = one_round setup.node s.actor r.slot slot r.ballot ballot is.about is.running.round running.round in
           true≢false (sym (and_from (same_slot r.slot slot) (r.ballot == ballot) ((slot_decides r.slot slot).1 one.0) ((Decides-eqb r.ballot ballot).1 one.1))
           ∙ differs)) works member
 

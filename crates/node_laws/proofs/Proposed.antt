@@ -9,7 +9,8 @@ use Rattle.mc_model.specs.node.Setup.{Setup}
 use Rattle.node_model.specs.Kept.{Kept, message_at}
 use Rattle.node_model.specs.Message.{Message, Round}
 use Rattle.node_model.specs.Sets.{is_majority}
-use Rattle.node_laws.proofs.Seeing.{highest_as, seen_later}
+use Rattle.node_laws.proofs.Running.{round_less, round_more, running_of}
+use Rattle.node_laws.proofs.Seeing.{highest_later}
 use Rattle.node_laws.specs.Stands.{Agrees, IsCoherent, IsHighestSeen, IsMessage, IsRoundOf as IsKeptRound, WasSeen}
 use Rattle.node_laws.proofs.Coherence.{IsLater, fit_later}
 use Rattle.node_laws.proofs.Owning.{IsGround, own_later}
@@ -32,36 +33,17 @@ module _ (setup : Setup) (s : Node) (slot : Slot) (vote : Vote) where
 
     running_still : (other : Slot) (above : ℕ) → IsRunning setup.nodes setup.node s.actor other above →
         IsRunning setup.nodes setup.node proposed.actor other above
-    running_still other above runs = record {
-      round = record {
-        newer = Propose setup.node slot vote ∷ runs.round.newer;
-        older = runs.round.older;
-        split = since_is ∙ ap (λ (ps : List Packet). Propose setup.node slot vote ∷ ps) runs.round.split;
-        newest = λ sender at height is_in same. elim is_in [ inl now ↦ absurd (cc) | inr before ↦ runs.round.newest sender at height before same ];
-      };
-      accepted = λ refused. runs.accepted (record { sender = refused.sender; promised = refused.promised; heard = refused.heard; greater = refused.greater });
-      short = λ reached. runs.short (record { chain = reached.chain; known = reached.known; far = reached.far });
-    }
-
-    round_before : (newer older : List Packet) (other : Slot) (above : ℕ) →
-        Propose setup.node slot vote ∷ sent_since_tick s.actor ≡ newer ++ Prepare setup.node other above ∷ older →
-        ((sender : ℕ) (at : Slot) (height : ℕ) → In (Prepare sender at height) newer → at.id ≡ other.id → ⊥) → IsRoundOf setup.node s.actor other above
-    round_before [] older other above split newest =
-        let packets : Propose setup.node slot vote ≡ Prepare setup.node other above = cc in absurd (cc)
-    round_before (first ∷ newer) older other above split newest = record {
-      newer = newer;
-      older = older;
-      split = cc;
-      newest = λ sender at height is_in same. newest sender at height (inr is_in) same;
-    }
+    running_still other above runs =
+        running_of setup.nodes setup.node s.actor proposed.actor other above (λ sender promised greater heard. heard) (λ chain knows. knows)
+        (round_more setup.node s.actor proposed.actor other above (Propose setup.node slot vote) since_is (λ sender at height same ids. absurd (cc)) runs.round)
+        runs
 
     running_before : (other : Slot) (above : ℕ) → IsRunning setup.nodes setup.node proposed.actor other above →
         IsRunning setup.nodes setup.node s.actor other above
-    running_before other above runs = record {
-      round = round_before runs.round.newer runs.round.older other above (sym since_is ∙ runs.round.split) runs.round.newest;
-      accepted = λ refused. runs.accepted (record { sender = refused.sender; promised = refused.promised; heard = refused.heard; greater = refused.greater });
-      short = λ reached. runs.short (record { chain = reached.chain; known = reached.known; far = reached.far });
-    }
+    running_before other above runs =
+        running_of setup.nodes setup.node proposed.actor s.actor other above (λ sender promised greater heard. heard) (λ chain knows. knows)
+        (round_less setup.node s.actor proposed.actor other above (Propose setup.node slot vote) since_is (λ sender at height same ids. absurd (cc)) runs.round)
+        runs
 
     ground : (id : ℕ) → IsGround setup.nodes id s.actor proposed.actor
     ground id = record {
@@ -95,15 +77,9 @@ module _ (setup : Setup) (s : Node) (slot : Slot) (vote : Vote) where
 
   -- ---- rounds that were seen
 
-  seen_before : (other : Slot) (round : ℕ) → WasSeen setup.node proposed.actor other round → WasSeen setup.node s.actor other round
-  seen_before other = seen_later setup.node proposed.actor s.actor other refl (λ sender ballot promised heard. heard)
-      (λ ballot sent. elim sent [ inl now ↦ absurd (cc) | inr before ↦ before ])
-
-  seen_still : (other : Slot) (round : ℕ) → WasSeen setup.node s.actor other round → WasSeen setup.node proposed.actor other round
-  seen_still other = seen_later setup.node s.actor proposed.actor other refl (λ sender ballot promised heard. heard) (λ ballot sent. inr sent)
-
   highest_still : (other : Slot) (round : ℕ) → IsHighestSeen setup.node s.actor other round → IsHighestSeen setup.node proposed.actor other round
-  highest_still other = highest_as setup.node s.actor proposed.actor other (seen_still other) (seen_before other)
+  highest_still other = highest_later setup.node s.actor proposed.actor other refl (λ sender ballot promised. ((λ heard. heard), (λ heard. heard)))
+      (λ ballot. ((λ sent. inr sent), (λ sent. elim sent [ inl now ↦ absurd (cc) | inr before ↦ before ])))
 
   -- ---- what is kept agrees
 

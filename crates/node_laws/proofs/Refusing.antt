@@ -6,6 +6,7 @@ use Rattle.std.specs.Bool.{Decides}
 use Rattle.std.proofs.lemmas.Bool.{and_from, and_parts, cases_lt, eqb-false, eqb-true, true≢false}
 use Rattle.std.proofs.lemmas.Bool.Decides.{Decides-and, Decides-eqb, Decides-ltb}
 use Rattle.std.proofs.lemmas.List.{get_or-set_other, get_or-set_same, length-set}
+use Rattle.node_laws.proofs.Running.{round_later}
 use Rattle.node_laws.proofs.Slots.{slot_decides}
 use Rattle.mc_model.specs.message.Decree.{Decree}
 use Rattle.mc_model.specs.synod.Ballot.{incarnation_in, proposer_of, round_in}
@@ -184,7 +185,7 @@ module _ (setup : Setup) (k : Kept) (s : Node) (stands : Stands setup k s) (send
         RunsNone setup.nodes setup.node t.actor slot.id
     ended r is same_slot same_ballot greater other above about runs =
         let one = one_round setup.node t.actor other r.slot above r.ballot (about ∙ sym is.about) runs.round
-        (record { newer = is.running.round.newer; older = is.running.round.older; split = is.running.round.split; newest = is.running.round.newest }) in
+        (round_later setup.node s.actor t.actor r.slot r.ballot refl is.running.round) in
         runs.accepted (record {
           sender = sender;
           promised = promised;

@@ -18,7 +18,8 @@ use Rattle.mc_model.specs.node.Rules.{IsAhead}
 use Rattle.mc_model.specs.node.Setup.{Setup}
 use Rattle.node_model.specs.Message.{Message, Round, most_places}
 use Rattle.node_model.specs.Proposer.{started_at}
-use Rattle.node_laws.proofs.Seeing.{highest_as, seen_later}
+use Rattle.node_laws.proofs.Running.{round_less, round_more, running_of}
+use Rattle.node_laws.proofs.Seeing.{highest_later}
 use Rattle.node_laws.specs.Stands.{IsBehind, IsCoherent, IsHighestSeen, IsMessage, IsRoundOf as IsKeptRound, WasSeen}
 use Rattle.node_laws.proofs.Coherence.{IsLater, fit_later}
 use Rattle.node_laws.proofs.Owning.{IsGround, own_later}
@@ -52,16 +53,13 @@ module _ (setup : Setup) (s : Node) (slot : Slot) (ballot : ℕ) (chain : List D
     began = s.began;
   }
 
-  seen_still : (other : Slot) (round : ℕ) → WasSeen setup.node s.actor other round → WasSeen setup.node prepared.actor other round
-  seen_still other = seen_later setup.node s.actor prepared.actor other refl (λ sender ballot promised heard. heard) (λ ballot sent. inr sent)
-
-  seen_before : (other : Slot) → (other ≡ slot → ⊥) → (round : ℕ) → WasSeen setup.node prepared.actor other round → WasSeen setup.node s.actor other round
-  seen_before other differs = seen_later setup.node prepared.actor s.actor other refl (λ sender ballot promised heard. heard)
-      (λ ballot sent. elim sent [ inl now ↦ (let slots : other ≡ slot = cc in absurd (differs slots)) | inr before ↦ before ])
-
   highest_other : (other : Slot) → (other ≡ slot → ⊥) → (round : ℕ) → IsHighestSeen setup.node s.actor other round →
       IsHighestSeen setup.node prepared.actor other round
-  highest_other other differs = highest_as setup.node s.actor prepared.actor other (seen_still other) (seen_before other differs)
+  highest_other other differs = highest_later setup.node s.actor prepared.actor other refl (λ sender ballot promised. ((λ heard. heard), (λ heard. heard)))
+      (λ above. (
+        λ sent. inr sent,
+        λ sent. elim sent [ inl now ↦ (let slots : other ≡ slot = cc in absurd (differs slots)) | inr before ↦ before ],
+      ))
 
   same_ground : (id : ℕ) → IsGround setup.nodes id s.actor prepared.actor
   same_ground id = record {
@@ -95,45 +93,24 @@ module _ (setup : Setup) (s : Node) (slot : Slot) (ballot : ℕ) (chain : List D
     since_is : sent_since_tick prepared.actor ≡ Prepare setup.node slot ballot ∷ sent_since_tick s.actor
     since_is = since_more (Prepare setup.node slot ballot) s.actor.sent s.actor.before_tick coherent.ticked
 
+    none_other : (other : Slot) → other.id ≡ id → (sender : ℕ) (at : Slot) (height : ℕ) → Prepare sender at height ≡ Prepare setup.node slot ballot →
+        at.id ≡ other.id → ⊥
+    none_other other about sender at height same ids =
+        let slots : at ≡ slot = cc in apart (sym about ∙ sym ids ∙ ap (λ (x : Slot). x.id) slots)
+
     running_other : (other : Slot) (above : ℕ) → other.id ≡ id → IsRunning setup.nodes setup.node s.actor other above →
         IsRunning setup.nodes setup.node prepared.actor other above
-    running_other other above about runs = record {
-      round = record {
-        newer = Prepare setup.node slot ballot ∷ runs.round.newer;
-        older = runs.round.older;
-        split = since_is ∙ ap (λ (ps : List Packet). Prepare setup.node slot ballot ∷ ps) runs.round.split;
-        newest = λ sender at height is_in same. elim is_in [
-          | inl now ↦
-              let slots : at ≡ slot = cc in
-              apart (sym about ∙ sym same ∙ ap (λ (x : Slot). x.id) slots)
-          | inr before ↦ runs.round.newest sender at height before same
-        ];
-      };
-      accepted = λ refused. runs.accepted (record { sender = refused.sender; promised = refused.promised; heard = refused.heard; greater = refused.greater });
-      short = λ reached. runs.short (record { chain = reached.chain; known = reached.known; far = reached.far });
-    }
-
-    round_before : (newer older : List Packet) (other : Slot) (above : ℕ) → other.id ≡ id →
-        Prepare setup.node slot ballot ∷ sent_since_tick s.actor ≡ newer ++ Prepare setup.node other above ∷ older →
-        ((sender : ℕ) (at : Slot) (height : ℕ) → In (Prepare sender at height) newer → at.id ≡ other.id → ⊥) → IsRoundOf setup.node s.actor other above
-    round_before [] older other above about split newest =
-        let packets : Prepare setup.node slot ballot ≡ Prepare setup.node other above = cc in
-        let slots : slot ≡ other = cc in
-        absurd (apart (sym about ∙ sym (ap (λ (x : Slot). x.id) slots)))
-    round_before (first ∷ newer) older other above about split newest = record {
-      newer = newer;
-      older = older;
-      split = cc;
-      newest = λ sender at height is_in same. newest sender at height (inr is_in) same;
-    }
+    running_other other above about runs =
+        running_of setup.nodes setup.node s.actor prepared.actor other above (λ sender promised greater heard. heard) (λ chain knows. knows)
+        (round_more setup.node s.actor prepared.actor other above (Prepare setup.node slot ballot) since_is (none_other other about) runs.round)
+        runs
 
     running_before : (other : Slot) (above : ℕ) → other.id ≡ id → IsRunning setup.nodes setup.node prepared.actor other above →
         IsRunning setup.nodes setup.node s.actor other above
-    running_before other above about runs = record {
-      round = round_before runs.round.newer runs.round.older other above about (sym since_is ∙ runs.round.split) runs.round.newest;
-      accepted = λ refused. runs.accepted (record { sender = refused.sender; promised = refused.promised; heard = refused.heard; greater = refused.greater });
-      short = λ reached. runs.short (record { chain = reached.chain; known = reached.known; far = reached.far });
-    }
+    running_before other above about runs =
+        running_of setup.nodes setup.node prepared.actor s.actor other above (λ sender promised greater heard. heard) (λ chain knows. knows)
+        (round_less setup.node s.actor prepared.actor other above (Prepare setup.node slot ballot) since_is (none_other other about) runs.round)
+        runs
 
     own_other : (own : List Decree) → IsOwn (IsLearned setup.nodes s.actor.received) setup.node s.actor id own →
         IsOwn (IsLearned setup.nodes prepared.actor.received) setup.node prepared.actor id own

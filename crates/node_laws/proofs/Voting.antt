@@ -55,6 +55,7 @@ use Rattle.node_laws.proofs.Held.{kept_as, waits_among}
 use Rattle.node_laws.proofs.KnownRules.{delete_decided}
 use Rattle.node_laws.proofs.Orders.{in_mapped}
 use Rattle.node_model.proofs.Places.{message_elsewhere, message_here}
+use Rattle.node_laws.proofs.Running.{round_later}
 use Rattle.node_laws.proofs.Slots.{slot_decides}
 use Rattle.node_laws.proofs.Replied.{cancels_of, replies_of, waits_on}
 use Rattle.node_laws.proofs.Reporting.{Reported, reported}
@@ -179,7 +180,7 @@ module _ (setup : Setup) (k : Kept) (s : Node) (stands : Stands setup k s) (vote
     running_before : (at : Slot) (ballot : ℕ) → at.id ≡ id → IsRunning setup.nodes setup.node t.actor at ballot →
         IsRunning setup.nodes setup.node s.actor at ballot
     running_before at ballot about runs = record {
-      round = record { newer = runs.round.newer; older = runs.round.older; split = runs.round.split; newest = runs.round.newest };
+      round = round_later setup.node t.actor s.actor at ballot refl runs.round;
       accepted = λ refused. runs.accepted (record {
         sender = refused.sender;
         promised = refused.promised;
@@ -202,7 +203,7 @@ module _ (setup : Setup) (k : Kept) (s : Node) (stands : Stands setup k s) (vote
     unreached r is beyond = record {
       about = is.about;
       running = record {
-        round = record { newer = is.running.round.newer; older = is.running.round.older; split = is.running.round.split; newest = is.running.round.newest };
+        round = round_later setup.node s.actor t.actor r.slot r.ballot refl is.running.round;
         accepted = λ refused. elim refused.heard [
           | inl same ↦ absurd (cc)
           | inr before ↦ is.running.accepted (record { sender = refused.sender; promised = refused.promised; heard = before; greater = refused.greater })
@@ -260,7 +261,7 @@ module _ (setup : Setup) (k : Kept) (s : Node) (stands : Stands setup k s) (vote
             IsKeptRound setup.nodes setup.node t id (if reached then None else Some r)
         by_place true reached = λ at ballot about runs.
             let one = one_round setup.node t.actor at r.slot ballot r.ballot (about ∙ sym is.about) runs.round
-            (record { newer = is.running.round.newer; older = is.running.round.older; split = is.running.round.split; newest = is.running.round.newest }) in
+            (round_later setup.node s.actor t.actor r.slot r.ballot refl is.running.round) in
             let places : at.place ≡ r.slot.place = ap (λ (x : Slot). x.place) one.0 in
             let far : r.slot.place ≤ pred (length vote.chain) = grind (arith, nat_tests) in
             runs.short (record {
