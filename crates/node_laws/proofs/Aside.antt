@@ -19,6 +19,7 @@ use Rattle.mc_model.specs.node.Setup.{Setup}
 use Rattle.mc_parts.proofs.Learning.{known_stays, learned_still}
 use Rattle.node_model.specs.Message.{Message, Round}
 use Rattle.node_model.specs.Kept.{Held}
+use Rattle.node_laws.proofs.Quiet.{quiet_with}
 use Rattle.node_laws.proofs.Running.{running_later}
 use Rattle.node_laws.proofs.Seeing.{highest_later}
 use Rattle.node_laws.specs.Stands.{IsAside, IsBehind, IsHeld, IsHighestReport, IsHighestSeen, IsHighestTold, IsMessage, IsQuiet, IsRoundOf, WasSeen}
@@ -84,88 +85,6 @@ module _ (nodes node : ℕ) (a : Actor) (packet : Packet) (aside : IsAside packe
       each = λ teller least most passes. told_before name teller (settled.majority.each teller least most passes);
     };
     reached = λ teller told heard. settled.reached teller told (inr heard);
-  }
-
-  pub to_settle_before : (ticket : ℕ) → IsToSettle nodes node b ticket → IsToSettle nodes node a ticket
-  to_settle_before ticket due = record {
-    waiting = due.waiting;
-    known = due.known;
-    waits = due.waits;
-    ticket_is = due.ticket_is;
-    cancel = due.cancel;
-    unsettled = due.unsettled;
-    knows = known_before _ due.known due.knows;
-    settled = settled_before _ due.known due.settled;
-  }
-
-  submit_before : (id : ℕ) (answer : Answer) → FitsSubmit nodes b id answer → FitsSubmit nodes a id answer
-  submit_before id Accepted fits = record { chain = fits.chain; known = knows_before id fits.chain fits.known }
-  submit_before id answer fits = absurd fits
-
-  query_before : (w : Waiting) (account source : List ℕ) (answer : Answer) → FitsQuery nodes node b w account source answer → FitsQuery nodes node a w account source answer
-  query_before w account source (Shown chain) fits = record {
-    taken = fits.taken;
-    known = knows_before _ chain fits.known;
-    settled = settled_before _ (Some chain) fits.settled;
-    message = fits.message;
-    owner = fits.owner;
-  }
-  query_before w account source NotOwner fits = record {
-    chain = fits.chain;
-    taken = fits.taken;
-    known = knows_before _ fits.chain fits.known;
-    settled = settled_before _ (Some fits.chain) fits.settled;
-    message = fits.message;
-    other = fits.other;
-  }
-  query_before w account source Unknown fits = record {
-    nothing = known_before _ None fits.nothing;
-    settled = settled_before _ None fits.settled;
-  }
-  query_before w account source answer fits = absurd fits
-
-  cancel_before : (w : Waiting) (account source destination : List ℕ) (answer : Answer) → FitsCancel nodes node b w account source destination answer → FitsCancel nodes node a w account source destination answer
-  cancel_before w account source destination (Removed chain) fits = record {
-    taken = fits.taken;
-    known = knows_before _ chain fits.known;
-    settled = fits.settled;
-    message = fits.message;
-    matched = fits.matched;
-    deleted = fits.deleted;
-  }
-  cancel_before w account source destination (Kept chain) fits = record {
-    taken = fits.taken;
-    newest = fits.newest;
-    older = fits.older;
-    known = knows_before _ chain fits.known;
-    settled = fits.settled;
-    message = fits.message;
-    matched = fits.matched;
-    chain_is = fits.chain_is;
-    kept = fits.kept;
-  }
-  cancel_before w account source destination (NotMatched chain) fits = record {
-    taken = fits.taken;
-    known = knows_before _ chain fits.known;
-    settled = fits.settled;
-    message = fits.message;
-    other = fits.other;
-  }
-  cancel_before w account source destination Unknown fits = record {
-    nothing = known_before _ None fits.nothing;
-    settled = settled_before _ None fits.settled;
-  }
-  cancel_before w account source destination answer fits = absurd fits
-
-  request_before : (w : Waiting) (request : Request) (answer : Answer) → FitsRequest nodes node b w request answer → FitsRequest nodes node a w request answer
-  request_before w (Submit id message) answer fits = submit_before id answer fits
-  request_before w (Query id account source) answer fits = query_before w account source answer fits
-  request_before w (Cancel id account source destination) answer fits = cancel_before w account source destination answer fits
-
-  pub reply_before : (ticket id : ℕ) (answer : Answer) → IsDueReply nodes node b ticket id answer → IsDueReply nodes node a ticket id answer
-  reply_before ticket id answer due = record {
-    asked = record { waiting = due.asked.waiting; waits = due.asked.waits; ticket_is = due.asked.ticket_is; about = due.asked.about };
-    fits = request_before due.asked.waiting due.asked.waiting.request answer due.fits;
   }
 
   -- ---- rounds
@@ -300,7 +219,7 @@ module _ (setup : Setup) (s : Node) (records : Records) (packet : Packet) (aside
   }
 
   pub quiet_still : IsQuiet setup.nodes setup.node s.actor → IsQuiet setup.nodes setup.node later.actor
-  quiet_still quiet = record {
-    settled = λ ticket due. quiet.settled ticket (to_settle_before setup.nodes setup.node s.actor packet aside ticket due);
-    answered = λ ticket id answer due. quiet.answered ticket id answer (reply_before setup.nodes setup.node s.actor packet aside ticket id answer due);
-  }
+  quiet_still =
+      quiet_with setup.nodes setup.node s.actor later.actor refl (known_before setup.nodes setup.node s.actor packet aside)
+      (settled_before setup.nodes setup.node s.actor packet aside)
+      (λ w waits. waits)

@@ -1,8 +1,8 @@
--- Nothing is due of an actor that remembers the same, and at which no other requests wait.
+-- Nothing is due of an actor that knows no more, and at which no more requests wait, than of one of which nothing was due.
 use Rattle.std.proofs.Common.{◌≡◌, ℕ, List, Option, Some, None, subst}
 use Rattle.mc_model.specs.message.Decree.{Decree}
 use Rattle.mc_model.specs.synod.Lists.{In}
-use Rattle.mc_model.specs.synod.Packet.{Packet}
+use Rattle.mc_model.specs.synod.Packet.{Name}
 use Rattle.mc_model.specs.node.Actor.{Actor, Cancel, Query, Request, Submit, Waiting, name_of}
 use Rattle.mc_model.specs.node.Knowledge.{IsKnown, Knows}
 use Rattle.mc_model.specs.node.Phases.{IsDueReply, IsToSettle}
@@ -10,16 +10,17 @@ use Rattle.mc_model.specs.node.Replies.{Accepted, Answer, FitsCancel, FitsQuery,
 use Rattle.mc_model.specs.node.Settling.{IsSettled}
 use Rattle.node_laws.specs.Stands.{IsQuiet}
 
-module _ (nodes node : ℕ) (a b : Actor) (received : b.received ≡ a.received) (incarnation : b.incarnation ≡ a.incarnation) where
+module _ (nodes node : ℕ) (a b : Actor) (incarnation : b.incarnation ≡ a.incarnation)
+    (known_back : (id : ℕ) (known : Option (List Decree)) → IsKnown nodes b.received id known → IsKnown nodes a.received id known)
+    (settled_then : (name : Name) (known : Option (List Decree)) → IsSettled nodes b.received name known → IsSettled nodes a.received name known) where
   knows_back : (id : ℕ) (chain : List Decree) → Knows nodes b.received id chain → Knows nodes a.received id chain
-  knows_back id chain knows = subst (λ (packets : List Packet). Knows nodes packets id chain) received knows
+  knows_back id chain = known_back id (Some chain)
 
-  known_back : (id : ℕ) (known : Option (List Decree)) → IsKnown nodes b.received id known → IsKnown nodes a.received id known
-  known_back id known is = subst (λ (packets : List Packet). IsKnown nodes packets id known) received is
-
-  settled_back : (w : Waiting) (known : Option (List Decree)) → IsSettled nodes b.received (name_of node b w) known → IsSettled nodes a.received (name_of node a w) known
+  settled_back : (w : Waiting) (known : Option (List Decree)) → IsSettled nodes b.received (name_of node b w) known →
+      IsSettled nodes a.received (name_of node a w) known
   settled_back w known settled =
-      subst (λ (x : List Packet × ℕ). IsSettled nodes x.0 (record { node = node; incarnation = x.1; ticket = w.ticket }) known) (λ i. (received i, incarnation i)) settled
+      subst (λ (i : ℕ). IsSettled nodes a.received (record { node = node; incarnation = i; ticket = w.ticket }) known) incarnation
+      (settled_then (name_of node b w) known settled)
 
   submit_back : (id : ℕ) (answer : Answer) → FitsSubmit nodes b id answer → FitsSubmit nodes a id answer
   submit_back id Accepted fits = record { chain = fits.chain; known = knows_back id fits.chain fits.known }

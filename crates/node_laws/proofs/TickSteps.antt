@@ -56,7 +56,7 @@ module _ (setup : Setup) (k : Kept) (s : Node) (stands : Stands setup k s) (work
   ascends = ascend_from k.held stands.agrees.tickets
 
   quiet : IsQuiet setup.nodes setup.node tick.actor
-  quiet = quiet_with setup.nodes setup.node s.actor tick.actor refl refl (waits_before setup k s stands.agrees moment) stands.quiet
+  quiet = quiet_with setup.nodes setup.node s.actor tick.actor refl (λ id known is. is) (λ name known settled. settled) (waits_before setup k s stands.agrees moment) stands.quiet
 
   -- ---- what is done
 
@@ -159,7 +159,7 @@ module _ (setup : Setup) (k : Kept) (s : Node) (stands : Stands setup k s) (work
   -- ---- it is all that is due
 
   settles_none : (act : Act) → DueToSettle setup.nodes setup.node risen act → ⊥
-  settles_none (Settles ticket) due = stands.quiet.settled ticket (to_settle_back setup.nodes setup.node s.actor risen refl refl (λ w waits. waits) ticket due)
+  settles_none (Settles ticket) due = stands.quiet.settled ticket (to_settle_back setup.nodes setup.node s.actor risen refl (λ id known is. is) (λ name known settled. settled) (λ w waits. waits) ticket due)
   settles_none act due = due
 
   abandons_due : AreDue (DueToAbandon setup.nodes setup.node tick.actor s.records (Tick moment up)) abandons
@@ -291,7 +291,7 @@ module _ (setup : Setup) (k : Kept) (s : Node) (stands : Stands setup k s) (work
   stands_then : Stands setup (ruled_each setup up (ids_of ticked) ticked).kept (reached_alone setup.node s acts)
   stands_then = subst (Stands setup (ruled_each setup up (ids_of ticked) ticked).kept) (sym reached_all_is) (record {
     agrees = rules.agrees;
-    quiet = quiet_with setup.nodes setup.node tick.actor (later setup tick (slots ++ []) (offers ++ [])).actor refl refl (λ w waits. waits) quiet;
+    quiet = quiet_with setup.nodes setup.node tick.actor (later setup tick (slots ++ []) (offers ++ [])).actor refl (λ id known is. is) (λ name known settled. settled) (λ w waits. waits) quiet;
   })
 
   on_tick_steps : StepsAs setup s (Tick moment up) (on_tick setup k moment up)

@@ -15,7 +15,7 @@ use Rattle.mc_model.specs.node.Setup.{Setup}
 use Rattle.node_model.specs.Kept.{Held, Kept, message_at}
 use Rattle.node_model.specs.Message.{Message, unseen}
 use Rattle.node_model.specs.Ticks.{is_late, ticked, without_round}
-use Rattle.node_laws.proofs.Seeing.{highest_as, seen_later}
+use Rattle.node_laws.proofs.Seeing.{highest_later}
 use Rattle.node_laws.specs.Stands.{Agrees, IsMessage, WasSeen}
 use Rattle.node_laws.proofs.Coherence.{IsLater, fit_later}
 use Rattle.node_laws.proofs.Orders.{ascend_filter, ascend_from, increasing_from}
@@ -97,18 +97,13 @@ module _ (setup : Setup) (k : Kept) (s : Node) (agrees : Agrees setup k s) (mome
       no_split [] older split = cc
       no_split (first ∷ newer) older split = cc
 
-  seen_still : (slot : Slot) (round : ℕ) → WasSeen setup.node s.actor slot round → WasSeen setup.node after_late.actor slot round
-  seen_still slot = seen_later setup.node s.actor after_late.actor slot refl (λ sender ballot promised heard. heard) (λ ballot sent. sent)
-
-  seen_before : (slot : Slot) (round : ℕ) → WasSeen setup.node after_late.actor slot round → WasSeen setup.node s.actor slot round
-  seen_before slot = seen_later setup.node after_late.actor s.actor slot refl (λ sender ballot promised heard. heard) (λ ballot sent. sent)
-
   message_then : (id : ℕ) (m : Message) → IsMessage setup s id m → IsMessage setup after_late id (unrounded m)
   message_then id m is = record {
     heard = record { votes = is.heard.votes; known = is.heard.known };
     places = is.places;
     seen = λ place within.
-        highest_as setup.node s.actor after_late.actor (slot_at id place) (seen_still (slot_at id place)) (seen_before (slot_at id place)) _ (is.seen place within);
+        highest_later setup.node s.actor after_late.actor (slot_at id place) refl (λ sender ballot promised. ((λ heard. heard), (λ heard. heard)))
+        (λ ballot. ((λ sent. sent), (λ sent. sent))) _ (is.seen place within);
     round = none_runs id;
     attempts = record { granted = is.attempts.granted; closed = is.attempts.closed };
     covers = is.covers;
