@@ -63,7 +63,7 @@ module _ (answer : Held → Option Answer) where
     pub answers : answer request ≡ Some with
     pub is : act ≡ Replies (ticket_of request) (id_of request) with
 
-  replied_in : (held : List Held) (act : Act) → In act (reply_acts held) → IsReplied held act
+  pub replied_in : (held : List Held) (act : Act) → In act (reply_acts held) → IsReplied held act
   replied_in [] act none = absurd none
   replied_in (h ∷ others) act is_in = elim (in_either act (reply_acts others) (reply_with h (answer h)) is_in) [
     | inl later ↦ let it = replied_in others act later in record {
@@ -81,7 +81,7 @@ module _ (answer : Held → Option Answer) where
       first (Some it) is (inl same) = record { request = h; with = it; among = inl refl; answers = is; is = same }
       first (Some it) is (inr none) = absurd none
 
-  in_replied : (held : List Held) (h : Held) (it : Answer) → In h held → answer h ≡ Some it → In (Replies (ticket_of h) (id_of h) it) (reply_acts held)
+  pub in_replied : (held : List Held) (h : Held) (it : Answer) → In h held → answer h ≡ Some it → In (Replies (ticket_of h) (id_of h) it) (reply_acts held)
   in_replied [] h it none is = none
   in_replied (first ∷ others) h it (inl same) is =
       in_append (Replies (ticket_of h) (id_of h) it) (reply_acts others) (reply_with first (answer first))
@@ -90,7 +90,7 @@ module _ (answer : Held → Option Answer) where
   in_replied (first ∷ others) h it (inr later) is =
       in_append (Replies (ticket_of h) (id_of h) it) (reply_acts others) (reply_with first (answer first)) (inl (in_replied others h it later is))
 
-  replies_fall : (held : List Held) → Ascend held → Fall (map key_of (reply_acts held))
+  pub replies_fall : (held : List Held) → Ascend held → Fall (map key_of (reply_acts held))
   replies_fall [] ascends = tt
   replies_fall (h ∷ others) ascends = by_answer (answer h) (replies_fall others ascends.1)
     where
@@ -118,20 +118,9 @@ module _ (answer : Held → Option Answer) where
   without_one ticket None waiting = waiting
   without_one ticket (Some it) waiting = filter (other_than ticket) waiting
 
-  abbrev without : List Held → List Waiting → List Waiting
+  abbrev pub without : List Held → List Waiting → List Waiting
   without [] waiting = waiting
   without (h ∷ others) waiting = without others (without_one (ticket_of h) (answer h) waiting)
-
-  did_one : (node : ℕ) (a : Actor) (h : Held) (x : Option Answer) → did node a (reply_with h x) ≡ record a { waiting = without_one (ticket_of h) x a.waiting }
-  did_one node a h None = refl
-  did_one node a h (Some it) = refl
-
-  did_replies : (node : ℕ) (a : Actor) (held : List Held) → did node a (reply_acts held) ≡ record a { waiting = without held a.waiting }
-  did_replies node a [] = refl
-  did_replies node a (h ∷ others) =
-      did_more node a (reply_acts others) (reply_with h (answer h))
-      ∙ ap (λ (x : Actor). did node x (reply_acts others)) (did_one node a h (answer h))
-      ∙ did_replies node (record a { waiting = without_one (ticket_of h) (answer h) a.waiting }) others
 
   is_other : (w : Waiting) (ticket : ℕ) → (w.ticket ≡ ticket → ⊥) → other_than ticket w ≡ true
   is_other w ticket apart = by_test (w.ticket == ticket) refl

@@ -20,25 +20,11 @@ use Rattle.mc_parts.proofs.Membership.{in_either}
 use Rattle.node_model.specs.Kept.{Held}
 use Rattle.node_laws.specs.Stands.{IsCoherent}
 use Rattle.node_laws.specs.Steps.{IsAtWork}
-use Rattle.node_laws.proofs.LateReplies.{late_act, late_acts, late_first}
 use Rattle.node_laws.proofs.Orders.{in_mapped}
 use Rattle.node_laws.proofs.Ruling.{GivesUp, later, prepare_of, reached_starts, unanswered}
 use Rattle.node_laws.proofs.RulingAll.{id_of_slot}
 use Rattle.node_laws.proofs.Runs.{did_more, reached_more}
 use Rattle.node_laws.proofs.Starting.{own_ballot}
-
--- late replies change the actor alone
-pub reached_late : (node : ℕ) (s : Node) (held : List Held) → reached_alone node s (late_acts held) ≡ record { actor = did node s.actor (late_acts held); records = s.records; began = s.began }
-reached_late node s [] = refl
-reached_late node s (h ∷ held) =
-    ap (reached_alone node s) (late_first h held)
-    ∙ reached_more node s (late_acts held) (late_act h ∷ [])
-    ∙ reached_late node (after_alone node s (late_act h)) held
-    ∙ (λ i. record {
-      actor = sym (ap (did node s.actor) (late_first h held) ∙ did_more node s.actor (late_acts held) (late_act h ∷ [])) i;
-      records = s.records;
-      began = s.began;
-    })
 
 -- ---- attempts that are given up
 

@@ -26,13 +26,14 @@ use Rattle.node_laws.specs.Steps.{IsAtWork, StepsAs}
 use Rattle.node_laws.proofs.AsideSteps.{none_due, none_due_once}
 use Rattle.node_laws.proofs.AskingAgain.{ask_acts, ask_packets, ask_receipts, ask_replies, asks_due, asks_may, reached_ask}
 use Rattle.node_laws.proofs.FirstRule.{agrees_on}
-use Rattle.node_laws.proofs.LateReplies.{did_all_late, late_acts, late_due, late_may, late_packets, late_receipts, late_replies}
+use Rattle.node_laws.proofs.LateReplies.{late_answer, late_due, late_lead, late_may, late_replies}
 use Rattle.node_laws.proofs.Orders.{Ascend, ascend_from, in_mapped, mapped_in}
 use Rattle.node_laws.proofs.Quiet.{quiet_with, to_settle_back}
+use Rattle.node_laws.proofs.Replied.{replies_packets, replies_receipts, reply_acts}
 use Rattle.node_laws.proofs.Ruling.{keys_of_starts, later, packet_of, packets_of_starts, prepare_of, reached_starts}
 use Rattle.node_laws.proofs.RulingAll.{RulesAll, rules_all}
-use Rattle.node_laws.proofs.Runs.{did_more, packets_more, reached_more, receipts_more, replies_more, run_more}
-use Rattle.node_laws.proofs.TickActs.{abandon_keys, abandon_packets, abandon_receipts, abandon_replies, reached_abandons, reached_late, run_abandons, run_starts, start_receipts, start_replies}
+use Rattle.node_laws.proofs.Runs.{packets_more, reached_actor, reached_more, receipts_more, replies_more, run_more}
+use Rattle.node_laws.proofs.TickActs.{abandon_keys, abandon_packets, abandon_receipts, abandon_replies, reached_abandons, run_abandons, run_starts, start_receipts, start_replies}
 use Rattle.node_laws.proofs.TickIds.{fits_in, ids_ascending}
 use Rattle.node_laws.proofs.Ticked.{after_late, agrees_then, kept_then, message_ticked, none_runs, waits_before}
 
@@ -60,11 +61,8 @@ module _ (setup : Setup) (k : Kept) (s : Node) (stands : Stands setup k s) (work
 
   -- ---- what is done
 
-  abbrev late_held : List Held
-  late_held = filter (is_late risen.clock) k.held
-
   abbrev late : List Act
-  late = late_acts late_held
+  late = reply_acts (late_answer risen.clock) k.held
 
   abbrev untold : List Held
   untold = filter (is_untold setup.nodes) ticked.held
@@ -103,14 +101,13 @@ module _ (setup : Setup) (k : Kept) (s : Node) (stands : Stands setup k s) (work
 
   -- ---- where each part stands
 
-  did_late_is : did setup.node s.actor (late ++ core) ≡ tick.actor
-  did_late_is = did_more setup.node s.actor late core ∙ did_all_late risen k.held stands.agrees.waiting ascends moment up setup.node
-
   reached_late_is : reached_alone setup.node s (late ++ core) ≡ tick
   reached_late_is =
       reached_more setup.node s late core
-      ∙ reached_late setup.node (reached_alone setup.node s core) late_held
-      ∙ (λ i. record { actor = did_all_late risen k.held stands.agrees.waiting ascends moment up setup.node i; records = s.records; began = s.began })
+      ∙ late_lead risen k.held stands.agrees.waiting ascends setup.node (reached_alone setup.node s core) refl
+
+  did_late_is : did setup.node s.actor (late ++ core) ≡ tick.actor
+  did_late_is = sym (reached_actor setup.node s (late ++ core)) ∙ ap (λ (x : Node). x.actor) reached_late_is
 
   reached_asks_is : reached_alone setup.node s (asks ++ (late ++ core)) ≡ tick
   reached_asks_is = reached_more setup.node s asks (late ++ core) ∙ reached_ask setup.node (reached_alone setup.node s (late ++ core)) untold ∙ reached_late_is
@@ -150,7 +147,8 @@ module _ (setup : Setup) (k : Kept) (s : Node) (stands : Stands setup k s) (work
       (subst (λ (x : Node). IsRunAlone setup.nodes setup.node x asks) (sym reached_late_is)
       (asks_may setup s.actor tick.actor ticked.held agrees.waiting (ascend_from ticked.held agrees.tickets) agrees.told moment up tick refl works.least works.most works.up))
       (run_more setup.nodes setup.node s late core
-      (late_may risen k.held stands.agrees.waiting ascends moment up setup.nodes setup.node (reached_alone setup.node s core) refl works.least works.most works.up)
+      (late_may risen k.held stands.agrees.waiting ascends setup (reached_alone setup.node s core) refl
+      (record { least = works.least; most = works.most; up = works.up }))
       (record { least = works.least; most = works.most; up = works.up; needs = tt }, tt))))
     where
       at_work : IsAtWork setup tick
@@ -241,7 +239,7 @@ module _ (setup : Setup) (k : Kept) (s : Node) (stands : Stands setup k s) (work
   asked_of a = packets_in setup.node a (saved s.records (late ++ core)) asks
 
   late_sends : packets_in setup.node s.actor s.records (late ++ core) ≡ []
-  late_sends = packets_more setup.node s.actor s.records late core ∙ ap (λ (ps : List Packet). ps ++ []) (late_packets setup.node risen s.records late_held)
+  late_sends = packets_more setup.node s.actor s.records late core ∙ ap (λ (ps : List Packet). ps ++ []) (replies_packets (late_answer risen.clock) setup.node risen s.records k.held)
 
   asks_send : packets_in setup.node s.actor s.records (asks ++ (late ++ core)) ≡ asked_of tick.actor
   asks_send =
@@ -268,7 +266,7 @@ module _ (setup : Setup) (k : Kept) (s : Node) (stands : Stands setup k s) (work
   replies_are : map late_reply (filter (is_late (max k.clock moment)) k.held) ≡ reverse (replies_in acts)
   replies_are =
       ap (λ (c : ℕ). map late_reply (filter (is_late (max c moment)) k.held)) stands.agrees.clock
-      ∙ sym (late_replies late_held)
+      ∙ sym (late_replies risen.clock k.held)
       ∙ ap reverse (sym (
       replies_more prepares (abandons ++ (asks ++ (late ++ core)))
       ∙ (λ i. start_replies offers i ++ replies_more abandons (asks ++ (late ++ core)) i)
@@ -283,7 +281,7 @@ module _ (setup : Setup) (k : Kept) (s : Node) (stands : Stands setup k s) (work
       ∙ (λ i. start_receipts offers i ++ receipts_more abandons (asks ++ (late ++ core)) i)
       ∙ (λ i. abandon_receipts slots i ++ receipts_more asks (late ++ core) i)
       ∙ (λ i. ask_receipts untold i ++ receipts_more late core i)
-      ∙ (λ i. late_receipts late_held i ++ [])
+      ∙ (λ i. replies_receipts (late_answer risen.clock) k.held i ++ [])
       ))
 
   -- ---- the step
