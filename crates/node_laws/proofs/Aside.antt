@@ -6,11 +6,9 @@ use Rattle.mc_model.specs.message.Decree.{Attempt, Author, Decree, Deleted, Fail
 use Rattle.mc_model.specs.synod.Lists.{In}
 use Rattle.mc_model.specs.synod.OneSlot.{Vote}
 use Rattle.mc_model.specs.synod.Packet.{Name, Packet, Promise, Refused, Slot, Tell, TopVote, Voted, slot_at}
-use Rattle.mc_model.specs.node.Actor.{Actor, Cancel, Query, Request, Submit, Waiting}
+use Rattle.mc_model.specs.node.Actor.{Actor}
 use Rattle.mc_model.specs.node.Knowledge.{IsKnown, IsLearned, Knows}
-use Rattle.mc_model.specs.node.Phases.{IsDueReply, IsToSettle}
 use Rattle.mc_model.specs.node.Proposal.{Allows, IsOwn}
-use Rattle.mc_model.specs.node.Replies.{Accepted, Answer, FitsCancel, FitsQuery, FitsRequest, FitsSubmit, Kept, NotMatched, NotOwner, Removed, Shown, Unknown}
 use Rattle.mc_model.specs.node.Rounds.{IsRunning}
 use Rattle.mc_model.specs.node.Settling.{HasTold, IsSettled}
 use Rattle.mc_model.specs.synod.Acceptor.{Records}
@@ -22,7 +20,7 @@ use Rattle.node_model.specs.Kept.{Held}
 use Rattle.node_laws.proofs.Quiet.{quiet_with}
 use Rattle.node_laws.proofs.Running.{running_later}
 use Rattle.node_laws.proofs.Seeing.{highest_later}
-use Rattle.node_laws.specs.Stands.{IsAside, IsBehind, IsHeld, IsHighestReport, IsHighestSeen, IsHighestTold, IsMessage, IsQuiet, IsRoundOf, WasSeen}
+use Rattle.node_laws.specs.Stands.{IsAside, IsBehind, IsHeld, IsHighestReport, IsHighestSeen, IsHighestTold, IsMessage, IsQuiet, IsRoundOf}
 use Rattle.node_laws.proofs.Learning.{heard_still}
 
 module _ (nodes node : ℕ) (a : Actor) (packet : Packet) (aside : IsAside packet) where

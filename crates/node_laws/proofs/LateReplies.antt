@@ -2,14 +2,11 @@
 use Rattle.std.proofs.Common.{◌≡◌, ℕ, ◌+◌, ◌≤◌, Bool, true, false, cond, List, [], ◌∷◌, map, Option, Some, None, refl, sym, ap, subst, ◌∙◌}
 use Rattle.std.specs.Prelude.{filter, if◌then◌else◌, not, reverse}
 use Rattle.std.specs.Option.{is_none}
-use Rattle.std.proofs.lemmas.Bool.{true≢false}
-use Rattle.mc_model.specs.synod.Acceptor.{Records}
 use Rattle.mc_model.specs.synod.Lists.{In}
 use Rattle.mc_model.specs.node.Act.{Act, Replies}
 use Rattle.mc_model.specs.node.Actor.{Actor, Waiting, id_in}
 use Rattle.mc_model.specs.node.Alone.{IsRunAlone, Node, reached_alone}
 use Rattle.mc_model.specs.node.Due.{AreDue}
-use Rattle.mc_model.specs.node.Effect.{did}
 use Rattle.mc_model.specs.node.Input.{Tick}
 use Rattle.mc_model.specs.node.Outputs.{Reply, replies_in}
 use Rattle.mc_model.specs.node.Phases.{DueToEnd}
@@ -24,7 +21,6 @@ use Rattle.node_laws.proofs.Held.{kept_as, waits_among}
 use Rattle.node_laws.proofs.Answered.{most_decides}
 use Rattle.node_laws.proofs.Orders.{Ascend}
 use Rattle.node_laws.proofs.Replied.{in_replied, reached_replies, replied_in, replies_fall, replies_of, replies_out, reply_acts, run_replies, waits_on, without, without_all}
-use Rattle.node_laws.proofs.Runs.{reached_actor}
 
 -- by the clock, a request that is late is answered that it is too late
 abbrev too_late : Bool → Option Answer

@@ -1,17 +1,17 @@
 -- What a Propose leaves as it was: all but the packets that were sent.
-use Rattle.std.proofs.Common.{◌≡◌, ℕ, false, List, [], ◌∷◌, ◌++◌, Option, Some, None, refl, sym, ap, subst₂, ◌∙◌, inl, inr, arith}
+use Rattle.std.proofs.Common.{◌≡◌, ℕ, false, ◌∷◌, Option, Some, None, refl, sym, subst₂, inl, inr, arith}
 use Rattle.mc_model.specs.synod.Lists.{In}
 use Rattle.mc_model.specs.synod.OneSlot.{Vote}
-use Rattle.mc_model.specs.synod.Packet.{Packet, Prepare, Propose, Slot, slot_at}
+use Rattle.mc_model.specs.synod.Packet.{Prepare, Propose, Slot, slot_at}
 use Rattle.mc_model.specs.node.Alone.{Node}
-use Rattle.mc_model.specs.node.Rounds.{IsRoundOf, IsRunning, sent_since_tick}
+use Rattle.mc_model.specs.node.Rounds.{IsRunning, sent_since_tick}
 use Rattle.mc_model.specs.node.Setup.{Setup}
 use Rattle.node_model.specs.Kept.{Kept, message_at}
 use Rattle.node_model.specs.Message.{Message, Round}
 use Rattle.node_model.specs.Sets.{is_majority}
 use Rattle.node_laws.proofs.Running.{round_less, round_more, running_of}
 use Rattle.node_laws.proofs.Seeing.{highest_later}
-use Rattle.node_laws.specs.Stands.{Agrees, IsCoherent, IsHighestSeen, IsMessage, IsRoundOf as IsKeptRound, WasSeen}
+use Rattle.node_laws.specs.Stands.{Agrees, IsCoherent, IsHighestSeen, IsMessage, IsRoundOf as IsKeptRound}
 use Rattle.node_laws.proofs.Coherence.{IsLater, fit_later}
 use Rattle.node_laws.proofs.Owning.{IsGround, own_later}
 use Rattle.node_laws.proofs.Starting.{since_more}

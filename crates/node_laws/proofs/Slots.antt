@@ -1,6 +1,5 @@
 -- Whether two slots are the same, as it is tested.
 use Rattle.std.proofs.Common.{◌≡◌, ap}
-use Rattle.std.specs.Prelude.{◌==◌}
 use Rattle.std.specs.Bool.{Decides}
 use Rattle.std.proofs.lemmas.Bool.Decides.{Decides-and, Decides-eqb, Decides-like}
 use Rattle.mc_model.specs.synod.Packet.{Slot, same_slot}

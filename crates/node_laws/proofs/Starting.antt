@@ -1,5 +1,5 @@
 -- What a round that starts leaves: a Prepare at the next ballot, and what is kept of its message.
-use Rattle.std.proofs.Common.{◌≡◌, ◌⊎◌, ℕ, suc, ◌-◌, ◌<◌, ◌≤◌, Bool, true, false, List, [], ◌∷◌, ◌++◌, length, get_or, set, take, Option, Some, None, refl}
+use Rattle.std.proofs.Common.{◌≡◌, ◌⊎◌, ℕ, suc, ◌-◌, ◌<◌, ◌≤◌, Bool, true, false, List, [], ◌∷◌, length, get_or, set, take, Option, Some, None, refl}
 use Rattle.std.proofs.Common.{sym, ap, subst, ◌∙◌, inl, inr, arith}
 use Rattle.std.specs.Prelude.{◌==◌}
 use Rattle.std.proofs.lemmas.Bool.{eqb-false, eqb-true, true≢false}
@@ -13,7 +13,7 @@ use Rattle.mc_model.specs.synod.Packet.{Packet, Prepare, Promise, Propose, Slot,
 use Rattle.mc_model.specs.node.Alone.{Node, StandsAt}
 use Rattle.mc_model.specs.node.Knowledge.{IsLearned}
 use Rattle.mc_model.specs.node.Proposal.{IsOwn, OwnBallot}
-use Rattle.mc_model.specs.node.Rounds.{IsRefused, IsRoundOf, IsRunning, sent_since_tick}
+use Rattle.mc_model.specs.node.Rounds.{IsRefused, IsRunning, sent_since_tick}
 use Rattle.mc_model.specs.node.Rules.{IsAhead}
 use Rattle.mc_model.specs.node.Setup.{Setup}
 use Rattle.node_model.specs.Message.{Message, Round, most_places}

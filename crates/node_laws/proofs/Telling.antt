@@ -1,5 +1,5 @@
 -- The step of a node to which a Tell comes.
-use Rattle.std.proofs.Common.{◌≡◌, ◌↔◌, ◌⊎◌, ℕ, pred, ◌<◌, Bool, true, false, cond, List, [], ◌∷◌, length, map, Option, Some, None, refl, sym, ap, subst, ◌∙◌}
+use Rattle.std.proofs.Common.{◌≡◌, ◌↔◌, ◌⊎◌, ℕ, ◌<◌, Bool, true, false, cond, List, [], ◌∷◌, length, map, Option, Some, None, refl, sym, ap, subst, ◌∙◌}
 use Rattle.std.proofs.Common.{inl, inr, arith}
 use Rattle.std.specs.Prelude.{◌==◌, ◌&&◌, filter, if◌then◌else◌, nat_lt, not}
 use Rattle.std.specs.Bool.{Decides}
@@ -36,7 +36,7 @@ use Rattle.node_model.specs.Requests.{held_at, id_of, is_cancel, is_settled, set
 use Rattle.node_model.specs.Sets.{is_majority}
 use Rattle.node_model.specs.Starts.{delete_for, delete_of, follow, follow_told, is_ahead}
 use Rattle.node_model.specs.Stepped.{stepped}
-use Rattle.node_laws.specs.Stands.{Agrees, IsBehind, IsFit, IsHeld, IsHighestTold, IsWithin, Stands}
+use Rattle.node_laws.specs.Stands.{Agrees, IsFit, IsHeld, IsHighestTold, IsWithin, Stands}
 use Rattle.node_laws.specs.Steps.{IsAtWork, StepsAs}
 use Rattle.node_laws.proofs.AcceptorSteps.{member_is, member_test, stepped_is}
 use Rattle.node_laws.proofs.Answered.{known_is, settled_decides}

@@ -9,7 +9,6 @@ use Rattle.mc_model.specs.node.Act.{Abandons}
 use Rattle.mc_model.specs.node.Actor.{Actor, Offer}
 use Rattle.mc_model.specs.node.Alone.{IsRunAlone, MayAlone, Node, after_alone, reached_alone}
 use Rattle.mc_model.specs.node.Due.{Fall, key_of}
-use Rattle.mc_model.specs.node.Effect.{did}
 use Rattle.mc_model.specs.node.Grant.{MayGrant}
 use Rattle.mc_model.specs.node.Outcome.{Outcome}
 use Rattle.mc_model.specs.node.Outputs.{packets_in, receipts_in, replies_in}
@@ -17,13 +16,11 @@ use Rattle.mc_model.specs.node.Proposal.{OwnBallot}
 use Rattle.mc_model.specs.node.Rounds.{MayPrepare}
 use Rattle.mc_model.specs.node.Setup.{Setup}
 use Rattle.mc_parts.proofs.Membership.{in_either}
-use Rattle.node_model.specs.Kept.{Held}
 use Rattle.node_laws.specs.Stands.{IsCoherent}
 use Rattle.node_laws.specs.Steps.{IsAtWork}
 use Rattle.node_laws.proofs.Orders.{in_mapped}
 use Rattle.node_laws.proofs.Ruling.{GivesUp, later, prepare_of, reached_starts, unanswered}
 use Rattle.node_laws.proofs.RulingAll.{id_of_slot}
-use Rattle.node_laws.proofs.Runs.{did_more, reached_more}
 use Rattle.node_laws.proofs.Starting.{own_ballot}
 
 -- ---- attempts that are given up

@@ -7,7 +7,7 @@ use Rattle.std.specs.Ordering.{nat_cmp}
 use Rattle.std.specs.BTreeMap.{is_at}
 use Rattle.std.specs.List.Sorted.{IsStrictlySortedBy}
 use Rattle.mc_model.specs.synod.Lists.{In}
-use Rattle.mc_model.specs.synod.Packet.{Packet, Prepare, Slot, slot_at}
+use Rattle.mc_model.specs.synod.Packet.{Packet, Prepare, slot_at}
 use Rattle.mc_model.specs.node.Actor.{Actor, Waiting}
 use Rattle.mc_model.specs.node.Alone.{Node}
 use Rattle.mc_model.specs.node.Rounds.{RunsNone}
@@ -16,7 +16,7 @@ use Rattle.node_model.specs.Kept.{Held, Kept, message_at}
 use Rattle.node_model.specs.Message.{Message, unseen}
 use Rattle.node_model.specs.Ticks.{is_late, ticked, without_round}
 use Rattle.node_laws.proofs.Seeing.{highest_later}
-use Rattle.node_laws.specs.Stands.{Agrees, IsMessage, WasSeen}
+use Rattle.node_laws.specs.Stands.{Agrees, IsMessage}
 use Rattle.node_laws.proofs.Coherence.{IsLater, fit_later}
 use Rattle.node_laws.proofs.Orders.{ascend_filter, ascend_from, increasing_from}
 use Rattle.mc_parts.proofs.Membership.{in_filter}

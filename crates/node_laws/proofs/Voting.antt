@@ -12,7 +12,7 @@ use Rattle.mc_model.specs.message.Decree.{Decree}
 use Rattle.mc_model.specs.message.Chain.{IsPermitted, taken_in}
 use Rattle.mc_model.specs.synod.Lists.{In}
 use Rattle.mc_model.specs.synod.OneSlot.{Vote}
-use Rattle.mc_model.specs.synod.Packet.{Packet, Promise, Slot, Voted, same_slot, slot_at, slot_of}
+use Rattle.mc_model.specs.synod.Packet.{Packet, Promise, Slot, Voted, slot_at, slot_of}
 use Rattle.mc_model.specs.node.Act.{Act, Proposes}
 use Rattle.mc_model.specs.node.Actor.{Waiting, id_in}
 use Rattle.mc_model.specs.node.Alone.{Node, StandsAt}

@@ -6,7 +6,7 @@ use Rattle.mc_model.specs.message.Decree.{Attempt, Author, Decree, Deleted, Fail
 use Rattle.mc_model.specs.message.Chain.{taken_in}
 use Rattle.mc_model.specs.message.Neighbours.{MayFollow}
 use Rattle.mc_model.specs.synod.Lists.{In}
-use Rattle.mc_model.specs.synod.Packet.{Slot, slot_at}
+use Rattle.mc_model.specs.synod.Packet.{Slot}
 use Rattle.mc_model.specs.node.Actor.{Submit, Waiting, name_of}
 use Rattle.mc_model.specs.node.Alone.{Node, StandsAt}
 use Rattle.mc_model.specs.node.Knowledge.{IsLearned}
