@@ -50,7 +50,8 @@ member_test setup sender is =
     and_from (nat_le 1 sender) (nat_le sender setup.nodes) (grind (arith, nat_tests)) (grind (arith, nat_tests))
 
 -- a node that is up
-pub stepped_is : (setup : Setup) (k : Kept) (s : Node) (packet : Packet) → Stands setup k s → IsAtWork setup s → stepped setup k (Delivery packet) ≡ on_packet setup k packet
+pub stepped_is : (setup : Setup) (k : Kept) (s : Node) (packet : Packet) → Stands setup k s → IsAtWork setup s →
+    stepped setup k (Delivery packet) ≡ on_packet setup k packet
 stepped_is setup k s packet stands works =
     ap (λ (up : Bool). if up then stepped_up setup k (Delivery packet) else stepped_down setup k (Delivery packet)) (stands.agrees.up ∙ works.up)
 
@@ -61,16 +62,20 @@ module _ (setup : Setup) (k : Kept) (s : Node) (stands : Stands setup k s) (work
   told_still id (Some told) top = record {
     about = top.about;
     voted = subst (λ (r : SlotRecord). r.vote ≡ Some told.vote) (stands.agrees.records (slot_at id told.place)) top.voted;
-    highest = λ place vote voted. top.highest place vote (subst (λ (r : SlotRecord). r.vote ≡ Some vote) (sym (stands.agrees.records (slot_at id place))) voted);
+    highest =
+        λ place vote voted. top.highest place vote (subst (λ (r : SlotRecord). r.vote ≡ Some vote) (sym (stands.agrees.records (slot_at id place))) voted);
   }
 
   -- ---- a Prepare
 
   -- what was voted for before the packet came
-  pub voted_before : (packet : Packet) (aside : IsAside packet) (slot : Slot) (cast : Vote) → (k.records slot).vote ≡ Some cast → IsPlaced slot cast × StandsAt (heard setup s packet aside k stands) slot cast.chain
-  voted_before packet aside slot cast voted = (stands.agrees.placed slot cast voted, stands_later setup s packet aside k stands slot cast.chain (stands.agrees.voted slot cast voted))
+  pub voted_before : (packet : Packet) (aside : IsAside packet) (slot : Slot) (cast : Vote) → (k.records slot).vote ≡ Some cast →
+      IsPlaced slot cast × StandsAt (heard setup s packet aside k stands) slot cast.chain
+  voted_before packet aside slot cast voted =
+      (stands.agrees.placed slot cast voted, stands_later setup s packet aside k stands slot cast.chain (stands.agrees.voted slot cast voted))
 
-  on_prepare_steps : (sender ballot : ℕ) (slot : Slot) → IsMember setup.nodes sender → StepsAs setup s (Delivery (Prepare sender slot ballot)) (on_prepare setup k slot ballot)
+  on_prepare_steps : (sender ballot : ℕ) (slot : Slot) → IsMember setup.nodes sender →
+      StepsAs setup s (Delivery (Prepare sender slot ballot)) (on_prepare setup k slot ballot)
   on_prepare_steps sender ballot slot member = by_test (nat_lt (k.records slot).promised ballot) refl
     where
       judgement : Bool → Judgement
@@ -79,35 +84,61 @@ module _ (setup : Setup) (k : Kept) (s : Node) (stands : Stands setup k s) (work
           then record { answer = Promise setup.node slot ballot (k.records slot).vote; after = after_promise (k.records slot) ballot }
           else record { answer = Refused setup.node slot ballot (k.records slot).promised; after = k.records slot }
 
-      by_test : (test : Bool) → nat_lt (k.records slot).promised ballot ≡ test → StepsAs setup s (Delivery (Prepare sender slot ballot)) (judged k slot (judgement test))
+      by_test : (test : Bool) → nat_lt (k.records slot).promised ballot ≡ test →
+          StepsAs setup s (Delivery (Prepare sender slot ballot)) (judged k slot (judgement test))
       by_test true below =
           let same = stands.agrees.records slot in
           let before : (k.records slot).promised < ballot = grind (arith, nat_tests) in
           let may : (s.records slot).promised < ballot = subst (λ (r : SlotRecord). r.promised < ballot) same before in
           answered setup s (Prepare sender slot ballot) (prepare_aside sender ballot slot) k stands (Promises slot ballot true) (judgement true) slot
-          (record { works = works; concerned = member; stays = λ x. refl; began = refl; no_replies = refl; no_receipts = refl; may = record { least = works.least; most = works.most; up = works.up; needs = record { sender = sender; prepared = inl refl; may = may } }; replies = inl (may, refl); gives = (ap (λ (r : SlotRecord). Promise setup.node slot ballot r.vote ∷ []) (sym same)) })
-          (same_with setup s (Prepare sender slot ballot) (prepare_aside sender ballot slot) k stands slot _ _ (ap (λ (r : SlotRecord). after_promise r ballot) same))
+          (record {
+            works = works;
+            concerned = member;
+            stays = λ x. refl;
+            began = refl;
+            no_replies = refl;
+            no_receipts = refl;
+            may = record { least = works.least; most = works.most; up = works.up; needs = record { sender = sender; prepared = inl refl; may = may } };
+            replies = inl (may, refl);
+            gives = ap (λ (r : SlotRecord). Promise setup.node slot ballot r.vote ∷ []) (sym same);
+          })
+          (same_with setup s (Prepare sender slot ballot) (prepare_aside sender ballot slot) k stands slot _ _
+          (ap (λ (r : SlotRecord). after_promise r ballot) same))
           (voted_before (Prepare sender slot ballot) (prepare_aside sender ballot slot) slot)
       by_test false above =
           let same = stands.agrees.records slot in
           let before : ballot ≤ (k.records slot).promised = grind (arith, nat_tests) in
           let may : ballot ≤ (s.records slot).promised = subst (λ (r : SlotRecord). ballot ≤ r.promised) same before in
           answered setup s (Prepare sender slot ballot) (prepare_aside sender ballot slot) k stands (Refuses slot ballot) (judgement false) slot
-          (record { works = works; concerned = member; stays = λ x. refl; began = refl; no_replies = refl; no_receipts = refl; may = record { least = works.least; most = works.most; up = works.up; needs = tt }; replies = inr (may, refl); gives = (ap (λ (r : SlotRecord). Refused setup.node slot ballot r.promised ∷ []) (sym same)) })
+          (record {
+            works = works;
+            concerned = member;
+            stays = λ x. refl;
+            began = refl;
+            no_replies = refl;
+            no_receipts = refl;
+            may = record { least = works.least; most = works.most; up = works.up; needs = tt };
+            replies = inr (may, refl);
+            gives = ap (λ (r : SlotRecord). Refused setup.node slot ballot r.promised ∷ []) (sym same);
+          })
           (unchanged setup s (Prepare sender slot ballot) (prepare_aside sender ballot slot) k stands slot)
           (voted_before (Prepare sender slot ballot) (prepare_aside sender ballot slot) slot)
 
-  pub prepare_steps : (sender ballot : ℕ) (slot : Slot) → StepsAs setup s (Delivery (Prepare sender slot ballot)) (stepped setup k (Delivery (Prepare sender slot ballot)))
+  pub prepare_steps : (sender ballot : ℕ) (slot : Slot) →
+      StepsAs setup s (Delivery (Prepare sender slot ballot)) (stepped setup k (Delivery (Prepare sender slot ballot)))
   prepare_steps sender ballot slot =
-      subst (StepsAs setup s (Delivery (Prepare sender slot ballot))) (sym (stepped_is setup k s (Prepare sender slot ballot) stands works)) (by_member (is_member setup sender) refl)
+      subst (StepsAs setup s (Delivery (Prepare sender slot ballot))) (sym (stepped_is setup k s (Prepare sender slot ballot) stands works))
+      (by_member (is_member setup sender) refl)
     where
-      by_member : (member : Bool) → is_member setup sender ≡ member → StepsAs setup s (Delivery (Prepare sender slot ballot)) (if member then on_prepare setup k slot ballot else leaves k)
+      by_member : (member : Bool) → is_member setup sender ≡ member →
+          StepsAs setup s (Delivery (Prepare sender slot ballot)) (if member then on_prepare setup k slot ballot else leaves k)
       by_member true is = on_prepare_steps sender ballot slot (member_is setup sender is)
       by_member false is = ignored setup s k stands (Prepare sender slot ballot) (λ member. true≢false (sym (member_test setup sender member) ∙ is))
 
   -- ---- a Propose
 
-  on_propose_steps : (sender : ℕ) (slot : Slot) (vote : Vote) → IsPlaced slot vote → IsMember setup.nodes sender → StepsAs setup s (Delivery (Propose sender slot vote)) (on_propose setup k slot vote)
+  on_propose_steps : (sender : ℕ) (slot : Slot) (vote : Vote) → IsPlaced slot vote → IsMember setup.nodes sender →
+      StepsAs setup s (Delivery (Propose sender slot vote)) (on_propose setup k slot vote)
   on_propose_steps sender slot vote fits member = by_test (nat_le (k.records slot).promised vote.ballot) refl
     where
       judgement : Bool → Judgement
@@ -116,29 +147,55 @@ module _ (setup : Setup) (k : Kept) (s : Node) (stands : Stands setup k s) (work
           then record { answer = Voted setup.node slot vote; after = after_vote vote }
           else record { answer = Refused setup.node slot vote.ballot (k.records slot).promised; after = k.records slot }
 
-      by_test : (test : Bool) → nat_le (k.records slot).promised vote.ballot ≡ test → StepsAs setup s (Delivery (Propose sender slot vote)) (judged k slot (judgement test))
+      by_test : (test : Bool) → nat_le (k.records slot).promised vote.ballot ≡ test →
+          StepsAs setup s (Delivery (Propose sender slot vote)) (judged k slot (judgement test))
       by_test true below =
           let same = stands.agrees.records slot in
           let before : (k.records slot).promised ≤ vote.ballot = grind (arith, nat_tests) in
           let may : (s.records slot).promised ≤ vote.ballot = subst (λ (r : SlotRecord). r.promised ≤ vote.ballot) same before in
           answered setup s (Propose sender slot vote) (propose_aside sender slot vote) k stands (Votes slot vote true) (judgement true) slot
-          (record { works = works; concerned = member; stays = λ x. refl; began = refl; no_replies = refl; no_receipts = refl; may = record { least = works.least; most = works.most; up = works.up; needs = record { sender = sender; proposed = inl refl; may = may } }; replies = inl (may, refl); gives = refl })
+          (record {
+            works = works;
+            concerned = member;
+            stays = λ x. refl;
+            began = refl;
+            no_replies = refl;
+            no_receipts = refl;
+            may = record { least = works.least; most = works.most; up = works.up; needs = record { sender = sender; proposed = inl refl; may = may } };
+            replies = inl (may, refl);
+            gives = refl;
+          })
           (same_with setup s (Propose sender slot vote) (propose_aside sender slot vote) k stands slot _ _ refl)
-          (λ cast voted. let casts : vote ≡ cast = cc in (subst (IsPlaced slot) casts fits, inl (sender, cast.ballot, inl (λ i. Propose sender slot (sym casts i)))))
+          (λ cast voted.
+          let casts : vote ≡ cast = cc in
+          (subst (IsPlaced slot) casts fits, inl (sender, cast.ballot, inl (λ i. Propose sender slot (sym casts i)))))
       by_test false above =
           let same = stands.agrees.records slot in
           let before : vote.ballot < (k.records slot).promised = grind (arith, nat_tests) in
           let may : vote.ballot < (s.records slot).promised = subst (λ (r : SlotRecord). vote.ballot < r.promised) same before in
           answered setup s (Propose sender slot vote) (propose_aside sender slot vote) k stands (Refuses slot vote.ballot) (judgement false) slot
-          (record { works = works; concerned = member; stays = λ x. refl; began = refl; no_replies = refl; no_receipts = refl; may = record { least = works.least; most = works.most; up = works.up; needs = tt }; replies = inr (may, refl); gives = (ap (λ (r : SlotRecord). Refused setup.node slot vote.ballot r.promised ∷ []) (sym same)) })
+          (record {
+            works = works;
+            concerned = member;
+            stays = λ x. refl;
+            began = refl;
+            no_replies = refl;
+            no_receipts = refl;
+            may = record { least = works.least; most = works.most; up = works.up; needs = tt };
+            replies = inr (may, refl);
+            gives = ap (λ (r : SlotRecord). Refused setup.node slot vote.ballot r.promised ∷ []) (sym same);
+          })
           (unchanged setup s (Propose sender slot vote) (propose_aside sender slot vote) k stands slot)
           (voted_before (Propose sender slot vote) (propose_aside sender slot vote) slot)
 
-  pub propose_steps : (sender : ℕ) (slot : Slot) (vote : Vote) → IsPlaced slot vote → StepsAs setup s (Delivery (Propose sender slot vote)) (stepped setup k (Delivery (Propose sender slot vote)))
+  pub propose_steps : (sender : ℕ) (slot : Slot) (vote : Vote) → IsPlaced slot vote →
+      StepsAs setup s (Delivery (Propose sender slot vote)) (stepped setup k (Delivery (Propose sender slot vote)))
   propose_steps sender slot vote fits =
-      subst (StepsAs setup s (Delivery (Propose sender slot vote))) (sym (stepped_is setup k s (Propose sender slot vote) stands works)) (by_member (is_member setup sender) refl)
+      subst (StepsAs setup s (Delivery (Propose sender slot vote))) (sym (stepped_is setup k s (Propose sender slot vote) stands works))
+      (by_member (is_member setup sender) refl)
     where
-      by_member : (member : Bool) → is_member setup sender ≡ member → StepsAs setup s (Delivery (Propose sender slot vote)) (if member then on_propose setup k slot vote else leaves k)
+      by_member : (member : Bool) → is_member setup sender ≡ member →
+          StepsAs setup s (Delivery (Propose sender slot vote)) (if member then on_propose setup k slot vote else leaves k)
       by_member true is = on_propose_steps sender slot vote fits (member_is setup sender is)
       by_member false is = ignored setup s k stands (Propose sender slot vote) (λ member. true≢false (sym (member_test setup sender member) ∙ is))
 
@@ -156,7 +213,8 @@ module _ (setup : Setup) (k : Kept) (s : Node) (stands : Stands setup k s) (work
   on_ask_steps sender id name member =
       let told = told_is k.records id (λ slot vote voted. (stands.agrees.placed slot vote voted).1) in
       let told_now = told_still id (told_of k.records id) told in
-      answered_with setup s (Ask sender id name) (ask_aside sender id name) k stands (Tells id name (told_of k.records id)) (Tell setup.node name (told_of k.records id)) k
+      answered_with setup s (Ask sender id name) (ask_aside sender id name) k stands (Tells id name (told_of k.records id))
+      (Tell setup.node name (told_of k.records id)) k
       (record {
         works = works;
         concerned = member;
@@ -172,8 +230,10 @@ module _ (setup : Setup) (k : Kept) (s : Node) (stands : Stands setup k s) (work
 
   pub ask_steps : (sender id : ℕ) (name : Name) → StepsAs setup s (Delivery (Ask sender id name)) (stepped setup k (Delivery (Ask sender id name)))
   ask_steps sender id name =
-      subst (StepsAs setup s (Delivery (Ask sender id name))) (sym (stepped_is setup k s (Ask sender id name) stands works)) (by_member (is_member setup sender) refl)
+      subst (StepsAs setup s (Delivery (Ask sender id name))) (sym (stepped_is setup k s (Ask sender id name) stands works))
+      (by_member (is_member setup sender) refl)
     where
-      by_member : (member : Bool) → is_member setup sender ≡ member → StepsAs setup s (Delivery (Ask sender id name)) (if member then on_ask setup k id name else leaves k)
+      by_member : (member : Bool) → is_member setup sender ≡ member →
+          StepsAs setup s (Delivery (Ask sender id name)) (if member then on_ask setup k id name else leaves k)
       by_member true is = on_ask_steps sender id name (member_is setup sender is)
       by_member false is = ignored setup s k stands (Ask sender id name) (λ member. true≢false (sym (member_test setup sender member) ∙ is))

@@ -1,5 +1,6 @@
 -- A request that comes, and that may wait, is an exact step of the actor.
-use Rattle.std.proofs.Common.{◌≡◌, ℕ, zero, suc, ◌*◌, Bool, true, false, List, [], ◌∷◌, ◌++◌, map, Option, Some, None, refl, sym, ap, subst, ◌∙◌, inl, inr, arith}
+use Rattle.std.proofs.Common.{◌≡◌, ℕ, zero, suc, ◌*◌, Bool, true, false, List, [], ◌∷◌, ◌++◌, map, Option, Some, None, refl, sym, ap, subst, ◌∙◌, inl, inr}
+use Rattle.std.proofs.Common.{arith}
 use Rattle.std.specs.Prelude.{◌&&◌, nat_lt, if◌then◌else◌}
 use Rattle.std.proofs.lemmas.Bool.{true≢false}
 use Rattle.std.proofs.lemmas.Bool.Decides.{nat_tests}
@@ -52,7 +53,8 @@ no_majority nodes =
     not_below : (n : ℕ) → nat_lt n 0 ≡ false
     not_below n = grind (arith, nat_tests)
 
-unanswered_yet : (request : Request) (known : Option (List Decree)) → ((id : ℕ) (message : Submission) (chain : List Decree) → request ≡ Submit id message → known ≡ Some chain → ⊥) → answer_by known false false request ≡ None
+unanswered_yet : (request : Request) (known : Option (List Decree)) →
+    ((id : ℕ) (message : Submission) (chain : List Decree) → request ≡ Submit id message → known ≡ Some chain → ⊥) → answer_by known false false request ≡ None
 unanswered_yet (Submit id message) None unknown = refl
 unanswered_yet (Submit id message) (Some chain) unknown = absurd (unknown id message chain refl refl)
 unanswered_yet (Query id account source) None unknown = refl
@@ -92,7 +94,8 @@ module _ (setup : Setup) (k : Kept) (s : Node) (stands : Stands setup k s) (work
       never true = refl
       never false = refl
 
-  answers_not : (known : Option (List Decree)) → ((id : ℕ) (message : Submission) (chain : List Decree) → request ≡ Submit id message → known ≡ Some chain → ⊥) → answer_to setup.nodes known held ≡ None
+  answers_not : (known : Option (List Decree)) →
+      ((id : ℕ) (message : Submission) (chain : List Decree) → request ≡ Submit id message → known ≡ Some chain → ⊥) → answer_to setup.nodes known held ≡ None
   answers_not known unheard = ap (λ (b : Bool). answer_by known b false request) (not_settled known) ∙ unanswered_yet request known unheard
 
   calm_before : IsCalm setup.nodes k
@@ -102,18 +105,25 @@ module _ (setup : Setup) (k : Kept) (s : Node) (stands : Stands setup k s) (work
   calm = record {
     settled = λ h among. elim (in_either h k.held (held ∷ []) among) [
       | inl before ↦ calm_before.settled h before
-      | inr last ↦ elim last [ inl same ↦ subst (λ (x : Held). settles setup.nodes (known_for k1 x) x ≡ false) (sym same) (settles_not (known_for k1 held)) | inr none ↦ absurd none ]
+      | inr last ↦ elim last [
+        | inl same ↦ subst (λ (x : Held). settles setup.nodes (known_for k1 x) x ≡ false) (sym same) (settles_not (known_for k1 held))
+        | inr none ↦ absurd none
+      ]
     ];
     answered = λ h among. elim (in_either h k.held (held ∷ []) among) [
       | inl before ↦ calm_before.answered h before
-      | inr last ↦ elim last [ inl same ↦ subst (λ (x : Held). answer_to setup.nodes (known_for k1 x) x ≡ None) (sym same) (answers_not (known_for k1 held) taken_now) | inr none ↦ absurd none ]
+      | inr last ↦ elim last [
+        | inl same ↦ subst (λ (x : Held). answer_to setup.nodes (known_for k1 x) x ≡ None) (sym same) (answers_not (known_for k1 held) taken_now)
+        | inr none ↦ absurd none
+      ]
     ];
   }
     where
       taken_now : (id : ℕ) (message : Submission) (chain : List Decree) → request ≡ Submit id message → known_for k1 held ≡ Some chain → ⊥
       taken_now id message chain is known =
           let about : id_in request ≡ id = ap id_in is in
-          let knows : IsKnown setup.nodes s.actor.received (id_in request) (Some chain) = subst (IsKnown setup.nodes s.actor.received (id_in request)) known (stands.agrees.message (id_in request)).heard.known in
+          let knows : IsKnown setup.nodes s.actor.received (id_in request) (Some chain) =
+          subst (IsKnown setup.nodes s.actor.received (id_in request)) known (stands.agrees.message (id_in request)).heard.known in
           unknown id message is chain (subst (λ (i : ℕ). Knows setup.nodes s.actor.received i chain) about knows)
 
   -- ---- the round of a submit_sm
@@ -126,7 +136,8 @@ module _ (setup : Setup) (k : Kept) (s : Node) (stands : Stands setup k s) (work
   deletes_none id place chain deletes =
       let cancelled = deletes.deletes.cancelled in
       elim (in_either cancelled.waiting s.actor.waiting (w ∷ []) cancelled.waits) [
-        | inl before ↦ deletes.new (record { waiting = cancelled.waiting; waits = before; ticket_is = refl; settled = cancelled.settled }) deletes.deletes.further.known
+        | inl before ↦
+            deletes.new (record { waiting = cancelled.waiting; waits = before; ticket_is = refl; settled = cancelled.settled }) deletes.deletes.further.known
         | inr last ↦ elim last [
           | inl same ↦ true≢false (sym cancelled.settled ∙ ap (λ (x : Waiting). x.settled) same)
           | inr none ↦ absurd none
@@ -186,7 +197,9 @@ module _ (setup : Setup) (k : Kept) (s : Node) (stands : Stands setup k s) (work
   prepared = started setup k1 (id_in request) (take_for setup k held request)
 
   starts : StartsAs setup k1 s1 (id_in request) (Due (id_in request)) prepared
-  starts = started_as setup k1 s1 (arrived_agrees setup k s stands.agrees request) mine (record { least = works.least; most = works.most; up = works.up }) (id_in request) (Due (id_in request))
+  starts =
+      started_as setup k1 s1 (arrived_agrees setup k s stands.agrees request) mine (record { least = works.least; most = works.most; up = works.up })
+      (id_in request) (Due (id_in request))
       (take_for setup k held request) (start_of request refl)
 
   abbrev ToPrepare : Act → Type 0
@@ -294,13 +307,15 @@ module _ (setup : Setup) (k : Kept) (s : Node) (stands : Stands setup k s) (work
     prepares = prepares_due;
   }
 
-  packets_are : (test : Bool) → (if test then question setup k held ∷ [] else []) ++ prepared.packets ≡ map (question setup k1) (if test then held ∷ [] else []) ++ prepared.packets
+  packets_are : (test : Bool) →
+      (if test then question setup k held ∷ [] else []) ++ prepared.packets ≡ map (question setup k1) (if test then held ∷ [] else []) ++ prepared.packets
   packets_are true = refl
   packets_are false = refl
 
   on_arrival_steps : StepsAs setup s (Arrival request) (on_arrival setup k request)
   on_arrival_steps = subst (StepsAs setup s (Arrival request)) same
-      (begun_steps setup s (Arrival request) (BeginsAct s.actor.ticket request) tells may_begin refl k1 asked (id_in request) (Due (id_in request)) prepared begins_so)
+      (begun_steps setup s (Arrival request) (BeginsAct s.actor.ticket request) tells may_begin refl k1 asked (id_in request)
+      (Due (id_in request)) prepared begins_so)
     where
       same : record {
         kept = prepared.kept;
@@ -329,4 +344,6 @@ module _ (setup : Setup) (k : Kept) (s : Node) (stands : Stands setup k s) (work
   arrival_steps = subst (StepsAs setup s (Arrival request)) (sym is_up) on_arrival_steps
     where
       is_up : stepped setup k (Arrival request) ≡ on_arrival setup k request
-      is_up = ap (λ (running : Bool). if running then stepped_up setup k (Arrival request) else stepped_down setup k (Arrival request)) (stands.agrees.up ∙ works.up)
+      is_up =
+          ap (λ (running : Bool). if running then stepped_up setup k (Arrival request) else stepped_down setup k (Arrival request))
+          (stands.agrees.up ∙ works.up)

@@ -32,9 +32,12 @@ untold_yet node a coherent teller ticket told later heard =
     let given = (coherent.fits (Tell teller (record { node = node; incarnation = a.incarnation; ticket = ticket }) told) heard).1 refl refl in omega arith
 
 -- of a message that is taken now nothing is known
-pub unknown_yet : (nodes node : ℕ) (a : Actor) → IsCoherent node a → IsNode node → (id : ℕ) (message : Submission) → IsNumbered node a id message → (chain : List Decree) → Knows nodes a.received id chain → ⊥
+pub unknown_yet : (nodes node : ℕ) (a : Actor) → IsCoherent node a → IsNode node → (id : ℕ) (message : Submission) → IsNumbered node a id message →
+    (chain : List Decree) → Knows nodes a.received id chain → ⊥
 unknown_yet nodes node a coherent mine id message numbered chain knows =
-    let told = both nodes (λ voter. In (Voted voter (slot_of id chain) (vote_at knows.ballot chain)) a.received) (λ voter. In (Voted voter (slot_of id chain) (vote_at knows.ballot chain)) a.received) knows.learned knows.learned in
+    let told =
+    both nodes (λ voter. In (Voted voter (slot_of id chain) (vote_at knows.ballot chain)) a.received)
+    (λ voter. In (Voted voter (slot_of id chain) (vote_at knows.ballot chain)) a.received) knows.learned knows.learned in
     let id_is = numbered.id_is in
     let few = mine.most in
     let least = mine.least in
@@ -99,7 +102,8 @@ module _ (setup : Setup) (k : Kept) (s : Node) (agrees : Agrees setup k s) (requ
 
   message_then : (id : ℕ) → IsMessage setup s id (message_at k id) → IsMessage setup arrived id (message_at k id)
   message_then id is =
-      message_changed setup s s.actor.up (next_serial request s.actor.serial) (suc s.actor.ticket) (s.actor.waiting ++ came ∷ []) s.actor.granted s.actor.closed id (ground id) (message_at k id)
+      message_changed setup s s.actor.up (next_serial request s.actor.serial) (suc s.actor.ticket)
+      (s.actor.waiting ++ came ∷ []) s.actor.granted s.actor.closed id (ground id) (message_at k id)
       (message_at k id).granted
       (message_at k id).closed
       is
@@ -134,7 +138,10 @@ module _ (setup : Setup) (k : Kept) (s : Node) (agrees : Agrees setup k s) (requ
     waiting = map-append (λ (h : Held). h.waiting) k.held (new ∷ []) ∙ (λ i. agrees.waiting i ++ new_is i ∷ []);
     told = λ h among. elim (in_either h k.held (new ∷ []) among) [
       | inl before ↦ agrees.told h before
-      | inr last ↦ elim last [ inl same ↦ subst (λ (x : Held). IsHeld s.actor.received (name_of setup.node arrived.actor x.waiting) x) (sym same) new_held | inr none ↦ absurd none ]
+      | inr last ↦ elim last [
+        | inl same ↦ subst (λ (x : Held). IsHeld s.actor.received (name_of setup.node arrived.actor x.waiting) x) (sym same) new_held
+        | inr none ↦ absurd none
+      ]
     ];
     tickets = increasing_from (k.held ++ new ∷ []) (ascend_last k.held new (ascend_from k.held agrees.tickets) agrees.given);
     given = given_then;

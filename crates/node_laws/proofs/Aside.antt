@@ -33,11 +33,13 @@ module _ (nodes node : ℕ) (a : Actor) (packet : Packet) (aside : IsAside packe
   vote_before voter slot vote (inl same) = absurd (aside.votes voter slot vote same)
   vote_before voter slot vote (inr before) = before
 
-  pub promise_before : (acceptor ballot : ℕ) (slot : Slot) (report : Option Vote) → In (Promise acceptor slot ballot report) b.received → In (Promise acceptor slot ballot report) a.received
+  pub promise_before : (acceptor ballot : ℕ) (slot : Slot) (report : Option Vote) → In (Promise acceptor slot ballot report) b.received →
+      In (Promise acceptor slot ballot report) a.received
   promise_before acceptor ballot slot report (inl same) = absurd (aside.promises acceptor ballot slot report same)
   promise_before acceptor ballot slot report (inr before) = before
 
-  refusal_before : (sender ballot promised : ℕ) (slot : Slot) → In (Refused sender slot ballot promised) b.received → In (Refused sender slot ballot promised) a.received
+  refusal_before : (sender ballot promised : ℕ) (slot : Slot) → In (Refused sender slot ballot promised) b.received →
+      In (Refused sender slot ballot promised) a.received
   refusal_before sender ballot promised slot (inl same) = absurd (aside.refusals sender ballot promised slot same)
   refusal_before sender ballot promised slot (inr before) = before
 
@@ -97,7 +99,8 @@ module _ (nodes node : ℕ) (a : Actor) (packet : Packet) (aside : IsAside packe
 
   -- ---- what it may propose
 
-  allows_still : (slot : Slot) (taken : Submission) (attempted : Author) (before next : Kind) → Allows a slot taken attempted before next → Allows b slot taken attempted before next
+  allows_still : (slot : Slot) (taken : Submission) (attempted : Author) (before next : Kind) → Allows a slot taken attempted before next →
+      Allows b slot taken attempted before next
   allows_still slot taken attempted (Attempt number) next (inl closed) =
       inl (record { outcome = closed.outcome; incarnation = closed.incarnation; closed = closed.closed; kind = closed.kind })
   allows_still slot taken attempted (Attempt number) next (inr lost) = inr (record { incarnation = lost.incarnation; kind = lost.kind })
@@ -154,11 +157,15 @@ module _ (setup : Setup) (s : Node) (records : Records) (packet : Packet) (aside
       ))
       (λ ballot. ((λ sent. sent), (λ sent. sent)))
 
-  report_still : (slot : Slot) (ballot : ℕ) (highest : Option Vote) → IsHighestReport s.actor.received slot ballot highest → IsHighestReport later.actor.received slot ballot highest
-  report_still slot ballot None none = λ acceptor vote heard. none acceptor vote (promise_before setup.nodes setup.node s.actor packet aside acceptor ballot slot (Some vote) heard)
+  report_still : (slot : Slot) (ballot : ℕ) (highest : Option Vote) → IsHighestReport s.actor.received slot ballot highest →
+      IsHighestReport later.actor.received slot ballot highest
+  report_still slot ballot None none =
+      λ acceptor vote heard. none acceptor vote (promise_before setup.nodes setup.node s.actor packet aside acceptor ballot slot (Some vote) heard)
   report_still slot ballot (Some top) highest = record {
     reported = (highest.reported.0, inr highest.reported.1);
-    highest = λ acceptor vote heard. highest.highest acceptor vote (promise_before setup.nodes setup.node s.actor packet aside acceptor ballot slot (Some vote) heard);
+    highest =
+        λ acceptor vote heard.
+        highest.highest acceptor vote (promise_before setup.nodes setup.node s.actor packet aside acceptor ballot slot (Some vote) heard);
   }
 
   behind_still : (id : ℕ) (slot : Slot) (own chain : List Decree) → IsBehind setup.nodes s.actor.received id (StandsAt s slot own) chain →

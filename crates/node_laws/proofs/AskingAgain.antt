@@ -57,11 +57,13 @@ reached_ask node s (h ∷ held) = ap (reached_alone node s) (ask_first h held) �
 
 pub ask_replies : (held : List Held) → replies_in (ask_acts held) ≡ []
 ask_replies [] = refl
-ask_replies (h ∷ held) = ap replies_in (ask_first h held) ∙ replies_more (ask_acts held) (ask_act h ∷ []) ∙ ap (λ (rs : List Reply). rs ++ []) (ask_replies held)
+ask_replies (h ∷ held) =
+    ap replies_in (ask_first h held) ∙ replies_more (ask_acts held) (ask_act h ∷ []) ∙ ap (λ (rs : List Reply). rs ++ []) (ask_replies held)
 
 pub ask_receipts : (held : List Held) → receipts_in (ask_acts held) ≡ []
 ask_receipts [] = refl
-ask_receipts (h ∷ held) = ap receipts_in (ask_first h held) ∙ receipts_more (ask_acts held) (ask_act h ∷ []) ∙ ap (λ (rs : List Receipt). rs ++ []) (ask_receipts held)
+ask_receipts (h ∷ held) =
+    ap receipts_in (ask_first h held) ∙ receipts_more (ask_acts held) (ask_act h ∷ []) ∙ ap (λ (rs : List Receipt). rs ++ []) (ask_receipts held)
 
 -- ---- what goes out
 
@@ -74,7 +76,8 @@ module _ (setup : Setup) (k : Kept) (a : Actor) (incarnation : k.incarnation ≡
   ask_packets (h ∷ held) =
       ap (λ (acts : List Act). reverse (packets_in setup.node a records acts)) (ask_first h held)
       ∙ ap reverse (packets_more setup.node a records (ask_acts held) (ask_act h ∷ []))
-      ∙ reverse-append (packets_in setup.node a records (ask_acts held)) (Ask setup.node (id_of h) (record { node = setup.node; incarnation = a.incarnation; ticket = ticket_of h }) ∷ [])
+      ∙ reverse-append (packets_in setup.node a records (ask_acts held))
+      (Ask setup.node (id_of h) (record { node = setup.node; incarnation = a.incarnation; ticket = ticket_of h }) ∷ [])
       ∙ (λ i. question_is h i ∷ ask_packets held i)
 
 -- ---- they are due, in this order, and may be sent
@@ -102,7 +105,9 @@ module _ (setup : Setup) (before a : Actor) (held : List Held) (waiting : map (�
   untold = filter (is_untold setup.nodes) held
 
   abbrev Lacks : Held → Type 0
-  Lacks h = ((message : Submission) → h.waiting.request ≡ Submit (id_of h) message → ⊥) × (Majority setup.nodes (HasTold a.received (name_of setup.node a h.waiting)) → ⊥)
+  Lacks h =
+      ((message : Submission) → h.waiting.request ≡ Submit (id_of h) message → ⊥) ×
+      (Majority setup.nodes (HasTold a.received (name_of setup.node a h.waiting)) → ⊥)
 
   untold_decides : (h : Held) → In h held → Decides (is_untold setup.nodes h) (Lacks h)
   untold_decides h among = Decides-and _ _
@@ -138,7 +143,9 @@ module _ (setup : Setup) (before a : Actor) (held : List Held) (waiting : map (�
       ) in
       let same : ask_act kept.request ≡ Asks id ticket = λ i. Asks (about i) ((ap (λ (w : Waiting). w.ticket) kept.same ∙ due.ticket_is) i) in
       subst (λ (act : Act). In act (ask_acts untold)) same
-      (reverse_in (ask_act kept.request) (map ask_act untold) (mapped_in ask_act untold kept.request (filter_in (is_untold setup.nodes) held kept.request kept.among ((untold_decides kept.request kept.among).1 lacks))))
+      (reverse_in (ask_act kept.request) (map ask_act untold)
+      (mapped_in ask_act untold kept.request
+      (filter_in (is_untold setup.nodes) held kept.request kept.among ((untold_decides kept.request kept.among).1 lacks))))
   due_all act due = absurd due
 
   pub asks_due : AreDue Due (ask_acts untold)

@@ -128,10 +128,12 @@ module _ (setup : Setup) (s : Node) (input : Input) (act : Act) (tells : TellsNo
     packets_out : map (question setup k1) asked ++ new.packets ≡ reverse (packets_in setup.node s.actor s.records acts)
     packets_out =
         (λ i. sym (ask_packets setup k1 s1.actor it.agrees.incarnation (saved s.records (act ∷ [])) asked) i ++ it.starts.packets i)
-        ∙ sym (reverse-append (packets_in setup.node s1.actor s1.records it.starts.acts) (packets_in setup.node s1.actor (saved s.records (act ∷ [])) (ask_acts asked)))
+        ∙ sym (reverse-append (packets_in setup.node s1.actor s1.records it.starts.acts)
+        (packets_in setup.node s1.actor (saved s.records (act ∷ [])) (ask_acts asked)))
         ∙ ap reverse (sym sent)
       where
-        asks_sent : packets_in setup.node s.actor s.records (ask_acts asked ++ act ∷ []) ≡ packets_in setup.node s1.actor (saved s.records (act ∷ [])) (ask_acts asked)
+        asks_sent :
+            packets_in setup.node s.actor s.records (ask_acts asked ++ act ∷ []) ≡ packets_in setup.node s1.actor (saved s.records (act ∷ [])) (ask_acts asked)
         asks_sent =
             packets_more setup.node s.actor s.records (ask_acts asked) (act ∷ [])
             ∙ ap (λ (ps : List Packet). packets_in setup.node s1.actor (saved s.records (act ∷ [])) (ask_acts asked) ++ (ps ++ [])) tells.packets
@@ -143,7 +145,9 @@ module _ (setup : Setup) (s : Node) (input : Input) (act : Act) (tells : TellsNo
         records_is : saved s.records (ask_acts asked ++ act ∷ []) ≡ s1.records
         records_is = saved_more s.records (ask_acts asked) (act ∷ []) ∙ ask_records (saved s.records (act ∷ [])) asked
 
-        sent : packets_in setup.node s.actor s.records acts ≡ packets_in setup.node s1.actor s1.records it.starts.acts ++ packets_in setup.node s1.actor (saved s.records (act ∷ [])) (ask_acts asked)
+        sent :
+            packets_in setup.node s.actor s.records acts ≡
+            packets_in setup.node s1.actor s1.records it.starts.acts ++ packets_in setup.node s1.actor (saved s.records (act ∷ [])) (ask_acts asked)
         sent =
             packets_more setup.node s.actor s.records it.starts.acts (ask_acts asked ++ act ∷ [])
             ∙ (λ i. packets_in setup.node (actor_is i) (records_is i) it.starts.acts ++ asks_sent i)
@@ -167,9 +171,11 @@ module _ (setup : Setup) (s : Node) (input : Input) (act : Act) (tells : TellsNo
     calm_then : IsCalm setup.nodes new.kept
     calm_then = record {
       settled = λ h among.
-          ap (λ (known : Option (List Decree)). settles setup.nodes known h) (it.starts.known (id_of h)) ∙ it.calm.settled h (subst (λ (hs : List Held). In h hs) it.starts.held among);
+          ap (λ (known : Option (List Decree)). settles setup.nodes known h) (it.starts.known (id_of h))
+          ∙ it.calm.settled h (subst (λ (hs : List Held). In h hs) it.starts.held among);
       answered = λ h among.
-          ap (λ (known : Option (List Decree)). answer_to setup.nodes known h) (it.starts.known (id_of h)) ∙ it.calm.answered h (subst (λ (hs : List Held). In h hs) it.starts.held among);
+          ap (λ (known : Option (List Decree)). answer_to setup.nodes known h) (it.starts.known (id_of h))
+          ∙ it.calm.answered h (subst (λ (hs : List Held). In h hs) it.starts.held among);
     }
 
     pub begun_steps : StepsAs setup s input (record {

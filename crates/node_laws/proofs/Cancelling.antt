@@ -21,7 +21,8 @@ owner_decides taken account source = Decides-like (is_owner taken account source
     (λ owner. (owner.same_account, owner.same_source))
     (Decides-and _ _ (bytes_eq-Decides taken.submitter account) (bytes_eq-Decides taken.source.digits source))
 
-pub match_decides : (taken : Submission) (account source destination : List ℕ) → Decides (is_match taken account source destination) (IsMatch taken account source destination)
+pub match_decides : (taken : Submission) (account source destination : List ℕ) →
+    Decides (is_match taken account source destination) (IsMatch taken account source destination)
 match_decides taken account source destination = Decides-like (is_match taken account source destination)
     (λ p. record { owner = p.0; same_destination = p.1 })
     (λ it. (it.owner, it.same_destination))

@@ -51,7 +51,9 @@ module _ (setup : Setup) (s : Node) (up : Bool) (serial ticket : ℕ) (waiting :
       (running_later setup.nodes setup.node changed.actor s.actor other ballot (λ sender promised greater heard. heard) (λ chain knows. knows) refl runs)
   round_still id (Some r) free is = record {
     about = is.about;
-    running = running_later setup.nodes setup.node s.actor changed.actor r.slot r.ballot (λ sender promised greater heard. heard) (λ chain knows. knows) refl is.running;
+    running =
+        running_later setup.nodes setup.node s.actor changed.actor r.slot r.ballot (λ sender promised greater heard. heard)
+        (λ chain knows. knows) refl is.running;
     promised = is.promised;
     highest = is.highest;
     offered = is.offered;

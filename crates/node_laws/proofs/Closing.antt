@@ -36,10 +36,12 @@ module _ (setup : Setup) (s : Node) (slot : Slot) (outcome : Outcome) where
     learned = λ other vote learned. learned;
   }
 
-  with_attempts : (id : ℕ) (m : Message) (given : ℕ → Bool) (ended : ℕ → Option Outcome) → IsMessage setup s id m → HasAttempts closed.actor id (record m { granted = given; closed = ended }) →
+  with_attempts : (id : ℕ) (m : Message) (given : ℕ → Bool) (ended : ℕ → Option Outcome) → IsMessage setup s id m →
+      HasAttempts closed.actor id (record m { granted = given; closed = ended }) →
       IsMessage setup closed id (record m { granted = given; closed = ended })
   with_attempts id m given ended is attempts =
-      message_changed setup s s.actor.up s.actor.serial s.actor.ticket s.actor.waiting s.actor.granted ((slot, outcome) ∷ s.actor.closed) id (ground id) m given ended is attempts is.covers
+      message_changed setup s s.actor.up s.actor.serial s.actor.ticket s.actor.waiting s.actor.granted ((slot, outcome) ∷ s.actor.closed) id
+      (ground id) m given ended is attempts is.covers
 
   -- ---- another message
 
@@ -70,7 +72,8 @@ module _ (setup : Setup) (s : Node) (slot : Slot) (outcome : Outcome) where
         slot_is : place ≡ slot.place → slot_at slot.id place ≡ slot
         slot_is same = ap (slot_at slot.id) same
 
-        by_place : (test : Bool) → (place == slot.place) ≡ test → ((if test then Some outcome else m.closed place) ≡ Some other) ↔ In (slot_at slot.id place, other) closed.actor.closed
+        by_place : (test : Bool) → (place == slot.place) ≡ test →
+            ((if test then Some outcome else m.closed place) ≡ Some other) ↔ In (slot_at slot.id place, other) closed.actor.closed
         by_place true same =
             let is_place : place ≡ slot.place = eqb-true place slot.place same in (
               λ t. let outcomes : outcome ≡ other = cc in inl (λ i. (slot_is is_place i, sym outcomes i)),
@@ -101,7 +104,9 @@ closed_agrees setup k s agrees slot outcome closing open_yet = record {
   serial = agrees.serial;
   ticket = agrees.ticket;
   records = agrees.records;
-  message = each_with (λ id m. IsMessage setup (closed setup s slot outcome) id m) k slot.id (now setup s slot outcome (message_at k slot.id) (agrees.message slot.id) open_yet)
+  message =
+      each_with (λ id m. IsMessage setup (closed setup s slot outcome) id m) k slot.id
+      (now setup s slot outcome (message_at k slot.id) (agrees.message slot.id) open_yet)
       (message_here setup s slot outcome (message_at k slot.id) (agrees.message slot.id) open_yet)
       (λ id apart. message_other setup s slot outcome id (message_at k id) apart (agrees.message id));
   waiting = agrees.waiting;

@@ -15,7 +15,8 @@ module _ (P Q : ℕ → List Decree → Type 0) where
   decided_as None there back none = λ place chain fits. none place chain (back place chain fits)
   decided_as (Some start) there back fits = there start.place start.chain fits
 
-  pub either_decided : (one other : Option Start) → Decided one P → Decided other Q → Decided (option_or one other) (λ place chain. P place chain ⊎ Q place chain)
+  pub either_decided : (one other : Option Start) → Decided one P → Decided other Q →
+      Decided (option_or one other) (λ place chain. P place chain ⊎ Q place chain)
   either_decided None None none_first none = λ place chain fits. elim fits [ inl first ↦ none_first place chain first | inr second ↦ none place chain second ]
   either_decided None (Some start) none_first fits = inr fits
   either_decided (Some start) other fits decided = inl fits

@@ -1,5 +1,6 @@
 -- The first rule of a tick that fits is found.
-use Rattle.std.proofs.Common.{◌≡◌, ◌⊎◌, ℕ, suc, ◌<◌, ◌≤◌, Bool, true, false, List, [], ◌∷◌, get_or, map, Option, Some, None, refl, sym, ap, subst, ◌∙◌, inl, inr, arith}
+use Rattle.std.proofs.Common.{◌≡◌, ◌⊎◌, ℕ, suc, ◌<◌, ◌≤◌, Bool, true, false, List, [], ◌∷◌, get_or, map, Option, Some, None, refl, sym, ap, subst, ◌∙◌, inl}
+use Rattle.std.proofs.Common.{inr, arith}
 use Rattle.std.specs.Prelude.{if◌then◌else◌}
 use Rattle.std.specs.Option.{option_or}
 use Rattle.std.proofs.lemmas.Bool.{true≢false}
@@ -25,7 +26,8 @@ use Rattle.mc_model.specs.node.Alone.{Node}
 use Rattle.node_laws.specs.Stands.{Agrees, HasAttempts, IsHeld}
 use Rattle.node_laws.proofs.Decided.{Decided}
 use Rattle.node_laws.proofs.FollowRule.{follow_decided}
-use Rattle.node_laws.proofs.KnownRules.{attempt_decides, close_decided, delete_decided, expire_decided, give_up_decided, lose_decided, try_decided, undeliver_decided}
+use Rattle.node_laws.proofs.KnownRules.{attempt_decides, close_decided, delete_decided, expire_decided, give_up_decided, lose_decided, try_decided}
+use Rattle.node_laws.proofs.KnownRules.{undeliver_decided}
 use Rattle.node_laws.proofs.RuleChains.{goes_on}
 use Rattle.node_laws.proofs.TakeRule.{take_decided}
 
@@ -87,7 +89,8 @@ module _ (setup : Setup) (a : Actor) (records : Records) (k : Kept) (up : List �
   pub record IsFirstFrom (order : ℕ) (fit : Fitting) : Type 0 where
     pub within : order ≤ order_of fit.rule
     pub fits : Fits fit.rule fit.start.place fit.start.chain
-    pub first : (earlier : Rule) (place : ℕ) (chain : List Decree) → order ≤ order_of earlier → order_of earlier < order_of fit.rule → Fits earlier place chain → ⊥
+    pub first : (earlier : Rule) (place : ℕ) (chain : List Decree) → order ≤ order_of earlier → order_of earlier < order_of fit.rule →
+        Fits earlier place chain → ⊥
 
   abbrev pub FoundFrom : ℕ → Option Fitting → Type 0
   FoundFrom order None = (rule : Rule) (place : ℕ) (chain : List Decree) → order ≤ order_of rule → Fits rule place chain → ⊥
@@ -122,7 +125,8 @@ module _ (setup : Setup) (a : Actor) (records : Records) (k : Kept) (up : List �
       next : (low high : ℕ) → low ≤ high → (high ≡ low) ⊎ (suc low ≤ high)
       next low high least = grind arith
 
-  last_rule : (rule : Rule) (start : Option Start) → Decided start (Fits rule) → FoundFrom (suc (order_of rule)) None → FoundFrom (order_of rule) (fitting rule start)
+  last_rule : (rule : Rule) (start : Option Start) → Decided start (Fits rule) → FoundFrom (suc (order_of rule)) None →
+      FoundFrom (order_of rule) (fitting rule start)
   last_rule rule None none others = rule_then rule None None none others
   last_rule rule (Some start) fits others = rule_then rule (Some start) None fits others
 
@@ -139,16 +143,20 @@ module _ (setup : Setup) (a : Actor) (records : Records) (k : Kept) (up : List �
       newest_is place chain kind g =
           let same : g.newest ∷ g.older ≡ newest ∷ older = knows_one setup.nodes a.received id (g.newest ∷ g.older) (newest ∷ older) g.known known in cc
 
-      no_attempt : (IsAttemptBy setup.node newest → ⊥) → (place : ℕ) (chain : List Decree) (kind : Kind) → (g : GoesFurther setup.nodes setup.node a id place chain kind) → IsAttemptBy setup.node g.newest → ⊥
+      no_attempt : (IsAttemptBy setup.node newest → ⊥) → (place : ℕ) (chain : List Decree) (kind : Kind) →
+          (g : GoesFurther setup.nodes setup.node a id place chain kind) → IsAttemptBy setup.node g.newest → ⊥
       no_attempt other place chain kind g own = other (subst (λ (n : Decree). IsAttemptBy setup.node n) (newest_is place chain kind g) own)
 
       attempt_found : IsAttemptBy setup.node newest → FoundFrom 3 (attempt_rule setup k (message_at k id) (up taken.target) newest older)
       attempt_found own =
-          rule_then Close _ _ (close_decided setup a k id agrees.incarnation agrees.clock newest older taken known message (message_at k id) agrees.attempts own)
+          rule_then Close _ _ (close_decided setup a k id agrees.incarnation agrees.clock newest older taken known message
+          (message_at k id) agrees.attempts own)
           (rule_then Lose _ _ (lose_decided setup a k id agrees.incarnation agrees.clock newest older taken known message (message_at k id) agrees.attempts own)
-          (last_rule GiveUp _ (give_up_decided setup a k id agrees.incarnation agrees.clock newest older taken known message (message_at k id) agrees.attempts own up) none_waits))
+          (last_rule GiveUp _ (give_up_decided setup a k id agrees.incarnation agrees.clock newest older taken known message
+          (message_at k id) agrees.attempts own up) none_waits))
         where
-          kind_at : (place : ℕ) (chain : List Decree) (kind : Kind) → (g : GoesFurther setup.nodes setup.node a id place chain kind) → g.newest.kind ≡ Attempt own.0.0
+          kind_at : (place : ℕ) (chain : List Decree) (kind : Kind) → (g : GoesFurther setup.nodes setup.node a id place chain kind) →
+              g.newest.kind ≡ Attempt own.0.0
           kind_at place chain kind g = ap (λ (n : Decree). n.kind) (newest_is place chain kind g) ∙ own.0.1
 
           none_waits : FoundFrom 6 None
@@ -159,13 +167,16 @@ module _ (setup : Setup) (a : Actor) (records : Records) (k : Kept) (up : List �
           none_waits GiveUp place chain late fits = absurd (omega arith)
           none_waits Delete place chain late fits = busy fits.further.newest.kind own.0.0 (kind_at place chain _ fits.further) fits.idle
           none_waits Expire place chain late fits =
-              never_expires fits.further.newest.kind own.0.0 (kind_at place chain _ fits.further) fits.further.taken (attempts_in (fits.further.newest ∷ fits.further.older))
+              never_expires fits.further.newest.kind own.0.0 (kind_at place chain _ fits.further) fits.further.taken
+              (attempts_in (fits.further.newest ∷ fits.further.older))
               fits.further.newest.author
               (next_decree setup.node a fits.further.newest (Fate Expired 0)).author
               fits.further.newest.moment
               (next_decree setup.node a fits.further.newest (Fate Expired 0)).moment
               fits.may.1
-          none_waits Undeliver place chain late fits = let both : Attempt own.0.0 ≡ Failed fits.error = sym (kind_at place chain _ fits.due.further) ∙ fits.failed in absurd (cc)
+          none_waits Undeliver place chain late fits =
+              let both : Attempt own.0.0 ≡ Failed fits.error = sym (kind_at place chain _ fits.due.further) ∙ fits.failed in
+              absurd (cc)
           none_waits Try place chain late fits =
               never_tried fits.due.further.newest.kind own.0.0 (kind_at place chain _ fits.due.further) fits.number fits.due.further.taken
               (attempts_in (fits.due.further.newest ∷ fits.due.further.older))
@@ -204,14 +215,18 @@ module _ (setup : Setup) (a : Actor) (records : Records) (k : Kept) (up : List �
       own_found = by_test (is_attempt_by setup.node newest newest.kind) refl
         where
           by_test : (test : Bool) → is_attempt_by setup.node newest newest.kind ≡ test →
-              FoundFrom 3 (if test then attempt_rule setup k (message_at k id) (up taken.target) newest older else idle_rule setup k id taken (up taken.target) newest older)
+              FoundFrom 3 (if test then attempt_rule setup k (message_at k id) (up taken.target) newest older
+              else idle_rule setup k id taken (up taken.target) newest older)
           by_test true own = attempt_found ((attempt_decides setup.node newest).0 own)
           by_test false other = idle_found (λ own. true≢false (sym ((attempt_decides setup.node newest).1 own) ∙ other))
 
     -- if nothing is known that a decree could follow
-    none_further : ((newest : Decree) (older : List Decree) (taken : Submission) → Knows setup.nodes a.received id (newest ∷ older) → taken_in (newest ∷ older) ≡ Some taken → ⊥) → FoundFrom 3 None
+    none_further : ((newest : Decree) (older : List Decree) (taken : Submission) → Knows setup.nodes a.received id (newest ∷ older) →
+        taken_in (newest ∷ older) ≡ Some taken → ⊥) →
+        FoundFrom 3 None
     none_further none rule place chain late fits =
-        let it = goes_on setup.nodes setup.node a records up id rule place chain late fits in none it.further.newest it.further.older it.further.taken it.further.known it.further.message
+        let it = goes_on setup.nodes setup.node a records up id rule place chain late fits in
+        none it.further.newest it.further.older it.further.taken it.further.known it.further.message
 
     known_found : (known : Option (List Decree)) → IsKnown setup.nodes a.received id known → FoundFrom 3 (known_rule setup k up id known)
     known_found None nothing = none_further (λ newest older taken known message. nothing _ _ known.learned)
@@ -246,12 +261,14 @@ module _ (setup : Setup) (a : Actor) (records : Records) (k : Kept) (up : List �
   least Undeliver = omega arith
   least Try = omega arith
 
-  pub is_first : (fit : Fitting) → first_rule setup k up id ≡ Some fit → IsFirstRule setup.nodes setup.node a records up id fit.start.place fit.start.chain fit.rule
+  pub is_first : (fit : Fitting) → first_rule setup k up id ≡ Some fit →
+      IsFirstRule setup.nodes setup.node a records up id fit.start.place fit.start.chain fit.rule
   is_first fit is =
       let found : IsFirstFrom setup a records k up id 1 fit = subst (FoundFrom setup a records k up id 1) is (first_found setup a records k up id agrees) in
       record { fits = found.fits; first = λ earlier place chain below fits. found.first earlier place chain (least earlier) below fits }
 
-  pub none_fits : first_rule setup k up id ≡ None → (rule : Rule) (place : ℕ) (chain : List Decree) → FitsRule setup.nodes setup.node a records up id place chain rule → ⊥
+  pub none_fits : first_rule setup k up id ≡ None → (rule : Rule) (place : ℕ) (chain : List Decree) →
+      FitsRule setup.nodes setup.node a records up id place chain rule → ⊥
   none_fits is rule place chain fits =
       let found : FoundFrom setup a records k up id 1 None = subst (FoundFrom setup a records k up id 1) is (first_found setup a records k up id agrees) in
       found rule place chain (least rule) fits

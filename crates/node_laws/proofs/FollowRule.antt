@@ -1,5 +1,6 @@
 -- The second rule of a tick: a vote stands beyond what is known, told to a request that waits, or the node's own.
-use Rattle.std.proofs.Common.{◌≡◌, ◌⊎◌, ℕ, pred, ◌<◌, ◌≤◌, Bool, true, false, List, [], ◌∷◌, length, map, Option, Some, None, refl, sym, ap, subst, ◌∙◌, inl, inr, arith, eqb-true}
+use Rattle.std.proofs.Common.{◌≡◌, ◌⊎◌, ℕ, pred, ◌<◌, ◌≤◌, Bool, true, false, List, [], ◌∷◌, length, map, Option, Some, None, refl, sym, ap, subst, ◌∙◌, inl}
+use Rattle.std.proofs.Common.{inr, arith, eqb-true}
 use Rattle.std.specs.Prelude.{◌==◌, if◌then◌else◌}
 use Rattle.std.specs.Bool.{Decides}
 use Rattle.std.proofs.lemmas.Bool.{eqb-false, true≢false, cases_lt}
@@ -189,7 +190,8 @@ module _ (node : ℕ) (a : Actor) (id : ℕ) where
       (shown_to id (h ∷ others) base)
       there
       back
-      (shown_highest others (λ it among. each it (inr among)) (if id_of h == id then higher_top base h.top else base) With (one_highest base Base h (each h (inl refl)) before))
+      (shown_highest others (λ it among. each it (inr among)) (if id_of h == id then higher_top base h.top else base) With
+      (one_highest base Base h (each h (inl refl)) before))
     where
       With : ℕ → Vote → Type 0
       With place vote = Base place vote ⊎ ToldTo h place vote

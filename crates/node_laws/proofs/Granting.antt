@@ -65,7 +65,8 @@ module _ (setup : Setup) (k : Kept) (s : Node) (stands : Stands setup k s) (slot
   given_now : (place : ℕ) → (given place ≡ true) ↔ In (slot_at slot.id place) granted.actor.granted
   given_now place = by_place (place == slot.place) refl
     where
-      by_place : (test : Bool) → (place == slot.place) ≡ test → ((if test then true else m.granted place) ≡ true) ↔ In (slot_at slot.id place) granted.actor.granted
+      by_place : (test : Bool) → (place == slot.place) ≡ test →
+          ((if test then true else m.granted place) ≡ true) ↔ In (slot_at slot.id place) granted.actor.granted
       by_place true same = ((λ t. inl (ap (slot_at slot.id) (eqb-true place slot.place same))), (λ is_in. refl))
       by_place false differs = (
         λ t. inr ((is.attempts.granted place).0 t),
@@ -82,7 +83,10 @@ module _ (setup : Setup) (k : Kept) (s : Node) (stands : Stands setup k s) (slot
   covers_here : CoversGrant setup.node s.actor m.known slot.place
   covers_here = subst (λ (known : Option (List Decree)). CoversGrant setup.node s.actor known slot.place) (sym known_attempt) (
     (let places = ap (λ (x : Slot). x.place) may.attempting.place in omega arith),
-    λ same. ((((may.attempting.number, may.attempting.attempt), ap (λ (a : Author). a.node) may.attempting.author)), ap (λ (a : Author). a.incarnation) may.attempting.author),
+    λ same. (
+      ((may.attempting.number, may.attempting.attempt), ap (λ (a : Author). a.node) may.attempting.author),
+      ap (λ (a : Author). a.incarnation) may.attempting.author,
+    ),
   )
 
   covers_now : (place : ℕ) → In (slot_at slot.id place) granted.actor.granted → CoversGrant setup.node granted.actor m.known place
@@ -91,14 +95,16 @@ module _ (setup : Setup) (k : Kept) (s : Node) (stands : Stands setup k s) (slot
 
   message_here : IsMessage setup granted slot.id (record m { granted = given })
   message_here =
-      message_changed setup s s.actor.up s.actor.serial s.actor.ticket s.actor.waiting (slot ∷ s.actor.granted) s.actor.closed slot.id (ground slot.id) m given m.closed is
+      message_changed setup s s.actor.up s.actor.serial s.actor.ticket s.actor.waiting (slot ∷ s.actor.granted) s.actor.closed slot.id
+      (ground slot.id) m given m.closed is
       (record { granted = given_now; closed = is.attempts.closed })
       covers_now
 
   message_other : (id : ℕ) → (id ≡ slot.id → ⊥) → IsMessage setup granted id (message_at k id)
   message_other id apart =
       let old = stands.agrees.message id in
-      message_changed setup s s.actor.up s.actor.serial s.actor.ticket s.actor.waiting (slot ∷ s.actor.granted) s.actor.closed id (ground id) (message_at k id) (message_at k id).granted (message_at k id).closed old
+      message_changed setup s s.actor.up s.actor.serial s.actor.ticket s.actor.waiting (slot ∷ s.actor.granted) s.actor.closed id (ground id) (message_at k id)
+      (message_at k id).granted (message_at k id).closed old
       (record {
         granted = λ place. (
           λ t. inr ((old.attempts.granted place).0 t),
@@ -163,7 +169,8 @@ module _ (setup : Setup) (k : Kept) (s : Node) (stands : Stands setup k s) (slot
     deletes_none : (id place : ℕ) (chain : List Decree) → CausesDelete setup.nodes setup.node s.actor granted.actor id place chain → ⊥
     deletes_none id place chain deletes =
         let cancelled = deletes.deletes.cancelled in
-        deletes.new (record { waiting = cancelled.waiting; waits = cancelled.waits; ticket_is = refl; settled = cancelled.settled }) deletes.deletes.further.known
+        deletes.new (record { waiting = cancelled.waiting; waits = cancelled.waits; ticket_is = refl; settled = cancelled.settled })
+        deletes.deletes.further.known
 
     due_none : (id place : ℕ) (chain : List Decree) → Due id place chain → ⊥
     due_none id place chain (inl take) = take
@@ -172,7 +179,9 @@ module _ (setup : Setup) (k : Kept) (s : Node) (stands : Stands setup k s) (slot
     due_none id place chain (inr (inr (inr deletes))) = deletes_none id place chain deletes
 
     starts : StartsAs setup k1 granted slot.id (Due slot.id) (record { kept = k1; packets = [] })
-    starts = started_as setup k1 granted granted_agrees mine (record { least = works.least; most = works.most; up = works.up }) slot.id (Due slot.id) None (due_none slot.id)
+    starts =
+        started_as setup k1 granted granted_agrees mine (record { least = works.least; most = works.most; up = works.up }) slot.id (Due slot.id) None
+        (due_none slot.id)
 
     tells : TellsNothing setup.node s (Grants slot)
     tells = record { records = refl; received = refl; packets = refl; replies = refl; receipts = refl }
@@ -189,22 +198,24 @@ module _ (setup : Setup) (k : Kept) (s : Node) (stands : Stands setup k s) (slot
     asks_none act due = due
 
     on_grant_steps : StepsAs setup s (Grant slot) (on_grant k slot)
-    on_grant_steps = begun_steps setup s (Grant slot) (Grants slot) tells may_grant refl k1 [] slot.id (Due slot.id) (record { kept = k1; packets = [] }) (record {
-      agrees = granted_agrees;
-      calm = calm;
-      ends = none_due _ (λ act due. due);
-      abandons = none_due _ (λ act due. due);
-      asks = none_due _ asks_none;
-      asks_may = tt;
-      starts = starts;
-      prepares = record {
-        only = λ act is_in. prepares_only act (starts.due.only act is_in);
-        all = λ act due. absurd (prepares_none act due);
-        order = starts.due.order;
-      };
-    })
+    on_grant_steps =
+        begun_steps setup s (Grant slot) (Grants slot) tells may_grant refl k1 [] slot.id (Due slot.id) (record { kept = k1; packets = [] }) (record {
+          agrees = granted_agrees;
+          calm = calm;
+          ends = none_due _ (λ act due. due);
+          abandons = none_due _ (λ act due. due);
+          asks = none_due _ asks_none;
+          asks_may = tt;
+          starts = starts;
+          prepares = record {
+            only = λ act is_in. prepares_only act (starts.due.only act is_in);
+            all = λ act due. absurd (prepares_none act due);
+            order = starts.due.order;
+          };
+        })
       where
-        prepares_only : (act : Act) → IsToPrepare setup granted slot.id (Due slot.id) act → DueToPrepare setup.nodes setup.node s.actor granted.actor s.records (Grant slot) act
+        prepares_only : (act : Act) → IsToPrepare setup granted slot.id (Due slot.id) act →
+            DueToPrepare setup.nodes setup.node s.actor granted.actor s.records (Grant slot) act
         prepares_only (Prepares other ballot chain) due = absurd (due_none slot.id other.place chain due.1.0)
         prepares_only act due = absurd due
 

@@ -6,7 +6,8 @@ use Rattle.mc_model.specs.message.Decree.{Attempt, Decree, Failed, Fate, Kind, T
 use Rattle.mc_model.specs.synod.Lists.{In}
 use Rattle.mc_model.specs.synod.Packet.{slot_at, slot_of}
 use Rattle.mc_model.specs.node.Actor.{Actor}
-use Rattle.mc_model.specs.node.Grant.{AlreadyGranted, Closed, EndsInAttempt, GrantRefusal, IsOwnAttempt, IsRefusedFor, MayGrant, NotChosen, NotMine, OlderIncarnation}
+use Rattle.mc_model.specs.node.Grant.{AlreadyGranted, Closed, EndsInAttempt, GrantRefusal, IsOwnAttempt, IsRefusedFor, MayGrant, NotChosen, NotMine}
+use Rattle.mc_model.specs.node.Grant.{OlderIncarnation}
 use Rattle.mc_model.specs.node.Knowledge.{IsKnown, Knows}
 use Rattle.mc_model.specs.node.Outcome.{Outcome}
 use Rattle.mc_model.specs.node.Setup.{Setup}
@@ -48,7 +49,8 @@ module _ (setup : Setup) (k : Kept) (a : Actor) (incarnation : k.incarnation ≡
         own_judged : Judged (own_refusal m (length older))
         own_judged = by_granted (m.granted (length older)) refl
           where
-            by_closed : (In (slot_at id (length older)) a.granted → ⊥) → (closed : Option Outcome) → m.closed (length older) ≡ closed → Judged (if is_some closed then Some Closed else None)
+            by_closed : (In (slot_at id (length older)) a.granted → ⊥) → (closed : Option Outcome) → m.closed (length older) ≡ closed →
+                Judged (if is_some closed then Some Closed else None)
             by_closed ungranted (Some outcome) is = record {
               newest = newest;
               older = older;
@@ -75,7 +77,8 @@ module _ (setup : Setup) (k : Kept) (a : Actor) (incarnation : k.incarnation ≡
               },
             )
 
-            by_granted : (granted : Bool) → m.granted (length older) ≡ granted → Judged (if granted then Some AlreadyGranted else if is_some (m.closed (length older)) then Some Closed else None)
+            by_granted : (granted : Bool) → m.granted (length older) ≡ granted →
+                Judged (if granted then Some AlreadyGranted else if is_some (m.closed (length older)) then Some Closed else None)
             by_granted true is = record { newest = newest; older = older; own = own; granted = (attempts.granted (length older)).0 is }
             by_granted false is =
                 by_closed (λ among. true≢false (sym ((attempts.granted (length older)).1 among) ∙ is)) (m.closed (length older)) refl
@@ -95,7 +98,8 @@ module _ (setup : Setup) (k : Kept) (a : Actor) (incarnation : k.incarnation ≡
           }
 
           by_node : (test : Bool) → (newest.author.node == setup.node) ≡ test →
-              Judged (if not test then Some NotMine else if not (newest.author.incarnation == k.incarnation) then Some OlderIncarnation else own_refusal m (length older))
+              Judged (if not test then Some NotMine else if not (newest.author.incarnation == k.incarnation) then Some OlderIncarnation
+              else own_refusal m (length older))
           by_node true mine = by_life (eqb-true newest.author.node setup.node mine) (newest.author.incarnation == k.incarnation) refl
           by_node false other = record { newest = newest; older = older; ends = ends; other = λ mine. eqb-false newest.author.node setup.node other mine }
 

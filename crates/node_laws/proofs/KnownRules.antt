@@ -1,5 +1,6 @@
 -- The rules of a tick behind the newest decree of what is known.
-use Rattle.std.proofs.Common.{◌≡◌, ◌⊎◌, ℕ, ◌+◌, ◌*◌, ◌<◌, ◌≤◌, max, Bool, true, false, List, ◌∷◌, length, map, Option, Some, None, refl, sym, ap, subst, ◌∙◌, inl, inr, arith}
+use Rattle.std.proofs.Common.{◌≡◌, ◌⊎◌, ℕ, ◌+◌, ◌*◌, ◌<◌, ◌≤◌, max, Bool, true, false, List, ◌∷◌, length, map, Option, Some, None, refl, sym, ap, subst, ◌∙◌}
+use Rattle.std.proofs.Common.{inl, inr, arith}
 use Rattle.std.specs.Prelude.{◌==◌, ◌&&◌, nat_le, nat_lt, not, if◌then◌else◌}
 use Rattle.std.specs.Bool.{Decides}
 use Rattle.std.specs.List.{list_any}
@@ -39,7 +40,8 @@ idle_kind (Fate final error) idle = absurd (true≢false (sym idle))
 pub idle_decides : (newest : Decree) → Decides (is_idle newest.kind) (IsIdle newest)
 idle_decides newest = (idle_kind newest.kind, λ idle. elim idle [ inl taken ↦ ap is_idle taken.1 | inr failed ↦ ap is_idle failed.1 ])
 
-attempt_kind : (node : ℕ) (newest : Decree) (kind : Kind) → is_attempt_by node newest kind ≡ true → ((number : ℕ) × (kind ≡ Attempt number)) × (newest.author.node ≡ node)
+attempt_kind : (node : ℕ) (newest : Decree) (kind : Kind) → is_attempt_by node newest kind ≡ true →
+    ((number : ℕ) × (kind ≡ Attempt number)) × (newest.author.node ≡ node)
 attempt_kind node newest (Taken message) own = absurd (true≢false (sym own))
 attempt_kind node newest (Attempt number) own = ((number, refl), (Decides-eqb newest.author.node node).0 own)
 attempt_kind node newest (Failed error) own = absurd (true≢false (sym own))
@@ -109,7 +111,8 @@ module _ (setup : Setup) (a : Actor) (k : Kept) (id : ℕ) (incarnation : k.inca
       (subst (λ (o : List Decree). MayExtend (Some due.further.taken) (newest ∷ o) (next_decree setup.node a newest kind)) it.older_is
       (subst (λ (n : Decree). MayExtend (Some due.further.taken) (n ∷ due.further.older) (next_decree setup.node a n kind)) it.newest_is due.may))
 
-  abbrev due : (kind : Kind) → May kind → IsDue setup.nodes setup.node a id (start_behind setup k newest older kind).place (start_behind setup k newest older kind).chain kind
+  abbrev due : (kind : Kind) → May kind →
+      IsDue setup.nodes setup.node a id (start_behind setup k newest older kind).place (start_behind setup k newest older kind).chain kind
   due kind may = record { further = goes kind; may = may }
 
   later : newest.moment ≤ max a.clock newest.moment
@@ -121,11 +124,17 @@ module _ (setup : Setup) (a : Actor) (k : Kept) (id : ℕ) (incarnation : k.inca
       test_is : (is_idle newest.kind && nat_le taken.expiry (moment_behind k newest)) ≡ (is_idle newest.kind && nat_le taken.expiry (max a.clock newest.moment))
       test_is = ap (λ (c : ℕ). is_idle newest.kind && nat_le taken.expiry c) moment_is
 
-      holds : Decides (is_idle newest.kind && nat_le taken.expiry (max a.clock newest.moment)) (MayFollow taken (attempts_in (newest ∷ older)) newest.author newest.moment newest.kind (next_decree setup.node a newest (Fate Expired 0)).author (max a.clock newest.moment) (Fate Expired 0))
-      holds = expires newest.kind taken (attempts_in (newest ∷ older)) newest.moment (max a.clock newest.moment) newest.author (next_decree setup.node a newest (Fate Expired 0)).author
+      holds :
+          Decides (is_idle newest.kind && nat_le taken.expiry (max a.clock newest.moment))
+          (MayFollow taken (attempts_in (newest ∷ older)) newest.author newest.moment newest.kind (next_decree setup.node a newest (Fate Expired 0)).author
+          (max a.clock newest.moment) (Fate Expired 0))
+      holds =
+          expires newest.kind taken (attempts_in (newest ∷ older)) newest.moment (max a.clock newest.moment) newest.author
+          (next_decree setup.node a newest (Fate Expired 0)).author
 
       by_test : (test : Bool) → (is_idle newest.kind && nat_le taken.expiry (moment_behind k newest)) ≡ test →
-          Decided (if test then Some (start_behind setup k newest older (Fate Expired 0)) else None) (λ place chain. IsDue setup.nodes setup.node a id place chain (Fate Expired 0))
+          Decided (if test then Some (start_behind setup k newest older (Fate Expired 0)) else None)
+          (λ place chain. IsDue setup.nodes setup.node a id place chain (Fate Expired 0))
       by_test true is = due (Fate Expired 0) (later, holds.0 (sym test_is ∙ is))
       by_test false is = λ place chain fits. true≢false (sym (holds.1 (may_here place chain (Fate Expired 0) fits).1) ∙ sym test_is ∙ is)
 
@@ -144,10 +153,13 @@ module _ (setup : Setup) (a : Actor) (k : Kept) (id : ℕ) (incarnation : k.inca
     slot_here : (place : ℕ) (chain : List Decree) (kind : Kind) → (g : Goes place chain kind) → slot_of id (g.newest ∷ g.older) ≡ slot_at id (length older)
     slot_here place chain kind g = ap (λ (o : List Decree). slot_at id (length o)) (here place chain kind g).older_is
 
-    pub close_decided : Decided (if_so (newest.author.incarnation == k.incarnation) (closing setup k newest older (m.closed (length older)))) (FitsClose setup.nodes setup.node a id)
+    pub close_decided :
+        Decided (if_so (newest.author.incarnation == k.incarnation) (closing setup k newest older (m.closed (length older))))
+        (FitsClose setup.nodes setup.node a id)
     close_decided = by_now (newest.author.incarnation == k.incarnation) refl
       where
-        by_outcome : newest.author.incarnation ≡ a.incarnation → (outcome : Option Outcome) → m.closed (length older) ≡ outcome → Decided (closing setup k newest older outcome) (FitsClose setup.nodes setup.node a id)
+        by_outcome : newest.author.incarnation ≡ a.incarnation → (outcome : Option Outcome) → m.closed (length older) ≡ outcome →
+            Decided (closing setup k newest older outcome) (FitsClose setup.nodes setup.node a id)
         by_outcome now (Some outcome) is = record {
           outcome = outcome;
           further = goes (decree_of outcome);
@@ -160,7 +172,8 @@ module _ (setup : Setup) (a : Actor) (k : Kept) (id : ℕ) (incarnation : k.inca
             let both : Some fits.outcome ≡ None = sym ((attempts_are.closed (length older) fits.outcome).1 there) ∙ is in
             absurd (cc)
 
-        by_now : (test : Bool) → (newest.author.incarnation == k.incarnation) ≡ test → Decided (if_so test (closing setup k newest older (m.closed (length older)))) (FitsClose setup.nodes setup.node a id)
+        by_now : (test : Bool) → (newest.author.incarnation == k.incarnation) ≡ test →
+            Decided (if_so test (closing setup k newest older (m.closed (length older)))) (FitsClose setup.nodes setup.node a id)
         by_now true now = by_outcome (now_decides.0 now) (m.closed (length older)) refl
         by_now false other = λ place chain fits.
             let same = ap (λ (n : Decree). n.author.incarnation) (here place chain (decree_of fits.outcome) fits.further).newest_is in
@@ -178,7 +191,8 @@ module _ (setup : Setup) (a : Actor) (k : Kept) (id : ℕ) (incarnation : k.inca
         }
         by_test false is = λ place chain fits.
             let same = ap (λ (n : Decree). n.author.incarnation) (here place chain (Failed older_incarnation_error) fits.further).newest_is in
-            let before : newest.author.incarnation < k.incarnation = subst (λ (n : ℕ). newest.author.incarnation < n) (sym incarnation) (subst (λ (n : ℕ). n < a.incarnation) same fits.before) in
+            let before : newest.author.incarnation < k.incarnation =
+            subst (λ (n : ℕ). newest.author.incarnation < n) (sym incarnation) (subst (λ (n : ℕ). n < a.incarnation) same fits.before) in
             true≢false (sym ((Decides-ltb newest.author.incarnation k.incarnation).1 before) ∙ is)
 
     -- it was neither granted nor closed
@@ -190,9 +204,11 @@ module _ (setup : Setup) (a : Actor) (k : Kept) (id : ℕ) (incarnation : k.inca
     untouched_decides : (up : Bool) → Decides (not (m.granted (length older)) && (is_none (m.closed (length older)) && not up)) (IsUntouched up)
     untouched_decides up = by_tests (m.granted (length older)) refl (m.closed (length older)) refl up
       where
-        by_tests : (granted : Bool) → m.granted (length older) ≡ granted → (closed : Option Outcome) → m.closed (length older) ≡ closed → (target : Bool) → Decides (not granted && (is_none closed && not target)) (IsUntouched target)
+        by_tests : (granted : Bool) → m.granted (length older) ≡ granted → (closed : Option Outcome) → m.closed (length older) ≡ closed → (target : Bool) →
+            Decides (not granted && (is_none closed && not target)) (IsUntouched target)
         by_tests true was closed is target = ((λ t. absurd (true≢false (sym t))), (λ it. absurd (it.granted ((attempts_are.granted (length older)).0 was))))
-        by_tests false was (Some outcome) is target = ((λ t. absurd (true≢false (sym t))), (λ it. absurd (it.closed outcome ((attempts_are.closed (length older) outcome).0 is))))
+        by_tests false was (Some outcome) is target =
+            ((λ t. absurd (true≢false (sym t))), (λ it. absurd (it.closed outcome ((attempts_are.closed (length older) outcome).0 is))))
         by_tests false was None is true = ((λ t. absurd (true≢false (sym t))), (λ it. absurd (true≢false it.down)))
         by_tests false was None is false = (
           λ t. record {
@@ -203,10 +219,13 @@ module _ (setup : Setup) (a : Actor) (k : Kept) (id : ℕ) (incarnation : k.inca
           λ it. refl,
         )
 
-    pub give_up_decided : (up : List ℕ → Bool) → Decided (if_so (newest.author.incarnation == k.incarnation) (giving_up setup k m (up taken.target) newest older)) (FitsGiveUp setup.nodes setup.node a up id)
+    pub give_up_decided : (up : List ℕ → Bool) →
+        Decided (if_so (newest.author.incarnation == k.incarnation) (giving_up setup k m (up taken.target) newest older))
+        (FitsGiveUp setup.nodes setup.node a up id)
     give_up_decided up = by_now (newest.author.incarnation == k.incarnation) refl
       where
-        by_test : newest.author.incarnation ≡ a.incarnation → (test : Bool) → (not (m.granted (length older)) && (is_none (m.closed (length older)) && not (up taken.target))) ≡ test →
+        by_test : newest.author.incarnation ≡ a.incarnation → (test : Bool) →
+            (not (m.granted (length older)) && (is_none (m.closed (length older)) && not (up taken.target))) ≡ test →
             Decided (if test then Some (start_behind setup k newest older (Failed no_session_error)) else None) (FitsGiveUp setup.nodes setup.node a up id)
         by_test now true is =
             let it = (untouched_decides (up taken.target)).0 is in
@@ -227,7 +246,8 @@ module _ (setup : Setup) (a : Actor) (k : Kept) (id : ℕ) (incarnation : k.inca
             } in
             true≢false (sym ((untouched_decides (up taken.target)).1 untouched) ∙ is)
 
-        by_now : (test : Bool) → (newest.author.incarnation == k.incarnation) ≡ test → Decided (if_so test (giving_up setup k m (up taken.target) newest older)) (FitsGiveUp setup.nodes setup.node a up id)
+        by_now : (test : Bool) → (newest.author.incarnation == k.incarnation) ≡ test →
+            Decided (if_so test (giving_up setup k m (up taken.target) newest older)) (FitsGiveUp setup.nodes setup.node a up id)
         by_now true now = by_test (now_decides.0 now) (not (m.granted (length older)) && (is_none (m.closed (length older)) && not (up taken.target))) refl
         by_now false other = λ place chain fits.
             let same = ap (λ (n : Decree). n.author.incarnation) (here place chain (Failed no_session_error) fits.further).newest_is in
@@ -235,7 +255,8 @@ module _ (setup : Setup) (a : Actor) (k : Kept) (id : ℕ) (incarnation : k.inca
 
   -- ---- a message that waits
 
-  pub delete_decided : map (λ h. h.waiting) k.held ≡ a.waiting → Decided (delete_of setup k id k.held newest older (Some taken)) (FitsDelete setup.nodes setup.node a id)
+  pub delete_decided : map (λ h. h.waiting) k.held ≡ a.waiting →
+      Decided (delete_of setup k id k.held newest older (Some taken)) (FitsDelete setup.nodes setup.node a id)
   delete_decided waiting = by_test (is_idle newest.kind && list_any (cancels id taken) k.held) refl
     where
       holds : Decides (is_idle newest.kind && list_any (cancels id taken) k.held) (IsIdle newest × IsCancelled a id taken)
@@ -253,7 +274,8 @@ module _ (setup : Setup) (a : Actor) (k : Kept) (id : ℕ) (incarnation : k.inca
   pub undeliver_decided : Decided (undelivered setup k newest older newest.kind) (FitsUndeliver setup.nodes setup.node a id)
   undeliver_decided = by_kind newest.kind refl
     where
-      never : (kind : Kind) → newest.kind ≡ kind → ((error : ℕ) → kind ≡ Failed error → ⊥) → (place : ℕ) (chain : List Decree) → FitsUndeliver setup.nodes setup.node a id place chain → ⊥
+      never : (kind : Kind) → newest.kind ≡ kind → ((error : ℕ) → kind ≡ Failed error → ⊥) → (place : ℕ) (chain : List Decree) →
+          FitsUndeliver setup.nodes setup.node a id place chain → ⊥
       never kind is other place chain fits =
           let same = ap (λ (n : Decree). n.kind) (here place chain (Fate Undeliverable fits.error) fits.due.further).newest_is in
           other fits.error (sym is ∙ sym same ∙ fits.failed)
@@ -261,7 +283,8 @@ module _ (setup : Setup) (a : Actor) (k : Kept) (id : ℕ) (incarnation : k.inca
       allowed : (error : ℕ) → newest.kind ≡ Failed error → attempts_in (newest ∷ older) ≡ most_attempts → May (Fate Undeliverable error)
       allowed error is most = (
         later,
-        subst (λ (kind : Kind). MayFollow taken (attempts_in (newest ∷ older)) newest.author newest.moment kind (next_decree setup.node a newest (Fate Undeliverable error)).author (max a.clock newest.moment) (Fate Undeliverable error)) (sym is) most,
+        subst (λ (kind : Kind). MayFollow taken (attempts_in (newest ∷ older)) newest.author newest.moment kind
+            (next_decree setup.node a newest (Fate Undeliverable error)).author (max a.clock newest.moment) (Fate Undeliverable error)) (sym is) most,
       )
 
       by_test : (error : ℕ) → newest.kind ≡ Failed error → (test : Bool) → (attempts_in (newest ∷ older) == most_attempts) ≡ test →
@@ -273,7 +296,9 @@ module _ (setup : Setup) (a : Actor) (k : Kept) (id : ℕ) (incarnation : k.inca
       }
       by_test error is false fewer = λ place chain fits.
           let may = (may_here place chain (Fate Undeliverable fits.error) fits.due).1 in
-          let most = subst (λ (kind : Kind). MayFollow taken (attempts_in (newest ∷ older)) newest.author newest.moment kind (next_decree setup.node a newest (Fate Undeliverable fits.error)).author (max a.clock newest.moment) (Fate Undeliverable fits.error)) is may in
+          let most =
+          subst (λ (kind : Kind). MayFollow taken (attempts_in (newest ∷ older)) newest.author newest.moment kind
+          (next_decree setup.node a newest (Fate Undeliverable fits.error)).author (max a.clock newest.moment) (Fate Undeliverable fits.error)) is may in
           true≢false (sym ((Decides-eqb (attempts_in (newest ∷ older)) most_attempts).1 most) ∙ fewer)
 
       by_kind : (kind : Kind) → newest.kind ≡ kind → Decided (undelivered setup k newest older kind) (FitsUndeliver setup.nodes setup.node a id)
@@ -284,7 +309,9 @@ module _ (setup : Setup) (a : Actor) (k : Kept) (id : ℕ) (incarnation : k.inca
 
   -- the next attempt may follow this kind
   abbrev MayTry : Kind → ℕ → Type 0
-  MayTry kind number = MayFollow taken (attempts_in (newest ∷ older)) newest.author newest.moment kind (next_decree setup.node a newest (Attempt number)).author (max a.clock newest.moment) (Attempt number)
+  MayTry kind number =
+      MayFollow taken (attempts_in (newest ∷ older)) newest.author newest.moment kind (next_decree setup.node a newest (Attempt number)).author
+      (max a.clock newest.moment) (Attempt number)
 
   module _ (up : List ℕ → Bool) where
     abbrev Tries : ℕ → List Decree → Type 0
@@ -298,15 +325,20 @@ module _ (setup : Setup) (a : Actor) (k : Kept) (id : ℕ) (incarnation : k.inca
         let same = ap (λ (t : Submission). up t.target) (here place chain (Attempt fits.number) fits.due.further).taken_is in
         true≢false (sym fits.target_up ∙ same ∙ down)
 
-    tries : (kind : Kind) (number : ℕ) → newest.kind ≡ kind → MayTry kind number → up taken.target ≡ true → Tries (start_behind setup k newest older (Attempt number)).place (start_behind setup k newest older (Attempt number)).chain
+    tries : (kind : Kind) (number : ℕ) → newest.kind ≡ kind → MayTry kind number → up taken.target ≡ true →
+        Tries (start_behind setup k newest older (Attempt number)).place (start_behind setup k newest older (Attempt number)).chain
     tries kind number is may target_up = record {
       number = number;
       due = due (Attempt number) (later, subst (λ (x : Kind). MayTry x number) (sym is) may);
       target_up = target_up;
     }
 
-    first_decides : Decides (nat_le taken.schedule (moment_behind k newest) && nat_lt (moment_behind k newest) taken.expiry) ((taken.schedule ≤ max a.clock newest.moment) × (max a.clock newest.moment < taken.expiry))
-    first_decides = subst (λ (c : ℕ). Decides (nat_le taken.schedule c && nat_lt c taken.expiry) ((taken.schedule ≤ max a.clock newest.moment) × (max a.clock newest.moment < taken.expiry))) (sym moment_is)
+    first_decides :
+        Decides (nat_le taken.schedule (moment_behind k newest) && nat_lt (moment_behind k newest) taken.expiry)
+        ((taken.schedule ≤ max a.clock newest.moment) × (max a.clock newest.moment < taken.expiry))
+    first_decides =
+        subst (λ (c : ℕ). Decides (nat_le taken.schedule c && nat_lt c taken.expiry)
+        ((taken.schedule ≤ max a.clock newest.moment) × (max a.clock newest.moment < taken.expiry))) (sym moment_is)
         (Decides-and _ _ (most_decides taken.schedule (max a.clock newest.moment)) (Decides-ltb (max a.clock newest.moment) taken.expiry))
 
     abbrev attempts : ℕ
@@ -321,9 +353,11 @@ module _ (setup : Setup) (a : Actor) (k : Kept) (id : ℕ) (incarnation : k.inca
     again_decides : Decides (again (moment_behind k newest)) MayAgain
     again_decides = subst (λ (c : ℕ). Decides (again c) MayAgain) (sym moment_is)
         (Decides-and _ _ (Decides-ltb attempts most_attempts)
-        (Decides-and _ _ (Decides-ltb (max a.clock newest.moment) taken.expiry) (most_decides (newest.moment + retry_delay * attempts) (max a.clock newest.moment))))
+        (Decides-and _ _ (Decides-ltb (max a.clock newest.moment) taken.expiry)
+        (most_decides (newest.moment + retry_delay * attempts) (max a.clock newest.moment))))
 
-    first_tried : (of : Submission) → newest.kind ≡ Taken of → up taken.target ≡ true → (test : Bool) → (nat_le taken.schedule (moment_behind k newest) && nat_lt (moment_behind k newest) taken.expiry) ≡ test →
+    first_tried : (of : Submission) → newest.kind ≡ Taken of → up taken.target ≡ true → (test : Bool) →
+        (nat_le taken.schedule (moment_behind k newest) && nat_lt (moment_behind k newest) taken.expiry) ≡ test →
         Decided (if test then Some (start_behind setup k newest older (Attempt 1)) else None) Tries
     first_tried of is target_up true holds =
         let both = first_decides.0 holds in tries (Taken of) 1 is (record { first = refl; scheduled = both.0; valid = both.1 }) target_up
@@ -342,7 +376,8 @@ module _ (setup : Setup) (a : Actor) (k : Kept) (id : ℕ) (incarnation : k.inca
     try_decided = by_up (up taken.target) refl
       where
         by_kind : up taken.target ≡ true → (kind : Kind) → newest.kind ≡ kind → Decided (tried setup k taken newest older kind) Tries
-        by_kind target_up (Taken of) is = first_tried of is target_up (nat_le taken.schedule (moment_behind k newest) && nat_lt (moment_behind k newest) taken.expiry) refl
+        by_kind target_up (Taken of) is =
+            first_tried of is target_up (nat_le taken.schedule (moment_behind k newest) && nat_lt (moment_behind k newest) taken.expiry) refl
         by_kind target_up (Attempt number) is = λ place chain fits. try_here place chain (Attempt number) is fits
         by_kind target_up (Failed error) is = tried_again error is target_up (again (moment_behind k newest)) refl
         by_kind target_up (Fate final error) is = λ place chain fits. try_here place chain (Fate final error) is fits

@@ -20,7 +20,8 @@ use Rattle.node_laws.specs.Steps.{IsAtWork}
 use Rattle.node_laws.proofs.Held.{kept_as, waits_among}
 use Rattle.node_laws.proofs.Answered.{most_decides}
 use Rattle.node_laws.proofs.Orders.{Ascend}
-use Rattle.node_laws.proofs.Replied.{in_replied, reached_replies, replied_in, replies_fall, replies_of, replies_out, reply_acts, run_replies, waits_on, without, without_all}
+use Rattle.node_laws.proofs.Replied.{in_replied, reached_replies, replied_in, replies_fall, replies_of, replies_out, reply_acts, run_replies, waits_on, without}
+use Rattle.node_laws.proofs.Replied.{without_all}
 
 -- by the clock, a request that is late is answered that it is too late
 abbrev too_late : Bool → Option Answer
@@ -83,11 +84,11 @@ module _ (a : Actor) (held : List Held) (waiting : map (λ h. h.waiting) held �
     due_all (Replies ticket id TooLate) due =
         let kept = kept_as held due.asked.waiting (subst (λ (ws : List Waiting). In due.asked.waiting ws) (sym waiting) due.asked.waits) in
         let is : is_late a.clock kept.request ≡ true =
-            (most_decides (kept.request.waiting.since + longest_wait) a.clock).1
-            (subst (λ (w : Waiting). w.since + longest_wait ≤ a.clock) (sym kept.same) due.late) in
+        (most_decides (kept.request.waiting.since + longest_wait) a.clock).1
+        (subst (λ (w : Waiting). w.since + longest_wait ≤ a.clock) (sym kept.same) due.late) in
         let same : Replies (ticket_of kept.request) (id_of kept.request) TooLate ≡ Replies ticket id TooLate =
-            λ i. Replies ((ap (λ (w : Waiting). w.ticket) kept.same ∙ due.asked.ticket_is) i)
-            ((ap (λ (w : Waiting). id_in w.request) kept.same ∙ due.asked.about) i) TooLate in
+        λ i. Replies ((ap (λ (w : Waiting). w.ticket) kept.same ∙ due.asked.ticket_is) i)
+        ((ap (λ (w : Waiting). id_in w.request) kept.same ∙ due.asked.about) i) TooLate in
         subst (λ (act : Act). In act late) same (in_replied (late_answer a.clock) held kept.request TooLate kept.among (ap too_late is))
     due_all act due = absurd due
 
@@ -100,7 +101,8 @@ module _ (a : Actor) (held : List Held) (waiting : map (λ h. h.waiting) held �
       (λ h among. subst (λ (x : Actor). In h.waiting x.waiting) (sym same) (waits_here h among))
       (λ h it among answers ws.
       let of = late_of (is_late a.clock h) it answers in
-      let enough : h.waiting.since + longest_wait ≤ s.actor.clock = subst (λ (x : Actor). h.waiting.since + longest_wait ≤ x.clock) (sym same) (waited h of.0) in
+      let enough : h.waiting.since + longest_wait ≤ s.actor.clock =
+      subst (λ (x : Actor). h.waiting.since + longest_wait ≤ x.clock) (sym same) (waited h of.0) in
       subst (IsAnswer setup.nodes setup.node (record s.actor { waiting = ws }) h.waiting) (sym of.1) enough)
 
   -- those that are not late wait on

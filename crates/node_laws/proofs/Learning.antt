@@ -25,7 +25,8 @@ pub most_decides : (nodes : ℕ) (test : ℕ → Bool) → Decides (is_majority 
 most_decides nodes test = Decides-ltb nodes (2 * count test nodes)
 
 -- a majority of those that a test finds is one by the count
-pub majority_decides : (nodes : ℕ) (P : ℕ → Type 0) (test : ℕ → Bool) → ((node : ℕ) → (test node ≡ true) ↔ P node) → (is_majority nodes test ≡ true) ↔ Majority nodes P
+pub majority_decides : (nodes : ℕ) (P : ℕ → Type 0) (test : ℕ → Bool) → ((node : ℕ) → (test node ≡ true) ↔ P node) →
+    (is_majority nodes test ≡ true) ↔ Majority nodes P
 majority_decides nodes P test finds = (
   λ most. majority_counts nodes P test (λ node least within passes. (finds node).0 passes) ((most_decides nodes test).0 most),
   λ majority. (most_decides nodes test).1 (counted nodes P test (λ node least within holds. (finds node).1 holds) majority),
@@ -53,7 +54,9 @@ module _ (nodes voter id : ℕ) (vote : Vote) (received : List Packet) (m : Mess
   )
 
   learned_decides : (is_majority nodes ((heard m voter vote).votes vote) ≡ true) ↔ IsLearned nodes (Told ∷ received) (slot_of id vote.chain) vote
-  learned_decides = majority_decides nodes (λ acceptor. In (Voted acceptor (slot_of id vote.chain) vote) (Told ∷ received)) ((heard m voter vote).votes vote) (λ node. votes_more node vote)
+  learned_decides =
+      majority_decides nodes (λ acceptor. In (Voted acceptor (slot_of id vote.chain) vote) (Told ∷ received)) ((heard m voter vote).votes vote)
+      (λ node. votes_more node vote)
 
   shorter_is : (known : Option (List Decree)) (chain : List Decree) → is_shorter known chain ≡ true → IsShorter known chain
   shorter_is None chain shorter = tt
@@ -64,14 +67,17 @@ module _ (nodes voter id : ℕ) (vote : Vote) (received : List Packet) (m : Mess
       let parts = and_parts (is_majority nodes ((heard m voter vote).votes vote)) (is_shorter m.known vote.chain) makes in
       record {
         votes = votes_more;
-        known = longer_is_known nodes voter vote.ballot received id m.known vote.chain before.known (shorter_is m.known vote.chain parts.1) (learned_decides.0 parts.0);
+        known =
+            longer_is_known nodes voter vote.ballot received id m.known vote.chain before.known (shorter_is m.known vote.chain parts.1)
+            (learned_decides.0 parts.0);
       }
 
   far : (known : Option (List Decree)) (chain : List Decree) → is_shorter known chain ≡ false → IsReached known (pred (length chain))
   far None chain shorter = absurd (true≢false shorter)
   far (Some old) chain shorter = grind (arith, nat_tests)
 
-  not_shorter : makes_known nodes (heard m voter vote) vote ≡ false → is_majority nodes ((heard m voter vote).votes vote) ≡ true → is_shorter m.known vote.chain ≡ false
+  not_shorter : makes_known nodes (heard m voter vote) vote ≡ false → is_majority nodes ((heard m voter vote).votes vote) ≡ true →
+      is_shorter m.known vote.chain ≡ false
   not_shorter makes most = sym (ap (λ (b : Bool). b && is_shorter m.known vote.chain) most) ∙ makes
 
   pub known_before : makes_known nodes (heard m voter vote) vote ≡ false → HasHeard nodes (Told ∷ received) id (heard m voter vote)
@@ -82,13 +88,16 @@ module _ (nodes voter id : ℕ) (vote : Vote) (received : List Packet) (m : Mess
         let slots : slot_at id place ≡ slot_of id vote.chain = cc in
         let casts : cast ≡ vote = cc in
         let places : pred (length vote.chain) ≡ place = sym (ap (λ (s : Slot). s.place) slots) in
-        let here = subst (λ (v : Vote). IsLearned nodes (Told ∷ received) (slot_of id vote.chain) v) casts (subst (λ (s : Slot). IsLearned nodes (Told ∷ received) s cast) slots learned) in
+        let here =
+        subst (λ (v : Vote). IsLearned nodes (Told ∷ received) (slot_of id vote.chain) v) casts
+        (subst (λ (s : Slot). IsLearned nodes (Told ∷ received) s cast) slots learned) in
         subst (λ (p : ℕ). IsReached m.known p) places (far m.known vote.chain (not_shorter makes (learned_decides.1 here))));
   }
 
 -- ---- a packet that tells of no vote on a message
 
-pub heard_still : (nodes id : ℕ) (packet : Packet) (received : List Packet) (m : Message) → TellsOfNone packet id → HasHeard nodes received id m → HasHeard nodes (packet ∷ received) id m
+pub heard_still : (nodes id : ℕ) (packet : Packet) (received : List Packet) (m : Message) → TellsOfNone packet id → HasHeard nodes received id m →
+    HasHeard nodes (packet ∷ received) id m
 heard_still nodes id packet received m none before = record {
   votes = λ voter vote. (
     λ passes. inr ((before.votes voter vote).0 passes),

@@ -1,5 +1,6 @@
 -- A node that opens: what it keeps stands for an actor that remembers nothing.
-use Rattle.std.proofs.Common.{◌≡◌, ℕ, zero, suc, ◌+◌, ◌<◌, ◌≤◌, Bool, true, false, cond, List, [], ◌∷◌, ◌++◌, get_or, map, Some, IsSome, refl, sym, ap, subst, ◌∙◌, inl, inr, arith}
+use Rattle.std.proofs.Common.{◌≡◌, ℕ, zero, suc, ◌+◌, ◌<◌, ◌≤◌, Bool, true, false, cond, List, [], ◌∷◌, ◌++◌, get_or, map, Some, IsSome, refl, sym, ap, subst}
+use Rattle.std.proofs.Common.{◌∙◌, inl, inr, arith}
 use Rattle.std.specs.Prelude.{if◌then◌else◌}
 use Rattle.std.specs.Ordering.{nat_cmp}
 use Rattle.std.specs.Map.{keys_of, lookup}
@@ -56,7 +57,9 @@ zero_at (x ∷ xs) zero are = are.0
 zero_at (x ∷ xs) (suc place) are = zero_at xs place are.1
 
 zeros : (place : ℕ) → get_or unseen.seen place 0 ≡ 0
-zeros place = zero_at unseen.seen place (refl, (refl, (refl, (refl, (refl, (refl, (refl, (refl, (refl, (refl, (refl, (refl, (refl, (refl, (refl, (refl, (refl, (refl, tt))))))))))))))))))
+zeros place =
+    zero_at unseen.seen place
+    (refl, (refl, (refl, (refl, (refl, (refl, (refl, (refl, (refl, (refl, (refl, (refl, (refl, (refl, (refl, (refl, (refl, (refl, tt))))))))))))))))))
 
 unseen_stands : (setup : Setup) (records : Records) (incarnation serial id : ℕ) → IsMessage setup (node_over records incarnation serial) id unseen
 unseen_stands setup records incarnation serial id = record {
@@ -83,7 +86,8 @@ all_unseen : (ids : List ℕ) (id : ℕ) → unwrap_or (lookup (is_at (nat_cmp i
 all_unseen [] id = refl
 all_unseen (first ∷ others) id = by_test (is_at (nat_cmp id) first) (all_unseen others id)
   where
-    by_test : (test : Bool) → unwrap_or (lookup (is_at (nat_cmp id)) (map entry others)) unseen ≡ unseen → unwrap_or (cond test (Some unseen) (lookup (is_at (nat_cmp id)) (map entry others))) unseen ≡ unseen
+    by_test : (test : Bool) → unwrap_or (lookup (is_at (nat_cmp id)) (map entry others)) unseen ≡ unseen →
+        unwrap_or (cond test (Some unseen) (lookup (is_at (nat_cmp id)) (map entry others))) unseen ≡ unseen
     by_test true rest = refl
     by_test false rest = rest
 
@@ -91,7 +95,8 @@ listed_again : (id : ℕ) (es : List (ℕ × Message)) → IsSome (lookup (is_at
 listed_again id [] some = some
 listed_again id (e ∷ es) some = by_test (is_at (nat_cmp id) e.0) (listed_again id es) some
   where
-    by_test : (test : Bool) → (IsSome (lookup (is_at (nat_cmp id)) es) → IsSome (lookup (is_at (nat_cmp id)) (map entry (keys_of es)))) → IsSome (cond test (Some e.1) (lookup (is_at (nat_cmp id)) es)) → IsSome (cond test (Some unseen) (lookup (is_at (nat_cmp id)) (map entry (keys_of es))))
+    by_test : (test : Bool) → (IsSome (lookup (is_at (nat_cmp id)) es) → IsSome (lookup (is_at (nat_cmp id)) (map entry (keys_of es)))) →
+        IsSome (cond test (Some e.1) (lookup (is_at (nat_cmp id)) es)) → IsSome (cond test (Some unseen) (lookup (is_at (nat_cmp id)) (map entry (keys_of es))))
     by_test true rest some = refl
     by_test false rest some = rest some
 
@@ -101,7 +106,8 @@ keys_are (first ∷ others) = ap (λ (rest : List ℕ). first ∷ rest) (keys_ar
 
 -- ---- what is kept then stands for it
 
-pub stands_opened : (setup : Setup) (kept records : Records) (ids : List ℕ) (incarnation serial : ℕ) → IsIncarnation incarnation → ((slot : Slot) → kept slot ≡ records slot) →
+pub stands_opened : (setup : Setup) (kept records : Records) (ids : List ℕ) (incarnation serial : ℕ) → IsIncarnation incarnation →
+    ((slot : Slot) → kept slot ≡ records slot) →
     IsStrictlySortedBy nat_cmp ids →
     ((slot : Slot) (vote : Vote) → (kept slot).vote ≡ Some vote → IsSome (lookup (is_at (nat_cmp slot.id)) (map entry ids))) →
     ((slot : Slot) (vote : Vote) → (kept slot).vote ≡ Some vote → IsPlaced slot vote) →
@@ -114,7 +120,8 @@ stands_opened setup kept records ids incarnation serial life same ascends listed
     serial = refl;
     ticket = refl;
     records = same;
-    message = λ id. subst (IsMessage setup (node_over records incarnation serial) id) (sym (all_unseen ids id)) (unseen_stands setup records incarnation serial id);
+    message =
+        λ id. subst (IsMessage setup (node_over records incarnation serial) id) (sym (all_unseen ids id)) (unseen_stands setup records incarnation serial id);
     waiting = refl;
     told = λ h none. absurd none;
     tickets = λ k within. absurd (omega arith);
@@ -178,7 +185,8 @@ restarted_is setup k lost = by_up k.up
     by_up true = refl
     by_up false = refl
 
-pub restart_steps : (setup : Setup) (k : Kept) (s : Node) (lost : ℕ) → Stands setup k s → 1 ≤ setup.node → setup.node ≤ setup.nodes → s.actor.incarnation + lost < 9999 →
+pub restart_steps : (setup : Setup) (k : Kept) (s : Node) (lost : ℕ) → Stands setup k s → 1 ≤ setup.node → setup.node ≤ setup.nodes →
+    s.actor.incarnation + lost < 9999 →
     StepsAs setup s (Restart lost) (stepped setup k (Restart lost))
 restart_steps setup k s lost stands least most left = subst (StepsAs setup s (Restart lost)) (restarted_is setup k lost) (record {
   acts = Restarts lost setup.first_serial ∷ [];
@@ -206,8 +214,12 @@ restart_steps setup k s lost stands least most left = subst (StepsAs setup s (Re
       reported = none_due _ (reports_none setup s.actor (suc (s.actor.incarnation + lost)) setup.first_serial lost);
     };
   };
-  stands = subst (λ (incarnation : ℕ). Stands setup (restarted setup k lost) (node_over s.records (suc (incarnation + lost)) setup.first_serial)) stands.agrees.incarnation
-      (stands_opened setup k.records s.records (keys_of k.messages) (suc (k.incarnation + lost)) setup.first_serial (record { least = omega arith; most = let same = stands.agrees.incarnation in omega (arith, same, left) }) stands.agrees.records stands.agrees.ascends
+  stands =
+      subst (λ (incarnation : ℕ). Stands setup (restarted setup k lost) (node_over s.records (suc (incarnation + lost)) setup.first_serial))
+      stands.agrees.incarnation
+      (stands_opened setup k.records s.records (keys_of k.messages) (suc (k.incarnation + lost)) setup.first_serial
+      (record { least = omega arith; most = let same = stands.agrees.incarnation in omega (arith, same, left) })
+      stands.agrees.records stands.agrees.ascends
       (λ slot vote voted. listed_again slot.id k.messages (stands.agrees.listed slot vote voted)) stands.agrees.placed);
   outputs = refl;
 })
@@ -217,4 +229,6 @@ unfolding IsStrictlySortedBy
 none_sorted = tt
 
 pub new_stands : (setup : Setup) → Stands setup (opened_new setup) (node_new setup.first_serial)
-new_stands setup = stands_opened setup (λ slot. blank) (λ slot. blank) [] 1 setup.first_serial (record { least = omega arith; most = omega arith }) (λ slot. refl) none_sorted (λ slot vote voted. absurd (cc)) (λ slot vote voted. absurd (cc))
+new_stands setup =
+    stands_opened setup (λ slot. blank) (λ slot. blank) [] 1 setup.first_serial (record { least = omega arith; most = omega arith }) (λ slot. refl) none_sorted
+    (λ slot vote voted. absurd (cc)) (λ slot vote voted. absurd (cc))

@@ -58,7 +58,8 @@ reverse_in x (y ∷ xs) (inr later) = subst (In x) (sym (reverse_first y xs)) (i
 -- who passes a test is among those that a filter leaves
 pub filter_in : {A : Type 0} (test : A → Bool) (xs : List A) (x : A) → In x xs → test x ≡ true → In x (filter test xs)
 filter_in test [] x none passes = none
-filter_in test (y ∷ xs) x (inl same) passes = subst (λ (b : Bool). In x (cond b (y ∷ filter test xs) (filter test xs))) (sym (ap test (sym same) ∙ passes)) (inl same)
+filter_in test (y ∷ xs) x (inl same) passes =
+    subst (λ (b : Bool). In x (cond b (y ∷ filter test xs) (filter test xs))) (sym (ap test (sym same) ∙ passes)) (inl same)
 filter_in test (y ∷ xs) x (inr later) passes = by_test (test y) (filter_in test xs x later passes)
   where
     by_test : (b : Bool) → In x (filter test xs) → In x (cond b (y ∷ filter test xs) (filter test xs))
@@ -81,7 +82,8 @@ pub fall_join : (front back : List ℕ) → Fall front → Fall back → ((high 
 fall_join [] back falls after apart = after
 fall_join (x ∷ []) [] falls after apart = tt
 fall_join (x ∷ []) (y ∷ back) falls after apart = (apart x y (inl refl) (inl refl), after)
-fall_join (x ∷ next ∷ front) back falls after apart = (falls.0, fall_join (next ∷ front) back falls.1 after (λ high low above below. apart high low (inr above) below))
+fall_join (x ∷ next ∷ front) back falls after apart =
+    (falls.0, fall_join (next ∷ front) back falls.1 after (λ high low above below. apart high low (inr above) below))
 
 -- ---- tickets
 
@@ -90,14 +92,18 @@ abbrev pub Ascend : List Held → Type 0
 Ascend [] = Unit {0}
 Ascend (h ∷ others) = ((later : Held) → In later others → ticket_of h < ticket_of later) × Ascend others
 
-all_below : (ticket : ℕ) (held : List Held) → AllByRecursion (λ (other : ℕ). nat_cmp ticket other ≡ Less) (map ticket_of held) → (h : Held) → In h held → ticket < ticket_of h
+all_below : (ticket : ℕ) (held : List Held) → AllByRecursion (λ (other : ℕ). nat_cmp ticket other ≡ Less) (map ticket_of held) → (h : Held) → In h held →
+    ticket < ticket_of h
 all_below ticket [] all h none = absurd none
-all_below ticket (first ∷ others) all h (inl same) = let below : ticket < ticket_of first = grind (arith, nat_tests) in subst (λ (x : Held). ticket < ticket_of x) (sym same) below
+all_below ticket (first ∷ others) all h (inl same) =
+    let below : ticket < ticket_of first = grind (arith, nat_tests) in subst (λ (x : Held). ticket < ticket_of x) (sym same) below
 all_below ticket (first ∷ others) all h (inr later) = all_below ticket others all.1 h later
 
-below_all : (ticket : ℕ) (held : List Held) → ((h : Held) → In h held → ticket < ticket_of h) → AllByRecursion (λ (other : ℕ). nat_cmp ticket other ≡ Less) (map ticket_of held)
+below_all : (ticket : ℕ) (held : List Held) → ((h : Held) → In h held → ticket < ticket_of h) →
+    AllByRecursion (λ (other : ℕ). nat_cmp ticket other ≡ Less) (map ticket_of held)
 below_all ticket [] below = tt
-below_all ticket (first ∷ others) below = let first_below = below first (inl refl) in (grind (arith, nat_tests), below_all ticket others (λ h later. below h (inr later)))
+below_all ticket (first ∷ others) below =
+    let first_below = below first (inl refl) in (grind (arith, nat_tests), below_all ticket others (λ h later. below h (inr later)))
 
 sorted_ascends : (held : List Held) → IsStrictlySortedBy nat_cmp (map ticket_of held) → Ascend held
 unfolding IsStrictlySortedBy

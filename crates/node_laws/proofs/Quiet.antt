@@ -26,7 +26,8 @@ module _ (nodes node : ℕ) (a b : Actor) (incarnation : b.incarnation ≡ a.inc
   submit_back id Accepted fits = record { chain = fits.chain; known = knows_back id fits.chain fits.known }
   submit_back id answer fits = absurd fits
 
-  query_back : (w : Waiting) (account source : List ℕ) (answer : Answer) → FitsQuery nodes node b w account source answer → FitsQuery nodes node a w account source answer
+  query_back : (w : Waiting) (account source : List ℕ) (answer : Answer) → FitsQuery nodes node b w account source answer →
+      FitsQuery nodes node a w account source answer
   query_back w account source (Shown chain) fits = record {
     taken = fits.taken;
     known = knows_back _ chain fits.known;

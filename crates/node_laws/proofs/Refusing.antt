@@ -204,6 +204,7 @@ module _ (setup : Setup) (k : Kept) (s : Node) (stands : Stands setup k s) (send
           (and_from (same_slot r.slot slot) (r.ballot == ballot) ((slot_decides r.slot slot).1 all.0) ((Decides-eqb r.ballot ballot).1 all.1.0))
           ((Decides-ltb ballot promised).1 all.1.1),
     )
+
     round_then : (round : Option Round) → IsKeptRound setup.nodes setup.node s slot.id round →
         IsKeptRound setup.nodes setup.node t slot.id (if runs_at round slot ballot && nat_lt ballot promised then None else round)
     round_then None none = λ other above about runs. none other above about

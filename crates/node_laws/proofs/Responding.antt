@@ -39,7 +39,8 @@ use Rattle.node_laws.proofs.Slots.{slot_decides}
 use Rattle.node_laws.proofs.RuleChains.{rule_next, rule_place}
 use Rattle.node_laws.proofs.Started.{IsDueStart, IsStartOf, IsToPrepare, StartsAs, started_as}
 
-module _ (setup : Setup) (k : Kept) (s : Node) (stands : Stands setup k s) (works : IsAtWork setup s) (mine : IsNode setup.node) (slot : Slot) (outcome : Outcome)
+module _ (setup : Setup) (k : Kept) (s : Node) (stands : Stands setup k s) (works : IsAtWork setup s) (mine : IsNode setup.node) (slot : Slot)
+    (outcome : Outcome)
     (may : MayConclude s.actor slot outcome) where
   abbrev k1 : Kept
   k1 = closed_by k slot outcome
@@ -84,7 +85,9 @@ module _ (setup : Setup) (k : Kept) (s : Node) (stands : Stands setup k s) (work
       start = start_behind setup k newest older (decree_of outcome)
 
       covers : CoversGrant setup.node s.actor (Some (newest ∷ older)) slot.place
-      covers = subst (λ (known : Option (List Decree)). CoversGrant setup.node s.actor known slot.place) known_is ((stands.agrees.message slot.id).covers slot.place may.granted)
+      covers =
+          subst (λ (known : Option (List Decree)). CoversGrant setup.node s.actor known slot.place) known_is
+          ((stands.agrees.message slot.id).covers slot.place may.granted)
 
       fits : FitsClose setup.nodes setup.node s1.actor slot.id start.place start.chain
       fits =
@@ -138,7 +141,8 @@ module _ (setup : Setup) (k : Kept) (s : Node) (stands : Stands setup k s) (work
         by_taken at (Some taken) message some = is_start taken message at
         by_taken at None message some = absurd (true≢false (sym some))
 
-        by_test : (test : Bool) → Test ≡ test → IsStartOf setup s1 slot.id (Due slot.id) (if test then Some (start_behind setup k newest older (decree_of outcome)) else None)
+        by_test : (test : Bool) → Test ≡ test →
+            IsStartOf setup s1 slot.id (Due slot.id) (if test then Some (start_behind setup k newest older (decree_of outcome)) else None)
         by_test true holds =
             let parts = and_parts (same_slot slot (slot_of slot.id (newest ∷ older))) (is_some (taken_in (newest ∷ older))) holds in
             by_taken ((slot_decides slot (slot_of slot.id (newest ∷ older))).0 parts.0) (taken_in (newest ∷ older)) refl parts.1
@@ -146,12 +150,15 @@ module _ (setup : Setup) (k : Kept) (s : Node) (stands : Stands setup k s) (work
 
   start_of : (known : Option (List Decree)) → m.known ≡ known → IsStartOf setup s1 slot.id (Due slot.id) (concluded setup k slot outcome known)
   start_of None is = λ place chain due.
-      let nothing : IsKnown setup.nodes s.actor.received slot.id None = subst (IsKnown setup.nodes s.actor.received slot.id) is (stands.agrees.message slot.id).heard.known in
+      let nothing : IsKnown setup.nodes s.actor.received slot.id None =
+      subst (IsKnown setup.nodes s.actor.received slot.id) is (stands.agrees.message slot.id).heard.known in
       nothing _ _ (closes_only slot.id place chain due).further.known.learned
   start_of (Some []) is = λ place chain due.
       let it = closes_only slot.id place chain due in
-      let knows : IsKnown setup.nodes s.actor.received slot.id (Some []) = subst (IsKnown setup.nodes s.actor.received slot.id) is (stands.agrees.message slot.id).heard.known in
-      let same : it.further.newest ∷ it.further.older ≡ [] = knows_one setup.nodes s1.actor.received slot.id (it.further.newest ∷ it.further.older) [] it.further.known knows in
+      let knows : IsKnown setup.nodes s.actor.received slot.id (Some []) =
+      subst (IsKnown setup.nodes s.actor.received slot.id) is (stands.agrees.message slot.id).heard.known in
+      let same : it.further.newest ∷ it.further.older ≡ [] =
+      knows_one setup.nodes s1.actor.received slot.id (it.further.newest ∷ it.further.older) [] it.further.known knows in
       absurd (cc)
   start_of (Some (newest ∷ older)) is = start_here newest older is
 
@@ -161,7 +168,9 @@ module _ (setup : Setup) (k : Kept) (s : Node) (stands : Stands setup k s) (work
   prepared = started setup k1 slot.id (concluded setup k slot outcome m.known)
 
   starts : StartsAs setup k1 s1 slot.id (Due slot.id) prepared
-  starts = started_as setup k1 s1 agrees mine (record { least = works.least; most = works.most; up = works.up }) slot.id (Due slot.id) (concluded setup k slot outcome m.known) (start_of m.known refl)
+  starts =
+      started_as setup k1 s1 agrees mine (record { least = works.least; most = works.most; up = works.up }) slot.id (Due slot.id)
+      (concluded setup k slot outcome m.known) (start_of m.known refl)
 
   calm : IsCalm setup.nodes k1
   calm =
@@ -198,23 +207,26 @@ module _ (setup : Setup) (k : Kept) (s : Node) (stands : Stands setup k s) (work
   may_conclude = record { least = works.least; most = works.most; up = works.up; needs = may }
 
   on_response_steps : StepsAs setup s (Response slot outcome) (on_response setup k slot outcome)
-  on_response_steps = begun_steps setup s (Response slot outcome) (Concludes slot outcome) tells may_conclude refl k1 [] slot.id (Due slot.id) prepared (record {
-    agrees = agrees;
-    calm = calm;
-    ends = none_due _ (λ act due. due);
-    abandons = none_due _ (λ act due. due);
-    asks = none_due _ asks_none;
-    asks_may = tt;
-    starts = starts;
-    prepares = record {
-      only = λ act is_in. prepares_only act (starts.due.only act is_in);
-      all = λ act due. starts.due.all act (only_prepares act due);
-      order = starts.due.order;
-    };
-  })
+  on_response_steps =
+      begun_steps setup s (Response slot outcome) (Concludes slot outcome) tells may_conclude refl k1 [] slot.id (Due slot.id) prepared (record {
+        agrees = agrees;
+        calm = calm;
+        ends = none_due _ (λ act due. due);
+        abandons = none_due _ (λ act due. due);
+        asks = none_due _ asks_none;
+        asks_may = tt;
+        starts = starts;
+        prepares = record {
+          only = λ act is_in. prepares_only act (starts.due.only act is_in);
+          all = λ act due. starts.due.all act (only_prepares act due);
+          order = starts.due.order;
+        };
+      })
 
   pub response_steps : StepsAs setup s (Response slot outcome) (stepped setup k (Response slot outcome))
   response_steps = subst (StepsAs setup s (Response slot outcome)) (sym is_up) on_response_steps
     where
       is_up : stepped setup k (Response slot outcome) ≡ on_response setup k slot outcome
-      is_up = ap (λ (running : Bool). if running then stepped_up setup k (Response slot outcome) else stepped_down setup k (Response slot outcome)) (stands.agrees.up ∙ works.up)
+      is_up =
+          ap (λ (running : Bool). if running then stepped_up setup k (Response slot outcome) else stepped_down setup k (Response slot outcome))
+          (stands.agrees.up ∙ works.up)

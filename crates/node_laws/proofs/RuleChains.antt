@@ -22,9 +22,12 @@ use Rattle.node_laws.specs.Stands.{IsClosing, IsCoherent}
 
 -- ---- what is known is permitted
 
-pub learned_permitted : (nodes node : ℕ) (a : Actor) → IsCoherent node a → (id ballot : ℕ) (chain : List Decree) → IsLearned nodes a.received (slot_of id chain) (vote_at ballot chain) → IsPermitted id chain
+pub learned_permitted : (nodes node : ℕ) (a : Actor) → IsCoherent node a → (id ballot : ℕ) (chain : List Decree) →
+    IsLearned nodes a.received (slot_of id chain) (vote_at ballot chain) → IsPermitted id chain
 learned_permitted nodes node a coherent id ballot chain learned =
-    let told = both nodes (λ voter. In (Voted voter (slot_of id chain) (vote_at ballot chain)) a.received) (λ voter. In (Voted voter (slot_of id chain) (vote_at ballot chain)) a.received) learned learned in
+    let told =
+    both nodes (λ voter. In (Voted voter (slot_of id chain) (vote_at ballot chain)) a.received)
+    (λ voter. In (Voted voter (slot_of id chain) (vote_at ballot chain)) a.received) learned learned in
     (coherent.fits (Voted told.node (slot_of id chain) (vote_at ballot chain)) told.one).0.permitted
 
 -- ---- what goes further from what is known
@@ -33,7 +36,8 @@ pub record GoesOn (nodes node : ℕ) (a : Actor) (id place : ℕ) (chain : List 
   pub kind : Kind
   pub further : GoesFurther nodes node a id place chain kind
 
-pub goes_on : (nodes node : ℕ) (a : Actor) (records : Records) (up : List ℕ → Bool) (id : ℕ) (rule : Rule) (place : ℕ) (chain : List Decree) → 3 ≤ order_of rule →
+pub goes_on : (nodes node : ℕ) (a : Actor) (records : Records) (up : List ℕ → Bool) (id : ℕ) (rule : Rule) (place : ℕ) (chain : List Decree) →
+    3 ≤ order_of rule →
     FitsRule nodes node a records up id place chain rule → GoesOn nodes node a id place chain
 goes_on nodes node a records up id Take place chain late fits = absurd (omega arith)
 goes_on nodes node a records up id Follow place chain late fits = absurd (omega arith)
@@ -47,7 +51,8 @@ goes_on nodes node a records up id Try place chain late fits = record { kind = _
 
 -- ---- what may follow an attempt
 
-closing_follows : (kind : Kind) (number : ℕ) → kind ≡ Attempt number → (outcome : Outcome) → IsClosing outcome → (message : Submission) (attempt : ℕ) (old author : Author) (before moment : ℕ) →
+closing_follows : (kind : Kind) (number : ℕ) → kind ≡ Attempt number → (outcome : Outcome) → IsClosing outcome →
+    (message : Submission) (attempt : ℕ) (old author : Author) (before moment : ℕ) →
     author ≡ old → MayFollow message attempt old before kind author moment (decree_of outcome)
 closing_follows (Taken of) number is outcome closing message attempt old author before moment same = absurd (cc)
 closing_follows (Attempt tried) number is (Unanswered error) closing message attempt old author before moment same = record {
@@ -80,7 +85,8 @@ closing_error (Fate final error) number is outcome closing = absurd (cc)
 failure_follows : (kind : Kind) (number error : ℕ) → kind ≡ Attempt number → (message : Submission) (attempt : ℕ) (old author : Author) (before moment : ℕ) →
     author.node ≡ old.node → old.incarnation ≤ author.incarnation → MayFollow message attempt old before kind author moment (Failed error)
 failure_follows (Taken of) number error is message attempt old author before moment nodes incarnations = absurd (cc)
-failure_follows (Attempt tried) number error is message attempt old author before moment nodes incarnations = record { node = nodes; incarnation = incarnations }
+failure_follows (Attempt tried) number error is message attempt old author before moment nodes incarnations =
+    record { node = nodes; incarnation = incarnations }
 failure_follows (Failed cause) number error is message attempt old author before moment nodes incarnations = absurd (cc)
 failure_follows (Fate final cause) number error is message attempt old author before moment nodes incarnations = absurd (cc)
 
@@ -98,7 +104,8 @@ allows_closed a slot taken attempted (Attempt tried) number is next closed = inl
 allows_closed a slot taken attempted (Failed error) number is next closed = absurd (cc)
 allows_closed a slot taken attempted (Fate final error) number is next closed = absurd (cc)
 
-allows_lost : (a : Actor) (slot : Slot) (taken : Submission) (attempted : Author) (kind : Kind) (number : ℕ) → kind ≡ Attempt number → attempted.incarnation < a.incarnation →
+allows_lost : (a : Actor) (slot : Slot) (taken : Submission) (attempted : Author) (kind : Kind) (number : ℕ) → kind ≡ Attempt number →
+    attempted.incarnation < a.incarnation →
     Allows a slot taken attempted kind (Failed older_incarnation_error)
 allows_lost a slot taken attempted (Taken of) number is before = absurd (cc)
 allows_lost a slot taken attempted (Attempt tried) number is before = inr (record { incarnation = before; kind = refl })
@@ -107,7 +114,8 @@ allows_lost a slot taken attempted (Fate final error) number is before = absurd 
 
 -- ---- what may follow a message that waits
 
-deleted_follows : (kind : Kind) → ((message : Submission) × (kind ≡ Taken message)) ⊎ ((error : ℕ) × (kind ≡ Failed error)) → (message : Submission) (attempt : ℕ) (old author : Author) (before moment : ℕ) →
+deleted_follows : (kind : Kind) → ((message : Submission) × (kind ≡ Taken message)) ⊎ ((error : ℕ) × (kind ≡ Failed error)) →
+    (message : Submission) (attempt : ℕ) (old author : Author) (before moment : ℕ) →
     MayFollow message attempt old before kind author moment (Fate Deleted 0)
 deleted_follows (Taken of) idle message attempt old author before moment = tt
 deleted_follows (Attempt tried) (inl taken) message attempt old author before moment = let same = taken.1 in absurd (cc)
@@ -116,7 +124,8 @@ deleted_follows (Failed cause) idle message attempt old author before moment = t
 deleted_follows (Fate final cause) (inl taken) message attempt old author before moment = let same = taken.1 in absurd (cc)
 deleted_follows (Fate final cause) (inr failed) message attempt old author before moment = let same = failed.1 in absurd (cc)
 
-deleted_allowed : (a : Actor) (slot : Slot) (taken : Submission) (attempted : Author) (kind : Kind) → ((message : Submission) × (kind ≡ Taken message)) ⊎ ((error : ℕ) × (kind ≡ Failed error)) →
+deleted_allowed : (a : Actor) (slot : Slot) (taken : Submission) (attempted : Author) (kind : Kind) →
+    ((message : Submission) × (kind ≡ Taken message)) ⊎ ((error : ℕ) × (kind ≡ Failed error)) →
     IsCancelled a slot.id taken → Allows a slot taken attempted kind (Fate Deleted 0)
 deleted_allowed a slot taken attempted (Taken of) idle cancelled = cancelled
 deleted_allowed a slot taken attempted (Attempt tried) (inl is) cancelled = let same = is.1 in absurd (cc)
@@ -130,7 +139,9 @@ deleted_error (Attempt tried) = refl
 deleted_error (Failed cause) = refl
 deleted_error (Fate final cause) = refl
 
-expired_allowed : (a : Actor) (slot : Slot) (taken : Submission) (attempted : Author) (kind : Kind) (message : Submission) (attempt : ℕ) (old author : Author) (before moment : ℕ) →
+expired_allowed :
+    (a : Actor) (slot : Slot) (taken : Submission) (attempted : Author) (kind : Kind) (message : Submission) (attempt : ℕ) (old author : Author)
+    (before moment : ℕ) →
     MayFollow message attempt old before kind author moment (Fate Expired 0) → Allows a slot taken attempted kind (Fate Expired 0)
 expired_allowed a slot taken attempted (Taken of) message attempt old author before moment may = tt
 expired_allowed a slot taken attempted (Attempt tried) message attempt old author before moment may = absurd may
@@ -143,7 +154,8 @@ expired_error (Attempt tried) = refl
 expired_error (Failed cause) = refl
 expired_error (Fate final cause) = refl
 
-undelivered_allowed : (a : Actor) (slot : Slot) (taken : Submission) (attempted : Author) (kind : Kind) (error : ℕ) → kind ≡ Failed error → Allows a slot taken attempted kind (Fate Undeliverable error)
+undelivered_allowed : (a : Actor) (slot : Slot) (taken : Submission) (attempted : Author) (kind : Kind) (error : ℕ) → kind ≡ Failed error →
+    Allows a slot taken attempted kind (Fate Undeliverable error)
 undelivered_allowed a slot taken attempted (Taken of) error is = absurd (cc)
 undelivered_allowed a slot taken attempted (Attempt tried) error is = absurd (cc)
 undelivered_allowed a slot taken attempted (Failed cause) error is = tt
@@ -155,7 +167,9 @@ undelivered_error (Attempt tried) error is = absurd (cc)
 undelivered_error (Failed cause) error is = let same : cause ≡ error = cc in sym same
 undelivered_error (Fate final cause) error is = absurd (cc)
 
-tried_allowed : (a : Actor) (slot : Slot) (taken : Submission) (attempted : Author) (kind : Kind) (number : ℕ) (message : Submission) (attempt : ℕ) (old author : Author) (before moment : ℕ) →
+tried_allowed :
+    (a : Actor) (slot : Slot) (taken : Submission) (attempted : Author) (kind : Kind) (number : ℕ) (message : Submission) (attempt : ℕ) (old author : Author)
+    (before moment : ℕ) →
     MayFollow message attempt old before kind author moment (Attempt number) → Allows a slot taken attempted kind (Attempt number)
 tried_allowed a slot taken attempted (Taken of) number message attempt old author before moment may = tt
 tried_allowed a slot taken attempted (Attempt tried) number message attempt old author before moment may = absurd may
@@ -180,7 +194,8 @@ module _ (nodes node : ℕ) (a : Actor) (coherent : IsCoherent node a) (records 
   Next b chain = IsNext (IsLearned nodes b.received) node b id chain
 
   next_of : (place : ℕ) (chain : List Decree) (kind : Kind) (g : GoesFurther nodes node a id place chain kind) →
-      MayFollow g.taken (attempts_in (g.newest ∷ g.older)) g.newest.author g.newest.moment g.newest.kind (next_decree node a g.newest kind).author (next_decree node a g.newest kind).moment kind →
+      MayFollow g.taken (attempts_in (g.newest ∷ g.older)) g.newest.author g.newest.moment g.newest.kind (next_decree node a g.newest kind).author
+      (next_decree node a g.newest kind).moment kind →
       Allows a (slot_of id (g.newest ∷ g.older)) g.taken g.newest.author g.newest.kind kind → HasError g.newest.kind kind → Next a chain
   next_of place chain kind g may allowed error = record {
     next = next_decree node a g.newest kind;
@@ -198,17 +213,20 @@ module _ (nodes node : ℕ) (a : Actor) (coherent : IsCoherent node a) (records 
     error = error;
   }
 
-  own_author : (newest : Decree) → IsAttemptBy node newest → newest.author.incarnation ≡ a.incarnation → record { node = node; incarnation = a.incarnation } ≡ newest.author
+  own_author : (newest : Decree) → IsAttemptBy node newest → newest.author.incarnation ≡ a.incarnation →
+      record { node = node; incarnation = a.incarnation } ≡ newest.author
   own_author newest own now = λ i. record { node = sym own.1 i; incarnation = sym now i }
 
-  pub rule_next : (rule : Rule) (place : ℕ) (chain : List Decree) → 3 ≤ order_of rule → FitsRule nodes node a records up id place chain rule → Next (after_rule rule place) chain
+  pub rule_next : (rule : Rule) (place : ℕ) (chain : List Decree) → 3 ≤ order_of rule → FitsRule nodes node a records up id place chain rule →
+      Next (after_rule rule place) chain
   rule_next Take place chain late fits = absurd (omega arith)
   rule_next Follow place chain late fits = absurd (omega arith)
   rule_next Close place chain late fits =
       let g = fits.further in
       let closing = coherent.outcomes (slot_of id (g.newest ∷ g.older)) fits.outcome fits.closed in
       next_of place chain (decree_of fits.outcome) g
-      (closing_follows g.newest.kind fits.attempt.0.0 fits.attempt.0.1 fits.outcome closing g.taken (attempts_in (g.newest ∷ g.older)) g.newest.author _ g.newest.moment _ (own_author g.newest fits.attempt fits.now))
+      (closing_follows g.newest.kind fits.attempt.0.0 fits.attempt.0.1 fits.outcome closing g.taken
+      (attempts_in (g.newest ∷ g.older)) g.newest.author _ g.newest.moment _ (own_author g.newest fits.attempt fits.now))
       (allows_closed a (slot_of id (g.newest ∷ g.older)) g.taken g.newest.author g.newest.kind fits.attempt.0.0 fits.attempt.0.1 (decree_of fits.outcome)
       (record { outcome = fits.outcome; incarnation = fits.now; closed = fits.closed; kind = refl }))
       (closing_error g.newest.kind fits.attempt.0.0 fits.attempt.0.1 fits.outcome closing)
@@ -216,7 +234,8 @@ module _ (nodes node : ℕ) (a : Actor) (coherent : IsCoherent node a) (records 
       let g = fits.further in
       let before = fits.before in
       next_of place chain (Failed older_incarnation_error) g
-      (failure_follows g.newest.kind fits.attempt.0.0 older_incarnation_error fits.attempt.0.1 g.taken (attempts_in (g.newest ∷ g.older)) g.newest.author _ g.newest.moment _ (sym fits.attempt.1) (omega arith))
+      (failure_follows g.newest.kind fits.attempt.0.0 older_incarnation_error fits.attempt.0.1 g.taken
+      (attempts_in (g.newest ∷ g.older)) g.newest.author _ g.newest.moment _ (sym fits.attempt.1) (omega arith))
       (allows_lost a (slot_of id (g.newest ∷ g.older)) g.taken g.newest.author g.newest.kind fits.attempt.0.0 fits.attempt.0.1 fits.before)
       (failure_error g.newest.kind older_incarnation_error)
   rule_next GiveUp place chain late fits =
@@ -233,13 +252,19 @@ module _ (nodes node : ℕ) (a : Actor) (coherent : IsCoherent node a) (records 
         author = refl;
         moment = refl;
         message = g.message;
-        may = (omega arith, failure_follows g.newest.kind fits.attempt.0.0 no_session_error fits.attempt.0.1 g.taken (attempts_in (g.newest ∷ g.older)) g.newest.author _ g.newest.moment _ (sym fits.attempt.1) (let now = fits.now in omega arith));
-        allowed = allows_closed (after_rule GiveUp place) (slot_of id (g.newest ∷ g.older)) g.taken g.newest.author g.newest.kind fits.attempt.0.0 fits.attempt.0.1 (Failed no_session_error) (record {
-          outcome = Unanswered no_session_error;
-          incarnation = fits.now;
-          closed = inl (λ i. (sym slots i, Unanswered no_session_error));
-          kind = refl;
-        });
+        may = (
+          omega arith,
+          failure_follows g.newest.kind fits.attempt.0.0 no_session_error fits.attempt.0.1 g.taken
+              (attempts_in (g.newest ∷ g.older)) g.newest.author _ g.newest.moment _ (sym fits.attempt.1) (let now = fits.now in omega arith),
+        );
+        allowed =
+            allows_closed (after_rule GiveUp place) (slot_of id (g.newest ∷ g.older)) g.taken g.newest.author g.newest.kind fits.attempt.0.0 fits.attempt.0.1
+            (Failed no_session_error) (record {
+              outcome = Unanswered no_session_error;
+              incarnation = fits.now;
+              closed = inl (λ i. (sym slots i, Unanswered no_session_error));
+              kind = refl;
+            });
         error = failure_error g.newest.kind no_session_error;
       }
   rule_next Delete place chain late fits =
@@ -265,7 +290,8 @@ module _ (nodes node : ℕ) (a : Actor) (coherent : IsCoherent node a) (records 
   rule_next Try place chain late fits =
       let g = fits.due.further in
       next_of place chain (Attempt fits.number) g fits.due.may.1
-      (tried_allowed a (slot_of id (g.newest ∷ g.older)) g.taken g.newest.author g.newest.kind fits.number g.taken (attempts_in (g.newest ∷ g.older)) g.newest.author
+      (tried_allowed a (slot_of id (g.newest ∷ g.older)) g.taken g.newest.author g.newest.kind fits.number g.taken
+      (attempts_in (g.newest ∷ g.older)) g.newest.author
       (next_decree node a g.newest (Attempt fits.number)).author
       g.newest.moment
       (next_decree node a g.newest (Attempt fits.number)).moment
@@ -274,7 +300,9 @@ module _ (nodes node : ℕ) (a : Actor) (coherent : IsCoherent node a) (records 
 
   next_permitted : (b : Actor) → b.received ≡ a.received → (chain : List Decree) → Next b chain → IsPermitted id chain
   next_permitted b same chain n =
-      let learned = subst (λ (received : List Packet). IsLearned nodes received (slot_of id (n.newest ∷ n.older)) (vote_at n.ballot (n.newest ∷ n.older))) same n.chosen in
+      let learned =
+      subst (λ (received : List Packet). IsLearned nodes received (slot_of id (n.newest ∷ n.older))
+      (vote_at n.ballot (n.newest ∷ n.older))) same n.chosen in
       let before = learned_permitted nodes node a coherent id n.ballot (n.newest ∷ n.older) learned in
       let further : MayExtend (taken_in (n.newest ∷ n.older)) (n.newest ∷ n.older) n.next =
       subst (λ (t : Option Submission). MayExtend t (n.newest ∷ n.older) n.next) (sym n.message) n.may in
@@ -303,7 +331,8 @@ module _ (nodes node : ℕ) (a : Actor) (coherent : IsCoherent node a) (records 
     pub chain_is : chain ≡ next ∷ newest ∷ older
     pub known : Knows nodes a.received id (newest ∷ older)
 
-  pub rule_place : (rule : Rule) (place : ℕ) (chain : List Decree) → 3 ≤ order_of rule → FitsRule nodes node a records up id place chain rule → IsBehindKnown place chain
+  pub rule_place : (rule : Rule) (place : ℕ) (chain : List Decree) → 3 ≤ order_of rule → FitsRule nodes node a records up id place chain rule →
+      IsBehindKnown place chain
   rule_place rule place chain late fits =
       let it = goes_on nodes node a records up id rule place chain late fits in
       let g = it.further in
@@ -326,10 +355,12 @@ module _ (nodes node : ℕ) (a : Actor) (coherent : IsCoherent node a) (records 
       }
 
   -- a rule behind what is known has one place
-  pub one_place : (rule other : Rule) (place at : ℕ) (chain of : List Decree) → 3 ≤ order_of rule → 3 ≤ order_of other → FitsRule nodes node a records up id place chain rule →
+  pub one_place : (rule other : Rule) (place at : ℕ) (chain of : List Decree) → 3 ≤ order_of rule → 3 ≤ order_of other →
+      FitsRule nodes node a records up id place chain rule →
       FitsRule nodes node a records up id at of other → at ≡ place
   one_place rule other place at chain of late later fits fits_other =
       let one = (goes_on nodes node a records up id rule place chain late fits).further in
       let second = (goes_on nodes node a records up id other at of later fits_other).further in
-      let same : second.newest ∷ second.older ≡ one.newest ∷ one.older = knows_one nodes a.received id (second.newest ∷ second.older) (one.newest ∷ one.older) second.known one.known in
+      let same : second.newest ∷ second.older ≡ one.newest ∷ one.older =
+      knows_one nodes a.received id (second.newest ∷ second.older) (one.newest ∷ one.older) second.known one.known in
       second.behind ∙ ap length same ∙ sym one.behind

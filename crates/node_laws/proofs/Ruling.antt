@@ -1,5 +1,6 @@
 -- Message by message, a tick gives up attempts and starts rounds, by the first rule that fits.
-use Rattle.std.proofs.Common.{◌≡◌, ◌⊎◌, ℕ, suc, pred, ◌<◌, ◌≤◌, Bool, true, false, List, [], ◌∷◌, ◌++◌, length, map, Option, Some, None, refl, sym, ap, subst, ◌∙◌, inl, inr, arith}
+use Rattle.std.proofs.Common.{◌≡◌, ◌⊎◌, ℕ, suc, pred, ◌<◌, ◌≤◌, Bool, true, false, List, [], ◌∷◌, ◌++◌, length, map, Option, Some, None, refl, sym, ap, subst}
+use Rattle.std.proofs.Common.{◌∙◌, inl, inr, arith}
 use Rattle.std.specs.Prelude.{if◌then◌else◌}
 use Rattle.std.proofs.lemmas.Bool.{cases_lt}
 use Rattle.mc_model.specs.message.Decree.{Decree}
@@ -71,7 +72,8 @@ module _ (setup : Setup) (s : Node) where
 
   -- ---- the first rule has one place
 
-  follows_once : (id place at : ℕ) (chain of : List Decree) → FitsFollow setup.nodes setup.node s.actor s.records id place chain → FitsFollow setup.nodes setup.node s.actor s.records id at of → at ≡ place
+  follows_once : (id place at : ℕ) (chain of : List Decree) → FitsFollow setup.nodes setup.node s.actor s.records id place chain →
+      FitsFollow setup.nodes setup.node s.actor s.records id at of → at ≡ place
   follows_once id place at chain of one other =
       let below = one.highest.place_most at other.vote other.highest.shown in
       let above = other.highest.place_most place one.vote one.highest.shown in
@@ -84,13 +86,20 @@ module _ (setup : Setup) (s : Node) where
     rule_once : (rule : Rule) (place at : ℕ) (chain of : List Decree) → Fits rule place chain → Fits rule at of → at ≡ place
     rule_once Take place at chain of one other = other.0 ∙ sym one.0
     rule_once Follow place at chain of one other = follows_once id place at chain of one other
-    rule_once Close place at chain of one other = one_place setup.nodes setup.node s.actor coherent s.records up id Close Close place at chain of (omega arith) (omega arith) one other
-    rule_once Lose place at chain of one other = one_place setup.nodes setup.node s.actor coherent s.records up id Lose Lose place at chain of (omega arith) (omega arith) one other
-    rule_once GiveUp place at chain of one other = one_place setup.nodes setup.node s.actor coherent s.records up id GiveUp GiveUp place at chain of (omega arith) (omega arith) one other
-    rule_once Delete place at chain of one other = one_place setup.nodes setup.node s.actor coherent s.records up id Delete Delete place at chain of (omega arith) (omega arith) one other
-    rule_once Expire place at chain of one other = one_place setup.nodes setup.node s.actor coherent s.records up id Expire Expire place at chain of (omega arith) (omega arith) one other
-    rule_once Undeliver place at chain of one other = one_place setup.nodes setup.node s.actor coherent s.records up id Undeliver Undeliver place at chain of (omega arith) (omega arith) one other
-    rule_once Try place at chain of one other = one_place setup.nodes setup.node s.actor coherent s.records up id Try Try place at chain of (omega arith) (omega arith) one other
+    rule_once Close place at chain of one other =
+        one_place setup.nodes setup.node s.actor coherent s.records up id Close Close place at chain of (omega arith) (omega arith) one other
+    rule_once Lose place at chain of one other =
+        one_place setup.nodes setup.node s.actor coherent s.records up id Lose Lose place at chain of (omega arith) (omega arith) one other
+    rule_once GiveUp place at chain of one other =
+        one_place setup.nodes setup.node s.actor coherent s.records up id GiveUp GiveUp place at chain of (omega arith) (omega arith) one other
+    rule_once Delete place at chain of one other =
+        one_place setup.nodes setup.node s.actor coherent s.records up id Delete Delete place at chain of (omega arith) (omega arith) one other
+    rule_once Expire place at chain of one other =
+        one_place setup.nodes setup.node s.actor coherent s.records up id Expire Expire place at chain of (omega arith) (omega arith) one other
+    rule_once Undeliver place at chain of one other =
+        one_place setup.nodes setup.node s.actor coherent s.records up id Undeliver Undeliver place at chain of (omega arith) (omega arith) one other
+    rule_once Try place at chain of one other =
+        one_place setup.nodes setup.node s.actor coherent s.records up id Try Try place at chain of (omega arith) (omega arith) one other
 
     -- of two first rules neither stands before the other
     pub same_first : (rule other : Rule) (place at : ℕ) (chain of : List Decree) → IsFirstRule setup.nodes setup.node s.actor s.records up id place chain rule →
@@ -111,7 +120,8 @@ module _ (setup : Setup) (s : Node) where
   -- ---- what was started of other messages does not matter
 
   module _ (slots : List Slot) (offers : List Offer) (id : ℕ) (apart : (offer : Offer) → In offer offers → offer.slot.id ≡ id → ⊥) where
-    prepared_before : (slot : Slot) (ballot : ℕ) → slot.id ≡ id → In (Prepare setup.node slot ballot) (map packet_of offers ++ s.actor.sent) → In (Prepare setup.node slot ballot) s.actor.sent
+    prepared_before : (slot : Slot) (ballot : ℕ) → slot.id ≡ id → In (Prepare setup.node slot ballot) (map packet_of offers ++ s.actor.sent) →
+        In (Prepare setup.node slot ballot) s.actor.sent
     prepared_before slot ballot about sent = elim (in_either (Prepare setup.node slot ballot) (map packet_of offers) s.actor.sent sent) [
       | inl now ↦
           let it = in_mapped packet_of offers (Prepare setup.node slot ballot) now in
@@ -121,12 +131,15 @@ module _ (setup : Setup) (s : Node) where
       | inr before ↦ before
     ]
 
-    seen_before : (slot : Slot) → slot.id ≡ id → (round : ℕ) → HasSeen setup.node (later slots offers).actor s.records slot round → HasSeen setup.node s.actor s.records slot round
+    seen_before : (slot : Slot) → slot.id ≡ id → (round : ℕ) → HasSeen setup.node (later slots offers).actor s.records slot round →
+        HasSeen setup.node s.actor s.records slot round
     seen_before slot about round (inl own) = inl own
     seen_before slot about round (inr seen) =
-        inr (seen_of_slot setup.node (later slots offers).actor s.actor slot refl (λ sender ballot promised heard. heard) (λ ballot sent. prepared_before slot ballot about sent) round seen)
+        inr (seen_of_slot setup.node (later slots offers).actor s.actor slot refl (λ sender ballot promised heard. heard)
+        (λ ballot sent. prepared_before slot ballot about sent) round seen)
 
-    seen_later : (slot : Slot) (round : ℕ) → HasSeen setup.node s.actor s.records slot round → HasSeen setup.node (later slots offers).actor s.records slot round
+    seen_later : (slot : Slot) (round : ℕ) → HasSeen setup.node s.actor s.records slot round →
+        HasSeen setup.node (later slots offers).actor s.records slot round
     seen_later slot round (inl own) = inl own
     seen_later slot round (inr seen) =
         inr (seen_of_slot setup.node s.actor (later slots offers).actor slot refl (λ sender ballot promised heard. heard)
@@ -178,7 +191,8 @@ module _ (setup : Setup) (s : Node) where
     abbrev After : Rule → ℕ → Actor
     After rule place = after_rule setup.nodes setup.node s.actor coherent s.records up id rule place
 
-    ground_given : (place : ℕ) (slots : List Slot) (offers : List Offer) → IsGround setup.nodes id (After GiveUp place) (later (slot_at id (pred place) ∷ slots) offers).actor
+    ground_given : (place : ℕ) (slots : List Slot) (offers : List Offer) →
+        IsGround setup.nodes id (After GiveUp place) (later (slot_at id (pred place) ∷ slots) offers).actor
     ground_given place slots offers = record {
       incarnation = refl;
       clock = refl;
@@ -191,7 +205,8 @@ module _ (setup : Setup) (s : Node) where
       learned = λ slot vote learned. learned;
     }
 
-    ground_of : (rule : Rule) (place : ℕ) (slots : List Slot) (offers : List Offer) → IsGround setup.nodes id (After rule place) (later (given_slots rule id place ++ slots) offers).actor
+    ground_of : (rule : Rule) (place : ℕ) (slots : List Slot) (offers : List Offer) →
+        IsGround setup.nodes id (After rule place) (later (given_slots rule id place ++ slots) offers).actor
     ground_of Take place slots offers = ground_here slots offers
     ground_of Follow place slots offers = ground_here slots offers
     ground_of Close place slots offers = ground_here slots offers
@@ -203,7 +218,8 @@ module _ (setup : Setup) (s : Node) where
     ground_of Try place slots offers = ground_here slots offers
 
     -- a submit_sm that waits is of a message of which nothing is known
-    take_ahead : IsQuiet setup.nodes setup.node s.actor → (place : ℕ) (chain : List Decree) → FitsTake setup.node s.actor id place chain → IsAhead setup.nodes s.actor id place
+    take_ahead : IsQuiet setup.nodes setup.node s.actor → (place : ℕ) (chain : List Decree) → FitsTake setup.node s.actor id place chain →
+        IsAhead setup.nodes s.actor id place
     take_ahead quiet place chain fits known knows =
         let w = fits.1.waiting in
         let about : id_in w.request ≡ id = ap id_in fits.1.submits in
@@ -214,13 +230,16 @@ module _ (setup : Setup) (s : Node) where
         }))
 
     module _ (k : Kept) (slots : List Slot) (offers : List Offer) (agrees : Agrees setup k (later slots offers)) where
-      shown_stands : (place : ℕ) (vote : Vote) → IsShownAt setup.node s.actor s.records id place vote → StandsAt (later slots offers) (slot_at id place) vote.chain
+      shown_stands : (place : ℕ) (vote : Vote) → IsShownAt setup.node s.actor s.records id place vote →
+          StandsAt (later slots offers) (slot_at id place) vote.chain
       shown_stands place vote (inl told) = inr (inr (inr (inl (told.told.teller, name_of setup.node s.actor told.waiting, vote.ballot, told.told.heard))))
       shown_stands place vote (inr voted) = agrees.voted (slot_at id place) vote (ap (λ (r : SlotRecord). r.vote) (agrees.records (slot_at id place)) ∙ voted)
 
       shown_within : (place : ℕ) (vote : Vote) → IsShownAt setup.node s.actor s.records id place vote → place < most_places
-      shown_within place vote (inl told) = (coherent.fits (Tell told.told.teller (name_of setup.node s.actor told.waiting) (Some (top_at (slot_at id place) vote))) told.told.heard).0
-      shown_within place vote (inr voted) = (agrees.placed (slot_at id place) vote (ap (λ (r : SlotRecord). r.vote) (agrees.records (slot_at id place)) ∙ voted)).1
+      shown_within place vote (inl told) =
+          (coherent.fits (Tell told.told.teller (name_of setup.node s.actor told.waiting) (Some (top_at (slot_at id place) vote))) told.told.heard).0
+      shown_within place vote (inr voted) =
+          (agrees.placed (slot_at id place) vote (ap (λ (r : SlotRecord). r.vote) (agrees.records (slot_at id place)) ∙ voted)).1
 
       abbrev DueTo : ℕ → List Decree → Type 0
       DueTo place chain = Starts up id place chain
@@ -232,7 +251,10 @@ module _ (setup : Setup) (s : Node) where
         within : place < most_places
         ahead : IsAhead setup.nodes s.actor id place
         behind : IsBehind setup.nodes s.actor.received id (StandsAt (Given rule place) (slot_at id place) chain) chain
-        free : StandsAt (Given rule place) (slot_at id place) chain ⊎ ((slot_at id place ≡ slot_of id chain) × IsOwn (IsLearned setup.nodes (Given rule place).actor.received) setup.node (Given rule place).actor id chain)
+        free :
+            StandsAt (Given rule place) (slot_at id place) chain ⊎
+            ((slot_at id place ≡ slot_of id chain) ×
+            IsOwn (IsLearned setup.nodes (Given rule place).actor.received) setup.node (Given rule place).actor id chain)
 
       behind_ready : (rule : Rule) (place : ℕ) (chain : List Decree) → 3 ≤ order_of rule → Fits coherent up id rule place chain → IsReady rule place chain
       behind_ready rule place chain late fits =
@@ -244,10 +266,12 @@ module _ (setup : Setup) (s : Node) where
             within = at.within;
             ahead = at.ahead;
             behind = subst (IsBehind setup.nodes s.actor.received id (StandsAt (Given rule place) (slot_at id place) chain)) (sym at.chain_is) (inr at.known);
-            free = inr (at.slot_is, own_later setup.nodes setup.node id (After rule place) (Given rule place).actor (ground_of rule place slots offers) chain own);
+            free =
+                inr (at.slot_is, own_later setup.nodes setup.node id (After rule place) (Given rule place).actor (ground_of rule place slots offers) chain own);
           }
 
-      ready : IsQuiet setup.nodes setup.node s.actor → (rule : Rule) (place : ℕ) (chain : List Decree) → Fits coherent up id rule place chain → IsReady rule place chain
+      ready : IsQuiet setup.nodes setup.node s.actor → (rule : Rule) (place : ℕ) (chain : List Decree) → Fits coherent up id rule place chain →
+          IsReady rule place chain
       ready quiet Take place chain fits = record {
         within = let first = fits.0 in omega arith;
         ahead = take_ahead quiet place chain fits;
@@ -273,7 +297,8 @@ module _ (setup : Setup) (s : Node) where
       ready quiet Undeliver place chain fits = behind_ready Undeliver place chain (omega arith) fits
       ready quiet Try place chain fits = behind_ready Try place chain (omega arith) fits
 
-      pub is_start : IsQuiet setup.nodes setup.node s.actor → (fit : Fitting) → IsFirstRule setup.nodes setup.node s.actor s.records up id fit.start.place fit.start.chain fit.rule →
+      pub is_start : IsQuiet setup.nodes setup.node s.actor → (fit : Fitting) →
+          IsFirstRule setup.nodes setup.node s.actor s.records up id fit.start.place fit.start.chain fit.rule →
           IsDueStart setup (Given fit.rule fit.start.place) id DueTo fit.start
       is_start quiet fit first =
           let it = ready quiet fit.rule fit.start.place fit.start.chain first.fits in
@@ -304,7 +329,8 @@ module _ (setup : Setup) (s : Node) where
             | inr before ↦ fits.closed other (subst (λ (x : Slot). In (x, other) s.actor.closed) slots_same before)
           ]
 
-      pub given_agrees : (rule : Rule) (place : ℕ) (chain : List Decree) → Fits coherent up id rule place chain → ((slot : Slot) → In slot slots → slot.id ≡ id → ⊥) →
+      pub given_agrees : (rule : Rule) (place : ℕ) (chain : List Decree) → Fits coherent up id rule place chain →
+          ((slot : Slot) → In slot slots → slot.id ≡ id → ⊥) →
           Agrees setup (given_up rule k id (pred place)) (Given rule place)
       given_agrees Take place chain fits apart = agrees
       given_agrees Follow place chain fits apart = agrees
@@ -342,7 +368,8 @@ given_beside Take k id place = beside_same k id
 given_beside Follow k id place = beside_same k id
 given_beside Close k id place = beside_same k id
 given_beside Lose k id place = beside_same k id
-given_beside GiveUp k id place = record { incarnation = refl; clock = refl; records = refl; held = refl; elsewhere = λ other apart. message_elsewhere k id other _ apart }
+given_beside GiveUp k id place =
+    record { incarnation = refl; clock = refl; records = refl; held = refl; elsewhere = λ other apart. message_elsewhere k id other _ apart }
 given_beside Delete k id place = beside_same k id
 given_beside Expire k id place = beside_same k id
 given_beside Undeliver k id place = beside_same k id
@@ -363,11 +390,15 @@ pub started_beside : (setup : Setup) (k : Kept) (id : ℕ) (start : Option Start
 started_beside setup k id None = beside_same k id
 started_beside setup k id (Some start) = by_free (is_free k (slot_at id start.place))
   where
-    by_free : (free : Bool) → IsBeside k (if free then prepared_at setup k (slot_at id start.place) (suc (highest_round k.records (message_at k id) (slot_at id start.place))) start.chain else record { kept = k; packets = [] }).kept id
+    by_free : (free : Bool) →
+        IsBeside k (if free
+        then prepared_at setup k (slot_at id start.place) (suc (highest_round k.records (message_at k id) (slot_at id start.place))) start.chain
+        else record { kept = k; packets = [] }).kept id
     by_free true = record { incarnation = refl; clock = refl; records = refl; held = refl; elsewhere = λ other apart. message_elsewhere k id other _ apart }
     by_free false = beside_same k id
 
-pub agrees_beside : (setup : Setup) (a : Actor) (records : Records) (k new : Kept) (id other : ℕ) → (other ≡ id → ⊥) → IsBeside k new id → AgreesOn setup a records k other → AgreesOn setup a records new other
+pub agrees_beside : (setup : Setup) (a : Actor) (records : Records) (k new : Kept) (id other : ℕ) → (other ≡ id → ⊥) → IsBeside k new id →
+    AgreesOn setup a records k other → AgreesOn setup a records new other
 agrees_beside setup a records k new id other apart beside is = record {
   incarnation = beside.incarnation ∙ is.incarnation;
   clock = beside.clock ∙ is.clock;
@@ -387,18 +418,21 @@ module _ (setup : Setup) (s : Node) where
     pub offers : List Offer
     pub are : acts ≡ map prepare_of offers
 
-  pub starts_of : (P : Act → Type 0) → ((act : Act) → P act → (offer : Offer) × (act ≡ prepare_of offer)) → (acts : List Act) → ((act : Act) → In act acts → P act) → AreStarts acts
+  pub starts_of : (P : Act → Type 0) → ((act : Act) → P act → (offer : Offer) × (act ≡ prepare_of offer)) → (acts : List Act) →
+      ((act : Act) → In act acts → P act) → AreStarts acts
   starts_of P each [] all = record { offers = []; are = refl }
   starts_of P each (act ∷ acts) all =
       let one = each act (all act (inl refl)) in
       let others = starts_of P each acts (λ other among. all other (inr among)) in
       record { offers = one.0 ∷ others.offers; are = λ i. one.1 i ∷ others.are i }
 
-  pub reached_starts : (some : List Offer) (slots : List Slot) (offers : List Offer) → reached_alone setup.node (later setup s slots offers) (map prepare_of some) ≡ later setup s slots (some ++ offers)
+  pub reached_starts : (some : List Offer) (slots : List Slot) (offers : List Offer) →
+      reached_alone setup.node (later setup s slots offers) (map prepare_of some) ≡ later setup s slots (some ++ offers)
   reached_starts [] slots offers = refl
   reached_starts (offer ∷ some) slots offers = ap (λ (x : Node). after_alone setup.node x (prepare_of offer)) (reached_starts some slots offers)
 
-  pub packets_of_starts : (a : Actor) (records : Records) (some : List Offer) → packets_in setup.node a records (map prepare_of some) ≡ map (packet_of setup s) some
+  pub packets_of_starts : (a : Actor) (records : Records) (some : List Offer) →
+      packets_in setup.node a records (map prepare_of some) ≡ map (packet_of setup s) some
   packets_of_starts a records [] = refl
   packets_of_starts a records (offer ∷ some) = ap (λ (ps : List Packet). packet_of setup s offer ∷ ps) (packets_of_starts a records some)
 

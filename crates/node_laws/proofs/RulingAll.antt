@@ -32,7 +32,8 @@ abbrev pub Ascending : List ℕ → Type 0
 Ascending [] = Unit {0}
 Ascending (id ∷ others) = ((other : ℕ) → In other others → id < other) × Ascending others
 
-module _ (setup : Setup) (s : Node) (coherent : IsCoherent setup.node s.actor) (quiet : IsQuiet setup.nodes setup.node s.actor) (works : IsAtWork setup s) (mine : IsNode setup.node)
+module _ (setup : Setup) (s : Node) (coherent : IsCoherent setup.node s.actor) (quiet : IsQuiet setup.nodes setup.node s.actor) (works : IsAtWork setup s)
+    (mine : IsNode setup.node)
     (none_runs : (id : ℕ) → RunsNone setup.nodes setup.node s.actor id) (up : List ℕ → Bool) where
   pub record RulesAll (ids : List ℕ) (slots : List Slot) (offers : List Offer) (new : Prepared) : Type 0 where
     pub some_slots : List Slot
@@ -58,13 +59,19 @@ module _ (setup : Setup) (s : Node) (coherent : IsCoherent setup.node s.actor) (
   not_among : (id : ℕ) (others : List ℕ) → ((other : ℕ) → In other others → id < other) → (at : ℕ) → at ≡ id → In at others → ⊥
   not_among id others above at same among = let more = above at among in absurd (omega arith)
 
-  module _ (id : ℕ) (others : List ℕ) (above : (other : ℕ) → In other others → id < other) (k : Kept) (slots : List Slot) (offers : List Offer) (is : IsToCome (id ∷ others) k slots offers)
+  module _ (id : ℕ) (others : List ℕ) (above : (other : ℕ) → In other others → id < other) (k : Kept) (slots : List Slot) (offers : List Offer)
+      (is : IsToCome (id ∷ others) k slots offers)
       (new : Prepared) (one : RulesOne setup s coherent quiet works mine none_runs up id k slots offers new) where
     to_come : IsToCome others new.kept (one.some_slots ++ slots) (one.some_offers ++ offers)
     to_come = record {
       agrees = one.agrees;
-      each = λ other among. agrees_beside setup s.actor s.records k new.kept id other (λ same. not_among id others above other same among) one.beside (is.each other (inr among));
-      free = λ other among. ap (λ (m : Message). m.round) (one.beside.elsewhere other (λ same. not_among id others above other same among)) ∙ is.free other (inr among);
+      each =
+          λ other among.
+          agrees_beside setup s.actor s.records k new.kept id other (λ same. not_among id others above other same among) one.beside
+          (is.each other (inr among));
+      free =
+          λ other among.
+          ap (λ (m : Message). m.round) (one.beside.elsewhere other (λ same. not_among id others above other same among)) ∙ is.free other (inr among);
       apart_slots = λ slot among later. elim (in_either slot one.some_slots slots among) [
         | inl now ↦ not_among id others above slot.id ((one.gives_up slot).0 now).0 later
         | inr before ↦ is.apart_slots slot before (inr later)
@@ -103,8 +110,10 @@ module _ (setup : Setup) (s : Node) (coherent : IsCoherent setup.node s.actor) (
       all_both slot ballot chain among starts may =
           subst (In slot.id) (sym (map-append id_of_offer rest.some_offers one.some_offers))
           (elim among [
-            | inl same ↦ in_append slot.id (map id_of_offer rest.some_offers) (map id_of_offer one.some_offers) (inr (one.all slot ballot chain same starts may))
-            | inr later ↦ in_append slot.id (map id_of_offer rest.some_offers) (map id_of_offer one.some_offers) (inl (rest.all slot ballot chain later starts may))
+            | inl same ↦
+                in_append slot.id (map id_of_offer rest.some_offers) (map id_of_offer one.some_offers) (inr (one.all slot ballot chain same starts may))
+            | inr later ↦
+                in_append slot.id (map id_of_offer rest.some_offers) (map id_of_offer one.some_offers) (inl (rest.all slot ballot chain later starts may))
           ])
 
       slots_apart : (high low : ℕ) → In high (map id_of_slot rest.some_slots) → In low (map id_of_slot one.some_slots) → low < high
@@ -139,11 +148,16 @@ module _ (setup : Setup) (s : Node) (coherent : IsCoherent setup.node s.actor) (
         gives_up = gives_up_both;
         starts = starts_both;
         all = all_both;
-        slots_fall = subst Fall (sym (map-append id_of_slot rest.some_slots one.some_slots)) (fall_join (map id_of_slot rest.some_slots) (map id_of_slot one.some_slots) rest.slots_fall one.slots_fall slots_apart);
-        offers_fall = subst Fall (sym (map-append id_of_offer rest.some_offers one.some_offers)) (fall_join (map id_of_offer rest.some_offers) (map id_of_offer one.some_offers) rest.offers_fall one.offers_fall offers_apart);
+        slots_fall =
+            subst Fall (sym (map-append id_of_slot rest.some_slots one.some_slots))
+            (fall_join (map id_of_slot rest.some_slots) (map id_of_slot one.some_slots) rest.slots_fall one.slots_fall slots_apart);
+        offers_fall =
+            subst Fall (sym (map-append id_of_offer rest.some_offers one.some_offers))
+            (fall_join (map id_of_offer rest.some_offers) (map id_of_offer one.some_offers) rest.offers_fall one.offers_fall offers_apart);
       }
 
-  pub rules_all : (ids : List ℕ) → Ascending ids → (k : Kept) (slots : List Slot) (offers : List Offer) → IsToCome ids k slots offers → RulesAll ids slots offers (ruled_each setup up ids k)
+  pub rules_all : (ids : List ℕ) → Ascending ids → (k : Kept) (slots : List Slot) (offers : List Offer) → IsToCome ids k slots offers →
+      RulesAll ids slots offers (ruled_each setup up ids k)
   rules_all [] ascends k slots offers is = record {
     some_slots = [];
     some_offers = [];

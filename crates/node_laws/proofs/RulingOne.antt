@@ -48,7 +48,8 @@ use Rattle.node_laws.proofs.Ruling.{
 }
 use Rattle.node_laws.proofs.Started.{IsDueStart, IsToPrepare, StartsAs, started_as}
 
-module _ (setup : Setup) (s : Node) (coherent : IsCoherent setup.node s.actor) (quiet : IsQuiet setup.nodes setup.node s.actor) (works : IsAtWork setup s) (mine : IsNode setup.node)
+module _ (setup : Setup) (s : Node) (coherent : IsCoherent setup.node s.actor) (quiet : IsQuiet setup.nodes setup.node s.actor) (works : IsAtWork setup s)
+    (mine : IsNode setup.node)
     (none_runs : (id : ℕ) → RunsNone setup.nodes setup.node s.actor id) (up : List ℕ → Bool) (id : ℕ) where
   abbrev FirstRuleAt : ℕ → ℕ → List Decree → Rule → Type 0
   FirstRuleAt at place chain rule = IsFirstRule setup.nodes setup.node s.actor s.records up at place chain rule
@@ -76,7 +77,8 @@ module _ (setup : Setup) (s : Node) (coherent : IsCoherent setup.node s.actor) (
   abbrev IsGiven : Slot → Type 0
   IsGiven slot = (slot.id ≡ id) × GivesUp setup s up slot
 
-  first_here : (slot : Slot) → slot.id ≡ id → (chain : List Decree) → FirstRuleAt slot.id (suc slot.place) chain GiveUp → FirstRuleAt id (suc slot.place) chain GiveUp
+  first_here : (slot : Slot) → slot.id ≡ id → (chain : List Decree) → FirstRuleAt slot.id (suc slot.place) chain GiveUp →
+      FirstRuleAt id (suc slot.place) chain GiveUp
   first_here slot about chain first = subst (λ (i : ℕ). FirstRuleAt i (suc slot.place) chain GiveUp) about first
 
   by_another : (rule : Rule) (place : ℕ) (chain : List Decree) → FirstRuleAt id place chain rule → (GiveUp ≡ rule → ⊥) → (slot : Slot) → IsGiven slot → ⊥
@@ -90,7 +92,8 @@ module _ (setup : Setup) (s : Node) (coherent : IsCoherent setup.node s.actor) (
       | inr none ↦ absurd none
     ],
     λ given.
-        let places : suc slot.place ≡ place = first_once setup s coherent up id GiveUp GiveUp place (suc slot.place) chain given.1.0 first (first_here slot given.0 given.1.0 given.1.1) in
+        let places : suc slot.place ≡ place =
+        first_once setup s coherent up id GiveUp GiveUp place (suc slot.place) chain given.1.0 first (first_here slot given.0 given.1.0 given.1.1) in
         let place_here : slot.place ≡ pred place = omega arith in
         inl (λ i. record { id = given.0 i; place = place_here i }),
   )
@@ -98,7 +101,8 @@ module _ (setup : Setup) (s : Node) (coherent : IsCoherent setup.node s.actor) (
       place_is : place ≡ suc (pred place)
       place_is = let behind = first.fits.further.behind in omega arith
 
-  given_slots_are : (rule : Rule) (place : ℕ) (chain : List Decree) → FirstRuleAt id place chain rule → (slot : Slot) → In slot (given_slots setup s rule id place) ↔ IsGiven slot
+  given_slots_are : (rule : Rule) (place : ℕ) (chain : List Decree) → FirstRuleAt id place chain rule → (slot : Slot) →
+      In slot (given_slots setup s rule id place) ↔ IsGiven slot
   given_slots_are GiveUp place chain first slot = given_is place chain first slot
   given_slots_are Take place chain first slot = ((λ none. absurd none), (λ given. by_another Take place chain first (λ same. absurd (cc)) slot given))
   given_slots_are Follow place chain first slot = ((λ none. absurd none), (λ given. by_another Follow place chain first (λ same. absurd (cc)) slot given))
@@ -120,8 +124,10 @@ module _ (setup : Setup) (s : Node) (coherent : IsCoherent setup.node s.actor) (
   given_fall Undeliver place = tt
   given_fall Try place = tt
 
-  module _ (k : Kept) (slots : List Slot) (offers : List Offer) (agrees : Agrees setup k (later setup s slots offers)) (on : AgreesOn setup s.actor s.records k id)
-      (free : (message_at k id).round ≡ None) (apart_slots : (slot : Slot) → In slot slots → slot.id ≡ id → ⊥) (apart : (offer : Offer) → In offer offers → offer.slot.id ≡ id → ⊥) where
+  module _ (k : Kept) (slots : List Slot) (offers : List Offer) (agrees : Agrees setup k (later setup s slots offers))
+      (on : AgreesOn setup s.actor s.records k id)
+      (free : (message_at k id).round ≡ None) (apart_slots : (slot : Slot) → In slot slots → slot.id ≡ id → ⊥)
+      (apart : (offer : Offer) → In offer offers → offer.slot.id ≡ id → ⊥) where
     -- ---- no rule fits
 
     one_none : first_rule setup k up id ≡ None → RulesOne k slots offers (started setup k id None)
@@ -172,14 +178,23 @@ module _ (setup : Setup) (s : Node) (coherent : IsCoherent setup.node s.actor) (
       runs_none = subst (IsRoundOf setup.nodes setup.node given id) (given_round fit.rule k id (pred fit.start.place) free) (middle_agrees.message id).round
 
       -- by what the acts are
-      by_offers : (new : Prepared) → IsBeside middle new.kept id → (acts : List Act) → ((act : Act) → In act acts → ToPrepare act) → ((act : Act) → ToPrepare act → In (key_of act) (map key_of acts)) →
-          Fall (map key_of acts) → Agrees setup new.kept (reached_alone setup.node given acts) → new.packets ≡ reverse (packets_in setup.node given.actor given.records acts) →
+      by_offers : (new : Prepared) → IsBeside middle new.kept id → (acts : List Act) → ((act : Act) → In act acts → ToPrepare act) →
+          ((act : Act) → ToPrepare act → In (key_of act) (map key_of acts)) →
+          Fall (map key_of acts) → Agrees setup new.kept (reached_alone setup.node given acts) →
+          new.packets ≡ reverse (packets_in setup.node given.actor given.records acts) →
           (some : List Offer) → acts ≡ map prepare_of some → RulesOne k slots offers new
       by_offers new beside acts only all order agrees_then packets some are = record {
         some_slots = given_slots setup s fit.rule id fit.start.place;
         some_offers = some;
-        agrees = subst (Agrees setup new.kept) (ap (reached_alone setup.node given) are ∙ reached_starts setup s some (given_slots setup s fit.rule id fit.start.place ++ slots) offers) agrees_then;
-        packets = packets ∙ ap (λ (acts : List Act). reverse (packets_in setup.node given.actor given.records acts)) are ∙ ap reverse (packets_of_starts setup s given.actor given.records some);
+        agrees =
+            subst (Agrees setup new.kept)
+            (ap (reached_alone setup.node given) are
+            ∙ reached_starts setup s some (given_slots setup s fit.rule id fit.start.place ++ slots) offers)
+            agrees_then;
+        packets =
+            packets
+            ∙ ap (λ (acts : List Act). reverse (packets_in setup.node given.actor given.records acts)) are
+            ∙ ap reverse (packets_of_starts setup s given.actor given.records some);
         beside = beside_then k middle new.kept id (given_beside fit.rule k id (pred fit.start.place)) beside;
         gives_up = given_slots_are fit.rule fit.start.place fit.start.chain first;
         starts = λ offer among.
@@ -187,7 +202,8 @@ module _ (setup : Setup) (s : Node) (coherent : IsCoherent setup.node s.actor) (
               due.0,
               (
                 subst (λ (i : ℕ). Starts setup s up i offer.slot.place offer.chain) (sym due.0) due.1.0,
-                may_before setup s (given_slots setup s fit.rule id fit.start.place ++ slots) offers id apart (none_runs id) offer.slot offer.ballot due.0 due.1.1,
+                may_before setup s (given_slots setup s fit.rule id fit.start.place ++ slots) offers id apart
+                    (none_runs id) offer.slot offer.ballot due.0 due.1.1,
               ),
             );
         all = λ slot ballot chain about starts may.
@@ -206,7 +222,9 @@ module _ (setup : Setup) (s : Node) (coherent : IsCoherent setup.node s.actor) (
       one_some : RulesOne k slots offers (started setup middle id (Some fit.start))
       one_some =
           let starts = starts_of setup s ToPrepare an_offer begun.acts begun.due.only in
-          by_offers (started setup middle id (Some fit.start)) (started_beside setup middle id (Some fit.start)) begun.acts begun.due.only begun.due.all begun.due.order begun.agrees begun.packets starts.offers starts.are
+          by_offers (started setup middle id (Some fit.start))
+          (started_beside setup middle id (Some fit.start))
+          begun.acts begun.due.only begun.due.all begun.due.order begun.agrees begun.packets starts.offers starts.are
 
     pub rules_one : RulesOne k slots offers (ruled setup k id (first_rule setup k up id))
     rules_one = by_rule (first_rule setup k up id) refl

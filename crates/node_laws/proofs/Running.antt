@@ -41,7 +41,7 @@ module _ (node : ℕ) (a b : Actor) (slot : Slot) (ballot : ℕ) where
 
 module _ (nodes node : ℕ) (a b : Actor) (slot : Slot) (ballot : ℕ)
     (refusals : (sender promised : ℕ) → ballot < promised → In (Refused sender slot ballot promised) b.received →
-        In (Refused sender slot ballot promised) a.received)
+    In (Refused sender slot ballot promised) a.received)
     (knew : (chain : List Decree) → Knows nodes b.received slot.id chain → Knows nodes a.received slot.id chain) where
   pub running_of : IsRoundOf node b slot ballot → IsRunning nodes node a slot ballot → IsRunning nodes node b slot ballot
   running_of round runs = record {

@@ -62,13 +62,15 @@ module _ (setup : Setup) (k : Kept) (id : ℕ) where
       (taken_for setup k id (h ∷ others))
       there
       back
-      (either_decided (Takes h) (TakesAmong others) (if id_of h == id then take_for setup k h h.waiting.request else None) (taken_for setup k id others) (one_decided h) (among_decided others))
+      (either_decided (Takes h) (TakesAmong others) (if id_of h == id then take_for setup k h h.waiting.request else None) (taken_for setup k id others)
+      (one_decided h) (among_decided others))
     where
       there : (place : ℕ) (chain : List Decree) → Takes h place chain ⊎ TakesAmong others place chain → TakesAmong (h ∷ others) place chain
       there place chain (inl takes) = record { request = h; among = inl refl; takes = takes }
       there place chain (inr later) = record { request = later.request; among = inr later.among; takes = later.takes }
 
-      which : (place : ℕ) (chain : List Decree) (request : Held) → (request ≡ h) ⊎ In request others → Takes request place chain → Takes h place chain ⊎ TakesAmong others place chain
+      which : (place : ℕ) (chain : List Decree) (request : Held) → (request ≡ h) ⊎ In request others → Takes request place chain →
+          Takes h place chain ⊎ TakesAmong others place chain
       which place chain request (inl same) takes = inl (subst (λ (x : Held). Takes x place chain) same takes)
       which place chain request (inr later) takes = inr (record { request = request; among = later; takes = takes })
 
@@ -114,7 +116,8 @@ module _ (setup : Setup) (k : Kept) (id : ℕ) where
             message = it.1.message;
             first = it.0;
             submits = ap (λ (w : Waiting). w.request) kept.same ∙ it.1.submits;
-            chain_is = it.1.chain_is ∙ sym (same_chain it.1.waiting it.1.message) ∙ ap (λ (w : Waiting). taken_chain setup k w.since it.1.message) (sym kept.same);
+            chain_is =
+                it.1.chain_is ∙ sym (same_chain it.1.waiting it.1.message) ∙ ap (λ (w : Waiting). taken_chain setup k w.since it.1.message) (sym kept.same);
           };
         }
 

@@ -69,7 +69,8 @@ mapped (first ∷ slots) slot (inl same) = inl (ap id_of_slot same)
 mapped (first ∷ slots) slot (inr later) = inr (mapped slots slot later)
 
 module _ (setup : Setup) (s : Node) (works : IsAtWork setup s) (up : List ℕ → Bool) where
-  may_give_up : (slot : Slot) (older : List Slot) → GivesUp setup s up slot → ((other : Slot) → In other older → other.id < slot.id) → MayGrant setup.nodes setup.node (later setup s older []).actor slot
+  may_give_up : (slot : Slot) (older : List Slot) → GivesUp setup s up slot → ((other : Slot) → In other older → other.id < slot.id) →
+      MayGrant setup.nodes setup.node (later setup s older []).actor slot
   may_give_up slot older gives below =
       let fits = gives.1.fits in
       let g = fits.further in
@@ -96,14 +97,16 @@ module _ (setup : Setup) (s : Node) (works : IsAtWork setup s) (up : List ℕ �
         ];
       }
 
-  pub run_abandons : (slots : List Slot) → Fall (map id_of_slot slots) → ((slot : Slot) → In slot slots → GivesUp setup s up slot) → IsRunAlone setup.nodes setup.node s (map Abandons slots)
+  pub run_abandons : (slots : List Slot) → Fall (map id_of_slot slots) → ((slot : Slot) → In slot slots → GivesUp setup s up slot) →
+      IsRunAlone setup.nodes setup.node s (map Abandons slots)
   run_abandons [] falls gives = tt
   run_abandons (slot ∷ slots) falls gives = (
     subst (λ (x : Node). MayAlone setup.nodes setup.node x (Abandons slot)) (sym (reached_abandons setup s slots)) (record {
       least = works.least;
       most = works.most;
       up = works.up;
-      needs = may_give_up slot slots (gives slot (inl refl)) (λ other among. fall_above slot.id (map id_of_slot slots) falls other.id (mapped slots other among));
+      needs =
+          may_give_up slot slots (gives slot (inl refl)) (λ other among. fall_above slot.id (map id_of_slot slots) falls other.id (mapped slots other among));
     }),
     run_abandons slots (fall_rest slot.id (map id_of_slot slots) falls) (λ other among. gives other (inr among)),
   )
@@ -111,7 +114,8 @@ module _ (setup : Setup) (s : Node) (works : IsAtWork setup s) (up : List ℕ �
   -- ---- rounds that start
 
   pub run_starts : IsCoherent setup.node s.actor → IsNode setup.node → (slots : List Slot) (offers : List Offer) →
-      ((offer : Offer) → In offer offers → MayPrepare setup.nodes setup.node s.actor s.records offer.slot offer.ballot) → IsRunAlone setup.nodes setup.node (later setup s slots []) (map prepare_of offers)
+      ((offer : Offer) → In offer offers → MayPrepare setup.nodes setup.node s.actor s.records offer.slot offer.ballot) →
+      IsRunAlone setup.nodes setup.node (later setup s slots []) (map prepare_of offers)
   run_starts coherent mine slots offers may = each offers may
     where
       own : (offer : Offer) → MayPrepare setup.nodes setup.node s.actor s.records offer.slot offer.ballot → OwnBallot setup.node s.actor offer.ballot
@@ -119,7 +123,8 @@ module _ (setup : Setup) (s : Node) (works : IsAtWork setup s) (up : List ℕ �
           let both = own_ballot (is.next.highest + 1) s.actor.incarnation setup.node coherent.life mine in
           (ap proposer_of is.next.ballot_is ∙ both.0, ap incarnation_in is.next.ballot_is ∙ both.1)
 
-      each : (some : List Offer) → ((offer : Offer) → In offer some → MayPrepare setup.nodes setup.node s.actor s.records offer.slot offer.ballot) → IsRunAlone setup.nodes setup.node (later setup s slots []) (map prepare_of some)
+      each : (some : List Offer) → ((offer : Offer) → In offer some → MayPrepare setup.nodes setup.node s.actor s.records offer.slot offer.ballot) →
+          IsRunAlone setup.nodes setup.node (later setup s slots []) (map prepare_of some)
       each [] may = tt
       each (offer ∷ some) may = (
         subst (λ (x : Node). MayAlone setup.nodes setup.node x (prepare_of offer)) (sym (reached_starts setup s some slots [])) (record {

@@ -36,7 +36,8 @@ in_inserted : (key : ℕ) (keys : List ℕ) → In key (insert_key nat_cmp keys 
 in_inserted key [] = inl refl
 in_inserted key (first ∷ keys) = by_order (nat_cmp key first) refl (in_inserted key keys)
   where
-    by_order : (o : Ordering) → nat_cmp key first ≡ o → In key (insert_key nat_cmp keys key) → In key (match_ordering o (key ∷ first ∷ keys) (first ∷ keys) (first ∷ insert_key nat_cmp keys key))
+    by_order : (o : Ordering) → nat_cmp key first ≡ o → In key (insert_key nat_cmp keys key) →
+        In key (match_ordering o (key ∷ first ∷ keys) (first ∷ keys) (first ∷ insert_key nat_cmp keys key))
     by_order Less is rest = inl refl
     by_order Equal is rest = let same : key ≡ first = grind (arith, nat_tests) in inl same
     by_order Greater is rest = inr rest
@@ -45,7 +46,8 @@ in_before : (key : ℕ) (keys : List ℕ) (other : ℕ) → In other keys → In
 in_before key [] other none = absurd none
 in_before key (first ∷ keys) other is_in = by_order (nat_cmp key first) (in_before key keys other) is_in
   where
-    by_order : (o : Ordering) → (In other keys → In other (insert_key nat_cmp keys key)) → In other (first ∷ keys) → In other (match_ordering o (key ∷ first ∷ keys) (first ∷ keys) (first ∷ insert_key nat_cmp keys key))
+    by_order : (o : Ordering) → (In other keys → In other (insert_key nat_cmp keys key)) → In other (first ∷ keys) →
+        In other (match_ordering o (key ∷ first ∷ keys) (first ∷ keys) (first ∷ insert_key nat_cmp keys key))
     by_order Less rest among = inr among
     by_order Equal rest among = among
     by_order Greater rest (inl same) = inl same
@@ -68,7 +70,8 @@ ascends_with : (key : ℕ) (keys : List ℕ) → Ascending keys → Ascending (i
 ascends_with key [] ascends = ((λ other none. absurd none), tt)
 ascends_with key (first ∷ keys) ascends = by_order (nat_cmp key first) refl (ascends_with key keys ascends.1)
   where
-    by_order : (o : Ordering) → nat_cmp key first ≡ o → Ascending (insert_key nat_cmp keys key) → Ascending (match_ordering o (key ∷ first ∷ keys) (first ∷ keys) (first ∷ insert_key nat_cmp keys key))
+    by_order : (o : Ordering) → nat_cmp key first ≡ o → Ascending (insert_key nat_cmp keys key) →
+        Ascending (match_ordering o (key ∷ first ∷ keys) (first ∷ keys) (first ∷ insert_key nat_cmp keys key))
     by_order Less is rest =
         let below : key < first = grind (arith, nat_tests) in (
           (λ other among. elim among [
@@ -109,7 +112,8 @@ kept_in (h ∷ others) ids id among = in_before (id_of h) (ids_with others ids) 
 
 asked_in : (held : List Held) (ids : List ℕ) (h : Held) → In h held → In (id_of h) (ids_with held ids)
 asked_in [] ids h none = absurd none
-asked_in (first ∷ others) ids h (inl same) = subst (λ (x : Held). In (id_of x) (ids_with (first ∷ others) ids)) (sym same) (in_inserted (id_of first) (ids_with others ids))
+asked_in (first ∷ others) ids h (inl same) =
+    subst (λ (x : Held). In (id_of x) (ids_with (first ∷ others) ids)) (sym same) (in_inserted (id_of first) (ids_with others ids))
 asked_in (first ∷ others) ids h (inr later) = in_before (id_of first) (ids_with others ids) (id_of h) (asked_in others ids h later)
 
 listed_in : (id : ℕ) (es : List (ℕ × Message)) → IsSome (lookup (is_at (nat_cmp id)) es) → In id (keys_of es)
@@ -150,11 +154,13 @@ module _ (setup : Setup) (k : Kept) (s : Node) (agrees : Agrees setup k s) where
   shown_in id place vote (inl told) = subst (λ (i : ℕ). In i (ids_of k)) told.about (waits_in told.waiting told.waits)
   shown_in id place vote (inr voted) = voted_in id place vote voted
 
-  behind_in : (up : List ℕ → Bool) (id : ℕ) (rule : Rule) (place : ℕ) (chain : List Decree) → 3 ≤ order_of rule → FitsRule setup.nodes setup.node s.actor s.records up id place chain rule → In id (ids_of k)
+  behind_in : (up : List ℕ → Bool) (id : ℕ) (rule : Rule) (place : ℕ) (chain : List Decree) → 3 ≤ order_of rule →
+      FitsRule setup.nodes setup.node s.actor s.records up id place chain rule → In id (ids_of k)
   behind_in up id rule place chain late fits =
       let it = goes_on setup.nodes setup.node s.actor s.records up id rule place chain late fits in known_in id _ it.further.known
 
-  pub fits_in : (up : List ℕ → Bool) (id : ℕ) (rule : Rule) (place : ℕ) (chain : List Decree) → FitsRule setup.nodes setup.node s.actor s.records up id place chain rule → In id (ids_of k)
+  pub fits_in : (up : List ℕ → Bool) (id : ℕ) (rule : Rule) (place : ℕ) (chain : List Decree) →
+      FitsRule setup.nodes setup.node s.actor s.records up id place chain rule → In id (ids_of k)
   fits_in up id Take place chain fits = subst (λ (i : ℕ). In i (ids_of k)) (ap id_in fits.1.submits) (waits_in fits.1.waiting fits.1.waits)
   fits_in up id Follow place chain fits = shown_in id place fits.vote fits.highest.shown
   fits_in up id Close place chain fits = behind_in up id Close place chain (omega arith) fits

@@ -33,11 +33,13 @@ use Rattle.node_laws.proofs.Replied.{replies_packets, replies_receipts, reply_ac
 use Rattle.node_laws.proofs.Ruling.{keys_of_starts, later, packet_of, packets_of_starts, prepare_of, reached_starts}
 use Rattle.node_laws.proofs.RulingAll.{RulesAll, rules_all}
 use Rattle.node_laws.proofs.Runs.{packets_more, reached_actor, reached_more, receipts_more, replies_more, run_more}
-use Rattle.node_laws.proofs.TickActs.{abandon_keys, abandon_packets, abandon_receipts, abandon_replies, reached_abandons, run_abandons, run_starts, start_receipts, start_replies}
+use Rattle.node_laws.proofs.TickActs.{abandon_keys, abandon_packets, abandon_receipts, abandon_replies, reached_abandons, run_abandons, run_starts}
+use Rattle.node_laws.proofs.TickActs.{start_receipts, start_replies}
 use Rattle.node_laws.proofs.TickIds.{fits_in, ids_ascending}
 use Rattle.node_laws.proofs.Ticked.{after_late, agrees_then, kept_then, message_ticked, none_runs, waits_before}
 
-module _ (setup : Setup) (k : Kept) (s : Node) (stands : Stands setup k s) (works : IsAtWork setup s) (mine : IsNode setup.node) (moment : ℕ) (up : List ℕ → Bool) where
+module _ (setup : Setup) (k : Kept) (s : Node) (stands : Stands setup k s) (works : IsAtWork setup s) (mine : IsNode setup.node) (moment : ℕ)
+    (up : List ℕ → Bool) where
   abbrev core : List Act
   core = Ticks moment ∷ []
 
@@ -57,7 +59,9 @@ module _ (setup : Setup) (k : Kept) (s : Node) (stands : Stands setup k s) (work
   ascends = ascend_from k.held stands.agrees.tickets
 
   quiet : IsQuiet setup.nodes setup.node tick.actor
-  quiet = quiet_with setup.nodes setup.node s.actor tick.actor refl (λ id known is. is) (λ name known settled. settled) (waits_before setup k s stands.agrees moment) stands.quiet
+  quiet =
+      quiet_with setup.nodes setup.node s.actor tick.actor refl (λ id known is. is) (λ name known settled. settled)
+      (waits_before setup k s stands.agrees moment) stands.quiet
 
   -- ---- what is done
 
@@ -74,11 +78,15 @@ module _ (setup : Setup) (k : Kept) (s : Node) (stands : Stands setup k s) (work
   to_come_free id = ap (λ (m : Message). m.round) (message_ticked k (max k.clock moment) id)
 
   abbrev Ruled : Type 0
-  Ruled = RulesAll setup tick agrees.coherent quiet (record { least = works.least; most = works.most; up = works.up }) mine (none_runs setup k s stands.agrees moment) up
+  Ruled =
+      RulesAll setup tick agrees.coherent quiet (record { least = works.least; most = works.most; up = works.up }) mine
+      (none_runs setup k s stands.agrees moment) up
       (ids_of ticked) [] [] (ruled_each setup up (ids_of ticked) ticked)
 
   rules : Ruled
-  rules = rules_all setup tick agrees.coherent quiet (record { least = works.least; most = works.most; up = works.up }) mine (none_runs setup k s stands.agrees moment) up
+  rules =
+      rules_all setup tick agrees.coherent quiet (record { least = works.least; most = works.most; up = works.up }) mine
+      (none_runs setup k s stands.agrees moment) up
       (ids_of ticked) (ids_ascending setup ticked tick agrees) ticked [] [] (record {
         agrees = agrees;
         each = λ id among. agrees_on setup ticked tick agrees id;
@@ -140,12 +148,15 @@ module _ (setup : Setup) (k : Kept) (s : Node) (stands : Stands setup k s) (work
   runs : IsRunAlone setup.nodes setup.node s (prepares ++ (abandons ++ (asks ++ (late ++ core))))
   runs =
       run_more setup.nodes setup.node s prepares (abandons ++ (asks ++ (late ++ core)))
-      (subst (λ (x : Node). IsRunAlone setup.nodes setup.node x prepares) (sym reached_abandons_is) (run_starts setup tick at_work up agrees.coherent mine slots offers (λ offer among. (rules.starts offer among).1.1)))
+      (subst (λ (x : Node). IsRunAlone setup.nodes setup.node x prepares) (sym reached_abandons_is)
+      (run_starts setup tick at_work up agrees.coherent mine slots offers (λ offer among. (rules.starts offer among).1.1)))
       (run_more setup.nodes setup.node s abandons (asks ++ (late ++ core))
-      (subst (λ (x : Node). IsRunAlone setup.nodes setup.node x abandons) (sym reached_asks_is) (run_abandons setup tick at_work up slots rules.slots_fall (λ slot among. ((rules.gives_up slot).0 among).1)))
+      (subst (λ (x : Node). IsRunAlone setup.nodes setup.node x abandons) (sym reached_asks_is)
+      (run_abandons setup tick at_work up slots rules.slots_fall (λ slot among. ((rules.gives_up slot).0 among).1)))
       (run_more setup.nodes setup.node s asks (late ++ core)
       (subst (λ (x : Node). IsRunAlone setup.nodes setup.node x asks) (sym reached_late_is)
-      (asks_may setup s.actor tick.actor ticked.held agrees.waiting (ascend_from ticked.held agrees.tickets) agrees.told moment up tick refl works.least works.most works.up))
+      (asks_may setup s.actor tick.actor ticked.held agrees.waiting (ascend_from ticked.held agrees.tickets) agrees.told moment up tick refl
+      works.least works.most works.up))
       (run_more setup.nodes setup.node s late core
       (late_may risen k.held stands.agrees.waiting ascends setup (reached_alone setup.node s core) refl
       (record { least = works.least; most = works.most; up = works.up }))
@@ -157,7 +168,9 @@ module _ (setup : Setup) (k : Kept) (s : Node) (stands : Stands setup k s) (work
   -- ---- it is all that is due
 
   settles_none : (act : Act) → DueToSettle setup.nodes setup.node risen act → ⊥
-  settles_none (Settles ticket) due = stands.quiet.settled ticket (to_settle_back setup.nodes setup.node s.actor risen refl (λ id known is. is) (λ name known settled. settled) (λ w waits. waits) ticket due)
+  settles_none (Settles ticket) due =
+      stands.quiet.settled ticket
+      (to_settle_back setup.nodes setup.node s.actor risen refl (λ id known is. is) (λ name known settled. settled) (λ w waits. waits) ticket due)
   settles_none act due = due
 
   abandons_due : AreDue (DueToAbandon setup.nodes setup.node tick.actor s.records (Tick moment up)) abandons
@@ -224,7 +237,8 @@ module _ (setup : Setup) (k : Kept) (s : Node) (stands : Stands setup k s) (work
     asked = subst (λ (x : Actor). AreDue (DueToAsk setup.nodes setup.node s.actor x (Tick moment up)) asks) (sym did_parts_is)
         (asks_due setup s.actor tick.actor ticked.held agrees.waiting (ascend_from ticked.held agrees.tickets) agrees.told moment up);
     abandoned = subst (λ (x : Actor). AreDue (DueToAbandon setup.nodes setup.node x s.records (Tick moment up)) abandons) (sym did_parts_is) abandons_due;
-    prepared = subst (λ (x : Actor). AreDueOnce (DueToPrepare setup.nodes setup.node s.actor x s.records (Tick moment up)) prepares) (sym did_parts_is) prepares_due;
+    prepared =
+        subst (λ (x : Actor). AreDueOnce (DueToPrepare setup.nodes setup.node s.actor x s.records (Tick moment up)) prepares) (sym did_parts_is) prepares_due;
     proposed = subst (λ (x : Actor). AreDueOnce (DueToPropose setup.nodes setup.node s.actor x) []) (sym did_parts_is) (none_due_once _ proposes_none);
     replied = subst (λ (x : Actor). AreDue (DueToReply setup.nodes setup.node x) []) (sym did_parts_is) (none_due _ replies_none);
     reported = none_due _ reports_none;
@@ -239,7 +253,9 @@ module _ (setup : Setup) (k : Kept) (s : Node) (stands : Stands setup k s) (work
   asked_of a = packets_in setup.node a (saved s.records (late ++ core)) asks
 
   late_sends : packets_in setup.node s.actor s.records (late ++ core) ≡ []
-  late_sends = packets_more setup.node s.actor s.records late core ∙ ap (λ (ps : List Packet). ps ++ []) (replies_packets (late_answer risen.clock) setup.node risen s.records k.held)
+  late_sends =
+      packets_more setup.node s.actor s.records late core
+      ∙ ap (λ (ps : List Packet). ps ++ []) (replies_packets (late_answer risen.clock) setup.node risen s.records k.held)
 
   asks_send : packets_in setup.node s.actor s.records (asks ++ (late ++ core)) ≡ asked_of tick.actor
   asks_send =
@@ -255,7 +271,8 @@ module _ (setup : Setup) (k : Kept) (s : Node) (stands : Stands setup k s) (work
   prepares_send : packets_in setup.node s.actor s.records acts ≡ map (packet_of setup tick) offers ++ asked_of tick.actor
   prepares_send =
       packets_more setup.node s.actor s.records prepares (abandons ++ (asks ++ (late ++ core)))
-      ∙ (λ i. packets_of_starts setup tick (did setup.node s.actor (abandons ++ (asks ++ (late ++ core)))) (saved s.records (abandons ++ (asks ++ (late ++ core)))) offers i ++ abandons_send i)
+      ∙ (λ i. packets_of_starts setup tick (did setup.node s.actor (abandons ++ (asks ++ (late ++ core))))
+      (saved s.records (abandons ++ (asks ++ (late ++ core)))) offers i ++ abandons_send i)
 
   packets_are : asked_again setup ticked ++ (ruled_each setup up (ids_of ticked) ticked).packets ≡ reverse (packets_in setup.node s.actor s.records acts)
   packets_are =
@@ -289,7 +306,9 @@ module _ (setup : Setup) (k : Kept) (s : Node) (stands : Stands setup k s) (work
   stands_then : Stands setup (ruled_each setup up (ids_of ticked) ticked).kept (reached_alone setup.node s acts)
   stands_then = subst (Stands setup (ruled_each setup up (ids_of ticked) ticked).kept) (sym reached_all_is) (record {
     agrees = rules.agrees;
-    quiet = quiet_with setup.nodes setup.node tick.actor (later setup tick (slots ++ []) (offers ++ [])).actor refl (λ id known is. is) (λ name known settled. settled) (λ w waits. waits) quiet;
+    quiet =
+        quiet_with setup.nodes setup.node tick.actor (later setup tick (slots ++ []) (offers ++ [])).actor refl (λ id known is. is)
+        (λ name known settled. settled) (λ w waits. waits) quiet;
   })
 
   on_tick_steps : StepsAs setup s (Tick moment up) (on_tick setup k moment up)
@@ -311,4 +330,5 @@ module _ (setup : Setup) (k : Kept) (s : Node) (stands : Stands setup k s) (work
   tick_steps = subst (StepsAs setup s (Tick moment up)) (sym is_up) on_tick_steps
     where
       is_up : stepped setup k (Tick moment up) ≡ on_tick setup k moment up
-      is_up = ap (λ (running : Bool). if running then stepped_up setup k (Tick moment up) else stepped_down setup k (Tick moment up)) (stands.agrees.up ∙ works.up)
+      is_up =
+          ap (λ (running : Bool). if running then stepped_up setup k (Tick moment up) else stepped_down setup k (Tick moment up)) (stands.agrees.up ∙ works.up)

@@ -1,5 +1,6 @@
 -- What is kept once the clock has risen and late requests are gone, before any round starts.
-use Rattle.std.proofs.Common.{◌≡◌, ℕ, ◌-◌, max, Bool, true, false, cond, List, [], ◌∷◌, ◌++◌, length, map, take, Some, None, IsSome, refl, sym, ap, subst, ◌∙◌, inl, inr, arith}
+use Rattle.std.proofs.Common.{◌≡◌, ℕ, ◌-◌, max, Bool, true, false, cond, List, [], ◌∷◌, ◌++◌, length, map, take, Some, None, IsSome, refl, sym, ap, subst, ◌∙◌}
+use Rattle.std.proofs.Common.{inl, inr, arith}
 use Rattle.std.specs.Prelude.{filter, not}
 use Rattle.std.specs.Map.{keys_of, lookup}
 use Rattle.std.specs.Option.{unwrap_or}
@@ -26,12 +27,14 @@ use Rattle.mc_parts.proofs.Membership.{in_filter}
 abbrev pub unrounded : Message → Message
 unrounded m = record m { round = None }
 
-lookup_unrounded : (test : ℕ → Bool) (es : List (ℕ × Message)) → unwrap_or (lookup test (map without_round es)) unseen ≡ unrounded (unwrap_or (lookup test es) unseen)
+lookup_unrounded : (test : ℕ → Bool) (es : List (ℕ × Message)) →
+    unwrap_or (lookup test (map without_round es)) unseen ≡ unrounded (unwrap_or (lookup test es) unseen)
 lookup_unrounded test [] = refl
 lookup_unrounded test (e ∷ es) = by_test (test e.0) (lookup_unrounded test es)
   where
     by_test : (b : Bool) → unwrap_or (lookup test (map without_round es)) unseen ≡ unrounded (unwrap_or (lookup test es) unseen) →
-        unwrap_or (cond b (Some (unrounded e.1)) (lookup test (map without_round es))) unseen ≡ unrounded (unwrap_or (cond b (Some e.1) (lookup test es)) unseen)
+        unwrap_or (cond b (Some (unrounded e.1)) (lookup test (map without_round es))) unseen ≡
+        unrounded (unwrap_or (cond b (Some e.1) (lookup test es)) unseen)
     by_test true rest = refl
     by_test false rest = rest
 
@@ -43,7 +46,8 @@ listed_unrounded : (test : ℕ → Bool) (es : List (ℕ × Message)) → IsSome
 listed_unrounded test [] some = some
 listed_unrounded test (e ∷ es) some = by_test (test e.0) (listed_unrounded test es) some
   where
-    by_test : (b : Bool) → (IsSome (lookup test es) → IsSome (lookup test (map without_round es))) → IsSome (cond b (Some e.1) (lookup test es)) → IsSome (cond b (Some (unrounded e.1)) (lookup test (map without_round es)))
+    by_test : (b : Bool) → (IsSome (lookup test es) → IsSome (lookup test (map without_round es))) → IsSome (cond b (Some e.1) (lookup test es)) →
+        IsSome (cond b (Some (unrounded e.1)) (lookup test (map without_round es)))
     by_test true rest some = refl
     by_test false rest some = rest some
 
@@ -129,7 +133,8 @@ module _ (setup : Setup) (k : Kept) (s : Node) (agrees : Agrees setup k s) (mome
     serial = agrees.serial;
     ticket = agrees.ticket;
     records = agrees.records;
-    message = λ id. subst (IsMessage setup after_late id) (sym (message_ticked k (max k.clock moment) id)) (message_then id (message_at k id) (agrees.message id));
+    message =
+        λ id. subst (IsMessage setup after_late id) (sym (message_ticked k (max k.clock moment) id)) (message_then id (message_at k id) (agrees.message id));
     waiting = ap (map (λ h. h.waiting)) held_is;
     told = λ h among. agrees.told h (in_filter (λ it. not (is_late (max k.clock moment) it)) k.held h among);
     tickets = increasing_from kept_then.held (ascend_filter (λ it. not (is_late (max k.clock moment) it)) k.held (ascend_from k.held agrees.tickets));

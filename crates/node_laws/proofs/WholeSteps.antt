@@ -48,7 +48,9 @@ module _ (setup : Setup) (one : IsOneOf setup) where
     fit (Submit id message) next = record {
       serial = subst IsSerial stands.agrees.serial next.serial;
       id_is = next.id_is ∙ (λ i. id_of setup.node (stands.agrees.incarnation i) (stands.agrees.serial i));
-      takes = subst (λ (x : ℕ × ℕ). IsTaken id (record { node = setup.node; incarnation = x.0 }) x.1 message) (λ i. (stands.agrees.incarnation i, stands.agrees.clock i)) next.takes;
+      takes =
+          subst (λ (x : ℕ × ℕ). IsTaken id (record { node = setup.node; incarnation = x.0 }) x.1 message)
+          (λ i. (stands.agrees.incarnation i, stands.agrees.clock i)) next.takes;
     }
     fit (Query id account source) next = tt
     fit (Cancel id account source destination) next = tt
@@ -60,7 +62,9 @@ module _ (setup : Setup) (one : IsOneOf setup) where
     may_grant slot it =
         let m = message_at k slot.id in
         let on = stands.agrees.message slot.id in
-        let judged = subst (Judged setup k s.actor stands.agrees.incarnation slot.id m on.attempts on.heard.known) it.allowed (grant_judged setup k s.actor stands.agrees.incarnation slot.id m on.attempts on.heard.known) in
+        let judged =
+        subst (Judged setup k s.actor stands.agrees.incarnation slot.id m on.attempts on.heard.known) it.allowed
+        (grant_judged setup k s.actor stands.agrees.incarnation slot.id m on.attempts on.heard.known) in
         let both : Some judged.0 ≡ Some it.chain = sym judged.1 ∙ it.known in
         let chains : judged.0 ≡ it.chain = cc in
         subst (MayGrant setup.nodes setup.node s.actor) (ap (slot_of slot.id) chains ∙ sym it.place) judged.2
@@ -95,7 +99,8 @@ module _ (setup : Setup) (one : IsOneOf setup) where
 
   -- ---- a run
 
-  reached_by : (s : Node) (step : OwnStep) (older : List OwnStep) → reached_alone setup.node (reached_alone setup.node s (own_acts older)) step.acts ≡ reached_alone setup.node s (own_acts (step ∷ older))
+  reached_by : (s : Node) (step : OwnStep) (older : List OwnStep) →
+      reached_alone setup.node (reached_alone setup.node s (own_acts older)) step.acts ≡ reached_alone setup.node s (own_acts (step ∷ older))
   reached_by s step older = sym (reached_more setup.node s step.acts (own_acts older))
 
   pub whole_runs : (first : Kept) (s : Node) → Stands setup first s → (inputs : List Input) → MayAllCome setup first inputs → RunsAs setup first s inputs
@@ -114,5 +119,7 @@ module _ (setup : Setup) (one : IsOneOf setup) where
         inputs_are = ap (λ (others : List Input). input ∷ others) before.inputs_are;
         taken = (step.taken, before.taken);
         outputs = λ i. step.outputs i ∷ before.outputs i;
-        stands = subst (Stands setup (stepped setup (kept_after setup first inputs) input).kept) (reached_by s (record { input = input; acts = step.acts }) before.steps) step.stands;
+        stands =
+            subst (Stands setup (stepped setup (kept_after setup first inputs) input).kept)
+            (reached_by s (record { input = input; acts = step.acts }) before.steps) step.stands;
       }
