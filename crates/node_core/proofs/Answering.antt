@@ -24,10 +24,11 @@ use Rattle.synod_learner.specs.Counts.{Learned}
 use Rattle.synod_proposer.specs.Proposing.{Proposing}
 use Rattle.node_core.specs.declared.kept.Kept.{Kept as Holding}
 use Rattle.node_core.specs.declared.message.Message.{Message as Filed}
+use Rattle.node_core.specs.declared.step.Next.{Next}
 use Rattle.node_core.specs.declared.step.Step.{Step}
-use Rattle.node_core.specs.Keeping.{AreOf, IsTaken, acceptor_in, filed_as, kept_of, kept_with, records_of}
+use Rattle.node_core.specs.Keeping.{AreOf, IsTaken, acceptor_in, filed_as, kept_of, records_of}
 use Rattle.node_core.specs.Messages.{IsJudged, IsOf, changed_by, message_of}
-use Rattle.node_core.specs.Steps.{IsAnswer, IsStep}
+use Rattle.node_core.specs.Steps.{IsAnswer, IsNext, IsStep, installed}
 use Rattle.node_core.proofs.Entries.{message_looked_up, message_put, own_at, own_put, records_put}
 
 -- ---- a message that is taken out
@@ -55,6 +56,22 @@ pub fresh_taken : {E : Type 0} (k : Holding) (id : ℕ) (result : Result Filed E
     IfOk result (IsOf k.setup.node k.incarnation k.setup.nodes) → IfOk result (IsTaken k id)
 fresh_taken k id (Ok m) none records is of = taken_fresh k id m none (is id) records of
 fresh_taken k id (Err e) none records is of = tt
+
+-- ---- what is kept then
+
+-- with these entries instead of its own
+abbrev pub holding : Holding → List (ℕ × Filed) → Holding
+holding k entries = record k { messages = record k.messages { entries = entries } }
+
+pub nexts : (k : Holding) (id : ℕ) (m : Filed) (next : Next) → IsNext k id m next →
+    kept_of (installed k next) ≡ kept_of (holding k (with_value k.messages.entries id m))
+nexts k id m next is = λ i. record (kept_of k) {
+  records = records_of (is.entries i);
+  clock = is.clock i;
+  serial = is.serial i;
+  ticket = is.ticket i;
+  messages = map filed_as (is.entries i);
+}
 
 -- ---- a verdict
 
@@ -91,7 +108,7 @@ module _ (k : Holding) (slot : Slot) (taken new : Filed) (judgement : SlotRecord
   message_new : message_of slot.id new ≡ message_at (kept_of k) slot.id
   message_new = (λ i. message_of slot.id (record { acceptor = new.acceptor; learner = is_judged.learner i; proposer = is_judged.proposer i })) ∙ is_taken.message
 
-  kept_then : kept_with k.setup k.incarnation (with_value Entries slot.id new) ≡ saved (kept_of k) slot Judged.after
+  kept_then : kept_of (holding k (with_value Entries slot.id new)) ≡ saved (kept_of k) slot Judged.after
   kept_then = λ i. record (kept_of k) {
     records = fun_ext records_then i;
     messages = (message_put Entries slot.id new ∙ ap (λ (m : Message). insert_entry nat_cmp (map filed_as Entries) slot.id m) message_new) i;
@@ -110,14 +127,17 @@ module _ (k : Holding) (slot : Slot) (taken new : Filed) (judgement : SlotRecord
 
   pub answered : IsStep k (judged (kept_of k) slot Judged) step
   answered = record {
-    kept = ap (λ (es : List (ℕ × Filed)). kept_with k.setup k.incarnation es) is_answer.entries ∙ kept_then;
+    kept = nexts k slot.id new step.next is_answer.next ∙ kept_then;
     outputs = is_answer.outputs ∙ ap (λ (packet : Packet). record nothing { packets = packet ∷ [] }) (is_judged.answer ∙ ap (λ (j : Judgement). j.answer) judged_here);
     saves = λ other.
-        ap (λ (es : List (ℕ × Filed)). records_of es other) is_answer.entries
+        ap (λ (es : List (ℕ × Filed)). records_of es other) is_answer.next.entries
         ∙ records_then other
         ∙ sym (ap (λ (change : Option Change). changed_by change (records_of Entries) other) is_answer.change ∙ changed_is (records_of Entries) slot Judged.after verdict.change change_is other);
-    own = λ own. subst (λ (es : List (ℕ × Filed)). AreOf k.setup k.incarnation es) (sym is_answer.entries) (own_put k.setup k.incarnation Entries slot.id new (of_new (is_taken.own own)) own.each);
-    room = is_answer.room;
+    own = λ own. record {
+      each = subst (λ (es : List (ℕ × Filed)). AreOf k.setup k.incarnation es) (sym is_answer.next.entries)
+          (own_put k.setup k.incarnation Entries slot.id new (of_new (is_taken.own own)) own.each);
+    };
+    room = is_answer.next.room;
   }
 
 -- ---- what comes from a node of the cluster

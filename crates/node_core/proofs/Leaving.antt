@@ -24,10 +24,11 @@ use Rattle.synod_proposer.specs.Proposing.{counted_in, is_own, proposed_in}
 use Rattle.node_core.specs.declared.kept.Kept.{Kept as Holding}
 use Rattle.node_core.specs.declared.message.Message.{Message as Filed}
 use Rattle.node_core.specs.declared.step.Step.{Step}
-use Rattle.node_core.specs.Keeping.{AreOf, AreOwn, IsTaken, filed_as, kept_of, kept_with, records_of}
+use Rattle.node_core.specs.Keeping.{AreOf, AreOwn, IsTaken, filed_as, kept_of, records_of}
 use Rattle.node_core.specs.Messages.{IsOfSame, IsPromised, IsRefused, changed_by, message_of}
 use Rattle.node_core.specs.Steps.{IsLeft, IsStep}
 use Rattle.node_core.specs.Lists.{listed}
+use Rattle.node_core.proofs.Answering.{holding, nexts}
 use Rattle.node_core.proofs.Entries.{message_put, own_put, records_kept}
 
 module _ (k : Holding) (id : ℕ) (taken new : Filed) (to : Message) (packets : List Packet) (receipts : List Receipt) (step : Step)
@@ -38,7 +39,7 @@ module _ (k : Holding) (id : ℕ) (taken new : Filed) (to : Message) (packets : 
   records_then : (other : Slot) → records_of (with_value Entries id new) other ≡ records_of Entries other
   records_then = records_kept Entries id new (λ place. ap (λ a. record_at a (slot_at id place)) same.acceptor ∙ is_taken.records place)
 
-  kept_then : kept_with k.setup k.incarnation (with_value Entries id new) ≡ with_message (kept_of k) id to
+  kept_then : kept_of (holding k (with_value Entries id new)) ≡ with_message (kept_of k) id to
   kept_then = λ i. record (kept_of k) {
     records = fun_ext records_then i;
     messages = (message_put Entries id new ∙ ap (λ (m : Message). insert_entry nat_cmp (map filed_as Entries) id m) is) i;
@@ -46,15 +47,17 @@ module _ (k : Holding) (id : ℕ) (taken new : Filed) (to : Message) (packets : 
 
   pub left : IsStep k (sends (with_message (kept_of k) id to) packets [] receipts) step
   left = record {
-    kept = ap (λ (es : List (ℕ × Filed)). kept_with k.setup k.incarnation es) is_left.entries ∙ kept_then;
+    kept = nexts k id new step.next is_left.next ∙ kept_then;
     outputs = is_left.outputs;
     saves = λ other.
-        ap (λ (es : List (ℕ × Filed)). records_of es other) is_left.entries
+        ap (λ (es : List (ℕ × Filed)). records_of es other) is_left.next.entries
         ∙ records_then other
         ∙ sym (ap (λ (change : Option Change). changed_by change (records_of Entries) other) is_left.change);
-    own = λ own. subst (λ (es : List (ℕ × Filed)). AreOf k.setup k.incarnation es) (sym is_left.entries)
-        (own_put k.setup k.incarnation Entries id new (same.of k.setup.node k.incarnation k.setup.nodes (is_taken.own own)) own.each);
-    room = is_left.room;
+    own = λ own. record {
+      each = subst (λ (es : List (ℕ × Filed)). AreOf k.setup k.incarnation es) (sym is_left.next.entries)
+          (own_put k.setup k.incarnation Entries id new (same.of k.setup.node k.incarnation k.setup.nodes (is_taken.own own)) own.each);
+    };
+    room = is_left.next.room;
   }
 
 -- ---- a refusal

@@ -1,4 +1,5 @@
 pub mod Entries
+pub mod Putting
 pub mod Answering
 pub mod Leaving
 pub mod Opening

@@ -14,6 +14,7 @@ use Rattle.std.proofs.lemmas.List.{map-append}
 use Rattle.mc_model.specs.synod.Lists.{In}
 use Rattle.mc_model.specs.synod.Packet.{Slot, same_slot, slot_at}
 use Rattle.mc_model.specs.synod.Acceptor.{Records, SlotRecord, blank, with_record}
+use Rattle.mc_model.specs.node.Actor.{opening_clock}
 use Rattle.mc_model.specs.node.Setup.{Setup}
 use Rattle.mc_parts.proofs.Membership.{slots_same}
 use Rattle.node_model.specs.Message.{unseen}
@@ -26,9 +27,11 @@ use Rattle.synod_acceptor.specs.declared.record.Record.{Record}
 use Rattle.node_core.specs.declared.kept.Kept.{Kept as Holding}
 use Rattle.node_core.specs.declared.life.Life.{Life}
 use Rattle.node_core.specs.declared.message.Message.{Message as Filed}
+use Rattle.node_core.specs.declared.step.Next.{Next}
 use Rattle.node_core.specs.Keeping.{AreOf, AreOwn, AreUnseen, IsFiled, IsOpen, IsTaken, acceptor_in, filed_as, records_of}
 use Rattle.node_core.specs.Messages.{IsOf, message_of}
 use Rattle.node_core.specs.Nodes.{HasOpened, Standing}
+use Rattle.node_core.specs.Steps.{IsInstalled, IsNext}
 use Rattle.node_core.proofs.Entries.{own_put, records_put, same_key}
 
 -- ---- nothing was heard
@@ -54,14 +57,17 @@ unseen_put (e ∷ es) id m is fresh = at_order (nat_cmp id e.0) refl (unseen_put
 
 -- ---- one record more
 
-pub filed : (old new : Holding) (kept : Record) (id : ℕ) (taken m : Filed) → id ≡ (slot_recorded kept).id → IsTaken old id taken →
+pub filed : (old new : Holding) (kept : Record) (id : ℕ) (taken m : Filed) (next : Next) → id ≡ (slot_recorded kept).id → IsTaken old id taken →
     ((slot : Slot) → record_at m.acceptor slot ≡ with_record (record_at taken.acceptor) (slot_recorded kept) (record_of kept) slot) →
     ((id : ℕ) → message_of id m ≡ message_of id taken) →
     (IsOf old.setup.node old.incarnation old.setup.nodes taken → IsOf old.setup.node old.incarnation old.setup.nodes m) →
-    new.messages.entries ≡ with_value old.messages.entries id m → new.setup ≡ old.setup → new.incarnation ≡ old.incarnation → IsFiled old kept new
-filed old new kept id taken m about is_taken records same of entries setup incarnation = record {
-  setup = setup;
-  incarnation = incarnation;
+    IsNext old id m next → IsInstalled old next new → IsFiled old kept new
+filed old new kept id taken m next about is_taken records same of is_next is = let entries = is.entries ∙ is_next.entries in record {
+  setup = is.setup;
+  incarnation = is.incarnation;
+  clock = is.clock ∙ is_next.clock;
+  serial = is.serial ∙ is_next.serial;
+  ticket = is.ticket ∙ is_next.ticket;
   records = λ slot.
       ap (λ (es : List (ℕ × Filed)). records_of es slot) entries
       ∙ records_put old.messages.entries id m (slot_recorded kept) (record_of kept) (sym about)
@@ -69,8 +75,8 @@ filed old new kept id taken m about is_taken records same of entries setup incar
       slot;
   own = λ own. record {
     each = subst (λ (es : List (ℕ × Filed)). AreOf new.setup new.incarnation es) (sym entries)
-        (subst (λ (s : Setup). AreOf s new.incarnation (with_value old.messages.entries id m)) (sym setup)
-        (subst (λ (starts : ℕ). AreOf old.setup starts (with_value old.messages.entries id m)) (sym incarnation)
+        (subst (λ (s : Setup). AreOf s new.incarnation (with_value old.messages.entries id m)) (sym is.setup)
+        (subst (λ (starts : ℕ). AreOf old.setup starts (with_value old.messages.entries id m)) (sym is.incarnation)
         (own_put old.setup old.incarnation old.messages.entries id m (of (is_taken.own own)) own.each)));
   };
   fresh = λ fresh. subst AreUnseen (sym entries) (unseen_put old.messages.entries id m (same id ∙ is_taken.message ∙ unseen_at old.messages.entries id fresh) fresh);
@@ -131,15 +137,21 @@ over_filed records front last old new slot split is_filed =
 pub record IsFiling (with : Setup) (starts : ℕ) (left all : List Record) (k : Holding) : Type 0 where
   pub setup : k.setup ≡ with
   pub incarnation : k.incarnation ≡ starts
+  pub clock : k.clock ≡ opening_clock
+  pub serial : k.serial ≡ with.first_serial
+  pub ticket : k.ticket ≡ 1
   pub records : (slot : Slot) → over (entries_of left) (records_of k.messages.entries) slot ≡ record_at (entries_of all) slot
   pub fresh : AreUnseen k.messages.entries
   pub own : AreOwn k
 
 pub filing_begins : (with : Setup) (starts : ℕ) (all : List Record) (k : Holding) → k.setup ≡ with → k.incarnation ≡ starts →
-    k.messages.entries ≡ [] → IsFiling with starts all all k
-filing_begins with starts all k setup incarnation none = record {
+    k.clock ≡ opening_clock → k.serial ≡ with.first_serial → k.ticket ≡ 1 → k.messages.entries ≡ [] → IsFiling with starts all all k
+filing_begins with starts all k setup incarnation clock serial ticket none = record {
   setup = setup;
   incarnation = incarnation;
+  clock = clock;
+  serial = serial;
+  ticket = ticket;
   records = λ slot. over_blank (entries_of all) (records_of k.messages.entries) slot (ap (λ (es : List (ℕ × Filed)). records_of es slot) none);
   fresh = subst AreUnseen (sym none) tt;
   own = record { each = subst (λ (es : List (ℕ × Filed)). AreOf k.setup k.incarnation es) (sym none) tt };
@@ -150,6 +162,9 @@ pub filing_goes_on : (with : Setup) (starts : ℕ) (left front all : List Record
 filing_goes_on with starts left front all last old new split is_filed filing = record {
   setup = is_filed.setup ∙ filing.setup;
   incarnation = is_filed.incarnation ∙ filing.incarnation;
+  clock = is_filed.clock ∙ filing.clock;
+  serial = is_filed.serial ∙ filing.serial;
+  ticket = is_filed.ticket ∙ filing.ticket;
   records = λ slot. over_filed left front last old new slot split is_filed ∙ filing.records slot;
   fresh = is_filed.fresh filing.fresh;
   own = is_filed.own filing.own;
@@ -160,6 +175,9 @@ pub filing_ends : (with : Setup) (starts : ℕ) (left all : List Record) (k : Ho
 filing_ends with starts left all k none filing = record {
   setup = filing.setup;
   incarnation = filing.incarnation;
+  clock = filing.clock;
+  serial = filing.serial;
+  ticket = filing.ticket;
   kept = λ slot. sym (ap (λ (rs : List Record). over (entries_of rs) (records_of k.messages.entries) slot) none) ∙ filing.records slot;
   fresh = filing.fresh;
   own = filing.own;
@@ -172,6 +190,9 @@ pub open_over : (with : Setup) (starts : ℕ) (one other : Records) (k : Holding
 open_over with starts one other k is same = record {
   setup = is.setup;
   incarnation = is.incarnation;
+  clock = is.clock;
+  serial = is.serial;
+  ticket = is.ticket;
   kept = λ slot. is.kept slot ∙ same slot;
   fresh = is.fresh;
   own = is.own;
@@ -195,7 +216,9 @@ opened with records starts node life is works of_node of_start = record {
   kept = λ i. record (opened_over records (keys_of node.kept.messages.entries) starts with.first_serial) {
     records = fun_ext is.kept i;
     incarnation = is.incarnation i;
-    serial = (is.setup i).first_serial;
+    clock = is.clock i;
+    serial = is.serial i;
+    ticket = is.ticket i;
     messages = messages_are node.kept.messages.entries is.fresh i;
   };
   listed = λ slot differs. listed_in node.kept.messages.entries slot.id (λ none. differs (sym (is.kept slot) ∙ ap (λ (found : Option Filed). record_at (acceptor_in found) slot) none));

@@ -1,11 +1,11 @@
 -- What a node of the code keeps, as the node's model says it.
-use Rattle.std.specs.Prelude.{◌≡◌, ℕ, List, [], ◌∷◌, map, Option, Some, None}
+use Rattle.std.specs.Prelude.{◌≡◌, ℕ, true, List, [], ◌∷◌, map, Option, Some, None}
 use Rattle.mc_model.specs.synod.Packet.{Slot, slot_at}
 use Rattle.mc_model.specs.synod.Acceptor.{Records, SlotRecord, with_record}
+use Rattle.mc_model.specs.node.Actor.{opening_clock}
 use Rattle.mc_model.specs.node.Setup.{Setup}
 use Rattle.node_model.specs.Message.{Message, unseen}
 use Rattle.node_model.specs.Kept.{Kept, message_at}
-use Rattle.node_model.specs.Stepped.{opened_over}
 use Rattle.shelf.specs.Shelved.{value_at}
 use Rattle.synod_acceptor.specs.Records.{record_at}
 use Rattle.synod_acceptor.specs.Votes.{record_of, slot_recorded}
@@ -25,13 +25,18 @@ records_of entries = λ slot. record_at (acceptor_in (value_at entries slot.id))
 abbrev pub filed_as : ℕ × Filed → ℕ × Message
 filed_as entry = (entry.0, message_of entry.0 entry.1)
 
--- No request has come yet and no tick, so all else is as it was when the node opened.
-abbrev pub kept_with : Setup → ℕ → List (ℕ × Filed) → Kept
-kept_with setup incarnation entries =
-    record (opened_over (records_of entries) [] incarnation setup.first_serial) { messages = map filed_as entries }
-
+-- no request waits
 abbrev pub kept_of : Holding → Kept
-kept_of k = kept_with k.setup k.incarnation k.messages.entries
+kept_of k = record {
+  records = records_of k.messages.entries;
+  up = true;
+  incarnation = k.incarnation;
+  clock = k.clock;
+  serial = k.serial;
+  ticket = k.ticket;
+  held = [];
+  messages = map filed_as k.messages.entries;
+}
 
 -- each message is one of this node, and was made in this incarnation
 abbrev pub AreOf : Setup → ℕ → List (ℕ × Filed) → Type 0
@@ -58,6 +63,9 @@ AreUnseen (first ∷ others) = (message_of first.0 first.1 ≡ unseen) × AreUns
 pub record IsOpen (with : Setup) (starts : ℕ) (records : Records) (k : Holding) : Type 0 where
   pub setup : k.setup ≡ with
   pub incarnation : k.incarnation ≡ starts
+  pub clock : k.clock ≡ opening_clock
+  pub serial : k.serial ≡ with.first_serial
+  pub ticket : k.ticket ≡ 1
   pub kept : (slot : Slot) → records_of k.messages.entries slot ≡ records slot
   pub fresh : AreUnseen k.messages.entries
   pub own : AreOwn k
@@ -66,6 +74,9 @@ pub record IsOpen (with : Setup) (starts : ℕ) (records : Records) (k : Holding
 pub record IsFiled (old : Holding) (kept : Record) (new : Holding) : Type 0 where
   pub setup : new.setup ≡ old.setup
   pub incarnation : new.incarnation ≡ old.incarnation
+  pub clock : new.clock ≡ old.clock
+  pub serial : new.serial ≡ old.serial
+  pub ticket : new.ticket ≡ old.ticket
   pub records : (slot : Slot) → records_of new.messages.entries slot ≡ with_record (records_of old.messages.entries) (slot_recorded kept) (record_of kept) slot
   pub fresh : AreUnseen old.messages.entries → AreUnseen new.messages.entries
   pub own : AreOwn old → AreOwn new

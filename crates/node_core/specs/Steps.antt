@@ -1,12 +1,12 @@
 -- A step of the code, as a step of the node's model.
-use Rattle.std.specs.Prelude.{◌≡◌, ℕ, ◌<◌, ◌-◌, max, List, [], ◌∷◌, length, map, Option, Some, None}
+use Rattle.std.specs.Prelude.{◌≡◌, ℕ, ◌≤◌, ◌-◌, max, List, [], ◌∷◌, length, map, Option, Some, None}
 use Rattle.std.specs.Box.{box_value}
 use Rattle.mc_model.specs.message.Chain.{Chain}
 use Rattle.mc_model.specs.synod.Packet.{Packet, Slot}
 use Rattle.mc_model.specs.node.Input.{Delivery, Input}
 use Rattle.mc_model.specs.node.Outputs.{Outputs, Receipt}
 use Rattle.node_model.specs.Outputs.{Stepped, nothing}
-use Rattle.shelf.specs.Shelved.{Shelved, value_at, with_value}
+use Rattle.shelf.specs.Shelved.{Shelved, with_value}
 use Rattle.synod_acceptor.specs.Packets.{packet_of}
 use Rattle.synod_acceptor.specs.declared.acceptor.Verdict.{Verdict}
 use Rattle.node_core.specs.declared.input.Input.{Input as Given}
@@ -15,8 +15,9 @@ use Rattle.node_core.specs.declared.kept.Kept.{Kept as Holding}
 use Rattle.node_core.specs.declared.message.Message.{Message as Filed}
 use Rattle.node_core.specs.declared.outputs.Outputs.{Outputs as Sent}
 use Rattle.node_core.specs.declared.step.Next.{Next}
+use Rattle.node_core.specs.declared.step.Put.{Put}
 use Rattle.node_core.specs.declared.step.Step.{Step}
-use Rattle.node_core.specs.Keeping.{AreOf, AreOwn, kept_with, records_of}
+use Rattle.node_core.specs.Keeping.{AreOwn, kept_of, records_of}
 use Rattle.node_core.specs.Messages.{changed_by}
 
 -- what comes to the code
@@ -32,40 +33,61 @@ outputs_of o = record nothing { packets = map packet_of o.packets.items; receipt
 
 -- ---- what a step keeps
 
--- a message in the place of what was kept of its id, if there is one
-abbrev pub entries_after : List (ℕ × Filed) → Option Next → List (ℕ × Filed)
-entries_after entries None = entries
-entries_after entries (Some next) = with_value entries next.id (box_value next.message)
+-- these messages in the places of what was kept of their ids, the last of them first
+abbrev pub entries_after : List (ℕ × Filed) → List Put → List (ℕ × Filed)
+entries_after entries [] = entries
+entries_after entries (first ∷ others) = with_value (entries_after entries others) first.id (box_value first.message)
 
--- there is room for it
-abbrev pub HasRoom : Shelved Filed → Option Next → Type 0
-HasRoom shelf None = Unit {0}
-HasRoom shelf (Some next) = value_at shelf.entries next.id ≡ None → 0 < max shelf.room (next.room - length shelf.entries)
+-- what is kept after it
+abbrev pub installed : Holding → Next → Holding
+installed k next = record k {
+  clock = next.clock;
+  serial = next.serial;
+  ticket = next.ticket;
+  messages = record k.messages { entries = entries_after k.messages.entries next.messages.items };
+}
 
--- this message is to take the place of what is kept of this id
+pub record IsInstalled (old : Holding) (next : Next) (new : Holding) : Type 0 where
+  pub setup : new.setup ≡ old.setup
+  pub incarnation : new.incarnation ≡ old.incarnation
+  pub clock : new.clock ≡ next.clock
+  pub serial : new.serial ≡ next.serial
+  pub ticket : new.ticket ≡ next.ticket
+  pub entries : new.messages.entries ≡ entries_after old.messages.entries next.messages.items
+
+-- there is room for its messages
+abbrev pub room_in : Option ℕ → ℕ
+room_in None = 0
+room_in (Some room) = room
+
+abbrev pub HasRoom : Shelved Filed → Next → Type 0
+HasRoom shelf next = length next.messages.items ≤ max shelf.room (room_in next.room - length shelf.entries)
+
+-- this message is to take the place of what is kept of this id, and nothing else changes
 pub record IsNext (k : Holding) (id : ℕ) (m : Filed) (next : Next) : Type 0 where
-  pub entries : entries_after k.messages.entries (Some next) ≡ with_value k.messages.entries id m
-  pub room : HasRoom k.messages (Some next)
+  pub clock : next.clock ≡ k.clock
+  pub serial : next.serial ≡ k.serial
+  pub ticket : next.ticket ≡ k.ticket
+  pub entries : entries_after k.messages.entries next.messages.items ≡ with_value k.messages.entries id m
+  pub room : HasRoom k.messages next
 
 -- A step of the code is this one: it keeps the same and gives out the same, and once its change is saved, the records that are saved are
 -- those that are kept.
 pub record IsStep (k : Holding) (to : Stepped) (step : Step) : Type 0 where
-  pub kept : kept_with k.setup k.incarnation (entries_after k.messages.entries step.next) ≡ to.kept
+  pub kept : kept_of (installed k step.next) ≡ to.kept
   pub outputs : outputs_of step.outputs ≡ to.outputs
-  pub saves : (slot : Slot) → records_of (entries_after k.messages.entries step.next) slot ≡ changed_by step.change (records_of k.messages.entries) slot
-  pub own : AreOwn k → AreOf k.setup k.incarnation (entries_after k.messages.entries step.next)
+  pub saves : (slot : Slot) → records_of (installed k step.next).messages.entries slot ≡ changed_by step.change (records_of k.messages.entries) slot
+  pub own : AreOwn k → AreOwn (installed k step.next)
   pub room : HasRoom k.messages step.next
 
 -- it answers by a verdict, and keeps this message
 pub record IsAnswer (k : Holding) (id : ℕ) (m : Filed) (verdict : Verdict) (step : Step) : Type 0 where
   pub outputs : outputs_of step.outputs ≡ record nothing { packets = packet_of verdict.answer ∷ [] }
   pub change : step.change ≡ verdict.change
-  pub entries : entries_after k.messages.entries step.next ≡ with_value k.messages.entries id m
-  pub room : HasRoom k.messages step.next
+  pub next : IsNext k id m step.next
 
 -- it sends these packets and writes these receipts, saves nothing, and keeps this message
 pub record IsLeft (k : Holding) (id : ℕ) (m : Filed) (packets : List Packet) (receipts : List Receipt) (step : Step) : Type 0 where
   pub outputs : outputs_of step.outputs ≡ record nothing { packets = packets; receipts = receipts }
   pub change : step.change ≡ None
-  pub entries : entries_after k.messages.entries step.next ≡ with_value k.messages.entries id m
-  pub room : HasRoom k.messages step.next
+  pub next : IsNext k id m step.next

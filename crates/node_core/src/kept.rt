@@ -1,6 +1,6 @@
 //! What a node keeps.
 
-ghost use Rattle.std.specs.Prelude.{◌≡◌, ◌&&◌, [], None, IfOk, OnOk, not, option_map};
+ghost use Rattle.std.specs.Prelude.{◌≡◌, ◌≤◌, ◌&&◌, length, [], None, IfOk, OnOk, not, option_map};
 ghost use Rattle.std.specs.Option.{option_copied};
 ghost use Rattle.node_model.specs.Acceptor.{told_of};
 ghost use Rattle.fate_chain.specs.Kinds.{final_of};
@@ -16,25 +16,29 @@ ghost use Rattle.synod_acceptor.specs.Votes.{report_of, slot_in, slot_reported, 
 ghost use Rattle.node_core.specs.Keeping.{AreOwn, IsFiled, IsOpen, IsTaken, kept_of};
 ghost use Rattle.node_core.specs.Lists.{listed};
 ghost use Rattle.node_core.specs.Voting.{id_concerns, receipt_if, voted_in};
-ghost use Rattle.node_core.specs.Steps.{HasRoom, IsAnswer, IsLeft, IsNext, IsStep, entries_after, receipt_of};
+ghost use Rattle.node_core.specs.Steps.{HasRoom, IsAnswer, IsInstalled, IsLeft, IsNext, IsStep, entries_after, receipt_of};
 
 use crate::input::sender;
 use crate::message::{Message, fate_in};
 use crate::outputs::Outputs;
 use crate::setup::Setup;
-use crate::step::{Next, Step};
+use crate::step::{Next, Put, Step};
 use fate_chain::{Author, Chain, Final, Submission};
-use mc_types::{Ballot, Incarnation, MsgId, NodeNo, Slot};
+use mc_types::{Ballot, Incarnation, Moment, MsgId, NodeNo, Slot};
 use shelf::Shelf;
 use std::alloc::{AllocError, Global};
 use synod_acceptor::{Name, Packet, Record, Report, Verdict, Vote};
 
-/// What a node keeps in an incarnation: what it knows of each message of which it heard.
+/// What a node keeps in an incarnation: its clock, the serial of its next message, the ticket of its next request, and what it knows of
+/// each message of which it heard.
 #[derive(Drop)]
 pub struct Kept {
     alloc: Global,
     setup: Setup,
     incarnation: Incarnation,
+    clock: Moment,
+    serial: u32,
+    ticket: u64,
     messages: Shelf<Message>,
 }
 
@@ -48,10 +52,14 @@ impl Kept {
     ) -> Result<Kept, AllocError>
         ensures { IfOk result (IsOpen setup incarnation (record_at (entries_of records.items))) }
     {
+        let serial = setup.first_serial;
         let mut kept = Kept {
             alloc,
             setup,
             incarnation,
+            clock: Moment::least(),
+            serial,
+            ticket: 1,
             messages: Shelf::empty(alloc),
         };
         while let Some(stored) = records.pop() {
@@ -68,7 +76,7 @@ impl Kept {
         let mut message = self.taken(id)?;
         message.file(stored)?;
         let next = self.next(id, message)?;
-        self.install(Some(next));
+        self.install(next);
         Ok(())
     }
 
@@ -101,18 +109,25 @@ impl Kept {
         }
     }
 
-    /// Keeps a message, if there is one, in the place of what was kept of its id; there is room for it. It takes no memory.
-    pub fn install(&mut self, next: Option<Next>)
+    /// Keeps what is to be kept after a step; there is room for it. It takes no memory.
+    pub fn install(&mut self, next: Next)
         requires { HasRoom self.old.messages next }
-        ensures entries { self.new.messages.entries ≡ entries_after self.old.messages.entries next }
-        ensures setup { self.new.setup ≡ self.old.setup }
-        ensures incarnation { self.new.incarnation ≡ self.old.incarnation }
+        ensures { IsInstalled self.old next self.new }
     {
-        let Some(next) = next else {
-            return;
-        };
-        self.messages.make_room(next.room);
-        self.messages.put(next.id.number(), next.message);
+        let Next {
+            clock,
+            serial,
+            ticket,
+            messages,
+            room,
+        } = next;
+        self.clock = clock;
+        self.serial = serial;
+        self.ticket = ticket;
+        if let Some(room) = room {
+            self.messages.make_room(room);
+        }
+        put_each(&mut self.messages, messages);
     }
 
     /// Whether the node is one of the cluster.
@@ -128,12 +143,28 @@ impl Kept {
         ensures packets { result.outputs.packets.items ≡ [] }
         ensures receipts { result.outputs.receipts.items ≡ [] }
         ensures change { result.change ≡ None }
-        ensures next { result.next ≡ None }
     {
         Step {
             outputs: Outputs::nothing(self.alloc),
             change: None,
-            next: None,
+            next: self.unchanged(),
+        }
+    }
+
+    /// What is kept is to stay as it is.
+    fn unchanged(&self) -> Next
+        ensures clock { result.clock ≡ self.now.clock }
+        ensures serial { result.serial ≡ self.now.serial }
+        ensures ticket { result.ticket ≡ self.now.ticket }
+        ensures messages { result.messages.items ≡ [] }
+        ensures room { result.room ≡ None }
+    {
+        Next {
+            clock: self.clock,
+            serial: self.serial,
+            ticket: self.ticket,
+            messages: Vec::new(self.alloc),
+            room: None,
         }
     }
 
@@ -221,7 +252,7 @@ impl Kept {
     {
         id.node() != self.setup.node
             || id.incarnation() < self.incarnation
-            || (id.incarnation() == self.incarnation && id.serial() < self.setup.first_serial)
+            || (id.incarnation() == self.incarnation && id.serial() < self.serial)
     }
 
     /// The chain, once more, if it grows to have the first final state, and this node is to write a receipt of that.
@@ -332,7 +363,7 @@ impl Kept {
         Ok(Step {
             outputs,
             change: verdict.change,
-            next: Some(next),
+            next,
         })
     }
 
@@ -351,19 +382,29 @@ impl Kept {
         Ok(Step {
             outputs,
             change: None,
-            next: Some(next),
+            next,
         })
     }
 
-    /// A message that is to take the place of what is kept of the id, and room for it.
+    /// This message is to take the place of what is kept of the id, and nothing else changes.
     fn next(&self, id: MsgId, message: Message) -> Result<Next, AllocError>
         ensures { IfOk result (IsNext self.now id message) }
     {
-        Ok(Next {
-            id,
-            message: Box::new(self.alloc, message)?,
-            room: self.messages.room(self.alloc, 1)?,
-        })
+        let mut next = self.unchanged();
+        let message = Box::new(self.alloc, message)?;
+        next.messages.push(Put { id, message })?;
+        next.room = Some(self.messages.room(self.alloc, 1)?);
+        Ok(next)
+    }
+}
+
+/// Puts messages in the places of what was kept of their ids, the last of them first; there is room for them. It takes no memory.
+fn put_each(shelf: &mut Shelf<Message>, mut messages: Vec<Put>)
+    requires { length messages.items ≤ shelf.old.room }
+    ensures { shelf.new.entries ≡ entries_after shelf.old.entries messages.items }
+{
+    while let Some(put) = messages.pop() {
+        shelf.put(put.id.number(), put.message);
     }
 }
 

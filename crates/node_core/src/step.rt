@@ -2,22 +2,32 @@
 
 use crate::message::Message;
 use crate::outputs::Outputs;
-use mc_types::MsgId;
+use mc_types::{Moment, MsgId};
 use shelf::Room;
 use synod_acceptor::Change;
 
-/// A message that takes the place of what is kept of its id, and room for it.
+/// A message that takes the place of what is kept of its id.
 #[derive(Drop)]
-pub struct Next {
+pub struct Put {
     pub id: MsgId,
     pub message: Box<Message>,
-    pub room: Room<Message>,
 }
 
-/// What a step gives out, the change that is saved before, if any, and what is kept after it, if it is not the same.
+/// What is kept after a step: the clock, the serial of the next message, the ticket of the next request, and each message that is not
+/// kept as it was, with room for them, if room is wanted. Of several messages of an id the first counts.
+#[derive(Drop)]
+pub struct Next {
+    pub clock: Moment,
+    pub serial: u32,
+    pub ticket: u64,
+    pub messages: Vec<Put>,
+    pub room: Option<Room<Message>>,
+}
+
+/// What a step gives out, the change that is saved before, if any, and what is kept after it.
 #[derive(Drop)]
 pub struct Step {
     pub outputs: Outputs,
     pub change: Option<Change>,
-    pub next: Option<Next>,
+    pub next: Next,
 }

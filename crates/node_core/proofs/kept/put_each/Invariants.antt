@@ -1,0 +1,10 @@
+use Rattle.std.proofs.Common.{length}
+use Rattle.node_core.specs.Steps.{entries_after}
+use Rattle.node_core.proofs.Putting.{IsPutting}
+use Rattle.node_core.proofs.kept.put_each.Given as goal
+
+abbrev pub invariant-loop-put : goal.invariant-loop-put
+invariant-loop-put l = IsPutting (entries_after l.fn.shelf.entries l.fn.messages.items) l.shelf l.messages.items
+
+abbrev pub decreases-loop-put : goal.decreases-loop-put
+decreases-loop-put l = length l.messages.items
