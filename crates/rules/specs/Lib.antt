@@ -1,0 +1,4 @@
+pub mod Attempts
+pub mod Standpoints
+pub mod Dues
+pub mod Seen

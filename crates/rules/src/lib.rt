@@ -1,0 +1,14 @@
+//! The rules by which a node goes on with a message: which decree is due behind what it knows.
+#![tactic(auto)]
+
+mod attempted;
+mod due;
+mod following;
+mod laws;
+mod standpoint;
+
+pub use attempted::{Attempted, Closing};
+pub use due::Due;
+pub use following::follow;
+pub use laws::what_is_due_is_the_first_rule;
+pub use standpoint::Standpoint;
