@@ -22,7 +22,10 @@ use Rattle.synod_acceptor.specs.declared.acceptor.Verdict.{Verdict}
 use Rattle.synod_acceptor.specs.declared.record.Change.{Change}
 use Rattle.synod_learner.specs.Counts.{Learned}
 use Rattle.synod_proposer.specs.Proposing.{Proposing}
+use Rattle.synod_learner.specs.Hearing.{message_in}
+use Rattle.node_core.specs.declared.attempts.Attempts.{Attempts}
 use Rattle.node_core.specs.declared.kept.Kept.{Kept as Holding}
+use Rattle.node_core.specs.Attempting.{IsBacked, granted_in}
 use Rattle.node_core.specs.declared.message.Message.{Message as Filed}
 use Rattle.node_core.specs.declared.step.Next.{Next}
 use Rattle.node_core.specs.declared.step.Step.{Step}
@@ -44,7 +47,7 @@ pub none_kept : (k : Holding) (id : ℕ) → value_at k.messages.entries id ≡ 
 none_kept k id none = ap (λ (o : Option Message). unwrap_or o unseen) (message_looked_up k.messages.entries id ∙ ap (λ (o : Option Filed). option_map (message_of id) o) none)
 
 pub taken_fresh : (k : Holding) (id : ℕ) (m : Filed) → value_at k.messages.entries id ≡ None → message_of id m ≡ unseen →
-    ((slot : Slot) → record_at m.acceptor slot ≡ blank) → IsOf k.setup.node k.incarnation k.setup.nodes m → IsTaken k id m
+    ((slot : Slot) → record_at m.acceptor slot ≡ blank) → IsOf k.setup.node k.incarnation k.setup.nodes id m → IsTaken k id m
 taken_fresh k id m none is empty of = record {
   own = λ own. of;
   message = is ∙ sym (none_kept k id none);
@@ -53,8 +56,8 @@ taken_fresh k id m none is empty of = record {
 
 pub fresh_taken : {E : Type 0} (k : Holding) (id : ℕ) (result : Result Filed E) → value_at k.messages.entries id ≡ None →
     IfOk result (λ m. (slot : Slot) → record_at m.acceptor slot ≡ blank) → IfOk result (λ m. (id : ℕ) → message_of id m ≡ unseen) →
-    IfOk result (IsOf k.setup.node k.incarnation k.setup.nodes) → IfOk result (IsTaken k id)
-fresh_taken k id (Ok m) none records is of = taken_fresh k id m none (is id) records of
+    IfOk result (λ m. (id : ℕ) → IsOf k.setup.node k.incarnation k.setup.nodes id m) → IfOk result (IsTaken k id)
+fresh_taken k id (Ok m) none records is of = taken_fresh k id m none (is id) records (of id)
 fresh_taken k id (Err e) none records is of = tt
 
 -- ---- what is kept then
@@ -106,7 +109,12 @@ module _ (k : Holding) (slot : Slot) (taken new : Filed) (judgement : SlotRecord
   records_then = records_put Entries slot.id new slot Judged.after refl records_new
 
   message_new : message_of slot.id new ≡ message_at (kept_of k) slot.id
-  message_new = (λ i. message_of slot.id (record { acceptor = new.acceptor; learner = is_judged.learner i; proposer = is_judged.proposer i })) ∙ is_taken.message
+  message_new = (λ i. message_of slot.id (record {
+    acceptor = new.acceptor;
+    learner = is_judged.learner i;
+    proposer = is_judged.proposer i;
+    attempts = is_judged.attempts i;
+  })) ∙ is_taken.message
 
   kept_then : kept_of (holding k (with_value Entries slot.id new)) ≡ saved (kept_of k) slot Judged.after
   kept_then = λ i. record (kept_of k) {
@@ -114,12 +122,15 @@ module _ (k : Holding) (slot : Slot) (taken new : Filed) (judgement : SlotRecord
     messages = (message_put Entries slot.id new ∙ ap (λ (m : Message). insert_entry nat_cmp (map filed_as Entries) slot.id m) message_new) i;
   }
 
-  of_new : IsOf k.setup.node k.incarnation k.setup.nodes taken → IsOf k.setup.node k.incarnation k.setup.nodes new
+  of_new : IsOf k.setup.node k.incarnation k.setup.nodes slot.id taken → IsOf k.setup.node k.incarnation k.setup.nodes slot.id new
   of_new of = record {
     learner = ap (λ (l : Learned). l.nodes) is_judged.learner ∙ of.learner;
     node = ap (λ (p : Proposing). p.node) is_judged.proposer ∙ of.node;
     incarnation = ap (λ (p : Proposing). p.incarnation) is_judged.proposer ∙ of.incarnation;
     proposer = ap (λ (p : Proposing). p.nodes) is_judged.proposer ∙ of.proposer;
+    backed = λ place granted.
+        subst (λ (l : Learned). IsBacked k.setup.node k.incarnation place (message_in l slot.id).known) (sym is_judged.learner)
+        (of.backed place (sym (ap (λ (a : Attempts). granted_in a place) is_judged.attempts) ∙ granted));
   }
 
   change_is : Changes slot (records_of Entries slot) Judged.after verdict.change

@@ -83,25 +83,29 @@ records_put entries id m slot after of is other = elim (cases_Bool (other.id == 
 -- ---- the node of messages
 
 pub own_at : (setup : Setup) (starts : ℕ) (entries : List (ℕ × Filed)) (id : ℕ) (m : Filed) → AreOf setup starts entries →
-    value_at entries id ≡ Some m → IsOf setup.node starts setup.nodes m
+    value_at entries id ≡ Some m → IsOf setup.node starts setup.nodes id m
 own_at setup starts [] id m own found = absurd (cc)
-own_at setup starts (e ∷ es) id m own found = by_test (is_at (nat_cmp id) e.0) found (own_at setup starts es id m own.1)
+own_at setup starts (e ∷ es) id m own found = by_test (is_at (nat_cmp id) e.0) refl found (own_at setup starts es id m own.1)
   where
-    by_test : (test : Bool) → cond test (Some e.1) (value_at es id) ≡ Some m → (value_at es id ≡ Some m → IsOf setup.node starts setup.nodes m) →
-        IsOf setup.node starts setup.nodes m
-    by_test true is rest = let same : e.1 ≡ m = cc in subst (λ (n : Filed). IsOf setup.node starts setup.nodes n) same own.0
-    by_test false is rest = rest is
+    by_test : (test : Bool) → is_at (nat_cmp id) e.0 ≡ test → cond test (Some e.1) (value_at es id) ≡ Some m →
+        (value_at es id ≡ Some m → IsOf setup.node starts setup.nodes id m) → IsOf setup.node starts setup.nodes id m
+    by_test true at is rest =
+        let same : e.1 ≡ m = cc in
+        let key : e.0 ≡ id = sym (same_key id e.0 at) in
+        subst (λ (n : Filed). IsOf setup.node starts setup.nodes id n) same (subst (λ (i : ℕ). IsOf setup.node starts setup.nodes i e.1) key own.0)
+    by_test false at is rest = rest is
 
-pub own_put : (setup : Setup) (starts : ℕ) (entries : List (ℕ × Filed)) (id : ℕ) (m : Filed) → IsOf setup.node starts setup.nodes m →
+pub own_put : (setup : Setup) (starts : ℕ) (entries : List (ℕ × Filed)) (id : ℕ) (m : Filed) → IsOf setup.node starts setup.nodes id m →
     AreOf setup starts entries → AreOf setup starts (with_value entries id m)
 own_put setup starts [] id m is own = (is, tt)
-own_put setup starts (e ∷ es) id m is own = at_order (nat_cmp id e.0) (own_put setup starts es id m is own.1)
+own_put setup starts (e ∷ es) id m is own = at_order (nat_cmp id e.0) refl (own_put setup starts es id m is own.1)
   where
-    at_order : (o : Ordering) → AreOf setup starts (with_value es id m) →
+    at_order : (o : Ordering) → nat_cmp id e.0 ≡ o → AreOf setup starts (with_value es id m) →
         AreOf setup starts (match_ordering o ((id, m) ∷ e ∷ es) ((e.0, m) ∷ es) (e ∷ with_value es id m))
-    at_order Less rest = (is, own)
-    at_order Equal rest = (is, own.1)
-    at_order Greater rest = (own.0, rest)
+    at_order Less order rest = (is, own)
+    at_order Equal order rest =
+        let key : id ≡ e.0 = grind (arith, nat_tests) in (subst (λ (i : ℕ). IsOf setup.node starts setup.nodes i m) key is, own.1)
+    at_order Greater order rest = (own.0, rest)
 
 -- the records stay, if the message has the same
 pub records_kept : (entries : List (ℕ × Filed)) (id : ℕ) (m : Filed) →

@@ -8,11 +8,11 @@ use Rattle.std.specs.BTreeMap.{insert_entry}
 use Rattle.mc_model.specs.synod.Ballot.{incarnation_in, proposer_of}
 use Rattle.mc_model.specs.synod.OneSlot.{Vote}
 use Rattle.mc_model.specs.synod.Packet.{Packet, Propose, Slot, slot_at}
-use Rattle.mc_model.specs.node.Outputs.{Receipt}
+use Rattle.mc_model.specs.node.Outputs.{Outputs}
 use Rattle.mc_model.specs.node.Setup.{Setup}
 use Rattle.node_model.specs.Kept.{Kept, message_at, with_message}
 use Rattle.node_model.specs.Message.{Message, Round}
-use Rattle.node_model.specs.Outputs.{Stepped, leaves, sends}
+use Rattle.node_model.specs.Outputs.{Stepped, leaves, nothing, sends}
 use Rattle.node_model.specs.Packets.{on_promise, on_refused, promised_in, proposals}
 use Rattle.node_model.specs.Proposer.{completes, is_own_ballot, offered, promised_by, refused, runs_at}
 use Rattle.synod_acceptor.specs.Packets.{packet_of}
@@ -26,13 +26,13 @@ use Rattle.node_core.specs.declared.message.Message.{Message as Filed}
 use Rattle.node_core.specs.declared.step.Step.{Step}
 use Rattle.node_core.specs.Keeping.{AreOf, AreOwn, IsTaken, filed_as, kept_of, records_of}
 use Rattle.node_core.specs.Messages.{IsOfSame, IsPromised, IsRefused, changed_by, message_of}
-use Rattle.node_core.specs.Steps.{IsLeft, IsStep}
+use Rattle.node_core.specs.Steps.{IsLeft, IsStep, giving}
 use Rattle.node_core.specs.Lists.{listed}
 use Rattle.node_core.proofs.Answering.{holding, nexts}
 use Rattle.node_core.proofs.Entries.{message_put, own_put, records_kept}
 
-module _ (k : Holding) (id : ℕ) (taken new : Filed) (to : Message) (packets : List Packet) (receipts : List Receipt) (step : Step)
-    (is_taken : IsTaken k id taken) (same : IsOfSame taken new) (is : message_of id new ≡ to) (is_left : IsLeft k id new packets receipts step) where
+module _ (k : Holding) (id : ℕ) (taken new : Filed) (to : Message) (outputs : Outputs) (step : Step)
+    (is_taken : IsTaken k id taken) (same : IsOfSame id taken new) (is : message_of id new ≡ to) (is_left : IsLeft k id new outputs step) where
   abbrev Entries : List (ℕ × Filed)
   Entries = k.messages.entries
 
@@ -45,10 +45,10 @@ module _ (k : Holding) (id : ℕ) (taken new : Filed) (to : Message) (packets : 
     messages = (message_put Entries id new ∙ ap (λ (m : Message). insert_entry nat_cmp (map filed_as Entries) id m) is) i;
   }
 
-  pub left : IsStep k (sends (with_message (kept_of k) id to) packets [] receipts) step
+  pub left : IsStep k (record { kept = with_message (kept_of k) id to; outputs = outputs }) step
   left = record {
     kept = nexts k id new step.next is_left.next ∙ kept_then;
-    outputs = is_left.outputs;
+    outputs = is_left.gives;
     saves = λ other.
         ap (λ (es : List (ℕ × Filed)). records_of es other) is_left.next.entries
         ∙ records_then other
@@ -64,13 +64,13 @@ module _ (k : Holding) (id : ℕ) (taken new : Filed) (to : Message) (packets : 
 
 pub refused_own : (k : Holding) (slot : Slot) (ballot promised : ℕ) (taken new : Filed) (step : Step) → AreOwn k →
     is_own_ballot k.setup (kept_of k) ballot ≡ true → IsTaken k slot.id taken → IsRefused taken slot ballot promised new →
-    IsLeft k slot.id new [] [] step → IsStep k (on_refused k.setup (kept_of k) slot ballot promised) step
+    IsLeft k slot.id new nothing step → IsStep k (on_refused k.setup (kept_of k) slot ballot promised) step
 refused_own k slot ballot promised taken new step own test is_taken is_refused is_left =
     let of = is_taken.own own in
     let also : is_own taken.proposer ballot ≡ true = (λ i. (proposer_of ballot == of.node i) && (incarnation_in ballot == of.incarnation i)) ∙ test in
     let message = is_refused.message slot.id also ∙ ap (λ (m : Message). refused m slot ballot promised) is_taken.message in
     subst (λ (s : Stepped). IsStep k s step) (sym (ap (λ (b : Bool). if b then leaves (with_message (kept_of k) slot.id (refused (message_at (kept_of k) slot.id) slot ballot promised)) else leaves (kept_of k)) test))
-    (left k slot.id taken new (refused (message_at (kept_of k) slot.id) slot ballot promised) [] [] step is_taken is_refused.same message is_left)
+    (left k slot.id taken new (refused (message_at (kept_of k) slot.id) slot ballot promised) nothing step is_taken (is_refused.same slot.id) message is_left)
 
 pub refused_other : (k : Holding) (slot : Slot) (ballot promised : ℕ) (step : Step) → is_own_ballot k.setup (kept_of k) ballot ≡ false →
     IsStep k (leaves (kept_of k)) step → IsStep k (on_refused k.setup (kept_of k) slot ballot promised) step
@@ -107,7 +107,7 @@ promise_counted setup k m (Some r) sender slot ballot report test =
 
 pub promised_here : (k : Holding) (sender : ℕ) (slot : Slot) (ballot : ℕ) (report : Option Vote) (taken new : Filed) (packet : Option Cast) (step : Step) →
     AreOwn k → runs_at (message_at (kept_of k) slot.id).round slot ballot ≡ true → IsTaken k slot.id taken →
-    IsPromised taken sender ballot slot report new packet → IsLeft k slot.id new (listed (option_map packet_of packet)) [] step →
+    IsPromised taken sender ballot slot report new packet → IsLeft k slot.id new (giving (listed (option_map packet_of packet)) []) step →
     IsStep k (on_promise k.setup (kept_of k) sender slot ballot report) step
 promised_here k sender slot ballot report taken new packet step own test is_taken is_promised is_left =
     let m = message_at (kept_of k) slot.id in
@@ -117,5 +117,5 @@ promised_here k sender slot ballot report taken new packet step own test is_take
     let packets : option_map packet_of packet ≡ proposed_in k.setup.node k.setup.nodes m.round sender report =
     is_promised.proposes slot.id runs ∙ (λ i. proposed_in (of.node i) (of.proposer i) (is_taken.message i).round sender report) in
     subst (λ (s : Stepped). IsStep k s step) (promise_counted k.setup (kept_of k) m m.round sender slot ballot report test)
-    (left k slot.id taken new (counted_in m sender report) (listed (proposed_in k.setup.node k.setup.nodes m.round sender report)) [] step is_taken is_promised.same message
-    (subst (λ (p : Option Packet). IsLeft k slot.id new (listed p) [] step) packets is_left))
+    (left k slot.id taken new (counted_in m sender report) (giving (listed (proposed_in k.setup.node k.setup.nodes m.round sender report)) []) step is_taken (is_promised.same slot.id) message
+    (subst (λ (p : Option Packet). IsLeft k slot.id new (giving (listed p) []) step) packets is_left))

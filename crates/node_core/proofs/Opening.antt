@@ -60,7 +60,7 @@ unseen_put (e ∷ es) id m is fresh = at_order (nat_cmp id e.0) refl (unseen_put
 pub filed : (old new : Holding) (kept : Record) (id : ℕ) (taken m : Filed) (next : Next) → id ≡ (slot_recorded kept).id → IsTaken old id taken →
     ((slot : Slot) → record_at m.acceptor slot ≡ with_record (record_at taken.acceptor) (slot_recorded kept) (record_of kept) slot) →
     ((id : ℕ) → message_of id m ≡ message_of id taken) →
-    (IsOf old.setup.node old.incarnation old.setup.nodes taken → IsOf old.setup.node old.incarnation old.setup.nodes m) →
+    (IsOf old.setup.node old.incarnation old.setup.nodes id taken → IsOf old.setup.node old.incarnation old.setup.nodes id m) →
     IsNext old id m next → IsInstalled old next new → IsFiled old kept new
 filed old new kept id taken m next about is_taken records same of is_next is = let entries = is.entries ∙ is_next.entries in record {
   setup = is.setup;

@@ -41,14 +41,14 @@ kept_of k = record {
 -- each message is one of this node, and was made in this incarnation
 abbrev pub AreOf : Setup → ℕ → List (ℕ × Filed) → Type 0
 AreOf setup starts [] = Unit {0}
-AreOf setup starts (first ∷ others) = IsOf setup.node starts setup.nodes first.1 × AreOf setup starts others
+AreOf setup starts (first ∷ others) = IsOf setup.node starts setup.nodes first.0 first.1 × AreOf setup starts others
 
 pub record AreOwn (k : Holding) : Type 0 where
   pub each : AreOf k.setup k.incarnation k.messages.entries
 
 -- a message that was taken out of it is what is kept of this id
 pub record IsTaken (k : Holding) (id : ℕ) (m : Filed) : Type 0 where
-  pub own : AreOwn k → IsOf k.setup.node k.incarnation k.setup.nodes m
+  pub own : AreOwn k → IsOf k.setup.node k.incarnation k.setup.nodes id m
   pub message : message_of id m ≡ message_at (kept_of k) id
   pub records : (place : ℕ) → record_at m.acceptor (slot_at id place) ≡ records_of k.messages.entries (slot_at id place)
 

@@ -86,8 +86,11 @@ pub record IsAnswer (k : Holding) (id : ℕ) (m : Filed) (verdict : Verdict) (st
   pub change : step.change ≡ verdict.change
   pub next : IsNext k id m step.next
 
--- it sends these packets and writes these receipts, saves nothing, and keeps this message
-pub record IsLeft (k : Holding) (id : ℕ) (m : Filed) (packets : List Packet) (receipts : List Receipt) (step : Step) : Type 0 where
-  pub outputs : outputs_of step.outputs ≡ record nothing { packets = packets; receipts = receipts }
+abbrev pub giving : List Packet → List Receipt → Outputs
+giving packets receipts = record nothing { packets = packets; receipts = receipts }
+
+-- it gives this out, saves nothing, and keeps this message
+pub record IsLeft (k : Holding) (id : ℕ) (m : Filed) (outputs : Outputs) (step : Step) : Type 0 where
+  pub gives : outputs_of step.outputs ≡ outputs
   pub change : step.change ≡ None
   pub next : IsNext k id m step.next

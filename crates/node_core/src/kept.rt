@@ -16,7 +16,7 @@ ghost use Rattle.synod_acceptor.specs.Votes.{report_of, slot_in, slot_reported, 
 ghost use Rattle.node_core.specs.Keeping.{AreOwn, IsFiled, IsOpen, IsTaken, kept_of};
 ghost use Rattle.node_core.specs.Lists.{listed};
 ghost use Rattle.node_core.specs.Voting.{id_concerns, receipt_if, voted_in};
-ghost use Rattle.node_core.specs.Steps.{HasRoom, IsAnswer, IsInstalled, IsLeft, IsNext, IsStep, entries_after, receipt_of};
+ghost use Rattle.node_core.specs.Steps.{HasRoom, IsAnswer, IsInstalled, IsLeft, IsNext, IsStep, entries_after, giving, receipt_of};
 
 use crate::input::sender;
 use crate::message::{Message, fate_in};
@@ -375,7 +375,7 @@ impl Kept {
         packet: Option<Packet>,
         receipt: Option<Chain>,
     ) -> Result<Step, AllocError>
-        ensures { IfOk result (IsLeft self.now id message (listed (option_map packet_of packet)) (listed (option_map receipt_of receipt))) }
+        ensures { IfOk result (IsLeft self.now id message (giving (listed (option_map packet_of packet)) (listed (option_map receipt_of receipt)))) }
     {
         let next = self.next(id, message)?;
         let outputs = Outputs::of(self.alloc, packet, receipt)?;

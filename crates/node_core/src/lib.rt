@@ -1,7 +1,9 @@
 //! One node over the synod: what it keeps, and what a step does with it, over a store that outlives its stops.
 #![tactic(auto)]
 
+mod attempts;
 mod fault;
+mod grant_refusal;
 mod input;
 mod kept;
 mod life;
@@ -14,6 +16,7 @@ mod setup;
 mod step;
 
 pub use fault::StepFault;
+pub use grant_refusal::GrantRefusal;
 pub use input::Input;
 pub use life::Life;
 pub use node::Node;

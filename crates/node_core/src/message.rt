@@ -13,8 +13,9 @@ ghost use Rattle.fate_chain.specs.Kinds.{final_of};
 ghost use Rattle.synod_proposer.specs.Proposing.{IsOfSame as IsOfSameProposer, message_of as message_proposed};
 ghost use Rattle.synod_acceptor.specs.Records.{record_at};
 ghost use Rattle.synod_acceptor.specs.Votes.{record_of, report_of, slot_in, slot_recorded, slot_reported, told_vote, vote_of};
-ghost use Rattle.node_core.specs.Messages.{IsHeard, IsJudged, IsOf, IsPromised, IsRefused, changed_by, message_of};
+ghost use Rattle.node_core.specs.Messages.{IsHeard, IsJudged, IsOf, IsPromised, IsRefused, IsStarted, changed_by, message_of};
 
+use crate::attempts::Attempts;
 use fate_chain::{Author, Chain, Final, Kind};
 use mc_types::{Ballot, MsgId, NodeNo, Slot};
 use std::alloc::{AllocError, Global};
@@ -22,12 +23,14 @@ use synod_acceptor::{Acceptor, Change, Packet, Record, Report, Verdict, Vote};
 use synod_learner::Learner;
 use synod_proposer::Proposer;
 
-/// What a node keeps of one message: the records of its acceptor, what it heard and knows, and what it proposes.
+/// What a node keeps of one message: the records of its acceptor, what it heard and knows, what it proposes, and what it did with its
+/// attempts.
 #[derive(Debug, Drop)]
 pub struct Message {
     acceptor: Acceptor,
     learner: Learner,
     proposer: Proposer,
+    attempts: Attempts,
 }
 
 impl Message {
@@ -35,12 +38,13 @@ impl Message {
     pub fn fresh(alloc: Global, me: Author, nodes: u8) -> Result<Message, AllocError>
         ensures records { IfOk result (λ message. (slot : SlotValue) → record_at message.acceptor slot ≡ blank) }
         ensures message { IfOk result (λ message. (id : ℕ) → message_of id message ≡ unseen) }
-        ensures own { IfOk result (IsOf me.node me.incarnation nodes) }
+        ensures own { IfOk result (λ message. (id : ℕ) → IsOf me.node me.incarnation nodes id message) }
     {
         Ok(Message {
             acceptor: Acceptor::make(alloc, Vec::new(alloc))?,
             learner: Learner::make(alloc, nodes),
             proposer: Proposer::make(me, nodes),
+            attempts: Attempts::none(),
         })
     }
 
@@ -112,6 +116,26 @@ impl Message {
         }
     }
 
+    /// Starts the round for a chain of it, and gives its Prepare, if no round runs and a number is left: its round is one above the highest
+    /// at that place, of the own record, of refusals and of earlier rounds, and at most 2^32 - 1. Else it changes nothing. It takes no
+    /// memory.
+    pub fn start(&mut self, chain: Chain) -> Option<Packet>
+        ensures { IsStarted self.old chain self.new result }
+    {
+        if self.proposer.running().is_some() {
+            return None;
+        }
+        let slot = Slot {
+            id: chain.id(),
+            place: chain.place(),
+        };
+        let own = match self.acceptor.record(slot) {
+            Some(record) => record.promised.round(),
+            None => 0,
+        };
+        self.proposer.start(chain, own).ok()
+    }
+
     /// Takes in that a ballot was refused for a promise at another; one of another node or incarnation changes nothing. It takes no
     /// memory.
     pub fn refused(&mut self, slot: Slot, ballot: Ballot, promised: Ballot)
@@ -125,7 +149,7 @@ impl Message {
         ensures records { OnOk result ((slot : SlotValue) →
             record_at self.new.acceptor slot ≡ with_record (record_at self.old.acceptor) (slot_recorded stored) (record_of stored) slot) }
         ensures others { OnOk result ((id : ℕ) → message_of id self.new ≡ message_of id self.old) }
-        ensures own { OnOk result ((me starts nodes : ℕ) → IsOf me starts nodes self.old → IsOf me starts nodes self.new) }
+        ensures own { OnOk result ((me starts nodes id : ℕ) → IsOf me starts nodes id self.old → IsOf me starts nodes id self.new) }
     {
         self.acceptor.apply(Change { after: stored })?;
         Ok(())
@@ -146,6 +170,7 @@ impl Message {
             acceptor: self.acceptor.copy()?,
             learner: self.learner.copy()?,
             proposer: self.proposer.copy()?,
+            attempts: self.attempts,
         })
     }
 }

@@ -1,0 +1,70 @@
+-- What the code keeps of a node's attempts on a message, and which of them are granted and closed.
+use Rattle.std.specs.Prelude.{◌≡◌, ℕ, ◌≤◌, pred, Bool, true, false, ◌==◌, ◌&&◌, not, is_some, List, [], ◌∷◌, length, get_or, Option, Some, None, option_map, if◌then◌else◌}
+use Rattle.mc_model.specs.message.Decree.{Decree}
+use Rattle.mc_model.specs.synod.Packet.{Slot, slot_at}
+use Rattle.mc_model.specs.node.Grant.{AlreadyGranted, Closed, GrantRefusal, NotChosen, NotMine, OlderIncarnation}
+use Rattle.mc_model.specs.node.Outcome.{Outcome}
+use Rattle.mc_model.specs.node.Setup.{Setup}
+use Rattle.node_model.specs.Message.{Message}
+use Rattle.node_model.specs.Kept.{Kept, message_at}
+use Rattle.node_model.specs.Rules.{is_attempt_by}
+use Rattle.fate_chain.specs.declared.decree.Author.{Author}
+use Rattle.rules.specs.Attempts.{closed_as}
+use Rattle.rules.specs.declared.attempted.Attempted.{Attempted}
+use Rattle.node_core.specs.declared.attempts.Attempts.{Attempts}
+use Rattle.node_core.specs.declared.grant_refusal.GrantRefusal.{GrantRefusal as Reason}
+use Rattle.node_core.specs.declared.grant_refusal.GrantRefusal.TheVariants as reasons
+
+-- ---- by place
+
+abbrev pub untried : Attempted
+untried = record { granted = false; closed = None }
+
+abbrev pub attempted_in : Attempts → ℕ → Attempted
+attempted_in attempts place = get_or attempts.each place untried
+
+abbrev pub granted_in : Attempts → ℕ → Bool
+granted_in attempts place = (attempted_in attempts place).granted
+
+abbrev pub closed_in : Attempts → ℕ → Option Outcome
+closed_in attempts place = option_map closed_as (attempted_in attempts place).closed
+
+-- ---- grants
+
+abbrev pub refusal_of : Reason → GrantRefusal
+refusal_of reasons.NotChosen = NotChosen
+refusal_of reasons.NotMine = NotMine
+refusal_of reasons.OlderIncarnation = OlderIncarnation
+refusal_of reasons.AlreadyGranted = AlreadyGranted
+refusal_of reasons.Closed = Closed
+
+-- an author is the node in its incarnation
+pub record IsBy (setup : Setup) (k : Kept) (me : Author) : Type 0 where
+  pub node : me.node ≡ setup.node
+  pub incarnation : me.incarnation ≡ k.incarnation
+
+-- this was done with the attempt of a message at a place
+pub record IsTried (m : Message) (place : ℕ) (attempted : Attempted) : Type 0 where
+  pub granted : attempted.granted ≡ m.granted place
+  pub closed : option_map closed_as attempted.closed ≡ m.closed place
+
+-- A place of which an attempt was granted: what is known reaches it, and if it ends there, it ends in an attempt of this node after so
+-- many starts.
+abbrev pub IsBacked : ℕ → ℕ → ℕ → Option (List Decree) → Type 0
+IsBacked me starts place None = ⊥
+IsBacked me starts place (Some []) = ⊥
+IsBacked me starts place (Some (newest ∷ older)) =
+    (place ≤ length older)
+    × (place ≡ length older → (is_attempt_by me newest newest.kind && newest.author.incarnation == starts) ≡ true)
+
+-- the slot in which a chain that is known stands
+abbrev pub known_place : Option (List Decree) → ℕ
+known_place None = 0
+known_place (Some chain) = pred (length chain)
+
+abbrev pub known_slot : Kept → ℕ → Slot
+known_slot k id = slot_at id (known_place (message_at k id).known)
+
+-- an attempt that was granted and is not closed
+abbrev pub is_open : Kept → Slot → Bool
+is_open k slot = (message_at k slot.id).granted slot.place && not (is_some ((message_at k slot.id).closed slot.place))
