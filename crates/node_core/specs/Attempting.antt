@@ -1,5 +1,5 @@
 -- What the code keeps of a node's attempts on a message, and which of them are granted and closed.
-use Rattle.std.specs.Prelude.{◌≡◌, ℕ, ◌≤◌, pred, Bool, true, false, ◌==◌, ◌&&◌, not, is_some, List, [], ◌∷◌, length, get_or, Option, Some, None, option_map, if◌then◌else◌}
+use Rattle.std.specs.Prelude.{◌≡◌, ℕ, ◌≤◌, pred, Bool, true, false, ◌==◌, ◌&&◌, not, is_some, List, [], ◌∷◌, length, get_or, Option, Some, None, option_map}
 use Rattle.mc_model.specs.message.Decree.{Decree}
 use Rattle.mc_model.specs.synod.Packet.{Slot, slot_at}
 use Rattle.mc_model.specs.node.Grant.{AlreadyGranted, Closed, GrantRefusal, NotChosen, NotMine, OlderIncarnation}
@@ -38,6 +38,13 @@ refusal_of reasons.OlderIncarnation = OlderIncarnation
 refusal_of reasons.AlreadyGranted = AlreadyGranted
 refusal_of reasons.Closed = Closed
 
+abbrev pub reason_of : GrantRefusal → Reason
+reason_of NotChosen = reasons.NotChosen
+reason_of NotMine = reasons.NotMine
+reason_of OlderIncarnation = reasons.OlderIncarnation
+reason_of AlreadyGranted = reasons.AlreadyGranted
+reason_of Closed = reasons.Closed
+
 -- an author is the node in its incarnation
 pub record IsBy (setup : Setup) (k : Kept) (me : Author) : Type 0 where
   pub node : me.node ≡ setup.node
@@ -66,5 +73,8 @@ abbrev pub known_slot : Kept → ℕ → Slot
 known_slot k id = slot_at id (known_place (message_at k id).known)
 
 -- an attempt that was granted and is not closed
+abbrev pub is_open_in : Message → ℕ → Bool
+is_open_in m place = m.granted place && not (is_some (m.closed place))
+
 abbrev pub is_open : Kept → Slot → Bool
-is_open k slot = (message_at k slot.id).granted slot.place && not (is_some ((message_at k slot.id).closed slot.place))
+is_open k slot = is_open_in (message_at k slot.id) slot.place

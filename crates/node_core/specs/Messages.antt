@@ -1,15 +1,17 @@
 -- What the code keeps of a message, as the node's model says it.
-use Rattle.std.specs.Prelude.{◌≡◌, ℕ, suc, Bool, true, ◌&&◌, not, is_some, nat_lt, List, Option, Some, None, option_map, if◌then◌else◌}
+use Rattle.std.specs.Prelude.{◌≡◌, ℕ, suc, Bool, true, ◌==◌, ◌&&◌, not, is_some, nat_lt, List, Option, Some, None, option_map, if◌then◌else◌}
 use Rattle.mc_model.specs.synod.OneSlot.{Vote}
 use Rattle.mc_model.specs.message.Chain.{Chain}
 use Rattle.mc_model.specs.message.Decree.{Decree}
 use Rattle.mc_model.specs.synod.Ballot.{ballot_of}
-use Rattle.mc_model.specs.synod.Packet.{Packet, Prepare, Slot, slot_of}
+use Rattle.mc_model.specs.synod.Packet.{Packet, Prepare, Slot, slot_at, slot_of}
 use Rattle.mc_model.specs.synod.Acceptor.{Records, with_record}
+use Rattle.mc_model.specs.node.Outcome.{Outcome}
 use Rattle.node_model.specs.Acceptor.{Judgement}
+use Rattle.node_model.specs.Attempts.{concluded}
 use Rattle.node_model.specs.Learner.{heard, makes_known}
 use Rattle.node_model.specs.Message.{Message}
-use Rattle.node_model.specs.Proposer.{highest_round, last_round, refused, runs_at, started_at}
+use Rattle.node_model.specs.Proposer.{Start, highest_round, last_round, refused, runs_at, started_at}
 use Rattle.synod_acceptor.specs.declared.acceptor.Verdict.{Verdict}
 use Rattle.synod_acceptor.specs.declared.packet.Packet.{Packet as Sent}
 use Rattle.synod_acceptor.specs.declared.record.Change.{Change}
@@ -20,6 +22,8 @@ use Rattle.synod_acceptor.specs.Votes.{record_of, slot_recorded, vote_of}
 use Rattle.synod_acceptor.specs.declared.vote.Vote.{Vote as Cast}
 use Rattle.synod_learner.specs.Hearing.{known_if, message_in}
 use Rattle.synod_proposer.specs.Proposing.{counted_in, is_own, message_of as message_proposed, proposed_in}
+use Rattle.rules.specs.Standpoints.{kept_of, setup_of}
+use Rattle.rules.specs.declared.standpoint.Standpoint.{Standpoint}
 use Rattle.node_core.specs.declared.message.Message.{Message as Filed}
 use Rattle.node_core.specs.Attempting.{IsBacked, closed_in, granted_in}
 
@@ -98,6 +102,38 @@ pub record IsStarted (old : Filed) (chain : Chain) (new : Filed) (packet : Optio
       ≡ with_round old.proposer.node old.proposer.incarnation (record_at old.acceptor) (message_of chain.id old) (slot_of chain.id chain.decrees) chain.decrees
   pub prepares : option_map packet_of packet
       ≡ prepare_for old.proposer.node old.proposer.incarnation (record_at old.acceptor) (message_of chain.id old) (slot_of chain.id chain.decrees)
+
+-- a round starts for a chain at a place, if there is one and it may
+abbrev pub with_start : ℕ → ℕ → Records → Message → ℕ → Option Start → Message
+with_start me starts records m id None = m
+with_start me starts records m id (Some start) = with_round me starts records m (slot_at id start.place) start.chain
+
+abbrev pub prepare_from : ℕ → ℕ → Records → Message → ℕ → Option Start → Option Packet
+prepare_from me starts records m id None = None
+prepare_from me starts records m id (Some start) = prepare_for me starts records m (slot_at id start.place)
+
+-- The attempt at a place is granted, or closed, and nothing else changes.
+abbrev pub granted_at : Message → ℕ → Message
+granted_at m place = record m { granted = λ other. if other == place then true else m.granted other }
+
+abbrev pub closed_at : Message → ℕ → Outcome → Message
+closed_at m place outcome = record m { closed = λ other. if other == place then Some outcome else m.closed other }
+
+pub record IsTriedSo (old : Filed) (change : Message → Message) (new : Filed) : Type 0 where
+  pub acceptor : new.acceptor ≡ old.acceptor
+  pub learner : new.learner ≡ old.learner
+  pub proposer : new.proposer ≡ old.proposer
+  pub message : (id : ℕ) → message_of id new ≡ change (message_of id old)
+
+-- An attempt is closed with what came of it, and a round starts for its decree, if that is due.
+pub record IsConcluded (s : Standpoint) (old : Filed) (slot : Slot) (outcome : Outcome) (new : Filed) (packet : Option Sent) : Type 0 where
+  pub same : IsOfSame slot.id old new
+  pub message : message_of slot.id new
+      ≡ with_start old.proposer.node old.proposer.incarnation (record_at old.acceptor) (closed_at (message_of slot.id old) slot.place outcome) slot.id
+      (concluded (setup_of s) (kept_of s) slot outcome (message_of slot.id old).known)
+  pub prepares : option_map packet_of packet
+      ≡ prepare_from old.proposer.node old.proposer.incarnation (record_at old.acceptor) (closed_at (message_of slot.id old) slot.place outcome) slot.id
+      (concluded (setup_of s) (kept_of s) slot outcome (message_of slot.id old).known)
 
 -- the records after a change, if there is one
 abbrev pub changed_by : Option Change → Records → Records

@@ -1,14 +1,21 @@
 -- A step of the code, as a step of the node's model.
-use Rattle.std.specs.Prelude.{◌≡◌, ℕ, ◌≤◌, ◌-◌, max, List, [], ◌∷◌, length, map, Option, Some, None}
+use Rattle.std.specs.Prelude.{◌≡◌, ℕ, ◌≤◌, ◌-◌, max, List, [], ◌∷◌, length, map, option_map, Option, Some, None, if◌then◌else◌}
 use Rattle.std.specs.Box.{box_value}
 use Rattle.mc_model.specs.message.Chain.{Chain}
-use Rattle.mc_model.specs.synod.Packet.{Packet, Slot}
-use Rattle.mc_model.specs.node.Input.{Delivery, Input}
+use Rattle.mc_model.specs.synod.Packet.{Packet, Slot, slot_of}
+use Rattle.mc_model.specs.node.Input.{Delivery, Grant, Input, Response}
 use Rattle.mc_model.specs.node.Outputs.{Outputs, Receipt}
+use Rattle.mc_model.specs.node.Setup.{Setup}
+use Rattle.node_model.specs.Attempts.{grant_refusal}
+use Rattle.node_model.specs.Kept.{Kept}
 use Rattle.node_model.specs.Outputs.{Stepped, nothing}
+use Rattle.node_model.specs.Stepped.{stepped}
+use Rattle.delivery.specs.Kept.{outcome_kept}
 use Rattle.shelf.specs.Shelved.{Shelved, with_value}
 use Rattle.synod_acceptor.specs.Packets.{packet_of}
 use Rattle.synod_acceptor.specs.declared.acceptor.Verdict.{Verdict}
+use Rattle.node_core.specs.declared.fault.StepFault.{StepFault}
+use Rattle.node_core.specs.declared.fault.StepFault.TheVariants as faults
 use Rattle.node_core.specs.declared.input.Input.{Input as Given}
 use Rattle.node_core.specs.declared.input.Input.TheVariants as given
 use Rattle.node_core.specs.declared.kept.Kept.{Kept as Holding}
@@ -17,19 +24,40 @@ use Rattle.node_core.specs.declared.outputs.Outputs.{Outputs as Sent}
 use Rattle.node_core.specs.declared.step.Next.{Next}
 use Rattle.node_core.specs.declared.step.Put.{Put}
 use Rattle.node_core.specs.declared.step.Step.{Step}
+use Rattle.node_core.specs.Attempting.{is_open, known_slot, reason_of}
 use Rattle.node_core.specs.Keeping.{AreOwn, kept_of, records_of}
 use Rattle.node_core.specs.Messages.{changed_by}
 
--- what comes to the code
-abbrev pub input_of : Given → Input
-input_of (given.Packet packet) = Delivery (packet_of packet)
+-- What comes to the code, to a node that keeps this. A grant is asked for of the attempt in which the known chain ends.
+abbrev pub input_of : Kept → Given → Input
+input_of k (given.Packet packet) = Delivery (packet_of packet)
+input_of k (given.Grant id) = Grant (known_slot k id)
+input_of k (given.Answered slot outcome) = Response slot (outcome_kept outcome)
+
+-- why it is refused
+abbrev pub refused_by : Setup → Kept → Given → Option StepFault
+refused_by setup k (given.Packet packet) = None
+refused_by setup k (given.Grant id) = option_map (λ refusal. faults.Grant (reason_of refusal)) (grant_refusal setup k id)
+refused_by setup k (given.Answered slot outcome) = if is_open k slot then None else Some faults.NotGranted
+
+-- a step that is not refused fails for want of memory alone
+abbrev pub IsFault : Option StepFault → StepFault → Type 0
+IsFault None fault = fault ≡ faults.Memory
+IsFault (Some refusal) fault = fault ≡ refusal
 
 -- what it gives out, receipts by the chains of their messages
 abbrev pub receipt_of : Chain → Receipt
 receipt_of chain = record { id = chain.id; chain = chain.decrees }
 
+abbrev pub granted_of : Chain → Slot
+granted_of chain = slot_of chain.id chain.decrees
+
 abbrev pub outputs_of : Sent → Outputs
-outputs_of o = record nothing { packets = map packet_of o.packets.items; receipts = map receipt_of o.receipts.items }
+outputs_of o = record nothing {
+  packets = map packet_of o.packets.items;
+  receipts = map receipt_of o.receipts.items;
+  granted = option_map granted_of o.granted;
+}
 
 -- ---- what a step keeps
 
@@ -79,6 +107,11 @@ pub record IsStep (k : Holding) (to : Stepped) (step : Step) : Type 0 where
   pub saves : (slot : Slot) → records_of (installed k step.next).messages.entries slot ≡ changed_by step.change (records_of k.messages.entries) slot
   pub own : AreOwn k → AreOwn (installed k step.next)
   pub room : HasRoom k.messages step.next
+
+-- the step of the model for this input, which is not refused
+pub record IsStepFor (k : Holding) (input : Given) (step : Step) : Type 0 where
+  pub is : IsStep k (stepped k.setup (kept_of k) (input_of (kept_of k) input)) step
+  pub allowed : refused_by k.setup (kept_of k) input ≡ None
 
 -- it answers by a verdict, and keeps this message
 pub record IsAnswer (k : Holding) (id : ℕ) (m : Filed) (verdict : Verdict) (step : Step) : Type 0 where

@@ -1,8 +1,9 @@
 //! Why a node does not take a step.
 
 ghost use Rattle.std.specs.Prelude.{◌≡◌};
-ghost use Rattle.node_core.specs.declared.fault.StepFault.TheVariants.{Memory};
+ghost use Rattle.node_core.specs.declared.fault.StepFault.TheVariants.{Grant, Memory};
 
+use crate::grant_refusal::GrantRefusal;
 use std::alloc::AllocError;
 
 /// Why a node does not take a step.
@@ -10,6 +11,10 @@ use std::alloc::AllocError;
 pub enum StepFault {
     /// 1: a save failed before; the node is to be opened again.
     Broken,
+    /// 2: the attempt is not granted, for this reason.
+    Grant(GrantRefusal),
+    /// 3: what came of an attempt that was not granted in this incarnation, or that is closed.
+    NotGranted,
     /// 4: the device of the store failed. What was to be saved is saved or not, and the node is Broken.
     Device,
     /// There was no memory for it.
@@ -21,5 +26,13 @@ impl From<AllocError> for StepFault {
 
     fn from(_error: AllocError) -> StepFault {
         StepFault::Memory
+    }
+}
+
+impl From<GrantRefusal> for StepFault {
+    ghost from_gives = { λ refusal fault. fault ≡ Grant refusal };
+
+    fn from(refusal: GrantRefusal) -> StepFault {
+        StepFault::Grant(refusal)
     }
 }

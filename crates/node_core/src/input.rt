@@ -4,7 +4,8 @@ ghost use Rattle.std.specs.Prelude.{◌≡◌};
 ghost use Rattle.node_model.specs.Stepped.{sender_of};
 ghost use Rattle.synod_acceptor.specs.Packets.{packet_of};
 
-use mc_types::NodeNo;
+use delivery::Outcome;
+use mc_types::{MsgId, NodeNo, Slot};
 use synod_acceptor::Packet;
 
 /// What comes to a node.
@@ -12,6 +13,10 @@ use synod_acceptor::Packet;
 pub enum Input {
     /// A packet that a node sent, or that anybody made up.
     Packet(Packet),
+    /// The attempt in which the known chain of a message ends is asked for.
+    Grant(MsgId),
+    /// What came of the attempt in a slot.
+    Answered(Slot, Outcome),
 }
 
 /// The node that sent a packet, as the packet says.

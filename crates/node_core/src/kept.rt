@@ -1,6 +1,6 @@
 //! What a node keeps.
 
-ghost use Rattle.std.specs.Prelude.{◌≡◌, ◌≤◌, ◌&&◌, length, [], None, IfOk, OnOk, not, option_map};
+ghost use Rattle.std.specs.Prelude.{◌≡◌, ◌≤◌, ◌&&◌, length, [], None, IfErr, IfOk, OnOk, not, option_map};
 ghost use Rattle.std.specs.Option.{option_copied};
 ghost use Rattle.node_model.specs.Acceptor.{told_of};
 ghost use Rattle.fate_chain.specs.Kinds.{final_of};
@@ -16,15 +16,17 @@ ghost use Rattle.synod_acceptor.specs.Votes.{report_of, slot_in, slot_reported, 
 ghost use Rattle.node_core.specs.Keeping.{AreOwn, IsFiled, IsOpen, IsTaken, kept_of};
 ghost use Rattle.node_core.specs.Lists.{listed};
 ghost use Rattle.node_core.specs.Voting.{id_concerns, receipt_if, voted_in};
-ghost use Rattle.node_core.specs.Steps.{HasRoom, IsAnswer, IsInstalled, IsLeft, IsNext, IsStep, entries_after, giving, receipt_of};
+ghost use Rattle.node_core.specs.Steps.{HasRoom, IsAnswer, IsFault, IsInstalled, IsLeft, IsNext, IsStep, IsStepFor, entries_after, giving, receipt_of, refused_by};
 
-use crate::input::sender;
+use crate::fault::StepFault;
+use crate::input::{Input, sender};
 use crate::message::{Message, fate_in};
 use crate::outputs::Outputs;
 use crate::setup::Setup;
 use crate::step::{Next, Put, Step};
 use fate_chain::{Author, Chain, Final, Submission};
 use mc_types::{Ballot, Incarnation, Moment, MsgId, NodeNo, Slot};
+use rules::Standpoint;
 use shelf::Shelf;
 use std::alloc::{AllocError, Global};
 use synod_acceptor::{Name, Packet, Record, Report, Verdict, Vote};
@@ -33,8 +35,8 @@ use synod_acceptor::{Name, Packet, Record, Report, Verdict, Vote};
 /// each message of which it heard.
 #[derive(Drop)]
 pub struct Kept {
-    alloc: Global,
-    setup: Setup,
+    pub(crate) alloc: Global,
+    pub(crate) setup: Setup,
     incarnation: Incarnation,
     clock: Moment,
     serial: u32,
@@ -80,9 +82,25 @@ impl Kept {
         Ok(())
     }
 
-    /// The step that a packet leads to. It changes nothing, and copies what is kept of the packet's message alone. An `Err` is want of
-    /// memory.
-    pub fn step(&self, packet: &Packet) -> Result<Step, AllocError>
+    /// The step that an input leads to. It changes nothing, and copies what is kept of the input's message alone. A refusal comes before
+    /// any memory is taken.
+    pub fn step(&self, input: &Input) -> Result<Step, StepFault>
+        requires { AreOwn self.now }
+        ensures ok { IfOk result (IsStepFor self.now input.now) }
+        ensures faults { IfErr result (IsFault (refused_by self.now.setup (kept_of self.now) input.now)) }
+    {
+        match input {
+            Input::Packet(packet) => {
+                let step = self.on_packet(packet)?;
+                Ok(step)
+            }
+            Input::Grant(id) => self.on_grant(*id),
+            Input::Answered(slot, outcome) => self.on_answered(*slot, *outcome),
+        }
+    }
+
+    /// The step that a packet leads to. An `Err` is want of memory.
+    fn on_packet(&self, packet: &Packet) -> Result<Step, AllocError>
         requires { AreOwn self.now }
         ensures { IfOk result (IsStep self.now (on_packet self.now.setup (kept_of self.now) (packet_of packet.now))) }
     {
@@ -306,7 +324,7 @@ impl Kept {
     }
 
     /// A copy of what is kept of a message.
-    fn taken(&self, id: MsgId) -> Result<Message, AllocError>
+    pub(crate) fn taken(&self, id: MsgId) -> Result<Message, AllocError>
         ensures { IfOk result (IsTaken self.now id) }
     {
         match self.find(id) {
@@ -316,7 +334,7 @@ impl Kept {
     }
 
     /// What is kept of a message; none if it was never heard of. It takes no memory.
-    fn find(&self, id: MsgId) -> Option<&Message>
+    pub(crate) fn find(&self, id: MsgId) -> Option<&Message>
         ensures { option_copied result ≡ value_at self.now.messages.entries id }
     {
         self.messages.get(id.number())
@@ -329,8 +347,20 @@ impl Kept {
         self.incarnation
     }
 
+    /// By whom its decrees are, and its clock.
+    pub(crate) fn standpoint(&self) -> Standpoint
+        ensures node { result.author.node ≡ self.now.setup.node }
+        ensures incarnation { result.author.incarnation ≡ self.now.incarnation }
+        ensures clock { result.clock ≡ self.now.clock }
+    {
+        Standpoint {
+            author: self.author(),
+            clock: self.clock,
+        }
+    }
+
     /// By whom its decrees are.
-    fn author(&self) -> Author
+    pub(crate) fn author(&self) -> Author
         ensures node { result.node ≡ self.now.setup.node }
         ensures incarnation { result.incarnation ≡ self.now.incarnation }
     {
@@ -368,7 +398,7 @@ impl Kept {
     }
 
     /// The step that sends this packet and writes this receipt, as far as there are any, and keeps this message under the id.
-    fn leave(
+    pub(crate) fn leave(
         &self,
         id: MsgId,
         message: Message,
@@ -387,7 +417,7 @@ impl Kept {
     }
 
     /// This message is to take the place of what is kept of the id, and nothing else changes.
-    fn next(&self, id: MsgId, message: Message) -> Result<Next, AllocError>
+    pub(crate) fn next(&self, id: MsgId, message: Message) -> Result<Next, AllocError>
         ensures { IfOk result (IsNext self.now id message) }
     {
         let mut next = self.unchanged();

@@ -4,6 +4,7 @@
 mod attempts;
 mod fault;
 mod grant_refusal;
+mod granting;
 mod input;
 mod kept;
 mod life;

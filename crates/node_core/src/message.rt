@@ -1,11 +1,14 @@
 //! What a node keeps of one message.
 
-ghost use Rattle.std.specs.Prelude.{◌≡◌, ℕ, IfOk, OnOk, option_map};
+ghost use Rattle.std.specs.Prelude.{◌≡◌, ◌≤◌, ℕ, true, Some, None, IfErr, IfOk, IfSome, OnOk, option_map};
 ghost use Rattle.std.specs.Option.{option_copied};
+ghost use Rattle.mc_model.specs.node.Setup.{Setup};
 ghost use Rattle.mc_model.specs.synod.Packet.{Slot as SlotValue};
 ghost use Rattle.mc_model.specs.synod.Acceptor.{blank, with_record};
 ghost use Rattle.node_model.specs.Acceptor.{prepare_judged, propose_judged, told_of};
-ghost use Rattle.node_model.specs.Message.{unseen};
+ghost use Rattle.node_model.specs.Message.{Message as MessageValue, unseen};
+ghost use Rattle.node_model.specs.Kept.{Kept as KeptValue};
+ghost use Rattle.node_model.specs.Attempts.{concluded, known_refusal, newest_refusal};
 ghost use Rattle.node_model.specs.Proposer.{runs_at, unless_reached};
 ghost use Rattle.node_model.specs.Answers.{had_fate};
 ghost use Rattle.mc_model.specs.message.Chain.{final_in};
@@ -13,11 +16,19 @@ ghost use Rattle.fate_chain.specs.Kinds.{final_of};
 ghost use Rattle.synod_proposer.specs.Proposing.{IsOfSame as IsOfSameProposer, message_of as message_proposed};
 ghost use Rattle.synod_acceptor.specs.Records.{record_at};
 ghost use Rattle.synod_acceptor.specs.Votes.{record_of, report_of, slot_in, slot_recorded, slot_reported, told_vote, vote_of};
-ghost use Rattle.node_core.specs.Messages.{IsHeard, IsJudged, IsOf, IsPromised, IsRefused, IsStarted, changed_by, message_of};
+ghost use Rattle.delivery.specs.Kept.{outcome_kept};
+ghost use Rattle.rules.specs.Attempts.{closed_as};
+ghost use Rattle.rules.specs.Standpoints.{kept_of, setup_of, start_of};
+ghost use Rattle.synod_learner.specs.Counts.{known_in};
+ghost use Rattle.node_core.specs.Attempting.{IsBacked, IsBy, IsTried, granted_in, is_open_in, reason_of};
+ghost use Rattle.node_core.specs.Messages.{IsConcluded, IsHeard, IsJudged, IsOf, IsPromised, IsRefused, IsStarted, IsTriedSo, changed_by, closed_at, granted_at, message_of};
 
 use crate::attempts::Attempts;
-use fate_chain::{Author, Chain, Final, Kind};
+use crate::grant_refusal::GrantRefusal;
+use delivery::Outcome;
+use fate_chain::{Author, Chain, Decree, Final, Kind};
 use mc_types::{Ballot, MsgId, NodeNo, Slot};
+use rules::{Attempted, Closing, Standpoint};
 use std::alloc::{AllocError, Global};
 use synod_acceptor::{Acceptor, Change, Packet, Record, Report, Verdict, Vote};
 use synod_learner::Learner;
@@ -136,6 +147,84 @@ impl Message {
         self.proposer.start(chain, own).ok()
     }
 
+    /// The chain of the message of this id that is known, if the attempt in which it ends may be granted to an author. Else the first reason
+    /// that fits why it may not. It takes no memory.
+    pub fn attempt(&self, id: MsgId, me: Author) -> Result<&Chain, GrantRefusal>
+        ensures known { IfOk result (λ chain. (message_of id self.now).known ≡ Some chain.now.decrees) }
+        ensures id { IfOk result (λ chain. chain.now.id ≡ id) }
+        ensures given { IfOk result (λ chain. (setup : Setup) (k : KeptValue) → IsBy setup k me →
+            known_refusal setup k (message_of id self.now) (message_of id self.now).known ≡ None) }
+        ensures refused { IfErr result (λ refusal. (setup : Setup) (k : KeptValue) → IsBy setup k me →
+            option_map reason_of (known_refusal setup k (message_of id self.now) (message_of id self.now).known) ≡ Some refusal) }
+    {
+        let Some(chain) = self.learner.known(id) else {
+            return Err(GrantRefusal::NotChosen);
+        };
+        match refusal(chain.newest(), me, self.attempts.at(chain.place())) {
+            Some(refusal) => Err(refusal),
+            None => Ok(chain),
+        }
+    }
+
+    /// Whether the attempt at a place was granted and is not closed. It takes no memory.
+    pub fn is_open(&self, place: u8) -> bool
+        ensures { (id : ℕ) → result ≡ is_open_in (message_of id self.now) place }
+    {
+        let attempted = self.attempts.at(place);
+        attempted.granted && attempted.closed.is_none()
+    }
+
+    /// Notes that the attempt at a place was granted. It takes no memory.
+    pub fn grant(&mut self, place: u8)
+        requires { place ≤ 17 }
+        ensures { IsTriedSo self.old (λ m. granted_at m place) self.new }
+    {
+        let closed = self.attempts.at(place).closed;
+        self.attempts.note(
+            place,
+            Attempted {
+                granted: true,
+                closed,
+            },
+        );
+    }
+
+    /// Notes what closed the attempt at a place. It takes no memory.
+    pub fn close(&mut self, place: u8, closing: Closing)
+        requires { place ≤ 17 }
+        ensures { IsTriedSo self.old (λ m. closed_at m place (closed_as closing)) self.new }
+    {
+        let granted = self.attempts.at(place).granted;
+        self.attempts.note(
+            place,
+            Attempted {
+                granted,
+                closed: Some(closing),
+            },
+        );
+    }
+
+    /// Closes the attempt in a slot with what came of it, and gives the Prepare of the round for its decree, if the attempt is the newest
+    /// that is known, no round runs, and a number is left. An `Err` is want of memory, after which the message is worth nothing.
+    pub fn conclude(
+        &mut self,
+        slot: Slot,
+        outcome: Outcome,
+        at: &Standpoint,
+    ) -> Result<Option<Packet>, AllocError>
+        requires { granted_in self.old.attempts slot.place ≡ true }
+        ensures { IfOk result (λ packet. IsOf at.now.author.node at.now.author.incarnation self.old.learner.nodes slot.id self.old →
+            IsConcluded at.now self.old slot (outcome_kept outcome) self.new packet) }
+    {
+        let closing = Closing::Answered(outcome);
+        let next = next_behind(&self.learner, slot, &closing, at)?;
+        self.close(slot.place, closing);
+        match next {
+            Some(next) => Ok(self.start(next)),
+            None => Ok(None),
+        }
+    }
+
     /// Takes in that a ballot was refused for a promise at another; one of another node or incarnation changes nothing. It takes no
     /// memory.
     pub fn refused(&mut self, slot: Slot, ballot: Ballot, promised: Ballot)
@@ -172,6 +261,50 @@ impl Message {
             proposer: self.proposer.copy()?,
             attempts: self.attempts,
         })
+    }
+}
+
+/// The chain that is known, with the decree behind it on the attempt in which it ends, that of this slot, if it ends there.
+fn next_behind(
+    learner: &Learner,
+    slot: Slot,
+    closing: &Closing,
+    at: &Standpoint,
+) -> Result<Option<Chain>, AllocError>
+    ensures start { IfOk result (λ next. IsBacked at.now.author.node at.now.author.incarnation slot.place (known_in learner.now.known slot.id) →
+        option_map start_of next ≡ concluded (setup_of at.now) (kept_of at.now) slot (closed_as closing.now) (known_in learner.now.known slot.id)) }
+    ensures id { IfOk result (λ next. IfSome next (λ chain. chain.id ≡ slot.id)) }
+{
+    let Some(chain) = learner.known(slot.id) else {
+        return Ok(None);
+    };
+    if chain.place() != slot.place {
+        return Ok(None);
+    }
+    let Some(due) = at.end(chain, *closing) else {
+        return Ok(None);
+    };
+    let next = at.behind(chain, due)?;
+    Ok(Some(next))
+}
+
+/// Why an attempt is not granted to an author, by the newest decree of what is known and by what was done with the attempt.
+fn refusal(newest: &Decree, me: Author, attempted: Attempted) -> Option<GrantRefusal>
+    ensures { (setup : Setup) (k : KeptValue) (m : MessageValue) (place : ℕ) → IsBy setup k me → IsTried m place attempted →
+        result ≡ option_map reason_of (newest_refusal setup k m newest.now place newest.now.kind) }
+{
+    if !matches!(newest.kind, Kind::Attempt(_)) {
+        Some(GrantRefusal::NotChosen)
+    } else if newest.author.node != me.node {
+        Some(GrantRefusal::NotMine)
+    } else if newest.author.incarnation != me.incarnation {
+        Some(GrantRefusal::OlderIncarnation)
+    } else if attempted.granted {
+        Some(GrantRefusal::AlreadyGranted)
+    } else if attempted.closed.is_some() {
+        Some(GrantRefusal::Closed)
+    } else {
+        None
     }
 }
 

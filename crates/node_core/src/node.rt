@@ -5,7 +5,8 @@ ghost use Rattle.node_core.specs.declared.fault.StepFault.TheVariants.{Broken, D
 ghost use Rattle.stable_store.specs.Stored.{AreSame};
 ghost use Rattle.node_core.specs.Keeping.{records_of};
 ghost use Rattle.node_core.specs.Messages.{changed_by};
-ghost use Rattle.node_core.specs.Nodes.{HasTaken, IsAwaited, IsStored};
+ghost use Rattle.node_core.specs.Steps.{IsFault};
+ghost use Rattle.node_core.specs.Nodes.{HasTaken, IsAwaited, IsStored, fault_in};
 
 use crate::fault::StepFault;
 use crate::input::Input;
@@ -54,15 +55,15 @@ impl<S: StableStore> Node<S> {
     }
 
     /// Prepares what the node does with an input. It changes nothing, and copies what is kept of the message of the input alone. Broken
-    /// exactly if a save failed before, before any memory is taken.
+    /// exactly if a save failed before; else Grant exactly if an attempt is asked for that is not granted, with the first reason that
+    /// fits, and NotGranted exactly if what came of an attempt comes that is not open. Each comes before any memory is taken.
     pub fn prepare_step(&self, input: Input) -> Result<Pending, StepFault>
         ensures ok { IfOk result (IsAwaited self.now input) }
         ensures broken { IsErrOf result Broken ↔ (self.now.broken ≡ true) }
-        ensures faults { IfErr result (λ fault. (fault ≡ Broken) ⊎ (fault ≡ Memory)) }
+        ensures faults { IfErr result (IsFault (fault_in self.now input)) }
     {
         self.judge()?;
-        let Input::Packet(packet) = &input;
-        let step = self.kept.step(packet)?;
+        let step = self.kept.step(&input)?;
         Ok(Pending {
             input,
             step,

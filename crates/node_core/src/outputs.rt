@@ -1,6 +1,6 @@
 //! What a step gives out.
 
-ghost use Rattle.std.specs.Prelude.{◌≡◌, [], IfOk};
+ghost use Rattle.std.specs.Prelude.{◌≡◌, [], None, Some, IfOk};
 ghost use Rattle.node_core.specs.Lists.{listed};
 
 use fate_chain::Chain;
@@ -14,6 +14,8 @@ pub struct Outputs {
     pub packets: Vec<Packet>,
     /// For each receipt that is due, the chain of its message.
     pub receipts: Vec<Chain>,
+    /// The chain that ends in the attempt that is granted.
+    pub granted: Option<Chain>,
 }
 
 impl Outputs {
@@ -21,10 +23,25 @@ impl Outputs {
     pub(crate) fn nothing(alloc: Global) -> Outputs
         ensures packets { result.packets.items ≡ [] }
         ensures receipts { result.receipts.items ≡ [] }
+        ensures granted { result.granted ≡ None }
     {
         Outputs {
             packets: Vec::new(alloc),
             receipts: Vec::new(alloc),
+            granted: None,
+        }
+    }
+
+    /// The chain of an attempt that is granted. It takes no memory.
+    pub(crate) fn granting(alloc: Global, chain: Chain) -> Outputs
+        ensures packets { result.packets.items ≡ [] }
+        ensures receipts { result.receipts.items ≡ [] }
+        ensures granted { result.granted ≡ Some chain }
+    {
+        Outputs {
+            packets: Vec::new(alloc),
+            receipts: Vec::new(alloc),
+            granted: Some(chain),
         }
     }
 
@@ -36,6 +53,7 @@ impl Outputs {
     ) -> Result<Outputs, AllocError>
         ensures packets { IfOk result (λ outputs. outputs.packets.items ≡ listed packet) }
         ensures receipts { IfOk result (λ outputs. outputs.receipts.items ≡ listed receipt) }
+        ensures granted { IfOk result (λ outputs. outputs.granted ≡ None) }
     {
         let mut outputs = Outputs::nothing(alloc);
         if let Some(packet) = packet {

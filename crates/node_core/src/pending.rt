@@ -26,19 +26,17 @@ impl Model for Pending {
 
     ghost Value = { Awaited };
 
-    ghost use Rattle.node_model.specs.Stepped.{stepped};
-    ghost use Rattle.node_core.specs.Keeping.{kept_of};
-    ghost use Rattle.node_core.specs.Steps.{IsStep, input_of};
+    ghost use Rattle.node_core.specs.Steps.{IsStepFor};
 
     ghost view = { λ p. record { was = p.was.value; input = p.input } };
 
-    ghost invariant = { λ p. IsStep p.was.value (stepped p.was.value.setup (kept_of p.was.value) (input_of p.input)) p.step };
+    ghost invariant = { λ p. IsStepFor p.was.value p.input p.step };
 }
 
 impl Pending {
     /// What `commit` will give.
     pub fn outputs(&self) -> &Outputs
-        ensures { outputs_of result.now ≡ (stepped self.now.was.setup (kept_of self.now.was) (input_of self.now.input)).outputs }
+        ensures { outputs_of result.now ≡ (stepped self.now.was.setup (kept_of self.now.was) (input_of (kept_of self.now.was) self.now.input)).outputs }
     {
         &self.step.outputs
     }

@@ -7,7 +7,7 @@ use Rattle.node_core.specs.Keeping.{kept_of}
 use Rattle.node_core.specs.Steps.{IsStep}
 use Rattle.node_core.specs.Voting.{voted_in}
 use Rattle.node_core.proofs.Answering.{of_member}
-use Rattle.node_core.proofs.kept.Kept.step.Goals as goal
+use Rattle.node_core.proofs.kept.Kept.on_packet.Goals as goal
 
 pub returns-in-Prepare : goal.returns-in-Prepare
 returns-in-Prepare c =
