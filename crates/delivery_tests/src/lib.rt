@@ -1,4 +1,4 @@
-//! The tests of `delivery` and `receipts`, in a crate without code so that each of those is proved once.
+//! The tests of `delivery`, `receipts` and `rules`, in a crate without code so that each of those is proved once.
 #![tactic(auto)]
 
 #[cfg(test)]
@@ -9,5 +9,7 @@ mod due;
 mod outcomes;
 #[cfg(test)]
 mod pdus;
+#[cfg(test)]
+mod decisions;
 #[cfg(test)]
 mod texts;
