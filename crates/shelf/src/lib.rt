@@ -3,6 +3,8 @@
 
 mod room;
 mod shelf;
+mod visit;
 
 pub use room::Room;
 pub use shelf::Shelf;
+pub use visit::Visit;

@@ -1,6 +1,6 @@
 //! The shelf.
 
-ghost use Rattle.std.specs.Prelude.{◌≡◌, ◌≤◌, ◌<◌, ◌+◌, ◌-◌, ◌++◌, [], None, Some, length, max, IsSome, IfOk, OnErr, option_map};
+ghost use Rattle.std.specs.Prelude.{◌≡◌, ◌≤◌, ◌<◌, ◌+◌, ◌-◌, ◌++◌, [], None, Some, length, map, max, IsSome, IfOk, OnErr, option_map};
 ghost use Rattle.std.specs.Option.{option_copied, option_copied_mut};
 ghost use Rattle.std.specs.Borrow.{sem};
 ghost use Rattle.std.specs.List.{insert, slice_get};
@@ -10,6 +10,7 @@ ghost use Rattle.shelf.specs.Shelved.{Serves, value_at, with_value};
 ghost use Rattle.shelf.specs.Places.{IsPlaceOf, entries_of, entry_seen};
 
 use crate::room::Room;
+use crate::visit::Visit;
 use std::alloc::{AllocError, Global};
 use std::marker::Model;
 use std::mem;
@@ -135,6 +136,14 @@ impl<V> Shelf<V> {
         mem::swap(&mut self.entries, &mut room.entries);
     }
 
+    /// Does this with each value. It takes no memory.
+    pub fn for_each<F: Visit<V>>(&mut self, visit: &F)
+        ensures entries { self.new.entries ≡ map (λ entry. (entry.0, F.leaves visit.now entry.1)) self.old.entries }
+        ensures room { self.new.room ≡ self.old.room }
+    {
+        visit_each(&mut self.entries, visit);
+    }
+
     /// Puts a value under a key, in the place of the one that was there. For a key that has none there is room. It takes no memory.
     pub fn put(&mut self, key: u64, value: Box<V>)
     where
@@ -148,6 +157,16 @@ impl<V> Shelf<V> {
             Ok(place) => self.entries[place].1 = value,
             Err(place) => insert_reserved(&mut self.entries, place, (key, value)),
         }
+    }
+}
+
+/// Does this with the value of each entry.
+fn visit_each<V, F: Visit<V>>(entries: &mut Vec<(u64, Box<V>)>, visit: &F)
+    ensures room { vec_capacity entries.new - vec_len entries.new ≡ vec_capacity entries.old - vec_len entries.old }
+    ensures entries { entries_of entries.new.items ≡ map (λ entry. (entry.0, F.leaves visit.now entry.1)) (entries_of entries.old.items) }
+{
+    for entry in entries.iter_mut() {
+        visit.visit(&mut entry.1);
     }
 }
 

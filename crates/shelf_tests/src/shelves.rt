@@ -1,6 +1,6 @@
 //! What is put on a shelf is found there.
 
-use shelf::Shelf;
+use shelf::{Shelf, Visit};
 use std::alloc::Global;
 use std::test::Fail;
 
@@ -63,5 +63,34 @@ fn a_value_is_changed_where_it_stands(rt: HostRuntime) -> Result<(), Fail> {
     assert!(rt; shelf.get_mut(3).is_none());
     assert_eq!(rt; shelf.get(2).copied(), Some(21));
     assert_eq!(rt; shelf.get(1).copied(), Some(10));
+    Ok(())
+}
+
+/// Adds a number, and stays where it is if that would be too much.
+struct Add {
+    number: u32,
+}
+
+impl Visit<u32> for Add {
+    ghost use Rattle.std.specs.Prelude.{◌+◌, min};
+
+    ghost leaves = { λ add value. min (value + add.number) 4294967295 };
+
+    fn visit(&self, value: &mut u32) {
+        *value = value.saturating_add(self.number);
+    }
+}
+
+#[test]
+fn each_value_is_visited(rt: HostRuntime) -> Result<(), Fail> {
+    let mut shelf = Shelf::empty(rt.alloc());
+    for (key, value) in [(7, 70), (3, 30), (9, 90)] {
+        put(&mut shelf, rt.alloc(), key, value)?;
+    }
+    shelf.for_each(&Add { number: 5 });
+    assert_eq!(rt; shelf.len(), 3);
+    for (key, value) in [(7, 75), (3, 35), (9, 95)] {
+        assert_eq!(rt; shelf.get(key).copied(), Some(value));
+    }
     Ok(())
 }
