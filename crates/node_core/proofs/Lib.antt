@@ -6,3 +6,5 @@ pub mod Leaving
 pub mod Grants
 pub mod Opening
 pub mod Voting
+pub mod Beginning
+pub mod Stopping

@@ -209,7 +209,7 @@ listed_in (e ∷ es) id some = elim (cases_Bool (is_at (nat_cmp id) e.0)) [
   | inr differs ↦ inr (listed_in es id (λ none. some (ap (λ (test : Bool). cond test (Some e.1) (value_at es id)) differs ∙ none)))
 ]
 
-pub opened : (with : Setup) (records : Records) (starts : ℕ) (node : Standing) (life : Life) → IsOpen with starts records node.kept →
+pub opened : (with : Setup) (records : Records) (starts : ℕ) {S : Type 0} (node : Standing S) (life : Life) → IsOpen with starts records node.kept →
     node.broken ≡ false → life.node ≡ with.node → life.incarnation ≡ starts → HasOpened with records starts node life
 opened with records starts node life is works of_node of_start = record {
   ids = keys_of node.kept.messages.entries;

@@ -6,3 +6,4 @@ pub mod Steps
 pub mod Pendings
 pub mod Nodes
 pub mod Voting
+pub mod Renewal

@@ -1,11 +1,13 @@
 -- A node of the code, and its steps.
-use Rattle.std.specs.Prelude.{◌≡◌, ℕ, Bool, false, List, Option, Some, None, if◌then◌else◌}
+use Rattle.std.specs.Prelude.{◌≡◌, ◌⊎◌, ℕ, ◌+◌, Bool, true, false, ◌||◌, List, Option, Some, None, if◌then◌else◌}
 use Rattle.mc_model.specs.synod.Lists.{In}
 use Rattle.mc_model.specs.synod.Packet.{Slot}
 use Rattle.mc_model.specs.synod.Acceptor.{Records, blank}
 use Rattle.mc_model.specs.node.Setup.{Setup}
 use Rattle.node_model.specs.Stepped.{opened_over, stepped}
 use Rattle.stable_store.specs.Stored.{AreSame}
+use Rattle.stable_store.specs.declared.fault.StoreFault.{StoreFault}
+use Rattle.stable_store.specs.declared.fault.StoreFault.TheVariants as faults
 use Rattle.node_core.specs.declared.fault.StepFault.{StepFault}
 use Rattle.node_core.specs.declared.fault.StepFault.TheVariants.{Broken}
 use Rattle.node_core.specs.declared.input.Input.{Input}
@@ -16,10 +18,35 @@ use Rattle.node_core.specs.Keeping.{AreOwn, kept_of, records_of}
 use Rattle.node_core.specs.Pendings.{Awaited}
 use Rattle.node_core.specs.Steps.{input_of, outputs_of, refused_by}
 
--- what it keeps, and whether a save failed
-pub record Standing : Type 0 where
+-- what it keeps, whether a save failed, and its store
+pub record Standing (S : Type 0) : Type 0 where
   pub kept : Kept
   pub broken : Bool
+  pub store : S
+
+-- the same with what is stored: the records and the last incarnation
+pub record Seen : Type 0 where
+  pub kept : Kept
+  pub broken : Bool
+  pub stored : Records
+  pub started : ℕ
+
+abbrev pub seen : {S : Type 0} → (S → Records) → (S → ℕ) → Standing S → Seen
+seen records started n = record { kept = n.kept; broken = n.broken; stored = records n.store; started = started n.store }
+
+-- nothing of it changed
+pub record IsUnmoved (old new : Seen) : Type 0 where
+  pub kept : new.kept ≡ old.kept
+  pub broken : new.broken ≡ old.broken
+  pub stored : AreSame new.stored old.stored
+  pub started : new.started ≡ old.started
+
+-- The device failed at the save of a step: what is stored is what was, or what the step leaves, and the node keeps what it kept.
+pub record HasStopped (old : Seen) (input : Input) (new : Seen) : Type 0 where
+  pub kept : new.kept ≡ old.kept
+  pub broken : new.broken ≡ true
+  pub stored : AreSame new.stored old.stored ⊎ AreSame new.stored (stepped old.kept.setup (kept_of old.kept) (input_of (kept_of old.kept) input)).kept.records
+  pub started : new.started ≡ old.started
 
 -- Its messages are its own, and unless a save failed, its records are those that are stored.
 pub record IsStored (broken : Bool) (stored : Records) (k : Kept) : Type 0 where
@@ -27,7 +54,7 @@ pub record IsStored (broken : Bool) (stored : Records) (k : Kept) : Type 0 where
   pub own : AreOwn k
 
 -- It opened in this incarnation with these records and nothing else. Each message of which there is a record is among its messages.
-pub record HasOpened (with : Setup) (records : Records) (starts : ℕ) (node : Standing) (life : Life) : Type 0 where
+pub record HasOpened {S : Type 0} (with : Setup) (records : Records) (starts : ℕ) (node : Standing S) (life : Life) : Type 0 where
   pub ids : List ℕ
   pub kept : kept_of node.kept ≡ opened_over records ids starts with.first_serial
   pub listed : (slot : Slot) → (records slot ≡ blank → ⊥) → In slot.id ids
@@ -37,20 +64,48 @@ pub record HasOpened (with : Setup) (records : Records) (starts : ℕ) (node : S
   pub of_start : life.incarnation ≡ starts
 
 -- a step of this node was prepared, for this input
-pub record IsAwaited (node : Standing) (input : Input) (pending : Awaited) : Type 0 where
+pub record IsAwaited {S : Type 0} (node : Standing S) (input : Input) (pending : Awaited) : Type 0 where
   pub was : pending.was ≡ node.kept
   pub given : pending.input ≡ input
   pub allowed : refused_by node.kept.setup (kept_of node.kept) input ≡ None
 
 -- why a node does not take a step
-abbrev pub fault_in : Standing → Input → Option StepFault
+abbrev pub fault_in : {S : Type 0} → Standing S → Input → Option StepFault
 fault_in node input = if node.broken then Some Broken else refused_by node.kept.setup (kept_of node.kept) input
 
 -- The node took the step of the model, gave out what it gives out, and keeps what it leaves. It is the same node in the same incarnation.
-pub record HasTaken (old : Standing) (input : Input) (new : Standing) (outputs : Outputs) : Type 0 where
+pub record HasTaken {S : Type 0} (old : Standing S) (input : Input) (new : Standing S) (outputs : Outputs) : Type 0 where
   pub kept : kept_of new.kept ≡ (stepped old.kept.setup (kept_of old.kept) (input_of (kept_of old.kept) input)).kept
   pub given : outputs_of outputs ≡ (stepped old.kept.setup (kept_of old.kept) (input_of (kept_of old.kept) input)).outputs
   pub allowed : refused_by old.kept.setup (kept_of old.kept) input ≡ None
   pub setup : new.kept.setup ≡ old.kept.setup
   pub incarnation : new.kept.incarnation ≡ old.kept.incarnation
   pub works : new.broken ≡ false
+
+-- ---- opening again
+
+-- a life of this node, in its incarnation
+pub record IsLifeOf {S : Type 0} (node : Standing S) (life : Life) : Type 0 where
+  pub node_is : life.node ≡ node.kept.setup.node
+  pub start_is : life.incarnation ≡ node.kept.incarnation
+
+-- the store's incarnation after a fault of opening: the same, or at Device and Damaged one more
+abbrev pub IsRaised : StoreFault → ℕ → ℕ → Type 0
+IsRaised faults.Device old new = (new ≡ old) ⊎ (new ≡ old + 1)
+IsRaised faults.Damaged old new = (new ≡ old) ⊎ (new ≡ old + 1)
+IsRaised faults.Incarnations old new = new ≡ old
+IsRaised faults.Memory old new = new ≡ old
+
+-- a fault of the store itself leaves the node broken
+abbrev pub breaks : StoreFault → Bool
+breaks faults.Device = true
+breaks faults.Damaged = true
+breaks faults.Incarnations = false
+breaks faults.Memory = false
+
+-- the node did not open again
+pub record IsLeft (old : Seen) (fault : StoreFault) (new : Seen) : Type 0 where
+  pub kept : new.kept ≡ old.kept
+  pub broken : new.broken ≡ (old.broken || breaks fault)
+  pub stored : AreSame new.stored old.stored
+  pub started : IsRaised fault old.started new.started

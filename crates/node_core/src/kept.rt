@@ -1,7 +1,9 @@
 //! What a node keeps.
 
-ghost use Rattle.std.specs.Prelude.{◌≡◌, ◌≤◌, ◌&&◌, length, [], None, IfErr, IfOk, OnOk, not, option_map};
+ghost use Rattle.std.specs.Prelude.{◌≡◌, ℕ, ◌≤◌, ◌&&◌, length, [], None, IfErr, IfOk, OnOk, not, option_map};
 ghost use Rattle.std.specs.Option.{option_copied};
+ghost use Rattle.mc_model.specs.node.Setup.{Setup as SetupValue};
+ghost use Rattle.mc_model.specs.synod.Acceptor.{Records};
 ghost use Rattle.node_model.specs.Acceptor.{told_of};
 ghost use Rattle.fate_chain.specs.Kinds.{final_of};
 ghost use Rattle.node_model.specs.Answers.{is_asked};
@@ -22,6 +24,7 @@ use crate::fault::StepFault;
 use crate::input::{Input, sender};
 use crate::message::{Message, fate_in};
 use crate::outputs::Outputs;
+use crate::renewal::Renewal;
 use crate::setup::Setup;
 use crate::step::{Next, Put, Step};
 use fate_chain::{Author, Chain, Final, Submission};
@@ -68,6 +71,15 @@ impl Kept {
             kept.file(stored)?;
         }
         Ok(kept)
+    }
+
+    /// Begins in this incarnation, of a node that opened and took no step yet. It takes no memory.
+    pub fn begin(&mut self, incarnation: Incarnation)
+        ensures { (with : SetupValue) (starts : ℕ) (records : Records) → IsOpen with starts records self.old → IsOpen with incarnation records self.new }
+    {
+        self.incarnation = incarnation;
+        let me = self.author();
+        self.messages.for_each(&Renewal { me });
     }
 
     /// Takes in a record of its store.
@@ -338,6 +350,20 @@ impl Kept {
         ensures { option_copied result ≡ value_at self.now.messages.entries id }
     {
         self.messages.get(id.number())
+    }
+
+    /// Where its memory comes from.
+    pub fn alloc(&self) -> Global
+        ensures { result ≡ self.now.alloc }
+    {
+        self.alloc
+    }
+
+    /// With what it is set up.
+    pub fn setup(&self) -> Setup
+        ensures { result ≡ self.now.setup }
+    {
+        self.setup
     }
 
     /// The incarnation.

@@ -13,6 +13,7 @@ mod node;
 mod open;
 mod outputs;
 mod pending;
+mod renewal;
 mod setup;
 mod step;
 

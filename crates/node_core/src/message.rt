@@ -22,6 +22,7 @@ ghost use Rattle.rules.specs.Standpoints.{kept_of, setup_of, start_of};
 ghost use Rattle.synod_learner.specs.Counts.{known_in};
 ghost use Rattle.node_core.specs.Attempting.{IsBacked, IsBy, IsTried, granted_in, is_open_in, reason_of};
 ghost use Rattle.node_core.specs.Messages.{IsConcluded, IsHeard, IsJudged, IsOf, IsPromised, IsRefused, IsStarted, IsTriedSo, changed_by, closed_at, granted_at, message_of};
+ghost use Rattle.node_core.specs.Renewal.{renewed};
 
 use crate::attempts::Attempts;
 use crate::grant_refusal::GrantRefusal;
@@ -249,6 +250,13 @@ impl Message {
         ensures { told_vote (option_copied result) ≡ told_of (record_at self.now.acceptor) id }
     {
         self.acceptor.tell(id)
+    }
+
+    /// Keeps it for this node in this incarnation from now on.
+    pub fn act_for(&mut self, me: Author)
+        ensures { self.new ≡ renewed me self.old }
+    {
+        self.proposer.act_for(me);
     }
 
     /// The same message once more.

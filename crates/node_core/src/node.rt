@@ -1,16 +1,18 @@
 //! One node.
 
-ghost use Rattle.std.specs.Prelude.{◌≡◌, ◌↔◌, ◌⊎◌, true, false, IfOk, IfErr, IsErrOf, OnOk};
+ghost use Rattle.std.specs.Prelude.{◌≡◌, ◌↔◌, ◌⊎◌, true, false, IfOk, IfErr, IsErrOf, OnErr, OnOk, ◌+◌};
 ghost use Rattle.node_core.specs.declared.fault.StepFault.TheVariants.{Broken, Device, Memory};
 ghost use Rattle.stable_store.specs.Stored.{AreSame};
 ghost use Rattle.node_core.specs.Keeping.{records_of};
 ghost use Rattle.node_core.specs.Messages.{changed_by};
 ghost use Rattle.node_core.specs.Steps.{IsFault};
-ghost use Rattle.node_core.specs.Nodes.{HasTaken, IsAwaited, IsStored, fault_in};
+ghost use Rattle.node_core.specs.Nodes.{HasOpened, HasStopped, HasTaken, IsAwaited, IsLeft, IsLifeOf, IsStored, IsUnmoved, fault_in, seen};
 
 use crate::fault::StepFault;
 use crate::input::Input;
 use crate::kept::Kept;
+use crate::life::Life;
+use crate::open::begin;
 use crate::outputs::Outputs;
 use crate::pending::Pending;
 use crate::step::Step;
@@ -31,11 +33,15 @@ pub struct Node<S: StableStore> {
 impl<S: StableStore> Model for Node<S> {
     ghost use Rattle.node_core.specs.Nodes.{Standing};
 
-    ghost Value = { Standing };
+    ghost Value = { Standing S };
 
     ghost use Rattle.node_core.specs.Nodes.{IsStored};
 
-    ghost view = { λ n. record { kept = n.kept; broken = n.broken } };
+    ghost view = { λ n. record {
+      kept = n.kept;
+      broken = n.broken;
+      store = n.store;
+    } };
 
     ghost invariant = { λ n. IsStored n.broken (S.records n.store) n.kept };
 }
@@ -46,6 +52,7 @@ impl<S: StableStore> Node<S> {
         requires { IsStored false (S.records store) kept }
         ensures kept { result.kept ≡ kept }
         ensures broken { result.broken ≡ false }
+        ensures store { result.store ≡ store }
     {
         Node {
             store,
@@ -78,8 +85,8 @@ impl<S: StableStore> Node<S> {
         requires { pending.was ≡ self.old.kept }
         ensures ok { IfOk result (HasTaken self.old pending.input self.new) }
         ensures broken { IsErrOf result Broken ↔ (self.old.broken ≡ true) }
-        ensures memory { IsErrOf result Memory → self.new ≡ self.old }
-        ensures device { IsErrOf result Device → self.new ≡ record self.old { broken = true } }
+        ensures memory { IsErrOf result Memory → IsUnmoved (seen S.records S.started self.old) (seen S.records S.started self.new) }
+        ensures device { IsErrOf result Device → HasStopped (seen S.records S.started self.old) pending.input (seen S.records S.started self.new) }
     {
         self.judge()?;
         let Step {
@@ -97,6 +104,31 @@ impl<S: StableStore> Node<S> {
                 Err(StepFault::Device)
             }
             Err(fault) => Err(fault),
+        }
+    }
+
+    /// Opens the node again over what its store has, in the incarnation after the last one that is stored, which is raised last: it
+    /// keeps the records of the store and nothing else. The `Life` is the node's own, and an `Err` hands it back. Incarnations and Memory
+    /// leave the node and its store as they were; after Device and Damaged it is Broken, and the store has the same records.
+    pub fn reopen(&mut self, life: Life) -> Result<Life, (StoreFault, Life)>
+        requires { IsLifeOf self.old life }
+        ensures ok { IfOk result (HasOpened self.old.kept.setup (S.records self.old.store) (S.started self.old.store + 1) self.new) }
+        ensures err { IfErr result (λ failed. IsLeft (seen S.records S.started self.old) failed.0 (seen S.records S.started self.new)) }
+        ensures life { IfErr result (λ failed. failed.1 ≡ life) }
+    {
+        let setup = self.kept.setup();
+        match begin(self.kept.alloc(), &mut self.store, setup) {
+            Ok(kept) => {
+                self.kept = kept;
+                self.broken = false;
+                Ok(Life::of(setup.node, self.kept.incarnation()))
+            }
+            Err(fault) => {
+                if fault == StoreFault::Device || fault == StoreFault::Damaged {
+                    self.broken = true;
+                }
+                Err((fault, life))
+            }
         }
     }
 
@@ -123,6 +155,9 @@ impl<S: StableStore> Node<S> {
 fn save<S: StableStore>(store: &mut S, change: &Option<Change>) -> Result<(), StepFault>
     ensures ok { OnOk result (AreSame (S.records store.new) (changed_by change.now (S.records store.old))) }
     ensures memory { IsErrOf result Memory → AreSame (S.records store.new) (S.records store.old) }
+    ensures device { OnErr result (AreSame (S.records store.new) (S.records store.old)
+        ⊎ AreSame (S.records store.new) (changed_by change.now (S.records store.old))) }
+    ensures started { S.started store.new ≡ S.started store.old }
     ensures faults { IfErr result (λ fault. (fault ≡ Device) ⊎ (fault ≡ Memory)) }
 {
     let Some(change) = change else {

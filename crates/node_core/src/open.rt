@@ -1,20 +1,21 @@
 //! The opening of a node.
 
-ghost use Rattle.std.specs.Prelude.{◌≡◌, ◌⊎◌, ◌+◌, IfOk, IfErr, OnOk, OnErr};
+ghost use Rattle.std.specs.Prelude.{◌≡◌, ◌+◌, IfOk, IfErr, OnOk};
 ghost use Rattle.stable_store.specs.Stored.{AreSame};
 ghost use Rattle.node_core.specs.Keeping.{IsOpen};
-ghost use Rattle.node_core.specs.Nodes.{HasOpened};
+ghost use Rattle.node_core.specs.Nodes.{HasOpened, IsRaised};
 
 use crate::kept::Kept;
 use crate::life::Life;
 use crate::node::Node;
 use crate::setup::Setup;
+use mc_types::Incarnation;
 use stable_store::{StableStore, StoreFault};
 use std::alloc::Global;
 
 /// Opens a node over a store, in the incarnation after the last one that is stored: it keeps the records of the store and nothing else.
-/// An `Err` is the store's fault or want of memory, and hands the store back; its records are as they were, and its incarnation is
-/// the same or one more.
+/// The incarnation is raised last. An `Err` is the store's fault or want of memory, and hands the store back; its records are as they
+/// were, and so is its incarnation at Incarnations and Memory; at Device and Damaged it is the same or one more.
 pub fn open_node<S: StableStore>(
     alloc: Global,
     mut store: S,
@@ -22,7 +23,7 @@ pub fn open_node<S: StableStore>(
 ) -> Result<(Node<S>, Life), (StoreFault, S)>
     ensures ok { IfOk result (λ opened. HasOpened setup (S.records store) (S.started store + 1) opened.0 opened.1) }
     ensures records { IfErr result (λ failed. AreSame (S.records failed.1) (S.records store)) }
-    ensures started { IfErr result (λ failed. (S.started failed.1 ≡ S.started store) ⊎ (S.started failed.1 ≡ S.started store + 1)) }
+    ensures started { IfErr result (λ failed. IsRaised failed.0 (S.started store) (S.started failed.1)) }
 {
     match begin(alloc, &mut store, setup) {
         Ok(kept) => {
@@ -34,14 +35,19 @@ pub fn open_node<S: StableStore>(
 }
 
 /// What a node keeps that opens over a store in the next incarnation, which the store has then.
-fn begin<S: StableStore>(alloc: Global, store: &mut S, setup: Setup) -> Result<Kept, StoreFault>
+pub(crate) fn begin<S: StableStore>(
+    alloc: Global,
+    store: &mut S,
+    setup: Setup,
+) -> Result<Kept, StoreFault>
     ensures ok { IfOk result (IsOpen setup (S.started store.old + 1) (S.records store.old)) }
     ensures records { AreSame (S.records store.new) (S.records store.old) }
     ensures started { OnOk result (S.started store.new ≡ S.started store.old + 1) }
-    ensures err { OnErr result ((S.started store.new ≡ S.started store.old) ⊎ (S.started store.new ≡ S.started store.old + 1)) }
+    ensures err { IfErr result (λ fault. IsRaised fault (S.started store.old) (S.started store.new)) }
 {
     let records = store.load()?;
+    let mut kept = Kept::open(alloc, setup, Incarnation::of(1), records)?;
     let incarnation = store.next_incarnation()?;
-    let kept = Kept::open(alloc, setup, incarnation, records)?;
+    kept.begin(incarnation);
     Ok(kept)
 }

@@ -87,3 +87,29 @@ fn a_store_is_handed_back(rt: HostRuntime) -> Result<(), Fail> {
     }
     Ok(())
 }
+
+#[test]
+fn a_broken_node_opens_again(rt: HostRuntime) -> Result<(), Fail> {
+    let setup = Setup {
+        node: node(2)?,
+        nodes: 3,
+        first_serial: 1,
+        default_validity: 172800,
+    };
+    let store = FailingStore::make(ListStore::make(rt.alloc()), 1, Found::After);
+    let Ok((mut node, first)) = open_node(rt.alloc(), store, setup) else {
+        return Err("it opens".into());
+    };
+    let pending = node.prepare_step(propose(rt.alloc(), 1, 262161)?)?;
+    assert_eq!(rt; node.commit(pending).err(), Some(StepFault::Device));
+    let Ok(second) = node.reopen(first) else {
+        return Err("it opens again".into());
+    };
+    assert_eq!(rt; second.incarnation().number(), 2);
+    assert_eq!(rt; second.node().number(), 2);
+    assert_eq!(rt;
+        answer_to(&mut node, ask(rt.alloc(), 3)?)?,
+        Answer::Told(262161)
+    );
+    Ok(())
+}

@@ -161,6 +161,13 @@ impl Proposer {
         self.round = None;
     }
 
+    /// Proposes for this node in this incarnation from now on.
+    pub fn act_for(&mut self, me: Author)
+        ensures { self.new ≡ record self.old { node = me.node; incarnation = me.incarnation } }
+    {
+        self.me = me;
+    }
+
     /// The same proposer once more.
     pub fn copy(&self) -> Result<Proposer, AllocError>
         ensures { IfOk result (λ proposer. proposer ≡ self.now) }

@@ -1,0 +1,24 @@
+use Rattle.std.proofs.Common.{rules, ◌≡◌, ◌⊎◌, refl, sym, ap, subst, ◌∙◌, true, false}
+use Rattle.node_core.specs.declared.kept.Kept.{Kept}
+use Rattle.node_core.specs.Nodes.{HasStopped, Standing, seen}
+use Rattle.node_core.specs.Pendings.{Awaited}
+use Rattle.node_core.proofs.Stopping.{stopped}
+use Rattle.node_core.proofs.node.Node.commit.Goals as goal
+
+pub returns-in-Err-Device-clause-device : goal.returns-in-Err-Device-clause-device
+returns-in-Err-Device-clause-device g c = λ device.
+    let records = g.S.StableStore.records in
+    let started = g.S.StableStore.started in
+    let new : Standing g.row.S.Denot = record { kept = c.self.inside.kept; broken = true; store = c.save.new.store } in
+    let works : c.self.inside.broken ≡ false = search rules in
+    let kept : c.pending.inside.was.value ≡ c.self.inside.kept =
+    ap (λ (p : Awaited). p.was) c.pending.view_is ∙ c.requires ∙ sym (ap (λ (n : Standing g.row.S.Denot). n.kept) c.self.view_is) in
+    subst (λ (old : Standing g.row.S.Denot). HasStopped (seen records started old) c.args.pending.input (seen records started new)) c.self.view_is
+    (record {
+      kept = refl;
+      broken = refl;
+      stored = stopped c.self.inside.kept c.pending.inside.was.value c.args.pending.input c.pending.inside.input c.pending.inside.step
+          (records c.self.inside.store) (records c.save.new.store) kept (ap (λ (p : Awaited). p.input) c.pending.view_is) c.pending.invariant
+          (c.self.invariant.saved works) c.in-Err-Device.ensures.device;
+      started = c.save.ensures.started;
+    })
