@@ -1,0 +1,71 @@
+//! Requests.
+
+ghost use Rattle.std.specs.Prelude.{◌≡◌, IfOk};
+ghost use Rattle.mc_model.specs.node.Actor.{id_in};
+ghost use Rattle.requests.specs.Waiting.{request_of};
+
+use crate::taken::Taken;
+use mc_types::MsgId;
+use pdu_codec::Text;
+use std::alloc::AllocError;
+
+/// A request that may wait, with what is compared of it (SMPP 3.4, sections 4.4, 4.8 and 4.9).
+#[derive(Drop)]
+pub enum Request {
+    /// A submit_sm, with the message that was made of it.
+    Submit(Taken),
+    /// A query_sm of an account, with its source address.
+    Query {
+        id: MsgId,
+        account: Text<16>,
+        source: Text<21>,
+    },
+    /// A cancel_sm of an account, with its addresses; an empty destination names none.
+    Cancel {
+        id: MsgId,
+        account: Text<16>,
+        source: Text<21>,
+        destination: Text<21>,
+    },
+}
+
+impl Request {
+    /// The id of the message that it is about.
+    pub fn id(&self) -> MsgId
+        ensures { result ≡ id_in (request_of self.now) }
+    {
+        match self {
+            Request::Submit(taken) => taken.id(),
+            Request::Query { id, .. } | Request::Cancel { id, .. } => *id,
+        }
+    }
+
+    /// The same request once more.
+    pub fn copy(&self) -> Result<Request, AllocError>
+        ensures { IfOk result (λ request. request ≡ self.now) }
+    {
+        match self {
+            Request::Submit(taken) => Ok(Request::Submit(taken.copy()?)),
+            Request::Query {
+                id,
+                account,
+                source,
+            } => Ok(Request::Query {
+                id: *id,
+                account: account.copy()?,
+                source: source.copy()?,
+            }),
+            Request::Cancel {
+                id,
+                account,
+                source,
+                destination,
+            } => Ok(Request::Cancel {
+                id: *id,
+                account: account.copy()?,
+                source: source.copy()?,
+                destination: destination.copy()?,
+            }),
+        }
+    }
+}
