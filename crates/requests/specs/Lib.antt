@@ -1,3 +1,6 @@
 pub mod Beginnings
 pub mod Waiting
 pub mod Queues
+pub mod Tops
+pub mod Questions
+pub mod Replying

@@ -1,5 +1,7 @@
 -- A request that waits in the code, as the node's model says it (own).
-use Rattle.std.specs.Prelude.{◌≡◌, ℕ, List, map, Option}
+use Rattle.std.specs.Prelude.{◌≡◌, ℕ, List, map, Option, option_map}
+use Rattle.mc_model.specs.message.Decree.{Decree}
+use Rattle.mc_model.specs.message.Chain.{Chain}
 use Rattle.mc_model.specs.synod.Packet.{TopVote}
 use Rattle.mc_model.specs.node.Actor.{Cancel, Query, Request, Submit, Waiting}
 use Rattle.mc_types.specs.Nodes.{has}
@@ -29,3 +31,7 @@ held_of w = record { waiting = w.waiting; tellers = has w.tellers; top = w.top }
 
 abbrev pub held_in : List Waits → List Held
 held_in waits = map held_of waits
+
+-- what is known of a message, by its chain
+abbrev pub known_of : Option Chain → Option (List Decree)
+known_of chain = option_map (λ (known : Chain). known.decrees) chain

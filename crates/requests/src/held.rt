@@ -1,14 +1,32 @@
 //! Requests that wait.
 
-ghost use Rattle.std.specs.Prelude.{◌≡◌, IfOk};
-ghost use Rattle.node_model.specs.Requests.{begun, id_of, ticket_of};
-ghost use Rattle.requests.specs.Waiting.{IsSince, held_of, request_of};
+ghost use Rattle.std.specs.Prelude.{◌≡◌, None, Some, IfOk, OnErr, OnOk, option_map, if◌then◌else◌};
+ghost use Rattle.std.specs.Option.{option_copied};
+ghost use Rattle.mc_model.specs.node.Replies.{Unknown};
+ghost use Rattle.node_model.specs.Answers.{answer_to, still_waits};
+ghost use Rattle.node_model.specs.Packets.{tells_about};
+ghost use Rattle.node_model.specs.Requests.{begun, higher_top, id_of, is_settled, is_untold, settled_by, settles, ticket_of, told_by};
+ghost use Rattle.node_model.specs.Starts.{cancels};
+ghost use Rattle.node_model.specs.Ticks.{is_late, late_reply};
+ghost use Rattle.synod_acceptor.specs.Packets.{packet_of};
+ghost use Rattle.synod_acceptor.specs.Votes.{told_vote};
+ghost use Rattle.requests.specs.Questions.{question_by};
+ghost use Rattle.requests.specs.Replying.{answer_given, answer_with, reply_given, reply_to, reply_with};
+ghost use Rattle.requests.specs.Tops.{over, told_by_most};
+ghost use Rattle.requests.specs.Waiting.{IsSince, held_of, known_of, request_of};
 
+use crate::answer::{Answer, Reply};
 use crate::request::Request;
-use mc_types::{Moment, MsgId, NodeSet};
+use crate::told::{is_majority, is_reached, passes, raise};
+use crate::verdict::Verdict;
+use fate_chain::{Chain, Submission};
+use mc_types::{Incarnation, Moment, MsgId, NodeNo, NodeSet};
 use std::alloc::AllocError;
 use std::marker::Model;
-use synod_acceptor::Vote;
+use synod_acceptor::{Name, Packet, Vote};
+
+/// How long a request waits at most, in seconds.
+const LONGEST_WAIT: u32 = 30;
 
 /// A request that waits under a ticket, since a moment: whether it was settled, who told to its questions, and of what they told the
 /// vote at the highest place, and there at the highest ballot.
@@ -72,6 +90,192 @@ impl Held {
         ensures { request_of result.now ≡ (held_of self.now).waiting.request }
     {
         &self.request
+    }
+
+    /// Whether what is told is told of its message; that nothing is told may be of every message.
+    pub fn is_told_by(&self, told: Option<&Vote>) -> bool
+        ensures { result ≡ tells_about (told_vote (option_copied told.entry)) (id_of (held_of self.now)) }
+    {
+        match told {
+            Some(vote) => vote.chain.id() == self.id(),
+            None => true,
+        }
+    }
+
+    /// Takes in what a node told of its message: that it told, and its vote, if that is higher than what was told before. An `Err` is
+    /// want of memory, which only a higher vote needs, and changes nothing.
+    pub fn hear(&mut self, from: NodeNo, told: Option<&Vote>) -> Result<(), AllocError>
+        ensures ok { OnOk result (held_of self.new ≡ told_by (held_of self.old) from (told_vote (option_copied told.entry))) }
+        ensures err { OnErr result (self.new ≡ self.old) }
+    {
+        let higher = self.higher_copy(told)?;
+        raise(&mut self.top, higher);
+        self.tellers.add(from);
+        Ok(())
+    }
+
+    /// A copy of the vote that is told, if it is higher than what was told before.
+    fn higher_copy(&self, told: Option<&Vote>) -> Result<Option<Vote>, AllocError>
+        ensures { IfOk result (λ copy. higher_top (held_of self.now).top (told_vote (option_copied told.entry)) ≡ over (told_vote copy) (held_of self.now).top) }
+    {
+        let Some(vote) = told else {
+            return Ok(None);
+        };
+        if !passes(vote, self.top.as_ref()) {
+            return Ok(None);
+        }
+        Ok(Some(vote.copy()?))
+    }
+
+    /// Whether a majority of so many nodes told, and what is known reaches all that they told.
+    pub fn is_settled(&self, nodes: u8, known: Option<&Chain>) -> bool
+        ensures { result ≡ is_settled nodes (known_of (option_copied known.entry)) (held_of self.now) }
+    {
+        is_majority(nodes, self.tellers) && is_reached(known, self.top.as_ref())
+    }
+
+    /// Whether it is a cancel_sm that is to be settled now, and was not before.
+    pub fn settles(&self, nodes: u8, known: Option<&Chain>) -> bool
+        ensures { result ≡ settles nodes (known_of (option_copied known.entry)) (held_of self.now) }
+    {
+        self.request.is_cancel() && !self.settled && self.is_settled(nodes, known)
+    }
+
+    /// Settles a cancel_sm, if it is to be settled now. It takes no memory.
+    pub fn settle(&mut self, nodes: u8, known: Option<&Chain>)
+        ensures { held_of self.new ≡ settled_by nodes (known_of (option_copied known.entry)) (held_of self.old) }
+    {
+        if self.settles(nodes, known) {
+            self.settled = true;
+        }
+    }
+
+    /// Whether it asks questions to which no majority of so many nodes told.
+    pub fn is_untold(&self, nodes: u8) -> bool
+        ensures { result ≡ is_untold nodes (held_of self.now) }
+    {
+        self.request.asks() && !is_majority(nodes, self.tellers)
+    }
+
+    /// The highest vote that was told, once a majority of so many nodes told.
+    pub fn told_by_most(&self, nodes: u8) -> Option<&Vote>
+        ensures { told_vote (option_copied result) ≡ told_by_most nodes (held_of self.now) }
+    {
+        if is_majority(nodes, self.tellers) {
+            self.top.as_ref()
+        } else {
+            None
+        }
+    }
+
+    /// Its question, for the node and the incarnation in which it waits.
+    pub fn question(&self, node: NodeNo, incarnation: Incarnation) -> Packet
+        ensures { packet_of result ≡ question_by node incarnation (held_of self.now) }
+    {
+        Packet::Ask {
+            from: node,
+            id: self.id(),
+            name: Name {
+                node,
+                incarnation,
+                ticket: self.ticket,
+            },
+        }
+    }
+
+    /// Whether it came 30 seconds before this clock, or earlier.
+    pub fn is_late(&self, clock: Moment) -> bool
+        ensures { result ≡ is_late clock (held_of self.now) }
+    {
+        self.since.seconds() + LONGEST_WAIT <= clock.seconds()
+    }
+
+    /// What it is answered by what is known of its message; nothing if it still waits. An `Err` is want of memory, which only the
+    /// copy of a chain needs.
+    pub fn answer(&self, nodes: u8, known: Option<&Chain>) -> Result<Option<Answer>, AllocError>
+        ensures { IfOk result (λ answer. option_map answer_given answer ≡ answer_to nodes (known_of (option_copied known.entry)) (held_of self.now)) }
+    {
+        let Some(chain) = known else {
+            return Ok(self.answer_unheard(nodes));
+        };
+        match self.verdict(nodes, chain) {
+            Some(verdict) => Ok(Some(verdict.answer(chain)?)),
+            None => Ok(None),
+        }
+    }
+
+    /// What it is answered if nothing is known of its message.
+    fn answer_unheard(&self, nodes: u8) -> Option<Answer>
+        ensures { option_map answer_given result ≡ answer_to nodes None (held_of self.now) }
+    {
+        if self.is_unknown(nodes) {
+            Some(Answer::Unknown)
+        } else {
+            None
+        }
+    }
+
+    /// Whether it is answered that there is no such message, if nothing is known of it.
+    fn is_unknown(&self, nodes: u8) -> bool
+        ensures { answer_to nodes None (held_of self.now) ≡ (if result then Some Unknown else None) }
+    {
+        self.request.asks() && self.is_settled(nodes, None)
+    }
+
+    /// What it is answered by a chain of its message.
+    fn verdict(&self, nodes: u8, chain: &Chain) -> Option<Verdict>
+        ensures { option_map (answer_with chain.now.decrees) result ≡ answer_to nodes (Some chain.now.decrees) (held_of self.now) }
+    {
+        let reached = self.is_settled(nodes, Some(chain));
+        Verdict::of(&self.request, self.settled, reached, chain)
+    }
+
+    /// Whether it still waits once this chain is known: it is about another message, or has no answer by it. It takes no memory.
+    pub fn still_waits(&self, nodes: u8, chain: &Chain) -> bool
+        ensures { result ≡ still_waits nodes (Some chain.now.decrees) chain.now.id (held_of self.now) }
+    {
+        self.id() != chain.id() || self.verdict(nodes, chain).is_none()
+    }
+
+    /// The reply to it once this chain is known; none if it still waits. An `Err` is want of memory.
+    pub fn reply(&self, nodes: u8, chain: &Chain) -> Result<Option<Reply>, AllocError>
+        ensures { IfOk result (λ reply. option_map reply_given reply ≡ reply_to nodes (Some chain.now.decrees) chain.now.id (held_of self.now)) }
+    {
+        if self.id() != chain.id() {
+            return Ok(None);
+        }
+        let answer = self.answer(nodes, Some(chain))?;
+        Ok(self.reply_with(answer))
+    }
+
+    /// The reply to it with this answer, if there is one.
+    fn reply_with(&self, answer: Option<Answer>) -> Option<Reply>
+        ensures { option_map reply_given result ≡ reply_with (held_of self.now) (option_map answer_given answer) }
+    {
+        let answer = answer?;
+        Some(Reply {
+            ticket: self.ticket,
+            id: self.id(),
+            answer,
+        })
+    }
+
+    /// The reply to it once it waited too long.
+    pub fn late_reply(&self) -> Reply
+        ensures { reply_given result ≡ late_reply (held_of self.now) }
+    {
+        Reply {
+            ticket: self.ticket,
+            id: self.id(),
+            answer: Answer::TooLate,
+        }
+    }
+
+    /// Whether it is a settled cancel_sm of the message of this id, and matches it.
+    pub fn cancels(&self, id: MsgId, message: &Submission) -> bool
+        ensures { result ≡ cancels id message.now (held_of self.now) }
+    {
+        self.settled && self.request.matches(id, message)
     }
 
     /// The same once more.

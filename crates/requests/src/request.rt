@@ -2,9 +2,13 @@
 
 ghost use Rattle.std.specs.Prelude.{◌≡◌, IfOk};
 ghost use Rattle.mc_model.specs.node.Actor.{id_in};
+ghost use Rattle.node_model.specs.Requests.{asks, is_cancel};
+ghost use Rattle.node_model.specs.Starts.{matches};
 ghost use Rattle.requests.specs.Waiting.{request_of};
 
 use crate::taken::Taken;
+use crate::verdict::is_match;
+use fate_chain::Submission;
 use mc_types::MsgId;
 use pdu_codec::Text;
 use std::alloc::AllocError;
@@ -37,6 +41,35 @@ impl Request {
         match self {
             Request::Submit(taken) => taken.id(),
             Request::Query { id, .. } | Request::Cancel { id, .. } => *id,
+        }
+    }
+
+    /// Whether it is a cancel_sm.
+    pub fn is_cancel(&self) -> bool
+        ensures { result ≡ is_cancel (request_of self.now) }
+    {
+        matches!(self, Request::Cancel { .. })
+    }
+
+    /// Whether it asks questions: a submit_sm asks none.
+    pub fn asks(&self) -> bool
+        ensures { result ≡ asks (request_of self.now) }
+    {
+        !matches!(self, Request::Submit(_))
+    }
+
+    /// Whether it is a cancel_sm of the message of this id, and matches it.
+    pub fn matches(&self, id: MsgId, message: &Submission) -> bool
+        ensures { result ≡ matches (request_of self.now) id message.now }
+    {
+        match self {
+            Request::Cancel {
+                id: other,
+                account,
+                source,
+                destination,
+            } => *other == id && is_match(message, account, source, destination),
+            _ => false,
         }
     }
 

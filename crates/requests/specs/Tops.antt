@@ -1,0 +1,14 @@
+-- The highest vote that was told (own).
+use Rattle.std.specs.Prelude.{ℕ, Option, Some, None, if◌then◌else◌}
+use Rattle.mc_model.specs.synod.Packet.{TopVote}
+use Rattle.node_model.specs.Kept.{Held}
+use Rattle.node_model.specs.Sets.{is_majority}
+
+-- a vote in the place of the one so far, if there is one
+abbrev pub over : Option TopVote → Option TopVote → Option TopVote
+over None top = top
+over (Some higher) top = Some higher
+
+-- what is followed of what was told: nothing before a majority told
+abbrev pub told_by_most : ℕ → Held → Option TopVote
+told_by_most nodes h = if is_majority nodes h.tellers then h.top else None
