@@ -4,3 +4,4 @@ pub mod Queues
 pub mod Tops
 pub mod Questions
 pub mod Replying
+pub mod Submits

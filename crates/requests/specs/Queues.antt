@@ -1,24 +1,32 @@
 -- The requests that wait in the code (own).
-use Rattle.std.specs.Prelude.{ℕ, ◌<◌, ◌≤◌, List, [], ◌∷◌, length}
+use Rattle.std.specs.Prelude.{ℕ, ◌<◌, ◌≤◌, List, [], ◌∷◌, length, map}
+use Rattle.std.specs.Global.{Box}
+use Rattle.std.specs.Box.{box_value}
 use Rattle.mc_model.specs.node.Room.{most_waiting}
-use Rattle.requests.specs.Waiting.{Waits}
+use Rattle.node_model.specs.Kept.{Held}
+use Rattle.node_model.specs.Requests.{ticket_of}
+use Rattle.requests.specs.Waiting.{Waits, held_in}
 
 -- each ticket is lower than this one
-abbrev pub IsAbove : List Waits → ℕ → Type 0
+abbrev pub IsAbove : List Held → ℕ → Type 0
 IsAbove [] ticket = Unit {0}
-IsAbove (first ∷ others) ticket = (first.waiting.ticket < ticket) × IsAbove others ticket
+IsAbove (first ∷ others) ticket = (ticket_of first < ticket) × IsAbove others ticket
 
 -- each ticket is higher than this one
-abbrev pub IsBelow : ℕ → List Waits → Type 0
+abbrev pub IsBelow : ℕ → List Held → Type 0
 IsBelow ticket [] = Unit {0}
-IsBelow ticket (first ∷ others) = (ticket < first.waiting.ticket) × IsBelow ticket others
+IsBelow ticket (first ∷ others) = (ticket < ticket_of first) × IsBelow ticket others
 
-abbrev pub Ascend : List Waits → Type 0
+abbrev pub Ascend : List Held → Type 0
 Ascend [] = Unit {0}
-Ascend (first ∷ others) = IsBelow first.waiting.ticket others × Ascend others
+Ascend (first ∷ others) = IsBelow (ticket_of first) others × Ascend others
 
 -- their tickets ascend, and there is room for as many as may wait
 pub record IsQueue (capacity : ℕ) (waits : List Waits) : Type 0 where
   pub room : most_waiting ≤ capacity
   pub few : length waits ≤ most_waiting
-  pub ascend : Ascend waits
+  pub ascend : Ascend (held_in waits)
+
+-- those in boxes
+abbrev pub boxed_in : List (Box Waits) → List Held
+boxed_in boxes = held_in (map box_value boxes)

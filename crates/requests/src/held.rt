@@ -4,7 +4,7 @@ ghost use Rattle.std.specs.Prelude.{◌≡◌, None, Some, IfOk, OnErr, OnOk, op
 ghost use Rattle.std.specs.Option.{option_copied};
 ghost use Rattle.mc_model.specs.node.Replies.{Unknown};
 ghost use Rattle.node_model.specs.Answers.{answer_to, still_waits};
-ghost use Rattle.node_model.specs.Packets.{tells_about};
+ghost use Rattle.node_model.specs.Packets.{settled_for, tells_about};
 ghost use Rattle.node_model.specs.Requests.{begun, higher_top, id_of, is_settled, is_untold, settled_by, settles, ticket_of, told_by};
 ghost use Rattle.node_model.specs.Starts.{cancels};
 ghost use Rattle.node_model.specs.Ticks.{is_late, late_reply};
@@ -12,12 +12,14 @@ ghost use Rattle.synod_acceptor.specs.Packets.{packet_of};
 ghost use Rattle.synod_acceptor.specs.Votes.{told_vote};
 ghost use Rattle.requests.specs.Questions.{question_by};
 ghost use Rattle.requests.specs.Replying.{answer_given, answer_with, reply_given, reply_to, reply_with};
-ghost use Rattle.requests.specs.Tops.{over, told_by_most};
+ghost use Rattle.requests.specs.Submits.{begun_of};
+ghost use Rattle.requests.specs.Tops.{over, shown_by, told_by_most};
 ghost use Rattle.requests.specs.Waiting.{IsSince, held_of, known_of, request_of};
 
 use crate::answer::{Answer, Reply};
 use crate::request::Request;
-use crate::told::{is_majority, is_reached, passes, raise};
+use crate::taken::Taken;
+use crate::told::{higher, is_majority, is_reached, passes, raise};
 use crate::verdict::Verdict;
 use fate_chain::{Chain, Submission};
 use mc_types::{Incarnation, Moment, MsgId, NodeNo, NodeSet};
@@ -276,6 +278,38 @@ impl Held {
         ensures { result ≡ cancels id message.now (held_of self.now) }
     {
         self.settled && self.request.matches(id, message)
+    }
+
+    /// Settles a cancel_sm of the message of this chain, if it is to be settled now. It takes no memory.
+    pub fn settle_for(&mut self, nodes: u8, chain: &Chain)
+        ensures { held_of self.new ≡ settled_for nodes chain.now.id chain.now.decrees (held_of self.old) }
+    {
+        if self.id() == chain.id() {
+            self.settle(nodes, Some(chain));
+        }
+    }
+
+    /// The message of a submit_sm of this id.
+    pub fn taken(&self, id: MsgId) -> Option<&Taken>
+        ensures { option_copied result ≡ begun_of id (held_of self.now) }
+    {
+        if self.id() != id {
+            return None;
+        }
+        match &self.request {
+            Request::Submit(taken) => Some(taken),
+            _ => None,
+        }
+    }
+
+    /// The highest of a vote and of those that were told to it, if it is about the message of this id; else that vote.
+    pub fn shown<'a>(&'a self, id: MsgId, top: Option<&'a Vote>) -> Option<&'a Vote>
+        ensures { told_vote (option_copied result) ≡ shown_by id (held_of self.now) (told_vote (option_copied top.entry)) }
+    {
+        if self.id() != id {
+            return top;
+        }
+        higher(top, self.top.as_ref())
     }
 
     /// The same once more.

@@ -8,6 +8,7 @@ mod request;
 mod taken;
 mod told;
 mod verdict;
+mod walk;
 
 pub use answer::{Answer, Reply};
 pub use held::Held;

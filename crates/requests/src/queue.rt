@@ -5,6 +5,7 @@ ghost use Rattle.std.specs.Box.{box_value};
 ghost use Rattle.std.specs.Vec.{vec_capacity, vec_len};
 ghost use Rattle.mc_model.specs.node.Room.{most_waiting};
 ghost use Rattle.requests.specs.Queues.{IsAbove};
+ghost use Rattle.requests.specs.Waiting.{held_in};
 
 use crate::held::Held;
 use std::alloc::{AllocError, Global};
@@ -60,7 +61,7 @@ impl Queue {
     /// Lets a request wait behind all others. Its ticket is higher than theirs, and there is room for it. It takes no memory.
     pub fn push(&mut self, held: Box<Held>)
         requires room { length self.old < most_waiting }
-        requires above { IsAbove self.old (box_value held).waiting.ticket }
+        requires above { IsAbove (held_in self.old) (box_value held).waiting.ticket }
         ensures { self.new ≡ self.old ++ box_value held ∷ [] }
     {
         push_reserved(&mut self.held, held);
