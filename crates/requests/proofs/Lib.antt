@@ -1,3 +1,5 @@
 pub mod Hearing
 pub mod Queued
+pub mod Settling
+pub mod Starting
 pub mod Walks

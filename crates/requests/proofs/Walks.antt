@@ -72,13 +72,13 @@ module _ (f : Held → Held) (old cur : List (Box Waits)) (i : ℕ) (x b : Box W
       let rest : drop (i + 1) cur ≡ drop (i + 1) old = cc in
       drop-set-lt (i + 1) cur i b (omega arith) ∙ rest
 
-pub replied_next : (nodes : ℕ) (known : Option (List Decree)) (id : ℕ) (boxes : List (Box Waits)) (i : ℕ) (b : Box Waits) → i < length boxes → b ≡ get_or boxes i b → (before after : List Sent) (reply : Option Sent) → after ≡ before ++ option_to_list reply → option_map reply_given reply ≡ reply_with (in_box b) (reply_of nodes known id (in_box b)) → map reply_given before ++ replies_to nodes known id (boxed_in (drop i boxes)) ≡ replies_to nodes known id (boxed_in boxes) → map reply_given after ++ replies_to nodes known id (boxed_in (drop (i + 1) boxes)) ≡ replies_to nodes known id (boxed_in boxes)
-replied_next nodes known id boxes i b within is before after reply stored same so_far =
-    let rest : List Reply = replies_to nodes known id (boxed_in (drop (i + 1) boxes)) in
+pub replied_next : (f : Held → Held) (nodes : ℕ) (known : Option (List Decree)) (id : ℕ) (boxes : List (Box Waits)) (i : ℕ) (b : Box Waits) → i < length boxes → b ≡ get_or boxes i b → (before after : List Sent) (reply : Option Sent) → after ≡ before ++ option_to_list reply → option_map reply_given reply ≡ reply_with (f (in_box b)) (reply_of nodes known id (f (in_box b))) → map reply_given before ++ replies_to nodes known id (map f (boxed_in (drop i boxes))) ≡ replies_to nodes known id (map f (boxed_in boxes)) → map reply_given after ++ replies_to nodes known id (map f (boxed_in (drop (i + 1) boxes))) ≡ replies_to nodes known id (map f (boxed_in boxes))
+replied_next f nodes known id boxes i b within is before after reply stored same so_far =
+    let rest : List Reply = replies_to nodes known id (map f (boxed_in (drop (i + 1) boxes))) in
     let more : drop i boxes ≡ b ∷ drop (i + 1) boxes = drop_more boxes i b within ∙ ap (λ (c : Box Waits). c ∷ drop (i + 1) boxes) (sym is) in
     ap (λ (all : List Sent). map reply_given all ++ rest) stored
-    ∙ replied_is before reply (in_box b) (reply_of nodes known id (in_box b)) rest same
-    ∙ sym (ap (λ (cs : List (Box Waits)). map reply_given before ++ replies_to nodes known id (boxed_in cs)) more)
+    ∙ replied_is before reply (f (in_box b)) (reply_of nodes known id (f (in_box b))) rest same
+    ∙ sym (ap (λ (cs : List (Box Waits)). map reply_given before ++ replies_to nodes known id (map f (boxed_in cs))) more)
     ∙ so_far
 
 -- ---- one is replaced

@@ -2,12 +2,13 @@
 use Rattle.std.specs.Prelude.{◌≡◌, ℕ, pred, ◌==◌, List, [], ◌∷◌, length, Option, Some, None, if◌then◌else◌}
 use Rattle.std.specs.Option.{option_or}
 use Rattle.mc_model.specs.message.Ids.{incarnation_of, node_of}
+use Rattle.mc_model.specs.message.Decree.{Decree}
 use Rattle.mc_model.specs.message.Chain.{Chain}
 use Rattle.mc_model.specs.node.Actor.{Cancel, Query, Request, Submit}
 use Rattle.node_model.specs.Kept.{Held}
 use Rattle.node_model.specs.Proposer.{Start}
 use Rattle.node_model.specs.Requests.{id_of}
-use Rattle.requests.specs.Beginnings.{Begun}
+use Rattle.requests.specs.Beginnings.{Begun, begun_chain}
 
 -- the message of a submit_sm that came at a moment
 abbrev pub begun_in : ℕ → Request → Option Begun
@@ -32,6 +33,12 @@ abbrev pub AreNumberedBy : ℕ → ℕ → List Held → Type 0
 AreNumberedBy node incarnation [] = Unit {0}
 AreNumberedBy node incarnation (h ∷ others) = IsNumberedBy node incarnation h.waiting.request × AreNumberedBy node incarnation others
 
--- the round for a chain
+-- the round for a chain, at its place
+abbrev pub start_at : List Decree → Start
+start_at chain = record { place = pred (length chain); chain = chain }
+
 abbrev pub start_of : Chain → Start
-start_of chain = record { place = pred (length chain.decrees); chain = chain.decrees }
+start_of chain = start_at chain.decrees
+
+abbrev pub begun_start : Begun → Start
+begun_start b = start_at (begun_chain b)

@@ -1,11 +1,13 @@
 //! Requests that wait.
 
-ghost use Rattle.std.specs.Prelude.{◌≡◌, None, Some, IfOk, OnErr, OnOk, option_map, if◌then◌else◌};
+ghost use Rattle.std.specs.Prelude.{◌≡◌, ◌&&◌, ◌||◌, None, Some, IfOk, OnErr, OnOk, option_map, if◌then◌else◌};
 ghost use Rattle.std.specs.Option.{option_copied};
+ghost use Rattle.mc_model.specs.message.Chain.{taken_in};
+ghost use Rattle.mc_model.specs.message.Submission.{Submission as SubmissionValue};
 ghost use Rattle.mc_model.specs.node.Replies.{Unknown};
 ghost use Rattle.node_model.specs.Answers.{answer_to, still_waits};
 ghost use Rattle.node_model.specs.Packets.{settled_for, tells_about};
-ghost use Rattle.node_model.specs.Requests.{begun, higher_top, id_of, is_settled, is_untold, settled_by, settles, ticket_of, told_by};
+ghost use Rattle.node_model.specs.Requests.{begun, higher_top, id_of, is_cancel, is_settled, is_untold, settled_by, settles, ticket_of, told_by};
 ghost use Rattle.node_model.specs.Starts.{cancels};
 ghost use Rattle.node_model.specs.Ticks.{is_late, late_reply};
 ghost use Rattle.synod_acceptor.specs.Packets.{packet_of};
@@ -239,15 +241,36 @@ impl Held {
         self.id() != chain.id() || self.verdict(nodes, chain).is_none()
     }
 
-    /// The reply to it once this chain is known; none if it still waits. An `Err` is want of memory.
+    /// The reply to it once this chain is known, by which a cancel_sm may be settled; none if it still waits then. An `Err` is want
+    /// of memory.
     pub fn reply(&self, nodes: u8, chain: &Chain) -> Result<Option<Reply>, AllocError>
-        ensures { IfOk result (λ reply. option_map reply_given reply ≡ reply_to nodes (Some chain.now.decrees) chain.now.id (held_of self.now)) }
+        ensures { IfOk result (λ reply. option_map reply_given reply
+            ≡ reply_to nodes (Some chain.now.decrees) chain.now.id (settled_for nodes chain.now.id chain.now.decrees (held_of self.now))) }
     {
         if self.id() != chain.id() {
             return Ok(None);
         }
-        let answer = self.answer(nodes, Some(chain))?;
+        let answer = match self.verdict_then(nodes, chain) {
+            Some(verdict) => Some(verdict.answer(chain)?),
+            None => None,
+        };
         Ok(self.reply_with(answer))
+    }
+
+    /// What it is answered by a chain of its message, by which it may be settled.
+    fn verdict_then(&self, nodes: u8, chain: &Chain) -> Option<Verdict>
+        ensures { option_map (answer_with chain.now.decrees) result
+            ≡ answer_to nodes (Some chain.now.decrees) (settled_by nodes (Some chain.now.decrees) (held_of self.now)) }
+    {
+        let reached = self.is_settled(nodes, Some(chain));
+        Verdict::of(&self.request, self.is_settled_then(reached), reached, chain)
+    }
+
+    /// Whether it was settled, or is a cancel_sm that is settled now.
+    fn is_settled_then(&self, reached: bool) -> bool
+        ensures { result ≡ ((held_of self.now).waiting.settled || (is_cancel (held_of self.now).waiting.request && reached)) }
+    {
+        self.settled || (self.request.is_cancel() && reached)
     }
 
     /// The reply to it with this answer, if there is one.
@@ -278,6 +301,18 @@ impl Held {
         ensures { result ≡ cancels id message.now (held_of self.now) }
     {
         self.settled && self.request.matches(id, message)
+    }
+
+    /// Whether it is a cancel_sm that is settled once this chain is known, of the message of this chain, and matches it.
+    pub fn cancels_then(&self, nodes: u8, chain: &Chain) -> bool
+        ensures { (message : SubmissionValue) → taken_in chain.now.decrees ≡ Some message →
+            result ≡ cancels chain.now.id message (settled_for nodes chain.now.id chain.now.decrees (held_of self.now)) }
+    {
+        if self.id() != chain.id() {
+            return self.cancels(chain.id(), chain.submission());
+        }
+        let settled = self.settled || self.settles(nodes, Some(chain));
+        settled && self.request.matches(chain.id(), chain.submission())
     }
 
     /// Settles a cancel_sm of the message of this chain, if it is to be settled now. It takes no memory.

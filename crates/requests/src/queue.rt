@@ -1,15 +1,40 @@
 //! The requests that wait.
 
-ghost use Rattle.std.specs.Prelude.{◌≡◌, ◌<◌, ◌≤◌, ◌++◌, ◌∷◌, [], length, nat_le, IfOk};
+ghost use Rattle.std.specs.Prelude.{◌≡◌, ◌<◌, ◌≤◌, ◌++◌, ◌∷◌, ◌==◌, [], Some, filter, length, map, nat_le, not, option_map, IfOk};
 ghost use Rattle.std.specs.Box.{box_value};
+ghost use Rattle.std.specs.List.{list_any};
+ghost use Rattle.std.specs.Option.{option_copied};
 ghost use Rattle.std.specs.Vec.{vec_capacity, vec_len};
+ghost use Rattle.mc_model.specs.message.Chain.{taken_in};
+ghost use Rattle.mc_model.specs.message.Submission.{Submission as SubmissionValue};
 ghost use Rattle.mc_model.specs.node.Room.{most_waiting};
+ghost use Rattle.mc_model.specs.node.Setup.{Setup};
+ghost use Rattle.node_model.specs.Answers.{replies_to, still_waits};
+ghost use Rattle.node_model.specs.Kept.{Kept};
+ghost use Rattle.node_model.specs.Packets.{settled_for};
+ghost use Rattle.node_model.specs.Requests.{held_at, is_untold, ticket_of, with_held};
+ghost use Rattle.node_model.specs.Rules.{shown_to, taken_for};
+ghost use Rattle.node_model.specs.Starts.{cancels};
+ghost use Rattle.node_model.specs.Ticks.{is_late, late_reply};
+ghost use Rattle.synod_acceptor.specs.Packets.{packet_of};
+ghost use Rattle.synod_acceptor.specs.Votes.{told_vote};
+ghost use Rattle.requests.specs.Questions.{question_by};
 ghost use Rattle.requests.specs.Queues.{IsAbove};
-ghost use Rattle.requests.specs.Waiting.{held_in};
+ghost use Rattle.requests.specs.Replying.{reply_given};
+ghost use Rattle.requests.specs.Submits.{AreNumberedBy, start_of};
+ghost use Rattle.requests.specs.Waiting.{held_in, held_of};
 
+use crate::answer::Reply;
 use crate::held::Held;
+use crate::walk::{
+    cancels, cancels_then, find, first_taken, keep_others, keep_timely, keep_waiting, late,
+    questions, replace, replies, settle, shown,
+};
+use fate_chain::{Chain, Submission};
+use mc_types::{Incarnation, Moment, MsgId, NodeNo};
 use std::alloc::{AllocError, Global};
 use std::marker::Model;
+use synod_acceptor::{Packet, Vote};
 
 /// How many requests wait at most.
 const MOST_WAITING: usize = 1000;
@@ -65,6 +90,105 @@ impl Queue {
         ensures { self.new ≡ self.old ++ box_value held ∷ [] }
     {
         push_reserved(&mut self.held, held);
+    }
+
+    /// The request of a ticket; none if there is none. It goes through those that wait.
+    pub fn at(&self, ticket: u64) -> Option<&Held>
+        ensures { option_map held_of (option_copied result) ≡ held_at (held_in self.now) ticket }
+    {
+        find(&self.held, ticket)
+    }
+
+    /// Puts a request in the place of the one of its ticket, if there is one. It takes no memory.
+    pub fn replace(&mut self, held: Box<Held>)
+        ensures { held_in self.new ≡ with_held (held_in self.old) (held_of (box_value held)) }
+    {
+        replace(&mut self.held, held);
+    }
+
+    /// Takes away the request of a ticket, if there is one. It takes no memory.
+    pub fn remove(&mut self, ticket: u64)
+        ensures { held_in self.new ≡ filter (λ h. not (ticket_of h == ticket)) (held_in self.old) }
+    {
+        keep_others(&mut self.held, ticket);
+    }
+
+    /// The replies once this chain is known, which may settle a cancel_sm of its message first, by ascending tickets. An `Err` is
+    /// want of memory.
+    pub fn replies(&self, nodes: u8, chain: &Chain) -> Result<Vec<Reply>, AllocError>
+        ensures { IfOk result (λ replies. map reply_given replies.items
+            ≡ replies_to nodes (Some chain.now.decrees) chain.now.id (map (settled_for nodes chain.now.id chain.now.decrees) (held_in self.now))) }
+    {
+        replies(*self.held.allocator(), &self.held, nodes, chain)
+    }
+
+    /// Settles what is settled once this chain is known, and takes away what has an answer then. It takes no memory.
+    pub fn settle(&mut self, nodes: u8, chain: &Chain)
+        ensures { held_in self.new ≡ filter (still_waits nodes (Some chain.now.decrees) chain.now.id)
+            (map (settled_for nodes chain.now.id chain.now.decrees) (held_in self.old)) }
+    {
+        settle(&mut self.held, nodes, chain);
+        keep_waiting(&mut self.held, nodes, chain);
+    }
+
+    /// Whether the message of this chain is to be deleted for a cancel_sm once the chain is known, which may settle the cancel_sm.
+    pub fn cancels_then(&self, nodes: u8, chain: &Chain) -> bool
+        ensures { (message : SubmissionValue) → taken_in chain.now.decrees ≡ Some message →
+            result ≡ list_any (cancels chain.now.id message) (map (settled_for nodes chain.now.id chain.now.decrees) (held_in self.now)) }
+    {
+        cancels_then(&self.held, nodes, chain)
+    }
+
+    /// Whether the message of an id is to be deleted for a cancel_sm that was settled.
+    pub fn cancels(&self, id: MsgId, message: &Submission) -> bool
+        ensures { result ≡ list_any (cancels id message.now) (held_in self.now) }
+    {
+        cancels(&self.held, id, message)
+    }
+
+    /// The replies to those that waited for 30 seconds or longer, by ascending tickets. An `Err` is want of memory.
+    pub fn late(&self, clock: Moment) -> Result<Vec<Reply>, AllocError>
+        ensures { IfOk result (λ replies. map reply_given replies.items ≡ map late_reply (filter (is_late clock) (held_in self.now))) }
+    {
+        late(*self.held.allocator(), &self.held, clock)
+    }
+
+    /// Takes away those that waited for 30 seconds or longer. It takes no memory.
+    pub fn expire(&mut self, clock: Moment)
+        ensures { held_in self.new ≡ filter (λ h. not (is_late clock h)) (held_in self.old) }
+    {
+        keep_timely(&mut self.held, clock);
+    }
+
+    /// The questions of those to which no majority of so many nodes told, for the node and the incarnation in which they wait, by
+    /// ascending tickets. An `Err` is want of memory.
+    pub fn questions(
+        &self,
+        node: NodeNo,
+        incarnation: Incarnation,
+        nodes: u8,
+    ) -> Result<Vec<Packet>, AllocError>
+        ensures { IfOk result (λ packets. map packet_of packets.items ≡ map (question_by node incarnation) (filter (is_untold nodes) (held_in self.now))) }
+    {
+        questions(*self.held.allocator(), &self.held, node, incarnation, nodes)
+    }
+
+    /// The chain by which the message of an id is taken, if a submit_sm of it waits. An `Err` is want of memory.
+    pub fn taken(&self, id: MsgId) -> Result<Option<Chain>, AllocError>
+        ensures { IfOk result (λ chain. (setup : Setup) (k : Kept) → AreNumberedBy setup.node k.incarnation (held_in self.now) →
+            option_map start_of chain ≡ taken_for setup k id (held_in self.now)) }
+    {
+        let Some(taken) = first_taken(&self.held, id) else {
+            return Ok(None);
+        };
+        Ok(Some(taken.chain().copy()?))
+    }
+
+    /// The highest of a vote and of those that were told to the requests of an id.
+    pub fn shown<'a>(&'a self, id: MsgId, told: Option<&'a Vote>) -> Option<&'a Vote>
+        ensures { told_vote (option_copied result) ≡ shown_to id (held_in self.now) (told_vote (option_copied told.entry)) }
+    {
+        shown(&self.held, id, told)
     }
 }
 

@@ -5,6 +5,8 @@ ghost use Rattle.std.specs.Box.{box_value};
 ghost use Rattle.std.specs.List.{list_any, position};
 ghost use Rattle.std.specs.Option.{option_copied, option_to_list};
 ghost use Rattle.std.specs.Vec.{vec_capacity};
+ghost use Rattle.mc_model.specs.message.Chain.{taken_in};
+ghost use Rattle.mc_model.specs.message.Submission.{Submission as SubmissionValue};
 ghost use Rattle.node_model.specs.Answers.{replies_to, still_waits};
 ghost use Rattle.node_model.specs.Packets.{settled_for};
 ghost use Rattle.node_model.specs.Requests.{held_at, is_untold, ticket_of, with_held};
@@ -47,7 +49,7 @@ fn place_of(held: &[Box<Held>], ticket: u64) -> Option<usize>
 }
 
 /// Puts a request in the place of the one of its ticket, if there is one.
-pub(crate) fn replace(held: &mut [Box<Held>], new: Box<Held>)
+fn replace_at(held: &mut [Box<Held>], new: Box<Held>)
     requires { Ascend (boxed_in held.old) }
     ensures { boxed_in held.new ≡ with_held (boxed_in held.old) (held_of (box_value new)) }
 {
@@ -56,14 +58,24 @@ pub(crate) fn replace(held: &mut [Box<Held>], new: Box<Held>)
     }
 }
 
-/// The replies to those that have an answer once this chain is known.
+/// Puts a request in the place of the one of its ticket, if there is one; room stays as it is.
+pub(crate) fn replace(held: &mut Vec<Box<Held>>, new: Box<Held>)
+    requires { Ascend (boxed_in held.old.items) }
+    ensures held { boxed_in held.new.items ≡ with_held (boxed_in held.old.items) (held_of (box_value new)) }
+    ensures capacity { vec_capacity held.new ≡ vec_capacity held.old }
+{
+    replace_at(held, new);
+}
+
+/// The replies to those that have an answer once this chain is known, by which they may be settled.
 pub(crate) fn replies(
     alloc: Global,
     held: &[Box<Held>],
     nodes: u8,
     chain: &Chain,
 ) -> Result<Vec<Reply>, AllocError>
-    ensures { IfOk result (λ replies. map reply_given replies.items ≡ replies_to nodes (Some chain.now.decrees) chain.now.id (boxed_in held.now)) }
+    ensures { IfOk result (λ replies. map reply_given replies.items ≡ replies_to nodes (Some chain.now.decrees) chain.now.id
+        (map (settled_for nodes chain.now.id chain.now.decrees) (boxed_in held.now))) }
 {
     let mut replies = Vec::new(alloc);
     for one in held {
@@ -157,13 +169,34 @@ pub(crate) fn cancels(held: &[Box<Held>], id: MsgId, message: &Submission) -> bo
     false
 }
 
+/// Whether one of them is a cancel_sm that is settled once this chain is known, of the message of this chain, and matches it.
+pub(crate) fn cancels_then(held: &[Box<Held>], nodes: u8, chain: &Chain) -> bool
+    ensures { (message : SubmissionValue) → taken_in chain.now.decrees ≡ Some message →
+        result ≡ list_any (cancels chain.now.id message) (map (settled_for nodes chain.now.id chain.now.decrees) (boxed_in held.now)) }
+{
+    for one in held {
+        if one.cancels_then(nodes, chain) {
+            return true;
+        }
+    }
+    false
+}
+
 /// Settles those that are to be settled once this chain is known.
-pub(crate) fn settle(held: &mut [Box<Held>], nodes: u8, chain: &Chain)
+fn settle_each(held: &mut [Box<Held>], nodes: u8, chain: &Chain)
     ensures { boxed_in held.new ≡ map (settled_for nodes chain.now.id chain.now.decrees) (boxed_in held.old) }
 {
     for one in held.iter_mut() {
         one.settle_for(nodes, chain);
     }
+}
+
+/// Settles those that are to be settled once this chain is known; room stays as it is.
+pub(crate) fn settle(held: &mut Vec<Box<Held>>, nodes: u8, chain: &Chain)
+    ensures held { boxed_in held.new.items ≡ map (settled_for nodes chain.now.id chain.now.decrees) (boxed_in held.old.items) }
+    ensures capacity { vec_capacity held.new ≡ vec_capacity held.old }
+{
+    settle_each(held, nodes, chain);
 }
 
 /// Keeps those that still wait once this chain is known.

@@ -3,7 +3,7 @@ use Rattle.std.specs.Box.{with_value}
 use Rattle.std.specs.Prelude.{slice_index_or}
 use Rattle.node_model.specs.Packets.{settled_for}
 use Rattle.requests.proofs.Walks.{changed_back, changed_front, in_box}
-use Rattle.requests.proofs.walk.settle.Goals as goal
+use Rattle.requests.proofs.walk.settle_each.Goals as goal
 
 pub loop-one-preserved : goal.loop-one-preserved
 loop-one-preserved c =

@@ -1,7 +1,7 @@
 use Rattle.std.proofs.Common.{◌≡◌, take, drop, map, length}
 use Rattle.node_model.specs.Packets.{settled_for}
 use Rattle.requests.specs.Queues.{boxed_in}
-use Rattle.requests.proofs.walk.settle.Given as goal
+use Rattle.requests.proofs.walk.settle_each.Given as goal
 
 abbrev pub invariant-loop-one : goal.invariant-loop-one
 invariant-loop-one l = record {

@@ -3,7 +3,7 @@ use Rattle.std.specs.List.{position}
 use Rattle.std.proofs.lemmas.List.Quantifiers.{position-Some}
 use Rattle.requests.proofs.Walks.{has_ticket, in_box, put_at, put_nowhere}
 use Rattle.node_model.specs.Requests.{ticket_of}
-use Rattle.requests.proofs.walk.replace.Goals as goal
+use Rattle.requests.proofs.walk.replace_at.Goals as goal
 
 pub returns-in-Some : goal.returns-in-Some
 returns-in-Some c =
