@@ -132,7 +132,7 @@ impl Held {
     }
 
     /// Whether a majority of so many nodes told, and what is known reaches all that they told.
-    pub fn is_settled(&self, nodes: u8, known: Option<&Chain>) -> bool
+    pub(crate) fn is_settled(&self, nodes: u8, known: Option<&Chain>) -> bool
         ensures { result ≡ is_settled nodes (known_of (option_copied known.entry)) (held_of self.now) }
     {
         is_majority(nodes, self.tellers) && is_reached(known, self.top.as_ref())
@@ -155,7 +155,7 @@ impl Held {
     }
 
     /// Whether it asks questions to which no majority of so many nodes told.
-    pub fn is_untold(&self, nodes: u8) -> bool
+    pub(crate) fn is_untold(&self, nodes: u8) -> bool
         ensures { result ≡ is_untold nodes (held_of self.now) }
     {
         self.request.asks() && !is_majority(nodes, self.tellers)
@@ -188,7 +188,7 @@ impl Held {
     }
 
     /// Whether it came 30 seconds before this clock, or earlier.
-    pub fn is_late(&self, clock: Moment) -> bool
+    pub(crate) fn is_late(&self, clock: Moment) -> bool
         ensures { result ≡ is_late clock (held_of self.now) }
     {
         self.since.seconds() + LONGEST_WAIT <= clock.seconds()
@@ -235,7 +235,7 @@ impl Held {
     }
 
     /// Whether it still waits once this chain is known: it is about another message, or has no answer by it. It takes no memory.
-    pub fn still_waits(&self, nodes: u8, chain: &Chain) -> bool
+    pub(crate) fn still_waits(&self, nodes: u8, chain: &Chain) -> bool
         ensures { result ≡ still_waits nodes (Some chain.now.decrees) chain.now.id (held_of self.now) }
     {
         self.id() != chain.id() || self.verdict(nodes, chain).is_none()
@@ -243,7 +243,7 @@ impl Held {
 
     /// The reply to it once this chain is known, by which a cancel_sm may be settled; none if it still waits then. An `Err` is want
     /// of memory.
-    pub fn reply(&self, nodes: u8, chain: &Chain) -> Result<Option<Reply>, AllocError>
+    pub(crate) fn reply(&self, nodes: u8, chain: &Chain) -> Result<Option<Reply>, AllocError>
         ensures { IfOk result (λ reply. option_map reply_given reply
             ≡ reply_to nodes (Some chain.now.decrees) chain.now.id (settled_for nodes chain.now.id chain.now.decrees (held_of self.now))) }
     {
@@ -277,22 +277,25 @@ impl Held {
     fn reply_with(&self, answer: Option<Answer>) -> Option<Reply>
         ensures { option_map reply_given result ≡ reply_with (held_of self.now) (option_map answer_given answer) }
     {
-        let answer = answer?;
-        Some(Reply {
-            ticket: self.ticket,
-            id: self.id(),
-            answer,
-        })
+        Some(self.reply_of(answer?))
     }
 
     /// The reply to it once it waited too long.
-    pub fn late_reply(&self) -> Reply
+    pub(crate) fn late_reply(&self) -> Reply
         ensures { reply_given result ≡ late_reply (held_of self.now) }
     {
+        self.reply_of(Answer::TooLate)
+    }
+
+    /// The reply to it with this answer.
+    fn reply_of(&self, answer: Answer) -> Reply
+        ensures { reply_given result ≡ record { ticket = ticket_of (held_of self.now); id = id_of (held_of self.now); answer = answer_given answer } }
+    {
+        let ticket = self.ticket;
         Reply {
-            ticket: self.ticket,
+            ticket,
             id: self.id(),
-            answer: Answer::TooLate,
+            answer,
         }
     }
 
@@ -304,7 +307,7 @@ impl Held {
     }
 
     /// Whether it is a cancel_sm that is settled once this chain is known, of the message of this chain, and matches it.
-    pub fn cancels_then(&self, nodes: u8, chain: &Chain) -> bool
+    pub(crate) fn cancels_then(&self, nodes: u8, chain: &Chain) -> bool
         ensures { (message : SubmissionValue) → taken_in chain.now.decrees ≡ Some message →
             result ≡ cancels chain.now.id message (settled_for nodes chain.now.id chain.now.decrees (held_of self.now)) }
     {
@@ -316,7 +319,7 @@ impl Held {
     }
 
     /// Settles a cancel_sm of the message of this chain, if it is to be settled now. It takes no memory.
-    pub fn settle_for(&mut self, nodes: u8, chain: &Chain)
+    pub(crate) fn settle_for(&mut self, nodes: u8, chain: &Chain)
         ensures { held_of self.new ≡ settled_for nodes chain.now.id chain.now.decrees (held_of self.old) }
     {
         if self.id() == chain.id() {
@@ -325,7 +328,7 @@ impl Held {
     }
 
     /// The message of a submit_sm of this id.
-    pub fn taken(&self, id: MsgId) -> Option<&Taken>
+    pub(crate) fn taken(&self, id: MsgId) -> Option<&Taken>
         ensures { option_copied result ≡ begun_of id (held_of self.now) }
     {
         if self.id() != id {
@@ -338,7 +341,7 @@ impl Held {
     }
 
     /// The highest of a vote and of those that were told to it, if it is about the message of this id; else that vote.
-    pub fn shown<'a>(&'a self, id: MsgId, top: Option<&'a Vote>) -> Option<&'a Vote>
+    pub(crate) fn shown<'a>(&'a self, id: MsgId, top: Option<&'a Vote>) -> Option<&'a Vote>
         ensures { told_vote (option_copied result) ≡ shown_by id (held_of self.now) (told_vote (option_copied top.entry)) }
     {
         if self.id() != id {

@@ -15,4 +15,3 @@ pub use held::Held;
 pub use queue::Queue;
 pub use request::Request;
 pub use taken::Taken;
-pub use verdict::{is_match, is_owner};

@@ -1,6 +1,6 @@
 //! The requests that wait.
 
-ghost use Rattle.std.specs.Prelude.{◌≡◌, ◌<◌, ◌≤◌, ◌++◌, ◌∷◌, ◌==◌, [], Some, filter, length, map, nat_le, not, option_map, IfOk};
+ghost use Rattle.std.specs.Prelude.{◌≡◌, ◌<◌, ◌≤◌, ◌++◌, ◌∷◌, ◌==◌, [], Some, filter, length, map, nat_le, not, option_map, IfOk, OnOk};
 ghost use Rattle.std.specs.Box.{box_value};
 ghost use Rattle.std.specs.List.{list_any};
 ghost use Rattle.std.specs.Option.{option_copied};
@@ -15,7 +15,7 @@ ghost use Rattle.node_model.specs.Packets.{settled_for};
 ghost use Rattle.node_model.specs.Requests.{held_at, is_untold, ticket_of, with_held};
 ghost use Rattle.node_model.specs.Rules.{shown_to, taken_for};
 ghost use Rattle.node_model.specs.Starts.{cancels};
-ghost use Rattle.node_model.specs.Ticks.{is_late, late_reply};
+ghost use Rattle.node_model.specs.Ticks.{ids_with, is_late, late_reply};
 ghost use Rattle.synod_acceptor.specs.Packets.{packet_of};
 ghost use Rattle.synod_acceptor.specs.Votes.{told_vote};
 ghost use Rattle.requests.specs.Questions.{question_by};
@@ -28,11 +28,12 @@ use crate::answer::Reply;
 use crate::held::Held;
 use crate::walk::{
     cancels, cancels_then, find, first_taken, keep_others, keep_timely, keep_waiting, late,
-    questions, replace, replies, settle, shown,
+    put_ids, questions, replace, replies, settle, shown,
 };
 use fate_chain::{Chain, Submission};
 use mc_types::{Incarnation, Moment, MsgId, NodeNo};
 use std::alloc::{AllocError, Global};
+use std::collections::BTreeSet;
 use std::marker::Model;
 use synod_acceptor::{Packet, Vote};
 
@@ -171,6 +172,14 @@ impl Queue {
         ensures { IfOk result (λ packets. map packet_of packets.items ≡ map (question_by node incarnation) (filter (is_untold nodes) (held_in self.now))) }
     {
         questions(*self.held.allocator(), &self.held, node, incarnation, nodes)
+    }
+
+    /// Puts the ids of the messages that the requests are about into a set of ids. An `Err` is want of memory, and leaves some of
+    /// them in it.
+    pub fn put_ids(&self, ids: &mut BTreeSet<u64>) -> Result<(), AllocError>
+        ensures { OnOk result (ids.new.keys ≡ ids_with (held_in self.now) ids.old.keys) }
+    {
+        put_ids(&self.held, ids)
     }
 
     /// The chain by which the message of an id is taken, if a submit_sm of it waits. An `Err` is want of memory.

@@ -45,7 +45,7 @@ impl Request {
     }
 
     /// Whether it is a cancel_sm.
-    pub fn is_cancel(&self) -> bool
+    pub(crate) fn is_cancel(&self) -> bool
         ensures { result ≡ is_cancel (request_of self.now) }
     {
         matches!(self, Request::Cancel { .. })
@@ -59,7 +59,7 @@ impl Request {
     }
 
     /// Whether it is a cancel_sm of the message of this id, and matches it.
-    pub fn matches(&self, id: MsgId, message: &Submission) -> bool
+    pub(crate) fn matches(&self, id: MsgId, message: &Submission) -> bool
         ensures { result ≡ matches (request_of self.now) id message.now }
     {
         match self {
@@ -74,7 +74,7 @@ impl Request {
     }
 
     /// The same request once more.
-    pub fn copy(&self) -> Result<Request, AllocError>
+    pub(crate) fn copy(&self) -> Result<Request, AllocError>
         ensures { IfOk result (λ request. request ≡ self.now) }
     {
         match self {

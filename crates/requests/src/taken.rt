@@ -53,14 +53,14 @@ impl Taken {
     }
 
     /// Its id.
-    pub fn id(&self) -> MsgId
+    pub(crate) fn id(&self) -> MsgId
         ensures { result ≡ self.now.id }
     {
         self.chain.id()
     }
 
     /// Its chain.
-    pub fn chain(&self) -> &Chain
+    pub(crate) fn chain(&self) -> &Chain
         ensures id { result.now.id ≡ self.now.id }
         ensures decrees { result.now.decrees ≡ begun_chain self.now }
     {
@@ -68,7 +68,7 @@ impl Taken {
     }
 
     /// The same once more.
-    pub fn copy(&self) -> Result<Taken, AllocError>
+    pub(crate) fn copy(&self) -> Result<Taken, AllocError>
         ensures { IfOk result (λ taken. taken ≡ self.now) }
     {
         Ok(Taken {

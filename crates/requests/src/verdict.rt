@@ -119,7 +119,7 @@ fn ended(newest: &Kind) -> Option<Verdict>
 }
 
 /// Whether the account and the source address are those of the message.
-pub fn is_owner(message: &Submission, account: &Text<16>, source: &Text<21>) -> bool
+fn is_owner(message: &Submission, account: &Text<16>, source: &Text<21>) -> bool
     ensures { result ≡ is_owner message.now account.now source.now }
 {
     message.submitter.octets() == account.octets()
@@ -127,7 +127,7 @@ pub fn is_owner(message: &Submission, account: &Text<16>, source: &Text<21>) -> 
 }
 
 /// Whether they are, and so is the destination address, if it is not empty.
-pub fn is_match(
+pub(crate) fn is_match(
     message: &Submission,
     account: &Text<16>,
     source: &Text<21>,

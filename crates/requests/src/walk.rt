@@ -12,7 +12,7 @@ ghost use Rattle.node_model.specs.Packets.{settled_for};
 ghost use Rattle.node_model.specs.Requests.{held_at, is_untold, ticket_of, with_held};
 ghost use Rattle.node_model.specs.Rules.{shown_to};
 ghost use Rattle.node_model.specs.Starts.{cancels};
-ghost use Rattle.node_model.specs.Ticks.{is_late, late_reply};
+ghost use Rattle.node_model.specs.Ticks.{ids_with, is_late, late_reply};
 ghost use Rattle.synod_acceptor.specs.Packets.{packet_of};
 ghost use Rattle.synod_acceptor.specs.Votes.{told_vote};
 ghost use Rattle.requests.specs.Questions.{question_by};
@@ -27,6 +27,7 @@ use crate::taken::Taken;
 use fate_chain::{Chain, Submission};
 use mc_types::{Incarnation, Moment, MsgId, NodeNo};
 use std::alloc::{AllocError, Global};
+use std::collections::BTreeSet;
 use synod_acceptor::{Packet, Vote};
 
 /// The request of a ticket.
@@ -90,6 +91,16 @@ fn put(replies: &mut Vec<Reply>, reply: Option<Reply>) -> Result<(), AllocError>
 {
     if let Some(reply) = reply {
         replies.push(reply)?;
+    }
+    Ok(())
+}
+
+/// Puts the ids of the messages that they are about into a set.
+pub(crate) fn put_ids(held: &[Box<Held>], ids: &mut BTreeSet<u64>) -> Result<(), AllocError>
+    ensures { OnOk result (ids.new.keys ≡ ids_with (boxed_in held.now) ids.old.keys) }
+{
+    for place in (0..held.len()).rev() {
+        ids.insert(held[place].id().number())?;
     }
     Ok(())
 }
