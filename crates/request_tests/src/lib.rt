@@ -1,0 +1,9 @@
+//! Tests of the requests that wait. The crate tested has none of its own, so that it is proved once.
+#![tactic(auto)]
+
+#[cfg(test)]
+mod answers;
+#[cfg(test)]
+mod queues;
+#[cfg(test)]
+mod values;
