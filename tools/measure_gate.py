@@ -2,10 +2,12 @@
 """Measures the gate, and writes its table into docs/GATE.md.
 
     python3 tools/measure_gate.py                     runs `rt ci` on a clean clone of HEAD; about as long as the gate
-    python3 tools/measure_gate.py --write             the same, and writes the table into docs/GATE.md
+    python3 tools/measure_gate.py --crates A B        runs it on these crates alone and those below them, of which no edits are tried; prints
+                                                      the rows of these
+    python3 tools/measure_gate.py .. --write          the same, and writes what was measured into docs/GATE.md: the table, or these rows of it
     python3 tools/measure_gate.py --functions CRATE   checks one crate from nothing; prints its ten dearest functions
 
-Processor time is read off /proc four times a second for each process that the gate starts: what a process used after its
+Each row has the day on which it was measured. Processor time is read off /proc four times a second for each process that the gate starts: what a process used after its
 last reading is lost, and stands under 'other' with compilers, linkers and `rt` itself. The wall time of a crate is how
 long a process of it ran. The last line of the gate is printed as it is.
 """
@@ -35,6 +37,13 @@ MOST_OF_ALL = 240
 # The lines of code that MOST_OF_TODAY is for, and what each further thousand may add.
 LINES_OF_TODAY = 5400
 MOST_A_THOUSAND = 10
+MOST_EDITS = 20
+
+KINDS = ("check", "tests", "edits")
+HEAD = [
+    "| Crate | Code | Definitions | Proofs | Edits | Check, s | Tests, s | Edits, s | All, min | Wall, min | On |",
+    "|---|---|---|---|---|---|---|---|---|---|---|",
+]
 
 
 def crates_of(top):
@@ -145,87 +154,119 @@ def run_gate(clone):
     return sampler, time.monotonic() - began, processor, last[-1] if last else f"no last line: see {log}"
 
 
-def table_of(clone, sampler, wall, processor, last):
-    """The lines of the table, and what is beyond its budget."""
-    totals = sampler.totals()
-    rows, beyond, code_lines = [], [], 0
-    rows.append("| Crate | Code | Definitions | Proofs | Edits | Check, s | Tests, s | Edits, s | All, min | Wall, min |")
-    rows.append("|---|---|---|---|---|---|---|---|---|---|")
-    for crate in crates_of(clone):
-        folder = clone / "crates" / crate
-        code, specs, proofs = (lines_of(folder / "src", "*.rt"), lines_of(folder / "specs", "*.antt"), lines_of(folder / "proofs", "*.antt"))
-        edits = len(list((folder / "must-fail").glob("*.edit"))) if (folder / "must-fail").is_dir() else 0
-        check, tests, tried = (totals[(crate, kind)] for kind in ("check", "tests", "edits"))
-        spent = (check + tests + tried) / 60
-        walls = sum(sampler.wall[(crate, kind)] for kind in ("check", "tests", "edits")) / 60
-        code_lines += code
-        rows.append(f"| {crate} | {code} | {specs} | {proofs} | {edits} | {check:.0f} | {tests:.0f} | {tried:.0f} | {spent:.1f} | {walls:.1f} |")
-        if spent > MOST_A_CRATE:
-            beyond.append(f"{crate} takes {spent:.1f} minutes of processor time, above {MOST_A_CRATE}")
-        if edits > 20:
-            beyond.append(f"{crate} has {edits} edits, above 20")
+def row_of(clone, crate, sampler):
+    """The row of a crate, and what is beyond its budget."""
+    folder, totals = clone / "crates" / crate, sampler.totals()
+    code, specs, proofs = (lines_of(folder / part, pattern) for part, pattern in (("src", "*.rt"), ("specs", "*.antt"), ("proofs", "*.antt")))
+    edits = len(list((folder / "must-fail").glob("*.edit")))
+    check, tests, tried = (totals[(crate, kind)] for kind in KINDS)
+    spent, walls = (check + tests + tried) / 60, sum(sampler.wall[(crate, kind)] for kind in KINDS) / 60
+    beyond = [f"{crate} takes {spent:.1f} minutes of processor time, above {MOST_A_CRATE}"] * (spent > MOST_A_CRATE)
+    beyond += [f"{crate} has {edits} edits, above {MOST_EDITS}"] * (edits > MOST_EDITS)
+    seconds = f"{check:.0f} | {tests:.0f} | {tried:.0f}"
+    day = datetime.date.today().isoformat()
+    return f"| {crate} | {code} | {specs} | {proofs} | {edits} | {seconds} | {spent:.1f} | {walls:.1f} | {day} |", beyond
+
+
+def whole_of(clone, sampler, wall, processor, last):
+    """The line on the whole gate, and what is beyond its budget."""
+    code_lines = sum(lines_of(clone / "crates" / crate / "src", "*.rt") for crate in crates_of(clone))
     budget = min(MOST_OF_ALL, MOST_OF_TODAY + MOST_A_THOUSAND * max(0, code_lines - LINES_OF_TODAY) / 1000)
-    other = processor / 60 - sum(spent for (crate, _), spent in totals.items() if crate != "other") / 60
-    today = datetime.date.today().isoformat()
-    rows.append("")
-    rows.append(
-        f"Measured on {today}, {os.cpu_count()} cores: **{processor / 60:.0f} minutes of processor time**, {wall / 60:.0f} of the clock, `{last}`. "
-        f"Of it {other:.0f} minutes are for other processes. {code_lines} lines of code have a budget of {budget:.0f} minutes."
+    other = processor / 60 - sum(spent for (crate, _), spent in sampler.totals().items() if crate != "other") / 60
+    line = (
+        f"Measured on {datetime.date.today().isoformat()}, {os.cpu_count()} cores: **{processor / 60:.0f} minutes of processor time**, "
+        f"{wall / 60:.0f} of the clock, `{last}`. Of it {other:.0f} minutes are for other processes. "
+        f"{code_lines} lines of code have a budget of {budget:.0f} minutes."
     )
-    if processor / 60 > budget:
-        beyond.append(f"the whole takes {processor / 60:.0f} minutes of processor time, above {budget:.0f}")
-    return rows, beyond
+    beyond = [f"the whole takes {processor / 60:.0f} minutes of processor time, above {budget:.0f}"] * (processor / 60 > budget)
+    return line, beyond
 
 
-def measure(write):
+def narrow(clone, wanted):
+    """Leaves of a clone these crates and those below them, and of the latter no edits."""
+    lines = {line.split(":")[0].split(" ")[0]: line for line in (clone / "crates.txt").read_text().splitlines() if ":" in line and line[0] != "#"}
+    unknown = [crate for crate in wanted if crate not in lines]
+    if unknown:
+        sys.exit(f"crates.txt names no {unknown[0]}")
+    needed = {crate for name in wanted for crate in [name, *lines[name].split(":")[1].split()] if crate in lines}
+    (clone / "crates.txt").write_text("\n".join(line for crate, line in lines.items() if crate in needed) + "\n")
+    for folder in (clone / "crates").iterdir():
+        if folder.name not in needed:
+            shutil.rmtree(folder)
+        elif folder.name not in wanted:
+            shutil.rmtree(folder / "must-fail", ignore_errors=True)
+
+
+def with_rows(table, rows, whole):
+    """A table with these rows in the place of its own, in the order of crates.txt; with no line on the whole it keeps the one that it has."""
+    old = {line.split(" | ")[0][2:]: line for line in table.splitlines() if re.match(r"\| [a-z]", line)}
+    kept = [line for line in table.splitlines() if line and line[0] != "|"]
+    known = {**({} if whole else old), **rows}
+    return "\n".join([*HEAD, *(known[crate] for crate in crates_of(TOP) if crate in known), "", *([whole] if whole else kept)])
+
+
+def measure(wanted, write):
     work = pathlib.Path(tempfile.mkdtemp(prefix="gate-"))
     clone = work / "clone"
     subprocess.run(["git", "clone", "-q", str(TOP), str(clone)], check=True)
-    rows, beyond = table_of(clone, *run_gate(clone))
-    print("\n".join(rows))
-    for line in beyond:
+    if wanted:
+        narrow(clone, wanted)
+    sampler, wall, processor, last = run_gate(clone)
+    found = {crate: row_of(clone, crate, sampler) for crate in crates_of(clone) if not wanted or crate in wanted}
+    rows = {crate: row for crate, (row, _) in found.items()}
+    whole, beyond = (None, []) if wanted else whole_of(clone, sampler, wall, processor, last)
+    print("\n".join([*HEAD, *rows.values(), "", whole or f"`{last}`"]))
+    spent = sum(sampler.totals()[(crate, kind)] for crate in rows for kind in KINDS) / 60
+    print(f"{spent:.1f} minutes of processor time for these crates")
+    for line in [*(line for _, lines in found.values() for line in lines), *beyond]:
         print("beyond its budget: " + line)
     if write:
         page = TOP / "docs" / "GATE.md"
-        text = page.read_text()
-        head, rest = text.split(BEGIN)
-        page.write_text(head + BEGIN + "\n" + "\n".join(rows) + "\n" + END + rest.split(END)[1])
-    shutil.rmtree(clone)
+        head, rest = page.read_text().split(BEGIN)
+        table, foot = rest.split(END)
+        page.write_text(head + BEGIN + "\n" + with_rows(table, rows, whole) + "\n" + END + foot)
+    shutil.rmtree(work)
+
+
+def function_of(file, crate):
+    """The function, or the file of proofs, that a file of a check's kept work is about; none for another file."""
+    found = re.fullmatch(rf"Rattle-{crate}-proofs\.(.+?)(\.decls)?\.oantt", file)
+    if not found:
+        return None
+    words = found.group(1).split(".")
+    return ".".join(words[:-1] if len(words) > 1 and words[-1][0].isupper() else words)
 
 
 def dearest_functions(crate):
-    """Checks a crate from nothing by one job: the time from one 'checked' line to the next is that of a function."""
+    """Checks a crate from nothing by one job, and prints how long it took for each function. A check writes files on each as it goes,
+    so the time from one file to the next is that of the latter's function. (The lines 'checked' say less: the first one comes after all
+    definitions, and what lies between two of them may be a file of proofs.)"""
     work = pathlib.Path(tempfile.mkdtemp(prefix="functions-"))
     clone = work / "clone"
     subprocess.run(["git", "clone", "-q", str(TOP), str(clone)], check=True)
     folder = clone / "crates" / crate
-    # The libraries below come first, so that their time does not count.
-    built = subprocess.run(["rt", "check", "--only", "", "--jobs", "1"], cwd=folder, capture_output=True, text=True)
-    if built.returncode not in (0, 1):
-        sys.exit(built.stdout + built.stderr)
-    check = subprocess.Popen(["rt", "check", "--jobs", "1"], cwd=folder, stdout=subprocess.PIPE, stderr=subprocess.STDOUT, text=True)
-    times, last = [], time.monotonic()
-    for line in check.stdout:
-        found = re.match(r"checked (\S+), \d+ of \d+", line)
-        if found:
-            now = time.monotonic()
-            times.append((now - last, found.group(1)))
-            last = now
-    check.wait()
+    checked = subprocess.run(["rt", "check", "--jobs", "1"], cwd=folder, capture_output=True, text=True)
+    if checked.returncode not in (0, 1):
+        sys.exit(checked.stdout + checked.stderr)
+    files = sorted((file.stat().st_mtime_ns, file.name) for file in (folder / "out" / "incremental").rglob("*.oantt"))
+    times = collections.Counter()
+    for (before, _), (after, name) in zip(files, files[1:]):
+        times[function_of(name, crate)] += (after - before) / 1e9
     shutil.rmtree(work)
-    for seconds, name in sorted(times, reverse=True)[:10]:
-        print(f"{seconds:7.1f} s  {name}")
+    for name, seconds in times.most_common(11):
+        print(f"{seconds:7.1f} s  {name or 'all that is no function'}")
 
 
 def main():
     parser = argparse.ArgumentParser(description=__doc__, formatter_class=argparse.RawDescriptionHelpFormatter)
-    parser.add_argument("--write", action="store_true", help="write the table into docs/GATE.md")
+    parser.add_argument("--write", action="store_true", help="write what was measured into docs/GATE.md")
+    parser.add_argument("--crates", metavar="CRATE", nargs="+", default=[], help="measure these crates alone")
     parser.add_argument("--functions", metavar="CRATE", help="the dearest functions of one crate")
     arguments = parser.parse_args()
     if arguments.functions:
         dearest_functions(arguments.functions)
     else:
-        measure(arguments.write)
+        measure(arguments.crates, arguments.write)
 
 
 if __name__ == "__main__":
