@@ -4,7 +4,7 @@ use Rattle.std.specs.List.{find}
 use Rattle.std.specs.Str.{bytes_eq}
 use Rattle.pdu_tables.specs.declared.status.Status.{Status}
 use Rattle.pdu_tables.specs.declared.status.Status.TheVariants as statuses
-use Rattle.pdu_codec.specs.declared.pdu.Bind.{Bind}
+use Rattle.pdu_bodies.specs.declared.pdu.Bind.{Bind}
 use Rattle.accounts.specs.declared.account.Account.{Account}
 use Rattle.accounts.specs.declared.role.Role.{Role}
 use Rattle.accounts.specs.declared.role.Role.TheVariants.{Transmitter, Receiver, Transceiver}

@@ -3,10 +3,10 @@ use Rattle.std.specs.Prelude.{◌≡◌, ℕ, List, [], ◌∷◌, Some, bit_and
 use Rattle.mc_model.specs.message.Chain.{taken_in}
 use Rattle.mc_model.specs.message.Decree.{Attempt, Decree, Failed, Fate, Kind, Taken}
 use Rattle.mc_model.specs.message.Submission.{Address as Party, Submission}
-use Rattle.pdu_codec.specs.declared.pdu.Address.{Address}
-use Rattle.pdu_codec.specs.declared.pdu.Body.TheVariants.{DeliverSm}
-use Rattle.pdu_codec.specs.declared.pdu.Message.{Message}
-use Rattle.pdu_codec.specs.declared.pdu.Pdu.{Pdu}
+use Rattle.pdu_fields.specs.declared.address.Address.{Address}
+use Rattle.pdu_bodies.specs.declared.pdu.Body.TheVariants.{DeliverSm}
+use Rattle.pdu_bodies.specs.declared.pdu.Message.{Message}
+use Rattle.pdu_bodies.specs.declared.pdu.Pdu.{Pdu}
 
 -- the newest decree is an attempt
 abbrev pub IsAttempt : Kind → Type 0

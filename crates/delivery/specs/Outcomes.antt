@@ -2,9 +2,9 @@
 use Rattle.std.specs.Prelude.{ℕ, min, ◌==◌, Option, Some, None, if◌then◌else◌}
 use Rattle.mc_model.specs.message.Decree.{Delivered, Rejected, Undeliverable}
 use Rattle.mc_model.specs.node.Outcome.{Concluded, Outcome, Unanswered, most_status_error, rejected_error, undeliverable_error}
-use Rattle.pdu_codec.specs.declared.pdu.Body.{Body}
-use Rattle.pdu_codec.specs.declared.pdu.Body.TheVariants.{DeliverSmResp, GenericNack}
-use Rattle.pdu_codec.specs.declared.pdu.Pdu.{Pdu}
+use Rattle.pdu_bodies.specs.declared.pdu.Body.{Body}
+use Rattle.pdu_bodies.specs.declared.pdu.Body.TheVariants.{DeliverSmResp, GenericNack}
+use Rattle.pdu_bodies.specs.declared.pdu.Pdu.{Pdu}
 use Rattle.pdu_tables.specs.StatusCodes.{status_code}
 use Rattle.pdu_tables.specs.declared.status.Status.TheVariants.{Ok, PermanentApplicationError, RejectedByApplication}
 

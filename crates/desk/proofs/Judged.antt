@@ -1,7 +1,7 @@
 -- The checks of a submit_sm, one after another.
 use Rattle.std.proofs.Common.{◌≡◌, ℕ, true, None, Result, ap, ◌∙◌}
 use Rattle.pdu_tables.specs.declared.status.Status.{Status}
-use Rattle.pdu_codec.specs.declared.pdu.Message.{Message}
+use Rattle.pdu_bodies.specs.declared.pdu.Message.{Message}
 use Rattle.desk.specs.Times.{Times, times_of}
 use Rattle.desk.specs.Desk.{Desk, fields_refusal, is_busy, unless, with_room, submit_judged}
 

@@ -13,9 +13,9 @@ use Rattle.mc_types.specs.Texts.{id_in}
 use Rattle.pdu_tables.specs.declared.status.Status.{Status}
 use Rattle.pdu_tables.specs.declared.status.Status.TheVariants as statuses
 use Rattle.pdu_codec.specs.Text.{has_tag_among}
-use Rattle.pdu_codec.specs.declared.pdu.Message.{Message}
-use Rattle.pdu_codec.specs.declared.pdu.Query.{Query}
-use Rattle.pdu_codec.specs.declared.pdu.Cancel.{Cancel as Cancellation}
+use Rattle.pdu_bodies.specs.declared.pdu.Message.{Message}
+use Rattle.pdu_bodies.specs.declared.pdu.Query.{Query}
+use Rattle.pdu_bodies.specs.declared.pdu.Cancel.{Cancel as Cancellation}
 use Rattle.fate_chain.specs.States.{state_of}
 use Rattle.fate_chain.specs.Submissions.{address_of}
 use Rattle.desk.specs.declared.request.Request.{Request}

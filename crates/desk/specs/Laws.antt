@@ -5,8 +5,8 @@ use Rattle.mc_model.specs.message.Submission.{Submission}
 use Rattle.mc_model.specs.synod.Lists.{In}
 use Rattle.mc_model.specs.node.Proposal.{IsMatch, IsOwner}
 use Rattle.pdu_tables.specs.declared.status.Status.TheVariants as statuses
-use Rattle.pdu_codec.specs.declared.pdu.Cancel.{Cancel}
-use Rattle.pdu_codec.specs.declared.pdu.Message.{Message}
+use Rattle.pdu_bodies.specs.declared.pdu.Cancel.{Cancel}
+use Rattle.pdu_bodies.specs.declared.pdu.Message.{Message}
 use Rattle.desk.specs.declared.request.Reply.{Reply}
 use Rattle.desk.specs.Desk.{Desk, IsDesk, is_meant, is_sent_by, submit_judged}
 

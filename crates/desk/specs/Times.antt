@@ -4,7 +4,7 @@ use Rattle.smpp_time.specs.Texts.{time_said}
 use Rattle.smpp_time.specs.declared.fault.TimeFault.{TimeFault}
 use Rattle.pdu_tables.specs.declared.status.Status.{Status}
 use Rattle.pdu_tables.specs.declared.status.Status.TheVariants as statuses
-use Rattle.pdu_codec.specs.declared.pdu.Message.{Message}
+use Rattle.pdu_bodies.specs.declared.pdu.Message.{Message}
 
 pub record Times : Type 0 where
   pub schedule : ℕ

@@ -13,7 +13,7 @@ use Rattle.octet_fields.specs.Reading.{◌>>=◌, front_at}
 use Rattle.octet_fields.proofs.Octets.{bind_ok, ok_is}
 use Rattle.octet_fields.proofs.Fields.{is_between-tells}
 use Rattle.octet_fields.proofs.Records.{front_takes, front_again}
-use Rattle.pdu_codec.proofs.Optional.{tlvs-given, tlvs_in-octets}
+use Rattle.pdu_fields.proofs.Optional.{tlvs-given, tlvs_in-octets}
 use Rattle.pdu_codec.proofs.PduSpelling.{find-passes}
 use Rattle.fate_chain.specs.States.{final_code, finals, final_in}
 use Rattle.fate_chain.specs.Bytes.{octet, error, party_fields, parties_in, handling_fields, handling_in, text_fields, texts_in, kind_code, head_fields, head_in, submission_octets, kind_octets, decree_octets, decrees_octets, chain_fields, chain_octets, MessageFits, KindFits, DecreeFits, DecreesFit, Fits, message_of, message_at, found, kind_at, decree_of, decree_at, decrees_at, chain_from, chain_at, read_chain}

@@ -211,7 +211,7 @@ pub fn decree_at(octets: &[u8]) -> Result<(DecreeOctets<'_>, &[u8]), Defect>
 
 impl MessageOctets<'_> {
     /// The message.
-    #[tactic(auto, unfolding(pdu_codec::specs::Tlv::tlvs_in))]
+    #[tactic(auto, unfolding(pdu_fields::specs::Tlv::tlvs_in))]
     fn message(&self, alloc: Global) -> Result<Submission, AllocError>
         requires { MessageHasTexts self.now }
         ensures { IfOk result (λ message. message ≡ message_seen self.now) }

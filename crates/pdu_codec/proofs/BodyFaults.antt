@@ -6,11 +6,11 @@ use Rattle.octet_fields.specs.Kinds.{Part}
 use Rattle.octet_fields.specs.Reading.{content_at, told, nothing_at}
 use Rattle.pdu_tables.specs.declared.command.Command.{Command}
 use Rattle.pdu_tables.specs.CommandCodes.{command_of}
-use Rattle.pdu_codec.specs.declared.fault.PduFault.{PduFault}
-use Rattle.pdu_codec.specs.declared.fault.PduFault.TheVariants as faults
-use Rattle.pdu_codec.specs.Grammar.{Parts, ◌>>=◌, contents_at, front_at, word_at}
-use Rattle.pdu_codec.specs.Forms.{Form, Has, MayHave, form_of, parts_of, filling_at}
-use Rattle.pdu_codec.specs.Bodies.{body_from, body_at}
+use Rattle.pdu_fields.specs.declared.fault.PduFault.{PduFault}
+use Rattle.pdu_fields.specs.declared.fault.PduFault.TheVariants as faults
+use Rattle.pdu_fields.specs.Grammar.{Parts, ◌>>=◌, contents_at, front_at, word_at}
+use Rattle.pdu_bodies.specs.Forms.{Form, Has, MayHave, form_of, parts_of, filling_at}
+use Rattle.pdu_bodies.specs.Bodies.{body_from, body_at}
 use Rattle.pdu_codec.specs.Pdu.{has_wrong_length, read_pdu}
 use Rattle.pdu_codec.proofs.FormLaws.{is_of_body, tells_body, tell_body, body-fault}
 use Rattle.pdu_codec.proofs.PduLaws.{with_body}

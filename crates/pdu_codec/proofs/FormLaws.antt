@@ -10,11 +10,11 @@ use Rattle.octet_fields.specs.Kinds.{Size, One, Two, Four, Eight, Kind, Number, 
 use Rattle.octet_fields.proofs.Octets.{bind_ok}
 use Rattle.octet_fields.specs.Laws.{IsFirstFault}
 use Rattle.octet_fields.proofs.Records.{whole_takes, whole_again, first_fault}
-use Rattle.pdu_codec.specs.declared.fault.PduFault.{PduFault}
-use Rattle.pdu_codec.specs.declared.fault.PduFault.TheVariants.{Extra, Length, Memory}
-use Rattle.pdu_codec.specs.Text.{IsOctets}
-use Rattle.pdu_codec.specs.Grammar.{Parts, ◌>>=◌, contents_at}
-use Rattle.pdu_codec.specs.Forms.{Form, Has, MayHave, parts_of, Filling, filling_octets, FillingFits, filling_at}
+use Rattle.pdu_fields.specs.declared.fault.PduFault.{PduFault}
+use Rattle.pdu_fields.specs.declared.fault.PduFault.TheVariants.{Extra, Length, Memory}
+use Rattle.pdu_fields.specs.Text.{IsOctets}
+use Rattle.pdu_fields.specs.Grammar.{Parts, ◌>>=◌, contents_at}
+use Rattle.pdu_bodies.specs.Forms.{Form, Has, MayHave, parts_of, Filling, filling_octets, FillingFits, filling_at}
 
 -- the most octets that a field and fields may have
 abbrev width : Size → ℕ

@@ -1,5 +1,3 @@
-pub mod Optional
-pub mod PieceLaws
 pub mod PduLaws
 pub mod BodyFaults
 pub mod FormLaws

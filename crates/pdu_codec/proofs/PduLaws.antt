@@ -1,20 +1,20 @@
 -- Reading a whole PDU.
 use Rattle.std.proofs.Common.{◌≡◌, ℕ, ◌≤◌, List, length, take, drop, length-drop, ◌-◌, Option, Some, None, option_map, Result, Ok, Err, IsOk, IsOkAnd, MatchResult, inl, inr, refl, sym, ap, ◌∙◌, arith}
 use Rattle.std.proofs.lemmas.Bool.{le-ltb, eq-eqb}
-use Rattle.pdu_codec.specs.declared.fault.PduFault.{PduFault}
-use Rattle.pdu_codec.specs.declared.fault.PduFault.TheVariants as faults
-use Rattle.pdu_codec.specs.declared.fault.PduFault.TheVariants.{Memory, Length, Cut, LongText, TextLength, Tlvs, Extra}
-use Rattle.pdu_codec.specs.declared.pdu.Pdu.{Pdu}
-use Rattle.pdu_codec.specs.declared.pdu.Body.{Body}
+use Rattle.pdu_fields.specs.declared.fault.PduFault.{PduFault}
+use Rattle.pdu_fields.specs.declared.fault.PduFault.TheVariants as faults
+use Rattle.pdu_fields.specs.declared.fault.PduFault.TheVariants.{Memory, Length, Cut, LongText, TextLength, Tlvs, Extra}
+use Rattle.pdu_bodies.specs.declared.pdu.Pdu.{Pdu}
+use Rattle.pdu_bodies.specs.declared.pdu.Body.{Body}
 use Rattle.std.proofs.lemmas.List.{take_all}
 use Rattle.pdu_tables.specs.declared.command.Command.{Command}
 use Rattle.pdu_tables.specs.CommandCodes.{command_of}
-use Rattle.pdu_codec.specs.Grammar.{◌>>=◌, word_at}
-use Rattle.pdu_codec.specs.declared.pdu.BindAnswer.{BindAnswer}
-use Rattle.pdu_codec.specs.declared.pdu.QueryAnswer.{QueryAnswer}
-use Rattle.pdu_codec.specs.Contents.{bind_answer_contents, bind_answer_from, message_id_contents, message_id_from, query_answer_contents, query_answer_from}
-use Rattle.pdu_codec.specs.Forms.{form_of, Filling, filling_at}
-use Rattle.pdu_codec.specs.Bodies.{body_from, body_at}
+use Rattle.pdu_fields.specs.Grammar.{◌>>=◌, word_at}
+use Rattle.pdu_bodies.specs.declared.pdu.BindAnswer.{BindAnswer}
+use Rattle.pdu_bodies.specs.declared.pdu.QueryAnswer.{QueryAnswer}
+use Rattle.pdu_bodies.specs.Contents.{bind_answer_contents, bind_answer_from, message_id_contents, message_id_from, query_answer_contents, query_answer_from}
+use Rattle.pdu_bodies.specs.Forms.{form_of, Filling, filling_at}
+use Rattle.pdu_bodies.specs.Bodies.{body_from, body_at}
 use Rattle.pdu_codec.specs.Pdu.{Fails, IsMade, Gives, read_pdu}
 
 -- what failed fails also where something is made of it

@@ -8,15 +8,15 @@ use Rattle.std.proofs.lemmas.Nat.{be_bytes_4, from_be_bytes-to_be_bytes_4}
 use Rattle.pdu_tables.specs.declared.command.Command.{Command}
 use Rattle.pdu_tables.specs.declared.command.Command.TheVariants as commands
 use Rattle.pdu_tables.specs.CommandCodes.{command_code, command_table, command_of}
-use Rattle.pdu_codec.specs.declared.fault.PduFault.{PduFault}
-use Rattle.pdu_codec.specs.declared.fault.PduFault.TheVariants as faults
-use Rattle.pdu_codec.specs.declared.pdu.Pdu.{Pdu}
-use Rattle.pdu_codec.specs.declared.pdu.Body.{Body}
-use Rattle.pdu_codec.specs.declared.pdu.Body.TheVariants as bodies
-use Rattle.pdu_codec.specs.Text.{IsOctets}
-use Rattle.pdu_codec.specs.Grammar.{◌>>=◌, word_at}
-use Rattle.pdu_codec.specs.Forms.{form_of, parts_of, Filling, filling_octets, FillingFits, filling_at}
-use Rattle.pdu_codec.specs.Bodies.{Filled, Fills, filled_command, filled_by, octets_in, FilledFits, command_in, body_from, body_octets, BodyFits, body_at}
+use Rattle.pdu_fields.specs.declared.fault.PduFault.{PduFault}
+use Rattle.pdu_fields.specs.declared.fault.PduFault.TheVariants as faults
+use Rattle.pdu_bodies.specs.declared.pdu.Pdu.{Pdu}
+use Rattle.pdu_bodies.specs.declared.pdu.Body.{Body}
+use Rattle.pdu_bodies.specs.declared.pdu.Body.TheVariants as bodies
+use Rattle.pdu_fields.specs.Text.{IsOctets}
+use Rattle.pdu_fields.specs.Grammar.{◌>>=◌, word_at}
+use Rattle.pdu_bodies.specs.Forms.{form_of, parts_of, Filling, filling_octets, FillingFits, filling_at}
+use Rattle.pdu_bodies.specs.Bodies.{Filled, Fills, filled_command, filled_by, octets_in, FilledFits, command_in, body_from, body_octets, BodyFits, body_at}
 use Rattle.pdu_codec.specs.Pdu.{framed, octets_of, Fits, has_wrong_length, read_pdu, Gives}
 use Rattle.octet_fields.proofs.Octets.{IsOctets-drop, bind_ok, guard_ok, ok_is}
 use Rattle.octet_fields.specs.Laws.{IsFirstFault}

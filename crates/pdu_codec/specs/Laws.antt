@@ -2,12 +2,12 @@
 use Rattle.std.specs.Prelude.{◌≡◌, ℕ, List, Some, Ok, Err}
 use Rattle.octet_fields.specs.Laws.{IsFirstFault}
 use Rattle.pdu_tables.specs.declared.command.Command.{Command}
-use Rattle.pdu_codec.specs.declared.fault.PduFault.{PduFault}
-use Rattle.pdu_codec.specs.declared.fault.PduFault.TheVariants.{Extra}
-use Rattle.pdu_codec.specs.Forms.{form_of, parts_of}
-use Rattle.pdu_codec.specs.Bodies.{body_at}
-use Rattle.pdu_codec.specs.declared.pdu.Pdu.{Pdu}
-use Rattle.pdu_codec.specs.Text.{IsOctets}
+use Rattle.pdu_fields.specs.declared.fault.PduFault.{PduFault}
+use Rattle.pdu_fields.specs.declared.fault.PduFault.TheVariants.{Extra}
+use Rattle.pdu_bodies.specs.Forms.{form_of, parts_of}
+use Rattle.pdu_bodies.specs.Bodies.{body_at}
+use Rattle.pdu_bodies.specs.declared.pdu.Pdu.{Pdu}
+use Rattle.pdu_fields.specs.Text.{IsOctets}
 use Rattle.pdu_codec.specs.Pdu.{octets_of, Fits, read_pdu}
 
 -- What is read is spelled so, each octet of it, and its fields are within their limits.

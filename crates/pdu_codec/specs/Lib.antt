@@ -1,9 +1,8 @@
-pub mod Text
-pub mod Tlv
-pub mod Grammar
-pub mod Contents
-pub mod Forms
-pub mod Bodies
+pub use Rattle.pdu_fields.specs.Text
+pub use Rattle.pdu_fields.specs.Tlv
+pub use Rattle.pdu_fields.specs.Grammar
+pub use Rattle.pdu_bodies.specs.Contents
+pub use Rattle.pdu_bodies.specs.Forms
+pub use Rattle.pdu_bodies.specs.Bodies
 pub mod Pdu
-pub mod Pieces
 pub mod Laws

@@ -1,12 +1,13 @@
 -- A PDU and its octets.
-use Rattle.std.specs.Prelude.{Bool, ◌≡◌, ℕ, ◌<◌, ◌^◌, ◌+◌, List, ◌++◌, length, drop, Result, Ok, Err, nat_lt, ◌==◌, ◌||◌, not, if◌then◌else◌, IsOk, ◌⊎◌}
+use Rattle.std.specs.Prelude.{Bool, ◌≡◌, ℕ, ◌<◌, ◌^◌, ◌+◌, List, ◌++◌, length, drop, Result, Ok, Err, nat_lt, ◌==◌, ◌||◌, not, if◌then◌else◌}
 use Rattle.std.specs.Int.{w32, to_be_bytes}
 use Rattle.pdu_tables.specs.CommandCodes.{command_code, command_of}
-use Rattle.pdu_codec.specs.declared.fault.PduFault.{PduFault}
-use Rattle.pdu_codec.specs.declared.fault.PduFault.TheVariants as faults
-use Rattle.pdu_codec.specs.declared.pdu.Pdu.{Pdu}
-use Rattle.pdu_codec.specs.Grammar.{word_at, ◌>>=◌}
-use Rattle.pdu_codec.specs.Bodies.{command_in, body_octets, BodyFits, body_at}
+use Rattle.pdu_fields.specs.declared.fault.PduFault.{PduFault}
+use Rattle.pdu_fields.specs.declared.fault.PduFault.TheVariants as faults
+use Rattle.pdu_bodies.specs.declared.pdu.Pdu.{Pdu}
+use Rattle.pdu_fields.specs.Grammar.{word_at, ◌>>=◌}
+pub use Rattle.pdu_bodies.specs.Made.{Fails, IsMade}
+use Rattle.pdu_bodies.specs.Bodies.{command_in, body_octets, BodyFits, body_at}
 
 -- The octets of a PDU of a command with this body: command_length, command_id, command_status and sequence_number, then
 -- those of the body.
@@ -41,12 +42,3 @@ abbrev pub Gives : {A : Type 0} → Result A PduFault → Result A PduFault → 
 Gives (Ok x) read = read ≡ Ok x
 Gives (Err faults.Memory) read = Unit {0}
 Gives (Err fault) read = read ≡ Err fault
-
--- What was to be read is this fault, or memory ran out for what can be read.
-abbrev pub Fails : {Y : Type 0} → PduFault → Result Y PduFault → Type 0
-Fails fault read = (read ≡ Err fault) ⊎ ((fault ≡ faults.Memory) × IsOk read)
-
--- What a function made in memory, seen by view, is what reading gives.
-abbrev pub IsMade : {X Y : Type 0} → (X → Y) → Result X PduFault → Result Y PduFault → Type 0
-IsMade view (Ok x) read = read ≡ Ok (view x)
-IsMade view (Err fault) read = Fails fault read

@@ -1,7 +1,7 @@
 //! The header of a PDU (SMPP 3.4, section 3.2).
 
 ghost use Rattle.std.specs.Prelude.{◌≡◌, ◌≤◌, ◌+◌, ◌↔◌, length, IsSome, IfSome};
-ghost use Rattle.pdu_codec.specs.Grammar as spec;
+ghost use Rattle.pdu_fields.specs.Grammar as spec;
 
 use pdu_tables::limits;
 

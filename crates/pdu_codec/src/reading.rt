@@ -1,23 +1,21 @@
 //! From octets to a PDU.
 
 ghost use Rattle.std.specs.Prelude.{◌≡◌, Ok, IfOk, IsOk};
-ghost use Rattle.pdu_codec.specs.declared.pdu.Pdu.{Pdu};
-ghost use Rattle.pdu_codec.specs.Bodies.{bare_at, body_at};
+ghost use Rattle.pdu_bodies.specs.declared.pdu.Pdu.{Pdu};
+ghost use Rattle.pdu_bodies.specs.Bodies.{bare_at, body_at};
 ghost use Rattle.pdu_codec.specs.Pdu.{Fits, Gives, IsMade, octets_of, read_pdu};
 
-use crate::bind::bind_of;
-use crate::bodies::{bind_answer_of, message_id_of, query_answer_of, query_of};
-use crate::cancel::cancel_of;
-use crate::fault::PduFault;
-use crate::fields::nothing_at;
 use crate::header::read_header;
-use crate::message::message_of;
-use crate::pdu::{Body, Pdu};
+use pdu_bodies::{
+    Body, Pdu, bind_answer_of, bind_of, cancel_of, message_id_of, message_of, query_answer_of,
+    query_of,
+};
+use pdu_fields::{PduFault, nothing_at};
 use pdu_tables::{Command, limits};
 use std::alloc::Global;
 
 /// The body of a command, if there is one.
-#[tactic(auto, unfolding(crate::specs::Bodies::body_at))]
+#[tactic(auto, unfolding(pdu_bodies::specs::Bodies::body_at))]
 fn body_of(alloc: Global, command: Option<Command>, octets: &[u8]) -> Result<Body, PduFault>
     ensures { IsMade (λ body. body) result (body_at command octets.now) }
 {

@@ -4,16 +4,16 @@ ghost use Rattle.std.specs.Prelude.{◌≡◌, ◌<◌, ◌≤◌, ◌+◌, ◌^
 ghost use Rattle.std.specs.Int.{w32, to_be_bytes};
 ghost use Rattle.pdu_tables.specs.CommandCodes.{command_code};
 ghost use Rattle.octet_fields.specs.Texts.{joined, AreOctets};
-ghost use Rattle.pdu_codec.specs.Grammar.{spellings, AreWithin, bind_parts, bind_answer_parts, message_parts, message_id_parts, query_parts};
-ghost use Rattle.pdu_codec.specs.Grammar.{query_answer_parts, cancel_parts};
-ghost use Rattle.pdu_codec.specs.Contents.{bind_contents, bind_answer_contents, message_contents, message_id_contents, query_contents, query_answer_contents};
-ghost use Rattle.pdu_codec.specs.Contents.{cancel_contents};
-ghost use Rattle.pdu_codec.specs.Bodies.{body_octets, BodyFits};
+ghost use Rattle.pdu_fields.specs.Grammar.{spellings, AreWithin, bind_parts, bind_answer_parts, message_parts, message_id_parts, query_parts};
+ghost use Rattle.pdu_fields.specs.Grammar.{query_answer_parts, cancel_parts};
+ghost use Rattle.pdu_bodies.specs.Contents.{bind_contents, bind_answer_contents, message_contents, message_id_contents, query_contents, query_answer_contents};
+ghost use Rattle.pdu_bodies.specs.Contents.{cancel_contents};
+ghost use Rattle.pdu_bodies.specs.Bodies.{body_octets, BodyFits};
 ghost use Rattle.pdu_codec.specs.Pdu.{framed, octets_of, Fits};
 
-use crate::pdu::{Bind, BindAnswer, Body, Cancel, Message, Pdu, Query, QueryAnswer};
-use crate::text::Text;
 use octet_fields::{length_of, put_pieces};
+use pdu_bodies::{Bind, BindAnswer, Body, Cancel, Message, Pdu, Query, QueryAnswer};
+use pdu_fields::Text;
 use pdu_tables::{Command, limits};
 use std::alloc::AllocError;
 

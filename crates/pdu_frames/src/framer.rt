@@ -2,7 +2,7 @@
 
 ghost use Rattle.std.specs.Prelude.{◌≡◌, ◌<◌, ◌≤◌, ◌↔◌, ◌⊎◌, ◌++◌, [], true, false, min, take, length, vec_capacity, IsTrue, IsSome, IfSome, IfOk, IfErr};
 ghost use Rattle.std.specs.Prelude.{OnOk, OnErr};
-ghost use Rattle.pdu_codec.specs.declared.fault.PduFault.TheVariants.{Length, Memory};
+ghost use Rattle.pdu_fields.specs.declared.fault.PduFault.TheVariants.{Length, Memory};
 ghost use Rattle.pdu_frames.specs.Frames as spec;
 ghost use Rattle.pdu_frames.specs.Frames.{IsFrame, IsPart, HasWrongLength, IsOfOneFrame};
 ghost use Rattle.pdu_frames.specs.Calls.{Leads};

@@ -1,5 +1,5 @@
-//! The tests of `octet_fields`, `pdu_tables`, `pdu_codec` and `pdu_frames`, in a crate without code so that each of those is
-//! proved once.
+//! The tests of `octet_fields`, `pdu_tables`, `pdu_fields`, `pdu_bodies`, `pdu_codec` and `pdu_frames`, in a crate without code so that
+//! each of those is proved once.
 #![tactic(auto)]
 
 #[cfg(test)]
@@ -16,6 +16,8 @@ mod full_pdus;
 mod full_vectors;
 #[cfg(test)]
 mod pdu_faults;
+#[cfg(test)]
+mod pdu_fields;
 #[cfg(test)]
 mod pdus;
 #[cfg(test)]

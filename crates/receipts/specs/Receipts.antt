@@ -6,10 +6,10 @@ use Rattle.mc_model.specs.message.Decree.{Decree, Fate, Final}
 use Rattle.mc_model.specs.message.Submission.{Address as Party, Submission}
 use Rattle.mc_model.specs.node.Phases.{AsksReceipt}
 use Rattle.fate_chain.specs.States.{final_code}
-use Rattle.pdu_codec.specs.declared.pdu.Address.{Address}
-use Rattle.pdu_codec.specs.declared.pdu.Body.TheVariants.{DeliverSm}
-use Rattle.pdu_codec.specs.declared.pdu.Message.{Message}
-use Rattle.pdu_codec.specs.declared.pdu.Pdu.{Pdu}
+use Rattle.pdu_fields.specs.declared.address.Address.{Address}
+use Rattle.pdu_bodies.specs.declared.pdu.Body.TheVariants.{DeliverSm}
+use Rattle.pdu_bodies.specs.declared.pdu.Message.{Message}
+use Rattle.pdu_bodies.specs.declared.pdu.Pdu.{Pdu}
 use Rattle.receipts.specs.Texts.{Report, receipt_text}
 
 -- what a chain that ends in a fate reports

@@ -8,9 +8,9 @@ use Rattle.std.specs.Prelude.{IsErr, OnOk}
 use Rattle.pdu_tables.specs.CommandCodes.{command_of}
 use Rattle.pdu_codec.specs.Grammar.{word_at}
 use Rattle.pdu_codec.specs.Pdu.{Gives, read_pdu}
-use Rattle.pdu_codec.specs.declared.pdu.Pdu.{Pdu}
-use Rattle.pdu_codec.specs.declared.fault.PduFault.{PduFault}
-use Rattle.pdu_codec.specs.declared.fault.PduFault.TheVariants as faults
+use Rattle.pdu_bodies.specs.declared.pdu.Pdu.{Pdu}
+use Rattle.pdu_fields.specs.declared.fault.PduFault.{PduFault}
+use Rattle.pdu_fields.specs.declared.fault.PduFault.TheVariants as faults
 use Rattle.pdu_frames.specs.Frames.{IsFrame, IsPart, HasWrongLength, cut, is_pdu_length}
 use Rattle.pdu_frames.proofs.Fronts.{wrong_begins, part_begins, within_limits, length_of_front}
 use Rattle.pdu_frames.proofs.Streams.{frames_one, streams_cut}

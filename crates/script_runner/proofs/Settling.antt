@@ -3,7 +3,7 @@ use Rattle.std.proofs.Common.{◌≡◌, ℕ, List, [], ◌∷◌, ◌++◌, Opt
 use Rattle.std.proofs.lemmas.Grind.{flat_map-append}
 use Rattle.std.proofs.lemmas.List.{append-nil}
 use Rattle.desk.specs.declared.request.Reply.{Reply}
-use Rattle.pdu_codec.specs.declared.pdu.Pdu.{Pdu}
+use Rattle.pdu_bodies.specs.declared.pdu.Pdu.{Pdu}
 use Rattle.sessions.specs.Session.{Session}
 use Rattle.script_text.specs.Node.{Node}
 use Rattle.script_text.specs.Prints.{Late, line_of, pdu_line, text_of_prints}

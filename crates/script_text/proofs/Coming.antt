@@ -11,14 +11,14 @@ use Rattle.pdu_tables.specs.declared.status.Status.{Status}
 use Rattle.pdu_tables.specs.declared.status.Status.TheVariants as statuses
 use Rattle.pdu_codec.specs.Grammar.{word_at}
 use Rattle.pdu_codec.specs.Pdu.{read_pdu}
-use Rattle.pdu_codec.specs.declared.fault.PduFault.{PduFault}
-use Rattle.pdu_codec.specs.declared.fault.PduFault.TheVariants as faults
-use Rattle.pdu_codec.specs.declared.pdu.Body.{Body}
-use Rattle.pdu_codec.specs.declared.pdu.Body.TheVariants as bodies
-use Rattle.pdu_codec.specs.declared.pdu.Message.{Message}
-use Rattle.pdu_codec.specs.declared.pdu.Query.{Query}
-use Rattle.pdu_codec.specs.declared.pdu.Cancel.{Cancel as Cancellation}
-use Rattle.pdu_codec.specs.declared.pdu.Pdu.{Pdu}
+use Rattle.pdu_fields.specs.declared.fault.PduFault.{PduFault}
+use Rattle.pdu_fields.specs.declared.fault.PduFault.TheVariants as faults
+use Rattle.pdu_bodies.specs.declared.pdu.Body.{Body}
+use Rattle.pdu_bodies.specs.declared.pdu.Body.TheVariants as bodies
+use Rattle.pdu_bodies.specs.declared.pdu.Message.{Message}
+use Rattle.pdu_bodies.specs.declared.pdu.Query.{Query}
+use Rattle.pdu_bodies.specs.declared.pdu.Cancel.{Cancel as Cancellation}
+use Rattle.pdu_bodies.specs.declared.pdu.Pdu.{Pdu}
 use Rattle.sessions.specs.Session.{Session}
 use Rattle.sessions.specs.Responses.{requested_by}
 use Rattle.sessions.specs.Steps.{Done, on_pdu}

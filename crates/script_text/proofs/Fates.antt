@@ -13,9 +13,9 @@ use Rattle.mc_types.specs.Texts.{id_in}
 use Rattle.pdu_tables.specs.declared.state.State.TheVariants as states
 use Rattle.pdu_tables.specs.declared.status.Status.{Status}
 use Rattle.pdu_tables.specs.declared.status.Status.TheVariants as statuses
-use Rattle.pdu_codec.specs.declared.pdu.Message.{Message}
-use Rattle.pdu_codec.specs.declared.pdu.Query.{Query}
-use Rattle.pdu_codec.specs.declared.pdu.Cancel.{Cancel as Cancellation}
+use Rattle.pdu_bodies.specs.declared.pdu.Message.{Message}
+use Rattle.pdu_bodies.specs.declared.pdu.Query.{Query}
+use Rattle.pdu_bodies.specs.declared.pdu.Cancel.{Cancel as Cancellation}
 use Rattle.fate_chain.specs.States.{state_of}
 use Rattle.desk.specs.Desk.{Begins, asked, author_at, begins, cancelled, cancelled_by, chain_begun, deleted, is_busy, is_meant, is_sent_by, late_answer, message_at, next_id, query_answer, refused, routed, shown, submission_of, submit_judged, submitted, waits, waits_with}
 use Rattle.desk.specs.Fates.{ended, expired_at, expires, is_idle, with_expired}

@@ -11,8 +11,8 @@ use Rattle.sessions.specs.declared.requested.Requested.{Requested}
 use Rattle.pdu_tables.specs.CommandCodes.{command_of}
 use Rattle.pdu_codec.specs.Grammar.{word_at}
 use Rattle.pdu_codec.specs.Pdu.{read_pdu}
-use Rattle.pdu_codec.specs.declared.fault.PduFault.{PduFault}
-use Rattle.pdu_codec.specs.declared.pdu.Pdu.{Pdu}
+use Rattle.pdu_fields.specs.declared.fault.PduFault.{PduFault}
+use Rattle.pdu_bodies.specs.declared.pdu.Pdu.{Pdu}
 use Rattle.pdu_frames.specs.Frames.{Cut, cut, begins_wrong}
 use Rattle.desk.specs.declared.request.Begun.{Begun}
 use Rattle.desk.specs.declared.request.Begun.TheVariants.{Refused, Waits}

@@ -1,7 +1,7 @@
 -- A whole frame is not read to have a wrong length.
 use Rattle.std.proofs.Common.{◌≡◌, ℕ, false, List, length, Err, refl}
 use Rattle.std.proofs.lemmas.Bool.{le-ltb, eq-eqb}
-use Rattle.pdu_codec.specs.declared.fault.PduFault.TheVariants as faults
+use Rattle.pdu_fields.specs.declared.fault.PduFault.TheVariants as faults
 use Rattle.pdu_codec.specs.Grammar.{word_at}
 use Rattle.pdu_codec.specs.Pdu.{has_wrong_length, read_pdu}
 use Rattle.pdu_codec.proofs.BodyFaults.{never_told, pdu-tells}

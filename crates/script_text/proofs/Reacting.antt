@@ -5,12 +5,12 @@ use Rattle.accounts.specs.declared.account.Account.{Account}
 use Rattle.accounts.specs.declared.role.Role.{Role}
 use Rattle.accounts.specs.declared.role.Role.TheVariants as roles
 use Rattle.pdu_tables.specs.declared.status.Status.{Status}
-use Rattle.pdu_codec.specs.declared.fault.PduFault.{PduFault}
-use Rattle.pdu_codec.specs.declared.fault.PduFault.TheVariants as faults
-use Rattle.pdu_codec.specs.declared.pdu.Bind.{Bind}
-use Rattle.pdu_codec.specs.declared.pdu.Body.{Body}
-use Rattle.pdu_codec.specs.declared.pdu.Body.TheVariants as bodies
-use Rattle.pdu_codec.specs.declared.pdu.Pdu.{Pdu}
+use Rattle.pdu_fields.specs.declared.fault.PduFault.{PduFault}
+use Rattle.pdu_fields.specs.declared.fault.PduFault.TheVariants as faults
+use Rattle.pdu_bodies.specs.declared.pdu.Bind.{Bind}
+use Rattle.pdu_bodies.specs.declared.pdu.Body.{Body}
+use Rattle.pdu_bodies.specs.declared.pdu.Body.TheVariants as bodies
+use Rattle.pdu_bodies.specs.declared.pdu.Pdu.{Pdu}
 use Rattle.sessions.specs.Session.{Session}
 use Rattle.sessions.specs.Faults.{told_of}
 use Rattle.sessions.specs.Steps.{Done, binds_unless, on_fault, on_pdu, responds}

@@ -10,10 +10,10 @@ use Rattle.pdu_tables.specs.declared.state.State.{State}
 use Rattle.pdu_tables.specs.declared.state.State.TheVariants as states
 use Rattle.pdu_tables.specs.declared.status.Status.{Status}
 use Rattle.pdu_tables.specs.declared.status.Status.TheVariants as statuses
-use Rattle.pdu_codec.specs.declared.pdu.Body.{Body}
-use Rattle.pdu_codec.specs.declared.pdu.Body.TheVariants.{QuerySmResp, CancelSmResp}
-use Rattle.pdu_codec.specs.declared.pdu.Pdu.{Pdu}
-use Rattle.pdu_codec.specs.declared.pdu.QueryAnswer.{QueryAnswer}
+use Rattle.pdu_bodies.specs.declared.pdu.Body.{Body}
+use Rattle.pdu_bodies.specs.declared.pdu.Body.TheVariants.{QuerySmResp, CancelSmResp}
+use Rattle.pdu_bodies.specs.declared.pdu.Pdu.{Pdu}
+use Rattle.pdu_bodies.specs.declared.pdu.QueryAnswer.{QueryAnswer}
 use Rattle.sessions.specs.Responses.{pdu_of, refusal_body, response_pdu}
 use Rattle.sessions.specs.declared.requested.Requested.{Requested}
 use Rattle.sessions.specs.declared.requested.Requested.TheVariants as requests

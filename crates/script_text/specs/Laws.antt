@@ -6,9 +6,9 @@ use Rattle.pdu_tables.specs.StateCodes.{state_code}
 use Rattle.pdu_tables.specs.StatusCodes.{status_code}
 use Rattle.pdu_tables.specs.declared.state.State.TheVariants as states
 use Rattle.pdu_tables.specs.declared.status.Status.TheVariants as statuses
-use Rattle.pdu_codec.specs.declared.pdu.Body.TheVariants.{QuerySmResp, CancelSmResp}
-use Rattle.pdu_codec.specs.declared.pdu.Pdu.{Pdu}
-use Rattle.pdu_codec.specs.declared.pdu.QueryAnswer.{QueryAnswer}
+use Rattle.pdu_bodies.specs.declared.pdu.Body.TheVariants.{QuerySmResp, CancelSmResp}
+use Rattle.pdu_bodies.specs.declared.pdu.Pdu.{Pdu}
+use Rattle.pdu_bodies.specs.declared.pdu.QueryAnswer.{QueryAnswer}
 use Rattle.script_text.specs.Settings.{Settings}
 use Rattle.script_text.specs.Node.{Node, Step, after_step}
 use Rattle.script_text.specs.Prints.{Print, AtOnce, Late, Gone}

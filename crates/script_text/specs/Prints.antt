@@ -4,7 +4,7 @@ use Rattle.std.specs.List.{flat_map}
 use Rattle.std.specs.Fmt.{decimal}
 use Rattle.hex.specs.Hex.{encode_lower}
 use Rattle.pdu_codec.specs.Pdu.{octets_of}
-use Rattle.pdu_codec.specs.declared.pdu.Pdu.{Pdu}
+use Rattle.pdu_bodies.specs.declared.pdu.Pdu.{Pdu}
 
 pub data Print : Type 0 where
   -- on this session a PDU goes out, in the step of what it answers

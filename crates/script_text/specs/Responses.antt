@@ -5,8 +5,8 @@ use Rattle.smpp_time.specs.Texts.{time_text}
 use Rattle.pdu_tables.specs.declared.status.Status.{Status}
 use Rattle.pdu_tables.specs.declared.status.Status.TheVariants as statuses
 use Rattle.pdu_tables.specs.StateCodes.{state_code}
-use Rattle.pdu_codec.specs.declared.pdu.Pdu.{Pdu}
-use Rattle.pdu_codec.specs.declared.pdu.Body.TheVariants.{SubmitSmResp, QuerySmResp, CancelSmResp}
+use Rattle.pdu_bodies.specs.declared.pdu.Pdu.{Pdu}
+use Rattle.pdu_bodies.specs.declared.pdu.Body.TheVariants.{SubmitSmResp, QuerySmResp, CancelSmResp}
 use Rattle.desk.specs.declared.request.Answer.{Answer}
 use Rattle.desk.specs.declared.request.Answer.TheVariants.{Accepted, Shown, NotOwner, Removed, Kept, NotMatched, Unknown}
 use Rattle.sessions.specs.declared.requested.Requested.{Requested}

@@ -3,10 +3,10 @@ use Rattle.std.specs.Prelude.{Option, Some, None}
 use Rattle.std.specs.Option.{option_map}
 use Rattle.pdu_tables.specs.declared.status.Status.{Status}
 use Rattle.pdu_tables.specs.declared.status.Status.TheVariants as statuses
-use Rattle.pdu_codec.specs.declared.fault.Field.{Field}
-use Rattle.pdu_codec.specs.declared.fault.Field.TheVariants as fields
-use Rattle.pdu_codec.specs.declared.fault.PduFault.{PduFault}
-use Rattle.pdu_codec.specs.declared.fault.PduFault.TheVariants as faults
+use Rattle.pdu_fields.specs.declared.fault.Field.{Field}
+use Rattle.pdu_fields.specs.declared.fault.Field.TheVariants as fields
+use Rattle.pdu_fields.specs.declared.fault.PduFault.{PduFault}
+use Rattle.pdu_fields.specs.declared.fault.PduFault.TheVariants as faults
 use Rattle.sessions.specs.declared.requested.Requested.{Requested}
 use Rattle.sessions.specs.declared.response.Response.{Response}
 use Rattle.sessions.specs.declared.response.Response.TheVariants.{Nack, Refused}

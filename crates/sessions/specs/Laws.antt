@@ -2,8 +2,8 @@
 use Rattle.std.specs.Prelude.{◌≡◌, ℕ, ◌<◌, ◌==◌, ◌⊎◌, List, [], ◌∷◌, find, false, Option, Some, None}
 use Rattle.accounts.specs.declared.account.Account.{Account}
 use Rattle.pdu_tables.specs.declared.status.Status.{Status}
-use Rattle.pdu_codec.specs.declared.fault.PduFault.{PduFault}
-use Rattle.pdu_codec.specs.declared.pdu.Pdu.{Pdu}
+use Rattle.pdu_fields.specs.declared.fault.PduFault.{PduFault}
+use Rattle.pdu_bodies.specs.declared.pdu.Pdu.{Pdu}
 use Rattle.sessions.specs.declared.pushed.PushRefusal.TheVariants.{NotReceiving}
 use Rattle.sessions.specs.declared.reaction.Reaction.TheVariants.{Nothing, Respond}
 use Rattle.sessions.specs.declared.request.OpenRequest.{OpenRequest}

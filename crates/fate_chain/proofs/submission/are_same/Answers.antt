@@ -2,7 +2,7 @@ use Rattle.std.proofs.Common.{sym, ap, ◌∙◌}
 use Rattle.std.proofs.lemmas.Bool.Decides.{Decides-eqb}
 use Rattle.std.proofs.lemmas.Slice.Eq.{slice_eq-Decides}
 use Rattle.pdu_codec.specs.Text.{optional_octets}
-use Rattle.pdu_codec.proofs.Optional.{octets-same}
+use Rattle.pdu_fields.proofs.Optional.{octets-same}
 use Rattle.fate_chain.proofs.submission.are_same.Goals as goal
 
 pub returns : goal.returns

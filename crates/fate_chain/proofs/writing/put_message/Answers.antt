@@ -1,5 +1,5 @@
 use Rattle.std.proofs.Common.{is_ok, refl, ap, arith}
-use Rattle.pdu_codec.proofs.Optional.{optional-again}
+use Rattle.pdu_fields.proofs.Optional.{optional-again}
 use Rattle.fate_chain.proofs.writing.put_message.Goals as goal
 
 pub returns-clause-fits : goal.returns-clause-fits

@@ -1,9 +1,9 @@
 use Rattle.std.proofs.Common.{refl, ap}
 use Rattle.std.specs.Prelude.{option_map}
 use Rattle.pdu_tables.specs.declared.command.Command.TheVariants as commands
-use Rattle.pdu_codec.specs.declared.pdu.Body.TheVariants as bodies
-use Rattle.pdu_codec.specs.Bodies.{body_at}
-use Rattle.pdu_codec.specs.Contents.{bind_contents, bind_answer_contents, message_contents, message_id_contents, query_contents, query_answer_contents, cancel_contents}
+use Rattle.pdu_bodies.specs.declared.pdu.Body.TheVariants as bodies
+use Rattle.pdu_bodies.specs.Bodies.{body_at}
+use Rattle.pdu_bodies.specs.Contents.{bind_contents, bind_answer_contents, message_contents, message_id_contents, query_contents, query_answer_contents, cancel_contents}
 use Rattle.pdu_codec.proofs.PduLaws.{body_made, bind_answer_again, message_id_again, query_answer_again}
 use Rattle.pdu_codec.proofs.reading.body_of.Goals as goal
 

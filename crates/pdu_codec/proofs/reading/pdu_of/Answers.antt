@@ -1,7 +1,7 @@
 use Rattle.std.proofs.Common.{rules, ◌-◌, length, take, drop, ap, refl, ◌∙◌}
 use Rattle.std.proofs.lemmas.Result.{err_from_is_err_and}
 use Rattle.pdu_tables.specs.CommandCodes.{command_of}
-use Rattle.pdu_codec.specs.Bodies.{body_at}
+use Rattle.pdu_bodies.specs.Bodies.{body_at}
 use Rattle.pdu_codec.specs.Pdu.{read_pdu}
 use Rattle.pdu_codec.proofs.PduLaws.{Fails-then, with_body, read_pdu-whole, Gives-from_made, IsOk-from_made}
 use Rattle.pdu_codec.proofs.BodyFaults.{read_pdu-no_memory}

@@ -1,0 +1,5 @@
+use Rattle.std.proofs.Common.{refl}
+use Rattle.pdu_bodies.proofs.message.Envelope.parties.Goals as goal
+
+pub returns : goal.returns
+returns c = rw (c.in_ok-of.ensures, c.in_ok-address.ensures, c.in_ok-address-2.ensures) refl

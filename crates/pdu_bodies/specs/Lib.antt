@@ -1,0 +1,5 @@
+pub mod Contents
+pub mod Forms
+pub mod Bodies
+pub mod Pieces
+pub mod Made

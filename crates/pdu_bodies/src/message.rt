@@ -1,0 +1,256 @@
+//! The body of a submit_sm or a deliver_sm (SMPP 3.4, sections 4.4.1 and 4.6.1), read to its last octet in three pieces. Memory is taken once
+//! the whole body is found to be one.
+
+ghost use Rattle.std.specs.Prelude.{◌≡◌, IfOk};
+ghost use Rattle.pdu_fields.specs.Text.{IsText};
+ghost use Rattle.pdu_fields.specs.Grammar.{message_parts, contents_at, front_at, IsRead};
+ghost use Rattle.pdu_bodies.specs.Contents.{message_contents};
+ghost use Rattle.pdu_bodies.specs.Made.{IsMade};
+ghost use Rattle.pdu_bodies.specs.Pieces as pieces;
+
+use crate::pdu::Message;
+use pdu_fields::{
+    Address, AddressOctets, Field, PduFault, ShortMessage, Text, Tlvs, check_optional, counted_at,
+    destination_at, octet_at, source_at, text_at,
+};
+use pdu_tables::limits;
+use std::alloc::{AllocError, Global};
+
+/// From whom a message is and to whom.
+#[derive(Drop)]
+struct Parties {
+    service_type: Text<6>,
+    source: Address,
+    destination: Address,
+}
+
+/// When a message is to be delivered, and until when.
+#[derive(Drop)]
+struct Times {
+    schedule_delivery_time: Text<17>,
+    validity_period: Text<17>,
+}
+
+/// From whom a message is and to whom, as it stands in octets.
+#[derive(Clone, Copy)]
+struct Envelope<'a> {
+    service_type: &'a [u8],
+    source: AddressOctets<'a>,
+    destination: AddressOctets<'a>,
+}
+
+impl Envelope<'_> {
+    fn parties(&self, alloc: Global) -> Result<Parties, AllocError>
+        requires service_type { IsText 6 self.now.service_type.now }
+        requires source { IsText 21 self.now.source.digits.now }
+        requires destination { IsText 21 self.now.destination.digits.now }
+        ensures { IfOk result (λ parties. pieces.parties_contents parties ≡ pieces.envelope_contents self.now) }
+    {
+        Ok(Parties {
+            service_type: Text::of(alloc, self.service_type)?,
+            source: self.source.address(alloc)?,
+            destination: self.destination.address(alloc)?,
+        })
+    }
+}
+
+/// What a message is, and how urgent.
+#[derive(Clone, Copy)]
+struct Class {
+    esm_class: u8,
+    protocol_id: u8,
+    priority_flag: u8,
+}
+
+/// When a message is to be delivered, and until when, as it stands in octets.
+#[derive(Clone, Copy)]
+struct TimesOctets<'a> {
+    schedule_delivery_time: &'a [u8],
+    validity_period: &'a [u8],
+}
+
+impl TimesOctets<'_> {
+    fn times(&self, alloc: Global) -> Result<Times, AllocError>
+        requires schedule_delivery_time { IsText 17 self.now.schedule_delivery_time.now }
+        requires validity_period { IsText 17 self.now.validity_period.now }
+        ensures schedule { IfOk result (λ times.
+            times.schedule_delivery_time ≡ self.now.schedule_delivery_time.now) }
+        ensures validity { IfOk result (λ times. times.validity_period ≡ self.now.validity_period.now) }
+    {
+        Ok(Times {
+            schedule_delivery_time: Text::of(alloc, self.schedule_delivery_time)?,
+            validity_period: Text::of(alloc, self.validity_period)?,
+        })
+    }
+}
+
+/// Whether a receipt is asked for, whether an older message is to be replaced, and what the short_message is.
+#[derive(Clone, Copy)]
+struct Flags {
+    registered_delivery: u8,
+    replace_if_present_flag: u8,
+    data_coding: u8,
+    sm_default_msg_id: u8,
+}
+
+/// How a message is to be handled, as it stands in octets.
+#[derive(Clone, Copy)]
+struct Handling<'a> {
+    class: Class,
+    times: TimesOctets<'a>,
+    flags: Flags,
+}
+
+/// A message, as it stands in octets.
+#[derive(Clone, Copy)]
+struct MessageOctets<'a> {
+    envelope: Envelope<'a>,
+    handling: Handling<'a>,
+    short_message: &'a [u8],
+    tlvs: &'a [u8],
+}
+
+impl MessageOctets<'_> {
+    #[tactic(auto, unfolding(pdu_fields::specs::Tlv::tlvs_in))]
+    fn message(&self, alloc: Global) -> Result<Message, AllocError>
+        requires { pieces.HasTexts self.now }
+        ensures { IfOk result (λ message. message_contents message ≡ pieces.message_seen self.now) }
+    {
+        let handling = self.handling;
+        let parties = self.envelope.parties(alloc)?;
+        let times = handling.times.times(alloc)?;
+        let short_message = ShortMessage::of(alloc, self.short_message)?;
+        let tlvs = Tlvs::of(alloc, self.tlvs)?;
+        Ok(Message {
+            service_type: parties.service_type,
+            source: parties.source,
+            destination: parties.destination,
+            esm_class: handling.class.esm_class,
+            protocol_id: handling.class.protocol_id,
+            priority_flag: handling.class.priority_flag,
+            schedule_delivery_time: times.schedule_delivery_time,
+            validity_period: times.validity_period,
+            registered_delivery: handling.flags.registered_delivery,
+            replace_if_present_flag: handling.flags.replace_if_present_flag,
+            data_coding: handling.flags.data_coding,
+            sm_default_msg_id: handling.flags.sm_default_msg_id,
+            short_message,
+            tlvs,
+        })
+    }
+}
+
+#[tactic(auto, unfolding(crate::specs::Pieces::envelope_at))]
+fn envelope_at(octets: &[u8]) -> Result<(Envelope<'_>, &[u8]), PduFault>
+    ensures read { IsRead (λ x. (pieces.envelope_contents x.0, x.1.now)) result (pieces.envelope_at octets.now) }
+    ensures service_type { IfOk result (λ x. IsText 6 x.0.service_type.now) }
+    ensures source { IfOk result (λ x. IsText 21 x.0.source.digits.now) }
+    ensures destination { IfOk result (λ x. IsText 21 x.0.destination.digits.now) }
+{
+    let (service_type, rest) = text_at(Field::ServiceType, limits::SERVICE_TYPE, octets)?;
+    let (source, rest) = source_at(rest)?;
+    let (destination, rest) = destination_at(rest)?;
+    let envelope = Envelope {
+        service_type,
+        source,
+        destination,
+    };
+    Ok((envelope, rest))
+}
+
+fn class_at(octets: &[u8]) -> Result<(Class, &[u8]), PduFault>
+    ensures { IsRead (λ x. (pieces.class_contents x.0, x.1.now)) result (front_at pieces.class_parts octets.now) }
+{
+    let (esm_class, rest) = octet_at(Field::EsmClass, octets)?;
+    let (protocol_id, rest) = octet_at(Field::ProtocolId, rest)?;
+    let (priority_flag, rest) = octet_at(Field::PriorityFlag, rest)?;
+    let class = Class {
+        esm_class,
+        protocol_id,
+        priority_flag,
+    };
+    Ok((class, rest))
+}
+
+fn times_at(octets: &[u8]) -> Result<(TimesOctets<'_>, &[u8]), PduFault>
+    ensures read { IsRead (λ x. (pieces.times_contents x.0, x.1.now)) result (front_at pieces.times_parts octets.now) }
+    ensures schedule { IfOk result (λ x. IsText 17 x.0.schedule_delivery_time.now) }
+    ensures validity { IfOk result (λ x. IsText 17 x.0.validity_period.now) }
+{
+    let (schedule_delivery_time, rest) = text_at(
+        Field::ScheduleDeliveryTime,
+        limits::TIME,
+        octets,
+    )?;
+    let (validity_period, rest) = text_at(Field::ValidityPeriod, limits::TIME, rest)?;
+    let times = TimesOctets {
+        schedule_delivery_time,
+        validity_period,
+    };
+    Ok((times, rest))
+}
+
+fn flags_at(octets: &[u8]) -> Result<(Flags, &[u8]), PduFault>
+    ensures { IsRead (λ x. (pieces.flags_contents x.0, x.1.now)) result (front_at pieces.flags_parts octets.now) }
+{
+    let (registered_delivery, rest) = octet_at(Field::RegisteredDelivery, octets)?;
+    let (replace_if_present_flag, rest) = octet_at(Field::ReplaceIfPresentFlag, rest)?;
+    let (data_coding, rest) = octet_at(Field::DataCoding, rest)?;
+    let (sm_default_msg_id, rest) = octet_at(Field::SmDefaultMsgId, rest)?;
+    let flags = Flags {
+        registered_delivery,
+        replace_if_present_flag,
+        data_coding,
+        sm_default_msg_id,
+    };
+    Ok((flags, rest))
+}
+
+#[tactic(auto, unfolding(crate::specs::Pieces::handling_at))]
+fn handling_at(octets: &[u8]) -> Result<(Handling<'_>, &[u8]), PduFault>
+    ensures read { IsRead (λ x. (pieces.handling_contents x.0, x.1.now)) result (pieces.handling_at octets.now) }
+    ensures schedule { IfOk result (λ x. IsText 17 x.0.times.schedule_delivery_time.now) }
+    ensures validity { IfOk result (λ x. IsText 17 x.0.times.validity_period.now) }
+{
+    let (class, rest) = class_at(octets)?;
+    let (times, rest) = times_at(rest)?;
+    let (flags, rest) = flags_at(rest)?;
+    let handling = Handling {
+        class,
+        times,
+        flags,
+    };
+    Ok((handling, rest))
+}
+
+#[tactic(auto, unfolding(crate::specs::Pieces::message_at, pdu_fields::specs::Tlv::tlvs_in))]
+fn message_at(octets: &[u8]) -> Result<MessageOctets<'_>, PduFault>
+    ensures read { IsRead pieces.message_seen result (pieces.message_at octets.now) }
+    ensures texts { IfOk result pieces.HasTexts }
+{
+    let (envelope, rest) = envelope_at(octets)?;
+    let (handling, rest) = handling_at(rest)?;
+    let (short_message, tlvs) = counted_at(rest)?;
+    check_optional(tlvs)?;
+    Ok(MessageOctets {
+        envelope,
+        handling,
+        short_message,
+        tlvs,
+    })
+}
+
+/// What a submit_sm and a deliver_sm have.
+pub fn message_of(alloc: Global, octets: &[u8]) -> Result<Message, PduFault>
+    ensures { IsMade message_contents result (contents_at message_parts octets.now) }
+{
+    message_in_pieces(alloc, octets)
+}
+
+fn message_in_pieces(alloc: Global, octets: &[u8]) -> Result<Message, PduFault>
+    ensures { IsMade message_contents result (pieces.message_at octets.now) }
+{
+    let read = message_at(octets)?;
+    let message = read.message(alloc)?;
+    Ok(message)
+}

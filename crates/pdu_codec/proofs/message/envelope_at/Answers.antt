@@ -1,8 +1,0 @@
-use Rattle.std.proofs.Common.{refl}
-use Rattle.pdu_codec.specs.Pieces.{envelope_at}
-use Rattle.pdu_codec.proofs.message.envelope_at.Goals as goal
-
-pub returns-clause-read : goal.returns-clause-read
-unfolding envelope_at
-returns-clause-read c =
-    rw (c.in_ok-service_type.ensures.read, c.in_ok-source.ensures.read, c.in_ok-destination.ensures.read) refl

@@ -1,0 +1,4 @@
+pub mod Text
+pub mod Grammar
+pub mod Tlv
+pub mod Addresses

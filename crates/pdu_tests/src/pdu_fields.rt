@@ -1,0 +1,59 @@
+//! The fields of PDUs at the front of octets.
+
+use pdu_fields::{
+    Field, PduFault, counted_at, destination_at, nothing_at, octet_at, source_at, text_at,
+};
+use std::test::Fail;
+
+#[test]
+fn fields_are_read(rt: HostRuntime) -> Result<(), Fail> {
+    assert_eq!(rt;
+        text_at(Field::SystemId, 5, b"sme1\0rest"),
+        Ok((b"sme1".as_slice(), b"rest".as_slice()))
+    );
+    assert_eq!(rt;
+        octet_at(Field::EsmClass, b"\x03rest"),
+        Ok((3, b"rest".as_slice()))
+    );
+    assert_eq!(rt;
+        counted_at(b"\x02Hi!"),
+        Ok((b"Hi".as_slice(), b"!".as_slice()))
+    );
+    assert_eq!(rt; nothing_at(b""), Ok(()));
+    Ok(())
+}
+
+#[test]
+fn faults_of_fields_are_told(rt: HostRuntime) -> Result<(), Fail> {
+    assert_eq!(rt;
+        text_at(Field::SystemId, 4, b"sme1\0rest"),
+        Err(PduFault::LongText(Field::SystemId))
+    );
+    assert_eq!(rt;
+        octet_at(Field::EsmClass, b""),
+        Err(PduFault::Cut(Field::EsmClass))
+    );
+    assert_eq!(rt; counted_at(b"\xffHi!"), Err(PduFault::TextLength));
+    assert_eq!(rt; nothing_at(b"!"), Err(PduFault::Extra));
+    Ok(())
+}
+
+#[test]
+fn addresses_are_read(rt: HostRuntime) -> Result<(), Fail> {
+    let (source, rest) = source_at(b"\x01\x084477\0rest")
+        .ok()
+        .ok_or("a source address")?;
+    assert_eq!(rt;
+        (source.ton, source.npi, source.digits),
+        (1, 8, b"4477".as_slice())
+    );
+    assert_eq!(rt; rest, b"rest".as_slice());
+    let (destination, rest) = destination_at(b"\x02\x09155\0")
+        .ok()
+        .ok_or("a destination")?;
+    assert_eq!(rt; (destination.ton, destination.npi), (2, 9));
+    assert_eq!(rt; rest, b"".as_slice());
+    let address = destination.address(rt.alloc())?;
+    assert_eq!(rt; address.digits.octets(), b"155".as_slice());
+    Ok(())
+}
