@@ -5,6 +5,8 @@
 #[cfg(test)]
 mod bodies;
 #[cfg(test)]
+mod body_fields;
+#[cfg(test)]
 mod damaged_pdus;
 #[cfg(test)]
 mod fields;
@@ -16,8 +18,6 @@ mod full_pdus;
 mod full_vectors;
 #[cfg(test)]
 mod pdu_faults;
-#[cfg(test)]
-mod pdu_fields;
 #[cfg(test)]
 mod pdus;
 #[cfg(test)]
