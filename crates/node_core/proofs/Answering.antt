@@ -5,6 +5,7 @@ use Rattle.std.specs.Prelude.{IfOk, Result, Ok, Err, option_map, if◌then◌els
 use Rattle.std.specs.Option.{unwrap_or}
 use Rattle.std.specs.Ordering.{nat_cmp}
 use Rattle.std.specs.BTreeMap.{insert_entry}
+use Rattle.mc_model.specs.message.Ids.{IsId}
 use Rattle.mc_model.specs.synod.Packet.{Packet, Slot, same_slot, slot_at}
 use Rattle.mc_model.specs.synod.Acceptor.{Records, SlotRecord, blank, with_record}
 use Rattle.mc_model.specs.node.Setup.{Setup}
@@ -31,7 +32,7 @@ use Rattle.node_core.specs.declared.step.Next.{Next}
 use Rattle.node_core.specs.declared.step.Step.{Step}
 use Rattle.node_core.specs.Keeping.{AreOf, IsTaken, acceptor_in, filed_as, kept_of, records_of}
 use Rattle.node_core.specs.Messages.{IsJudged, IsOf, changed_by, message_of}
-use Rattle.node_core.specs.Steps.{IsAnswer, IsNext, IsStep, installed}
+use Rattle.node_core.specs.Steps.{IsAnswer, IsNext, IsStep, entries_after, installed, rested_if}
 use Rattle.node_core.proofs.Entries.{message_looked_up, message_put, own_at, own_put, records_put}
 
 -- ---- a message that is taken out
@@ -56,9 +57,9 @@ taken_fresh k id m none is empty of = record {
 
 pub fresh_taken : {E : Type 0} (k : Holding) (id : ℕ) (result : Result Filed E) → value_at k.messages.entries id ≡ None →
     IfOk result (λ m. (slot : Slot) → record_at m.acceptor slot ≡ blank) → IfOk result (λ m. (id : ℕ) → message_of id m ≡ unseen) →
-    IfOk result (λ m. (id : ℕ) → IsOf k.setup.node k.incarnation k.setup.nodes id m) → IfOk result (IsTaken k id)
-fresh_taken k id (Ok m) none records is of = taken_fresh k id m none (is id) records (of id)
-fresh_taken k id (Err e) none records is of = tt
+    IfOk result (λ m. (id : ℕ) → IsId id → IsOf k.setup.node k.incarnation k.setup.nodes id m) → IsId id → IfOk result (IsTaken k id)
+fresh_taken k id (Ok m) none records is of named = taken_fresh k id m none (is id) records (of id named)
+fresh_taken k id (Err e) none records is of named = tt
 
 -- ---- what is kept then
 
@@ -66,14 +67,19 @@ fresh_taken k id (Err e) none records is of = tt
 abbrev pub holding : Holding → List (ℕ × Filed) → Holding
 holding k entries = record k { messages = record k.messages { entries = entries } }
 
+pub next_entries : (k : Holding) (id : ℕ) (m : Filed) (next : Next) → IsNext k id m next →
+    (installed k next).messages.entries ≡ with_value k.messages.entries id m
+next_entries k id m next is =
+    ap (λ (b : Bool). entries_after (rested_if b k.messages.entries) next.messages.items) is.drops ∙ is.entries
+
 pub nexts : (k : Holding) (id : ℕ) (m : Filed) (next : Next) → IsNext k id m next →
     kept_of (installed k next) ≡ kept_of (holding k (with_value k.messages.entries id m))
-nexts k id m next is = λ i. record (kept_of k) {
-  records = records_of (is.entries i);
+nexts k id m next is = let entries = next_entries k id m next is in λ i. record (kept_of k) {
+  records = records_of (entries i);
   clock = is.clock i;
   serial = is.serial i;
   ticket = is.ticket i;
-  messages = map filed_as (is.entries i);
+  messages = map filed_as (entries i);
 }
 
 -- ---- a verdict
@@ -128,6 +134,7 @@ module _ (k : Holding) (slot : Slot) (taken new : Filed) (judgement : SlotRecord
     node = ap (λ (p : Proposing). p.node) is_judged.proposer ∙ of.node;
     incarnation = ap (λ (p : Proposing). p.incarnation) is_judged.proposer ∙ of.incarnation;
     proposer = ap (λ (p : Proposing). p.nodes) is_judged.proposer ∙ of.proposer;
+    named = of.named;
     backed = λ place granted.
         subst (λ (l : Learned). IsBacked k.setup.node k.incarnation place (message_in l slot.id).known) (sym is_judged.learner)
         (of.backed place (sym (ap (λ (a : Attempts). granted_in a place) is_judged.attempts) ∙ granted));
@@ -141,11 +148,11 @@ module _ (k : Holding) (slot : Slot) (taken new : Filed) (judgement : SlotRecord
     kept = nexts k slot.id new step.next is_answer.next ∙ kept_then;
     outputs = is_answer.outputs ∙ ap (λ (packet : Packet). record nothing { packets = packet ∷ [] }) (is_judged.answer ∙ ap (λ (j : Judgement). j.answer) judged_here);
     saves = λ other.
-        ap (λ (es : List (ℕ × Filed)). records_of es other) is_answer.next.entries
+        ap (λ (es : List (ℕ × Filed)). records_of es other) (next_entries k slot.id new step.next is_answer.next)
         ∙ records_then other
         ∙ sym (ap (λ (change : Option Change). changed_by change (records_of Entries) other) is_answer.change ∙ changed_is (records_of Entries) slot Judged.after verdict.change change_is other);
     own = λ own. record {
-      each = subst (λ (es : List (ℕ × Filed)). AreOf k.setup k.incarnation es) (sym is_answer.next.entries)
+      each = subst (λ (es : List (ℕ × Filed)). AreOf k.setup k.incarnation es) (sym (next_entries k slot.id new step.next is_answer.next))
           (own_put k.setup k.incarnation Entries slot.id new (of_new (is_taken.own own)) own.each);
     };
     room = is_answer.next.room;

@@ -94,6 +94,7 @@ still_of id old new to is backed = record {
     node = ap (λ (p : Proposing). p.node) is.proposer ∙ of.node;
     incarnation = ap (λ (p : Proposing). p.incarnation) is.proposer ∙ of.incarnation;
     proposer = ap (λ (p : Proposing). p.nodes) is.proposer ∙ of.proposer;
+    named = of.named;
     backed = λ place granted.
         subst (λ (l : Learned). IsBacked me starts place (message_in l id).known) (sym is.learner)
         (backed me starts nodes place of (sym (ap (λ (m : Message). m.granted place) (is.message id)) ∙ granted));

@@ -133,6 +133,7 @@ answered_here k s slot outcome taken new packet step own node incarnation clock 
       node = of.node ∙ sym node;
       incarnation = of.incarnation ∙ sym incarnation;
       proposer = of.proposer ∙ sym of.learner;
+      named = of.named;
       backed = λ place granted.
           subst (λ (n : ℕ). IsBacked n s.author.incarnation place (message_of slot.id taken).known) (sym node)
           (subst (λ (n : ℕ). IsBacked k.setup.node n place (message_of slot.id taken).known) (sym incarnation) (of.backed place granted));

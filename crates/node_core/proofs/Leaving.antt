@@ -28,7 +28,7 @@ use Rattle.node_core.specs.Keeping.{AreOf, AreOwn, IsTaken, filed_as, kept_of, r
 use Rattle.node_core.specs.Messages.{IsOfSame, IsPromised, IsRefused, changed_by, message_of}
 use Rattle.node_core.specs.Steps.{IsLeft, IsStep, giving}
 use Rattle.node_core.specs.Lists.{listed}
-use Rattle.node_core.proofs.Answering.{holding, nexts}
+use Rattle.node_core.proofs.Answering.{holding, next_entries, nexts}
 use Rattle.node_core.proofs.Entries.{message_put, own_put, records_kept}
 
 module _ (k : Holding) (id : ℕ) (taken new : Filed) (to : Message) (outputs : Outputs) (step : Step)
@@ -50,11 +50,11 @@ module _ (k : Holding) (id : ℕ) (taken new : Filed) (to : Message) (outputs : 
     kept = nexts k id new step.next is_left.next ∙ kept_then;
     outputs = is_left.gives;
     saves = λ other.
-        ap (λ (es : List (ℕ × Filed)). records_of es other) is_left.next.entries
+        ap (λ (es : List (ℕ × Filed)). records_of es other) (next_entries k id new step.next is_left.next)
         ∙ records_then other
         ∙ sym (ap (λ (change : Option Change). changed_by change (records_of Entries) other) is_left.change);
     own = λ own. record {
-      each = subst (λ (es : List (ℕ × Filed)). AreOf k.setup k.incarnation es) (sym is_left.next.entries)
+      each = subst (λ (es : List (ℕ × Filed)). AreOf k.setup k.incarnation es) (sym (next_entries k id new step.next is_left.next))
           (own_put k.setup k.incarnation Entries id new (same.of k.setup.node k.incarnation k.setup.nodes (is_taken.own own)) own.each);
     };
     room = is_left.next.room;

@@ -32,6 +32,7 @@ use Rattle.node_core.specs.Keeping.{AreOf, AreOwn, AreUnseen, IsFiled, IsOpen, I
 use Rattle.node_core.specs.Messages.{IsOf, message_of}
 use Rattle.node_core.specs.Nodes.{HasOpened, Standing}
 use Rattle.node_core.specs.Steps.{IsInstalled, IsNext}
+use Rattle.node_core.proofs.Answering.{next_entries}
 use Rattle.node_core.proofs.Entries.{own_put, records_put, same_key}
 
 -- ---- nothing was heard
@@ -62,7 +63,7 @@ pub filed : (old new : Holding) (kept : Record) (id : ℕ) (taken m : Filed) (ne
     ((id : ℕ) → message_of id m ≡ message_of id taken) →
     (IsOf old.setup.node old.incarnation old.setup.nodes id taken → IsOf old.setup.node old.incarnation old.setup.nodes id m) →
     IsNext old id m next → IsInstalled old next new → IsFiled old kept new
-filed old new kept id taken m next about is_taken records same of is_next is = let entries = is.entries ∙ is_next.entries in record {
+filed old new kept id taken m next about is_taken records same of is_next is = let entries = is.entries ∙ next_entries old id m next is_next in record {
   setup = is.setup;
   incarnation = is.incarnation;
   clock = is.clock ∙ is_next.clock;

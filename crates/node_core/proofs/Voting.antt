@@ -61,6 +61,7 @@ module _ (old : Filed) (id : ℕ) (learner : Learned) (proposer : Proposing) (no
       node = same.node ∙ of.node;
       incarnation = same.incarnation ∙ of.incarnation;
       proposer = same.nodes ∙ of.proposer;
+      named = of.named;
       backed = λ place granted. backed me starts place (of.backed place granted);
     };
   }

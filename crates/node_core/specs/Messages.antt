@@ -2,6 +2,7 @@
 use Rattle.std.specs.Prelude.{◌≡◌, ℕ, suc, Bool, true, ◌==◌, ◌&&◌, not, is_some, nat_lt, List, Option, Some, None, option_map, if◌then◌else◌}
 use Rattle.mc_model.specs.synod.OneSlot.{Vote}
 use Rattle.mc_model.specs.message.Chain.{Chain}
+use Rattle.mc_model.specs.message.Ids.{IsId}
 use Rattle.mc_model.specs.message.Decree.{Decree}
 use Rattle.mc_model.specs.synod.Ballot.{ballot_of}
 use Rattle.mc_model.specs.synod.Packet.{Packet, Prepare, Slot, slot_at, slot_of}
@@ -68,6 +69,7 @@ pub record IsOf (me starts nodes id : ℕ) (m : Filed) : Type 0 where
   pub node : m.proposer.node ≡ me
   pub incarnation : m.proposer.incarnation ≡ starts
   pub proposer : m.proposer.nodes ≡ nodes
+  pub named : IsId id
   pub backed : (place : ℕ) → granted_in m.attempts place ≡ true → IsBacked me starts place (message_of id m).known
 
 -- it is another of the same node
@@ -76,6 +78,10 @@ pub record IsOfSame (id : ℕ) (old new : Filed) : Type 0 where
   pub of : (me starts nodes : ℕ) → IsOf me starts nodes id old → IsOf me starts nodes id new
 
 -- ---- what is done with it
+
+-- no round of it runs
+abbrev pub rested : Filed → Filed
+rested m = record m { proposer = record m.proposer { round = None } }
 
 -- A promise is counted, and the Propose is given that it leads to, if a round of its slot runs at its ballot.
 pub record IsPromised (old : Filed) (sender ballot : ℕ) (slot : Slot) (report : Option Vote) (new : Filed) (packet : Option Sent) : Type 0 where

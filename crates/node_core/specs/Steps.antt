@@ -1,5 +1,5 @@
 -- A step of the code, as a step of the node's model.
-use Rattle.std.specs.Prelude.{◌≡◌, ℕ, ◌≤◌, ◌-◌, max, List, [], ◌∷◌, length, map, option_map, Option, Some, None, if◌then◌else◌}
+use Rattle.std.specs.Prelude.{◌≡◌, ℕ, ◌≤◌, ◌-◌, max, Bool, false, List, [], ◌∷◌, length, map, option_map, Option, Some, None, if◌then◌else◌}
 use Rattle.std.specs.Box.{box_value}
 use Rattle.mc_model.specs.message.Chain.{Chain}
 use Rattle.mc_model.specs.synod.Packet.{Packet, Slot, slot_of}
@@ -26,7 +26,7 @@ use Rattle.node_core.specs.declared.step.Put.{Put}
 use Rattle.node_core.specs.declared.step.Step.{Step}
 use Rattle.node_core.specs.Attempting.{is_open, known_slot, reason_of}
 use Rattle.node_core.specs.Keeping.{AreOwn, kept_of, records_of}
-use Rattle.node_core.specs.Messages.{changed_by}
+use Rattle.node_core.specs.Messages.{changed_by, rested}
 
 -- What comes to the code, to a node that keeps this. A grant is asked for of the attempt in which the known chain ends.
 abbrev pub input_of : Kept → Given → Input
@@ -66,13 +66,20 @@ abbrev pub entries_after : List (ℕ × Filed) → List Put → List (ℕ × Fil
 entries_after entries [] = entries
 entries_after entries (first ∷ others) = with_value (entries_after entries others) first.id (box_value first.message)
 
+-- each message, without the round that ran
+abbrev pub rested_entry : ℕ × Filed → ℕ × Filed
+rested_entry entry = (entry.0, rested entry.1)
+
+abbrev pub rested_if : Bool → List (ℕ × Filed) → List (ℕ × Filed)
+rested_if drops entries = if drops then map rested_entry entries else entries
+
 -- what is kept after it
 abbrev pub installed : Holding → Next → Holding
 installed k next = record k {
   clock = next.clock;
   serial = next.serial;
   ticket = next.ticket;
-  messages = record k.messages { entries = entries_after k.messages.entries next.messages.items };
+  messages = record k.messages { entries = entries_after (rested_if next.drops_rounds k.messages.entries) next.messages.items };
 }
 
 pub record IsInstalled (old : Holding) (next : Next) (new : Holding) : Type 0 where
@@ -81,7 +88,7 @@ pub record IsInstalled (old : Holding) (next : Next) (new : Holding) : Type 0 wh
   pub clock : new.clock ≡ next.clock
   pub serial : new.serial ≡ next.serial
   pub ticket : new.ticket ≡ next.ticket
-  pub entries : new.messages.entries ≡ entries_after old.messages.entries next.messages.items
+  pub entries : new.messages.entries ≡ entries_after (rested_if next.drops_rounds old.messages.entries) next.messages.items
 
 -- there is room for its messages
 abbrev pub room_in : Option ℕ → ℕ
@@ -96,6 +103,7 @@ pub record IsNext (k : Holding) (id : ℕ) (m : Filed) (next : Next) : Type 0 wh
   pub clock : next.clock ≡ k.clock
   pub serial : next.serial ≡ k.serial
   pub ticket : next.ticket ≡ k.ticket
+  pub drops : next.drops_rounds ≡ false
   pub entries : entries_after k.messages.entries next.messages.items ≡ with_value k.messages.entries id m
   pub room : HasRoom k.messages next
 

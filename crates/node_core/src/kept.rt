@@ -1,6 +1,6 @@
 //! What a node keeps.
 
-ghost use Rattle.std.specs.Prelude.{◌≡◌, ℕ, ◌≤◌, ◌&&◌, length, [], None, IfErr, IfOk, OnOk, not, option_map};
+ghost use Rattle.std.specs.Prelude.{◌≡◌, ℕ, ◌≤◌, ◌&&◌, length, [], None, IfErr, IfOk, OnOk, not, option_map, false};
 ghost use Rattle.std.specs.Option.{option_copied};
 ghost use Rattle.mc_model.specs.node.Setup.{Setup as SetupValue};
 ghost use Rattle.mc_model.specs.synod.Acceptor.{Records};
@@ -8,6 +8,7 @@ ghost use Rattle.node_model.specs.Acceptor.{told_of};
 ghost use Rattle.fate_chain.specs.Kinds.{final_of};
 ghost use Rattle.node_model.specs.Answers.{is_asked};
 ghost use Rattle.node_model.specs.Outputs.{leaves};
+ghost use Rattle.mc_model.specs.message.Ids.{IsId};
 ghost use Rattle.node_model.specs.Kept.{message_at};
 ghost use Rattle.node_model.specs.Proposer.{is_own_ballot, runs_at};
 ghost use Rattle.node_model.specs.Packets.{is_member, on_ask, on_packet, on_prepare, on_promise, on_propose, on_refused};
@@ -18,13 +19,14 @@ ghost use Rattle.synod_acceptor.specs.Votes.{report_of, slot_in, slot_reported, 
 ghost use Rattle.node_core.specs.Keeping.{AreOwn, IsFiled, IsOpen, IsTaken, kept_of};
 ghost use Rattle.node_core.specs.Lists.{listed};
 ghost use Rattle.node_core.specs.Voting.{id_concerns, receipt_if, voted_in};
-ghost use Rattle.node_core.specs.Steps.{HasRoom, IsAnswer, IsFault, IsInstalled, IsLeft, IsNext, IsStep, IsStepFor, entries_after, giving, receipt_of, refused_by};
+ghost use Rattle.node_core.specs.Steps.{HasRoom, IsAnswer, IsFault, IsInstalled, IsLeft, IsNext, IsStep, IsStepFor, entries_after, giving, receipt_of, refused_by, rested_if};
 
 use crate::fault::StepFault;
 use crate::input::{Input, sender};
 use crate::message::{Message, fate_in};
 use crate::outputs::Outputs;
 use crate::renewal::Renewal;
+use crate::round_drop::RoundDrop;
 use crate::setup::Setup;
 use crate::step::{Next, Put, Step};
 use fate_chain::{Author, Chain, Final, Submission};
@@ -148,6 +150,7 @@ impl Kept {
             clock,
             serial,
             ticket,
+            drops_rounds,
             messages,
             room,
         } = next;
@@ -157,6 +160,7 @@ impl Kept {
         if let Some(room) = room {
             self.messages.make_room(room);
         }
+        rest_if(&mut self.messages, drops_rounds);
         put_each(&mut self.messages, messages);
     }
 
@@ -186,6 +190,7 @@ impl Kept {
         ensures clock { result.clock ≡ self.now.clock }
         ensures serial { result.serial ≡ self.now.serial }
         ensures ticket { result.ticket ≡ self.now.ticket }
+        ensures drops { result.drops_rounds ≡ false }
         ensures messages { result.messages.items ≡ [] }
         ensures room { result.room ≡ None }
     {
@@ -193,6 +198,7 @@ impl Kept {
             clock: self.clock,
             serial: self.serial,
             ticket: self.ticket,
+            drops_rounds: false,
             messages: Vec::new(self.alloc),
             room: None,
         }
@@ -347,7 +353,8 @@ impl Kept {
 
     /// What is kept of a message; none if it was never heard of. It takes no memory.
     pub(crate) fn find(&self, id: MsgId) -> Option<&Message>
-        ensures { option_copied result ≡ value_at self.now.messages.entries id }
+        ensures value { option_copied result ≡ value_at self.now.messages.entries id }
+        ensures named { IsId id }
     {
         self.messages.get(id.number())
     }
@@ -451,6 +458,16 @@ impl Kept {
         next.messages.push(Put { id, message })?;
         next.room = Some(self.messages.room(self.alloc, 1)?);
         Ok(next)
+    }
+}
+
+/// Ends the round of each message, if rounds end. It takes no memory.
+fn rest_if(shelf: &mut Shelf<Message>, ends: bool)
+    ensures entries { shelf.new.entries ≡ rested_if ends shelf.old.entries }
+    ensures room { shelf.new.room ≡ shelf.old.room }
+{
+    if ends {
+        shelf.for_each(&RoundDrop);
     }
 }
 

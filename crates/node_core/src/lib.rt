@@ -14,6 +14,7 @@ mod open;
 mod outputs;
 mod pending;
 mod renewal;
+mod round_drop;
 mod setup;
 mod step;
 

@@ -12,6 +12,7 @@ ghost use Rattle.node_model.specs.Attempts.{concluded, known_refusal, newest_ref
 ghost use Rattle.node_model.specs.Proposer.{runs_at, unless_reached};
 ghost use Rattle.node_model.specs.Answers.{had_fate};
 ghost use Rattle.mc_model.specs.message.Chain.{final_in};
+ghost use Rattle.mc_model.specs.message.Ids.{IsId};
 ghost use Rattle.fate_chain.specs.Kinds.{final_of};
 ghost use Rattle.synod_proposer.specs.Proposing.{IsOfSame as IsOfSameProposer, message_of as message_proposed};
 ghost use Rattle.synod_acceptor.specs.Records.{record_at};
@@ -21,7 +22,7 @@ ghost use Rattle.rules.specs.Attempts.{closed_as};
 ghost use Rattle.rules.specs.Standpoints.{kept_of, setup_of, start_of};
 ghost use Rattle.synod_learner.specs.Counts.{known_in};
 ghost use Rattle.node_core.specs.Attempting.{IsBacked, IsBy, IsTried, granted_in, is_open_in, reason_of};
-ghost use Rattle.node_core.specs.Messages.{IsConcluded, IsHeard, IsJudged, IsOf, IsPromised, IsRefused, IsStarted, IsTriedSo, changed_by, closed_at, granted_at, message_of};
+ghost use Rattle.node_core.specs.Messages.{IsConcluded, IsHeard, IsJudged, IsOf, IsPromised, IsRefused, IsStarted, IsTriedSo, changed_by, closed_at, granted_at, message_of, rested};
 ghost use Rattle.node_core.specs.Renewal.{renewed};
 
 use crate::attempts::Attempts;
@@ -50,7 +51,7 @@ impl Message {
     pub fn fresh(alloc: Global, me: Author, nodes: u8) -> Result<Message, AllocError>
         ensures records { IfOk result (λ message. (slot : SlotValue) → record_at message.acceptor slot ≡ blank) }
         ensures message { IfOk result (λ message. (id : ℕ) → message_of id message ≡ unseen) }
-        ensures own { IfOk result (λ message. (id : ℕ) → IsOf me.node me.incarnation nodes id message) }
+        ensures own { IfOk result (λ message. (id : ℕ) → IsId id → IsOf me.node me.incarnation nodes id message) }
     {
         Ok(Message {
             acceptor: Acceptor::make(alloc, Vec::new(alloc))?,
@@ -126,6 +127,13 @@ impl Message {
             Some(chain) => fate_in(chain).is_some(),
             None => false,
         }
+    }
+
+    /// Ends the round that runs, if any. It takes no memory.
+    pub fn drop_round(&mut self)
+        ensures { self.new ≡ rested self.old }
+    {
+        self.proposer.drop_round();
     }
 
     /// Starts the round for a chain of it, and gives its Prepare, if no round runs and a number is left: its round is one above the highest

@@ -13,13 +13,14 @@ pub struct Put {
     pub message: Box<Message>,
 }
 
-/// What is kept after a step: the clock, the serial of the next message, the ticket of the next request, and each message that is not
-/// kept as it was, with room for them, if room is wanted. Of several messages of an id the first counts.
+/// What is kept after a step: the clock, the serial of the next message, the ticket of the next request, whether all rounds end, and then
+/// each message that is not kept as it was, with room for them, if room is wanted. Of several messages of an id the first counts.
 #[derive(Drop)]
 pub struct Next {
     pub clock: Moment,
     pub serial: u32,
     pub ticket: u64,
+    pub drops_rounds: bool,
     pub messages: Vec<Put>,
     pub room: Option<Room<Message>>,
 }
