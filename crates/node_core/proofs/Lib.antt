@@ -4,6 +4,7 @@ pub mod Putting
 pub mod Answering
 pub mod Leaving
 pub mod Grants
+pub mod Ticks
 pub mod Opening
 pub mod Voting
 pub mod Beginning

@@ -7,3 +7,4 @@ pub mod Pendings
 pub mod Nodes
 pub mod Voting
 pub mod Renewal
+pub mod Ticking

@@ -15,6 +15,7 @@ mod outputs;
 mod pending;
 mod renewal;
 mod round_drop;
+mod ruling;
 mod setup;
 mod step;
 

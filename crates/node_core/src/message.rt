@@ -1,6 +1,6 @@
 //! What a node keeps of one message.
 
-ghost use Rattle.std.specs.Prelude.{◌≡◌, ◌≤◌, ℕ, true, Some, None, IfErr, IfOk, IfSome, OnOk, option_map};
+ghost use Rattle.std.specs.Prelude.{◌≡◌, ◌≤◌, ℕ, true, Some, None, IfErr, IfOk, IfSome, OnOk, option_map, if◌then◌else◌};
 ghost use Rattle.std.specs.Option.{option_copied};
 ghost use Rattle.mc_model.specs.node.Setup.{Setup};
 ghost use Rattle.mc_model.specs.synod.Packet.{Slot as SlotValue};
@@ -22,15 +22,20 @@ ghost use Rattle.rules.specs.Attempts.{closed_as};
 ghost use Rattle.rules.specs.Standpoints.{kept_of, setup_of, start_of};
 ghost use Rattle.synod_learner.specs.Counts.{known_in};
 ghost use Rattle.node_core.specs.Attempting.{IsBacked, IsBy, IsTried, granted_in, is_open_in, reason_of};
+ghost use Rattle.node_model.specs.Rules.{first_rule, known_rule};
+ghost use Rattle.rules.specs.Dues.{is_up, rule_of};
+ghost use Rattle.node_core.specs.Ticking.{IsAtRest, gives_up, ruled_as, ruled_by};
 ghost use Rattle.node_core.specs.Messages.{IsConcluded, IsHeard, IsJudged, IsOf, IsPromised, IsRefused, IsStarted, IsTriedSo, changed_by, closed_at, granted_at, message_of, rested};
 ghost use Rattle.node_core.specs.Renewal.{renewed};
 
 use crate::attempts::Attempts;
 use crate::grant_refusal::GrantRefusal;
+use crate::ruling::Ruling;
 use delivery::Outcome;
 use fate_chain::{Author, Chain, Decree, Final, Kind};
 use mc_types::{Ballot, MsgId, NodeNo, Slot};
-use rules::{Attempted, Closing, Standpoint};
+use pdu_codec::Text;
+use rules::{Attempted, Closing, Due, Standpoint, follow};
 use std::alloc::{AllocError, Global};
 use synod_acceptor::{Acceptor, Change, Packet, Record, Report, Verdict, Vote};
 use synod_learner::Learner;
@@ -234,6 +239,52 @@ impl Message {
         }
     }
 
+    /// What a tick decides on the message of this id by the first rule that fits, if one does: the node's own vote beyond what is known is
+    /// followed, or it is decided what is due behind that. `up` has the accounts of which a session may receive.
+    pub fn ruling(
+        &self,
+        id: MsgId,
+        at: &Standpoint,
+        up: &[Text<16>],
+    ) -> Result<Option<Ruling>, AllocError>
+        ensures rule { IfOk result (λ ruling. (setup : Setup) (k : KeptValue) → IsAtRest setup k id self.now at.now →
+            option_map ruled_as ruling ≡ option_map ruled_by (first_rule setup k (is_up up.now) id)) }
+        ensures id { IfOk result (λ ruling. IfSome ruling (λ it. it.chain.id ≡ id)) }
+    {
+        let known = self.learner.known(id);
+        if let Some(chain) = follow(known, self.acceptor.tell(id)) {
+            let chain = chain.copy()?;
+            return Ok(Some(Ruling {
+                chain,
+                given_up: None,
+            }));
+        }
+        match known {
+            Some(chain) => self.ruling_behind(chain, at, up),
+            None => Ok(None),
+        }
+    }
+
+    /// What a tick decides behind a chain of the message that is known, if anything is due there.
+    fn ruling_behind(
+        &self,
+        chain: &Chain,
+        at: &Standpoint,
+        up: &[Text<16>],
+    ) -> Result<Option<Ruling>, AllocError>
+        ensures rule { IfOk result (λ ruling. (setup : Setup) (k : KeptValue) → IsAtRest setup k chain.now.id self.now at.now →
+            option_map ruled_as ruling ≡ option_map ruled_by (known_rule setup k (is_up up.now) chain.now.id (Some chain.now.decrees))) }
+        ensures id { IfOk result (λ ruling. IfSome ruling (λ it. it.chain.id ≡ chain.now.id)) }
+    {
+        let place = chain.place();
+        let Some(due) = at.due(chain, self.attempts.at(place), false, up) else {
+            return Ok(None);
+        };
+        let given_up = given_up(&due, place);
+        let chain = at.behind(chain, due)?;
+        Ok(Some(Ruling { chain, given_up }))
+    }
+
     /// Takes in that a ballot was refused for a promise at another; one of another node or incarnation changes nothing. It takes no
     /// memory.
     pub fn refused(&mut self, slot: Slot, ballot: Ballot, promised: Ballot)
@@ -277,6 +328,16 @@ impl Message {
             proposer: self.proposer.copy()?,
             attempts: self.attempts,
         })
+    }
+}
+
+/// The place of the attempt that is given up, if that is due behind the chain at this place.
+fn given_up(due: &Due, place: u8) -> Option<u8>
+    ensures { result ≡ (if gives_up (rule_of due.now) then Some place else None) }
+{
+    match due {
+        Due::GiveUp => Some(place),
+        _ => None,
     }
 }
 

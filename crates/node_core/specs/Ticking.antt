@@ -1,0 +1,41 @@
+-- What a tick makes of one message.
+use Rattle.std.specs.Prelude.{◌≡◌, ℕ, pred, Bool, true, false, [], Option, Some, None, if◌then◌else◌}
+use Rattle.mc_model.specs.synod.Packet.{slot_at}
+use Rattle.mc_model.specs.node.FirstRule.{Close, Delete, Expire, Follow, GiveUp, Lose, Rule, Take, Try, Undeliver}
+use Rattle.mc_model.specs.node.Setup.{Setup}
+use Rattle.node_model.specs.Kept.{Kept, message_at}
+use Rattle.node_model.specs.Proposer.{Start}
+use Rattle.node_model.specs.Rules.{Fitting}
+use Rattle.rules.specs.Standpoints.{start_of}
+use Rattle.rules.specs.declared.standpoint.Standpoint.{Standpoint}
+use Rattle.synod_acceptor.specs.Records.{record_at}
+use Rattle.node_core.specs.declared.message.Message.{Message as Filed}
+use Rattle.node_core.specs.declared.ruling.Ruling.{Ruling}
+use Rattle.node_core.specs.Messages.{message_of, rested}
+
+-- A node at this standpoint that keeps this of a message, of which no round runs; no request waits.
+pub record IsAtRest (setup : Setup) (k : Kept) (id : ℕ) (m : Filed) (s : Standpoint) : Type 0 where
+  pub node : s.author.node ≡ setup.node
+  pub incarnation : s.author.incarnation ≡ k.incarnation
+  pub clock : s.clock ≡ k.clock
+  pub held : k.held ≡ []
+  pub message : message_at k id ≡ message_of id (rested m)
+  pub records : (place : ℕ) → record_at m.acceptor (slot_at id place) ≡ k.records (slot_at id place)
+
+-- of a rule only this counts: the place of an attempt that is given up, if one is, and the round that starts
+abbrev pub gives_up : Rule → Bool
+gives_up Take = false
+gives_up Follow = false
+gives_up Close = false
+gives_up Lose = false
+gives_up GiveUp = true
+gives_up Delete = false
+gives_up Expire = false
+gives_up Undeliver = false
+gives_up Try = false
+
+abbrev pub ruled_by : Fitting → Option ℕ × Start
+ruled_by fit = ((if gives_up fit.rule then Some (pred fit.start.place) else None), fit.start)
+
+abbrev pub ruled_as : Ruling → Option ℕ × Start
+ruled_as r = (r.given_up, start_of r.chain)
