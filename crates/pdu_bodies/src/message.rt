@@ -117,10 +117,10 @@ impl MessageOctets<'_> {
         ensures { IfOk result (λ message. message_contents message ≡ pieces.message_seen self.now) }
     {
         let handling = self.handling;
-        let parties = self.envelope.parties(alloc)?;
-        let times = handling.times.times(alloc)?;
-        let short_message = ShortMessage::of(alloc, self.short_message)?;
         let tlvs = Tlvs::of(alloc, self.tlvs)?;
+        let short_message = ShortMessage::of(alloc, self.short_message)?;
+        let times = handling.times.times(alloc)?;
+        let parties = self.envelope.parties(alloc)?;
         Ok(Message {
             service_type: parties.service_type,
             source: parties.source,
