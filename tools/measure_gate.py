@@ -7,9 +7,9 @@
     python3 tools/measure_gate.py .. --write          the same, and writes what was measured into docs/GATE.md: the table, or these rows of it
     python3 tools/measure_gate.py --functions CRATE   checks one crate from nothing; prints its ten dearest functions
 
-Each row has the day on which it was measured. Processor time is read off /proc four times a second for each process that the gate starts: what a process used after its
-last reading is lost, and stands under 'other' with compilers, linkers and `rt` itself. The wall time of a crate is how
-long a process of it ran. The last line of the gate is printed as it is.
+Each row has the day on which it was measured. Processor time is read off /proc four times a second for each process that
+the gate starts: what a process used after its last reading is lost, and stands under 'other' with compilers, linkers and
+`rt` itself. The wall time of a crate is how long a process of it ran. The last line of the gate is printed as it is.
 """
 import argparse
 import collections
