@@ -1,8 +1,8 @@
 //! The requests that wait, in their queue.
 
 use crate::values::{
-    after, alone, cancel, deleted, first, id, message, node, only, query, said, submit, taken,
-    told_by_two, tried, vote,
+    Known, alone, cancel, conclude, deleted, expire, id, message, query, questions, submit, taken,
+    tell, vote_for,
 };
 use requests::Queue;
 use std::collections::BTreeSet;
@@ -22,68 +22,60 @@ fn a_submit_starts_the_round_of_its_chain(rt: HostRuntime) -> Result<(), Fail> {
     let mut queue = alone(rt.alloc(), submit(rt.alloc())?)?;
     let chain = queue.taken(id()?)?.ok_or("a chain")?;
     assert!(rt; chain.is(&taken(rt.alloc())?));
-    assert_eq!(rt;
-        said(&Some(only(queue.replies(3, &chain)?)?)),
-        ("accepted", 0)
-    );
-    assert!(rt; queue.questions(node(1)?, first()?, 3)?.is_empty());
-    queue.settle(3, &chain);
-    assert_eq!(rt; queue.len(), 0);
+    assert_eq!(rt; questions(&queue)?, 0);
+    assert_eq!(rt; conclude(&mut queue, &chain)?, ("accepted", 0));
     Ok(())
 }
 
 #[test]
 fn a_cancel_is_settled_when_its_chain_is_known(rt: HostRuntime) -> Result<(), Fail> {
     let mut held = cancel(rt.alloc(), b"")?;
-    let told = vote(taken(rt.alloc())?)?;
-    told_by_two(&mut held, Some(&told))?;
+    tell(rt.alloc(), &mut held, 1, Known::Taken)?;
+    tell(rt.alloc(), &mut held, 2, Known::Taken)?;
     let mut queue = alone(rt.alloc(), held)?;
-    assert!(rt; !queue.cancels(id()?, &message(rt.alloc())?));
-    assert!(rt; queue.cancels_then(3, &told.chain));
-    assert!(rt; queue.replies(3, &told.chain)?.is_empty());
-    queue.settle(3, &told.chain);
+    let known = taken(rt.alloc())?;
+    assert!(rt; queue.cancels_then(3, &known));
+    assert_eq!(rt; conclude(&mut queue, &known)?, ("waits", 1));
     assert!(rt; queue.cancels(id()?, &message(rt.alloc())?));
-    let ended = deleted(rt.alloc())?;
     assert_eq!(rt;
-        said(&Some(only(queue.replies(3, &ended)?)?)),
-        ("removed", 1)
+        conclude(&mut queue, &deleted(rt.alloc())?)?,
+        ("removed", 0)
     );
-    queue.settle(3, &ended);
-    assert_eq!(rt; queue.len(), 0);
     Ok(())
 }
 
 #[test]
 fn a_request_waits_for_30_seconds(rt: HostRuntime) -> Result<(), Fail> {
     let mut queue = alone(rt.alloc(), query(rt.alloc(), b"sme1")?)?;
-    assert!(rt; queue.late(after(29)?)?.is_empty());
-    queue.expire(after(29)?);
-    assert_eq!(rt; queue.len(), 1);
-    assert_eq!(rt;
-        said(&Some(only(queue.late(after(30)?)?)?)),
-        ("too late", 0)
-    );
-    queue.expire(after(30)?);
-    assert_eq!(rt; queue.len(), 0);
+    assert_eq!(rt; expire(&mut queue, 29)?, ("waits", 1));
+    assert_eq!(rt; expire(&mut queue, 30)?, ("too late", 0));
     Ok(())
 }
 
 #[test]
 fn a_query_asks_until_a_majority_told(rt: HostRuntime) -> Result<(), Fail> {
     let mut queue = alone(rt.alloc(), query(rt.alloc(), b"sme1")?)?;
-    assert_eq!(rt; queue.questions(node(1)?, first()?, 3)?.len(), 1);
-    let told = vote(tried(rt.alloc())?)?;
+    assert_eq!(rt; questions(&queue)?, 1);
     let mut held = queue.at(1).ok_or("a request")?.copy()?;
-    told_by_two(&mut held, Some(&told))?;
+    tell(rt.alloc(), &mut held, 1, Known::Nothing)?;
+    tell(rt.alloc(), &mut held, 2, Known::Nothing)?;
     queue.replace(Box::new(rt.alloc(), held)?);
-    assert!(rt; queue.questions(node(1)?, first()?, 3)?.is_empty());
-    let lower = vote(taken(rt.alloc())?)?;
-    let shown = queue.shown(id()?, Some(&lower)).ok_or("a vote")?;
-    assert_eq!(rt; shown.chain.place(), 1);
+    assert_eq!(rt; questions(&queue)?, 0);
     queue.remove(2);
     assert_eq!(rt; queue.len(), 1);
     queue.remove(1);
     assert_eq!(rt; queue.len(), 0);
+    Ok(())
+}
+
+#[test]
+fn the_highest_vote_is_shown(rt: HostRuntime) -> Result<(), Fail> {
+    let mut held = query(rt.alloc(), b"sme1")?;
+    tell(rt.alloc(), &mut held, 1, Known::Tried)?;
+    let queue = alone(rt.alloc(), held)?;
+    let lower = vote_for(rt.alloc(), Known::Taken)?;
+    let shown = queue.shown(id()?, lower.as_ref()).ok_or("a vote")?;
+    assert_eq!(rt; shown.chain.place(), 1);
     Ok(())
 }
 

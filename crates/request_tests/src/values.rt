@@ -128,15 +128,54 @@ pub fn alone(alloc: Global, held: Held) -> Result<Queue, Fail> {
     Ok(queue)
 }
 
-// What two of three nodes told: nothing, or a vote for this chain.
-pub fn told_by_two(held: &mut Held, told: Option<&Vote>) -> Result<(), Fail> {
-    held.hear(node(1)?, told)?;
-    held.hear(node(2)?, told)?;
+// What is known of the message.
+#[derive(Clone, Copy)]
+pub enum Known {
+    Nothing,
+    Taken,
+    Tried,
+    Deleted,
+}
+
+pub fn chain(alloc: Global, known: Known) -> Result<Option<Chain>, Fail> {
+    match known {
+        Known::Nothing => Ok(None),
+        Known::Taken => Ok(Some(taken(alloc)?)),
+        Known::Tried => Ok(Some(tried(alloc)?)),
+        Known::Deleted => Ok(Some(deleted(alloc)?)),
+    }
+}
+
+pub fn vote_for(alloc: Global, known: Known) -> Result<Option<Vote>, Fail> {
+    match chain(alloc, known)? {
+        Some(chain) => Ok(Some(vote(chain)?)),
+        None => Ok(None),
+    }
+}
+
+// A node tells of a vote for this chain.
+pub fn tell(alloc: Global, held: &mut Held, from: u8, known: Known) -> Result<(), Fail> {
+    let told = vote_for(alloc, known)?;
+    held.hear(node(from)?, told.as_ref())?;
     Ok(())
 }
 
+// What a request is answered in a cluster of three nodes.
+pub fn answer(alloc: Global, held: &Held, known: Known) -> Result<(&'static str, u8), Fail> {
+    let chain = chain(alloc, known)?;
+    Ok(said(&held.answer(3, chain.as_ref())?))
+}
+
+// Whether a request is settled by this chain, which settles it.
+pub fn settle(alloc: Global, held: &mut Held, known: Known) -> Result<bool, Fail> {
+    let chain = chain(alloc, known)?;
+    let settles = held.settles(3, chain.as_ref());
+    held.settle(3, chain.as_ref());
+    Ok(settles)
+}
+
 // The name of an answer, and the place of its chain.
-pub fn said(answer: &Option<Answer>) -> (&'static str, u8) {
+fn said(answer: &Option<Answer>) -> (&'static str, u8) {
     match answer {
         None => ("waits", 0),
         Some(Answer::Accepted) => ("accepted", 0),
@@ -150,13 +189,37 @@ pub fn said(answer: &Option<Answer>) -> (&'static str, u8) {
     }
 }
 
-// The answer of the only reply, which is to ticket 1.
-pub fn only(mut replies: Vec<Reply>) -> Result<Answer, Fail> {
+// What the only reply says, which is to ticket 1.
+fn only(mut replies: Vec<Reply>) -> Result<(&'static str, u8), Fail> {
     let Some(reply) = replies.pop() else {
-        return Err("a reply".into());
+        return Ok(("waits", 0));
     };
-    if !replies.is_empty() || reply.ticket != 1 || reply.id != id()? {
+    let Reply {
+        ticket,
+        id: about,
+        answer,
+    } = reply;
+    if !replies.is_empty() || ticket != 1 || about != id()? {
         return Err("one reply to ticket 1".into());
     }
-    Ok(reply.answer)
+    Ok(said(&Some(answer)))
+}
+
+// What the only request of a queue is told once this chain is known, and how many wait then.
+pub fn conclude(queue: &mut Queue, known: &Chain) -> Result<(&'static str, usize), Fail> {
+    let (said, _place) = only(queue.replies(3, known)?)?;
+    queue.settle(3, known);
+    Ok((said, queue.len()))
+}
+
+// What it is told at so many seconds, and how many wait then.
+pub fn expire(queue: &mut Queue, seconds: u16) -> Result<(&'static str, usize), Fail> {
+    let (said, _place) = only(queue.late(after(seconds)?)?)?;
+    queue.expire(after(seconds)?);
+    Ok((said, queue.len()))
+}
+
+// How many questions the first of three nodes asks for it.
+pub fn questions(queue: &Queue) -> Result<usize, Fail> {
+    Ok(queue.questions(node(1)?, first()?, 3)?.len())
 }
