@@ -29,6 +29,7 @@ module _ (me : Author) where
   own_now with starts (e ∷ es) node fresh own = (
     record {
       learner = own.0.learner;
+      named = own.0.named;
       node = node;
       incarnation = refl;
       proposer = own.0.proposer;
