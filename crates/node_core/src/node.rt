@@ -6,7 +6,7 @@ ghost use Rattle.stable_store.specs.Stored.{AreSame};
 ghost use Rattle.node_core.specs.Keeping.{records_of};
 ghost use Rattle.node_core.specs.Messages.{changed_by};
 ghost use Rattle.node_core.specs.Steps.{IsFault};
-ghost use Rattle.node_core.specs.Nodes.{HasOpened, HasStopped, HasTaken, IsAwaited, IsLeft, IsLifeOf, IsStored, IsUnmoved, fault_in, seen};
+ghost use Rattle.node_core.specs.Nodes.{HasOpened, HasStopped, HasTaken, IsAwaited, IsLeft, IsLifeOf, IsStored, IsUnmoved, breaks, fault_in, seen};
 
 use crate::fault::StepFault;
 use crate::input::Input;
@@ -124,9 +124,7 @@ impl<S: StableStore> Node<S> {
                 Ok(Life::of(setup.node, self.kept.incarnation()))
             }
             Err(fault) => {
-                if fault == StoreFault::Device || fault == StoreFault::Damaged {
-                    self.broken = true;
-                }
+                self.broken = self.broken || breaks(fault);
                 Err((fault, life))
             }
         }
@@ -168,4 +166,11 @@ fn save<S: StableStore>(store: &mut S, change: &Option<Change>) -> Result<(), St
         Err(StoreFault::Memory) => Err(StepFault::Memory),
         Err(_) => Err(StepFault::Device),
     }
+}
+
+/// Whether a node is Broken after this fault of its store.
+fn breaks(fault: StoreFault) -> bool
+    ensures { result ≡ breaks fault }
+{
+    matches!(fault, StoreFault::Device | StoreFault::Damaged)
 }
