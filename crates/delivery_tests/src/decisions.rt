@@ -60,7 +60,10 @@ fn an_attempt_is_closed_lost_or_given_up(rt: HostRuntime) -> Result<(), Fail> {
         granted: true,
         closed: None,
     };
-    assert_eq!(rt; found(alloc, &OPEN, 1, closed, false)?, Some(Due::Close(closing)));
+    assert_eq!(rt;
+        found(alloc, &OPEN, 1, closed, false)?,
+        Some(Due::Close(closing))
+    );
     assert_eq!(rt; found(alloc, &OPEN, 1, granted, false)?, None);
     assert_eq!(rt; found(alloc, &OPEN, 2, UNTOUCHED, true)?, Some(Due::Lose));
     let others = account(alloc, b"sme2")?;
@@ -68,7 +71,10 @@ fn an_attempt_is_closed_lost_or_given_up(rt: HostRuntime) -> Result<(), Fail> {
     let left = standpoint(1)?.due(&chain, UNTOUCHED, false, &others);
     assert_eq!(rt; left, Some(Due::GiveUp));
     assert_eq!(rt; standpoint(1)?.due(&chain, granted, false, &others), None);
-    assert_eq!(rt; standpoint(1)?.end(&chain, closing), Some(Due::Close(closing)));
+    assert_eq!(rt;
+        standpoint(1)?.end(&chain, closing),
+        Some(Due::Close(closing))
+    );
     assert_eq!(rt; standpoint(2)?.end(&chain, closing), None);
     Ok(())
 }

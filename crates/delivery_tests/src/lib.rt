@@ -4,12 +4,12 @@
 #[cfg(test)]
 mod chains;
 #[cfg(test)]
+mod decisions;
+#[cfg(test)]
 mod due;
 #[cfg(test)]
 mod outcomes;
 #[cfg(test)]
 mod pdus;
-#[cfg(test)]
-mod decisions;
 #[cfg(test)]
 mod texts;
