@@ -111,12 +111,21 @@ fn ends_in(chain: &Chain, last: Final, error: u16, after: u32) -> bool {
 fn a_decree_is_not_before_the_newest(rt: HostRuntime) -> Result<(), Fail> {
     let alloc = rt.alloc();
     let early = chain(alloc, 1, &[Step::Attempt(0, 1), Step::Failed(30, 100)])?;
-    let deleted = standpoint(1)?.behind(&early, Due::Delete)?;
-    assert_eq!(rt; ends_in(&deleted, Final::Deleted, 0, 60), true);
+    let ended = deleted(&early)?;
+    assert_eq!(rt; ends_in(&ended, Final::Deleted, 0, 60), true);
     let late = chain(alloc, 1, &[Step::Attempt(0, 1), Step::Failed(90, 100)])?;
-    let deleted = standpoint(1)?.behind(&late, Due::Delete)?;
-    assert_eq!(rt; ends_in(&deleted, Final::Deleted, 0, 90), true);
+    let ended = deleted(&late)?;
+    assert_eq!(rt; ends_in(&ended, Final::Deleted, 0, 90), true);
     Ok(())
+}
+
+/// The chain once its message is deleted, by node 1 in its first incarnation.
+fn deleted(chain: &Chain) -> Result<Chain, Fail> {
+    let here = standpoint(1)?;
+    let Some(due) = here.deletion(chain, true) else {
+        return Err("it is deleted".into());
+    };
+    Ok(here.behind(chain, due)?)
 }
 
 #[test]
