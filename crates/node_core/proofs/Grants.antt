@@ -74,7 +74,7 @@ module _ (me starts : ℕ) (one other : Records) (m : Message) (id : ℕ) (same 
 
 -- what the model keeps and sends, once this is kept of the message
 module _ (setup : Setup) (k : Kept) (id : ℕ) (m : Message) where
-  abbrev started_so : Option Start → Prepared
+  abbrev pub started_so : Option Start → Prepared
   started_so start = record {
     kept = with_message k id (with_start setup.node k.incarnation k.records m id start);
     packets = listed (prepare_from setup.node k.incarnation k.records m id start);

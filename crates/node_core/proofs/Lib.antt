@@ -5,6 +5,7 @@ pub mod Answering
 pub mod Leaving
 pub mod Grants
 pub mod Ticks
+pub mod Turns
 pub mod Opening
 pub mod Voting
 pub mod Beginning

@@ -1,17 +1,20 @@
 -- What a tick makes of one message.
-use Rattle.std.specs.Prelude.{◌≡◌, ℕ, pred, Bool, true, false, [], Option, Some, None, if◌then◌else◌}
+use Rattle.std.specs.Prelude.{◌≡◌, ℕ, pred, Bool, true, false, [], Option, Some, None, option_map, if◌then◌else◌}
 use Rattle.mc_model.specs.synod.Packet.{slot_at}
 use Rattle.mc_model.specs.node.FirstRule.{Close, Delete, Expire, Follow, GiveUp, Lose, Rule, Take, Try, Undeliver}
 use Rattle.mc_model.specs.node.Setup.{Setup}
-use Rattle.node_model.specs.Kept.{Kept, message_at}
-use Rattle.node_model.specs.Proposer.{Start}
+use Rattle.node_model.specs.Kept.{Kept, message_at, with_message}
+use Rattle.node_model.specs.Proposer.{Prepared, Start}
 use Rattle.node_model.specs.Rules.{Fitting}
 use Rattle.rules.specs.Standpoints.{start_of}
 use Rattle.rules.specs.declared.standpoint.Standpoint.{Standpoint}
+use Rattle.synod_acceptor.specs.Packets.{packet_of}
 use Rattle.synod_acceptor.specs.Records.{record_at}
 use Rattle.node_core.specs.declared.message.Message.{Message as Filed}
 use Rattle.node_core.specs.declared.ruling.Ruling.{Ruling}
-use Rattle.node_core.specs.Messages.{message_of, rested}
+use Rattle.node_core.specs.declared.turn.Turn.{Turn}
+use Rattle.node_core.specs.Lists.{listed}
+use Rattle.node_core.specs.Messages.{IsOfSame, message_of, rested}
 
 -- A node at this standpoint that keeps this of a message, of which no round runs; no request waits.
 pub record IsAtRest (setup : Setup) (k : Kept) (id : ℕ) (m : Filed) (s : Standpoint) : Type 0 where
@@ -39,3 +42,13 @@ ruled_by fit = ((if gives_up fit.rule then Some (pred fit.start.place) else None
 
 abbrev pub ruled_as : Ruling → Option ℕ × Start
 ruled_as r = (r.given_up, start_of r.chain)
+
+-- ---- what it leaves of a message and sends, if it is not the same
+
+abbrev pub turned : Kept → ℕ → Option Turn → Prepared
+turned k id None = record { kept = k; packets = [] }
+turned k id (Some turn) = record { kept = with_message k id (message_of id turn.message); packets = listed (option_map packet_of turn.packet) }
+
+abbrev pub IsOfTurn : ℕ → Filed → Option Turn → Type 0
+IsOfTurn id m None = Unit {0}
+IsOfTurn id m (Some turn) = IsOfSame id m turn.message

@@ -18,6 +18,7 @@ mod round_drop;
 mod ruling;
 mod setup;
 mod step;
+mod turn;
 
 pub use fault::StepFault;
 pub use grant_refusal::GrantRefusal;

@@ -22,15 +22,17 @@ ghost use Rattle.rules.specs.Attempts.{closed_as};
 ghost use Rattle.rules.specs.Standpoints.{kept_of, setup_of, start_of};
 ghost use Rattle.synod_learner.specs.Counts.{known_in};
 ghost use Rattle.node_core.specs.Attempting.{IsBacked, IsBy, IsTried, granted_in, is_open_in, reason_of};
+ghost use Rattle.node_model.specs.Ticks.{ruled};
 ghost use Rattle.node_model.specs.Rules.{first_rule, known_rule};
 ghost use Rattle.rules.specs.Dues.{is_up, rule_of};
-ghost use Rattle.node_core.specs.Ticking.{IsAtRest, gives_up, ruled_as, ruled_by};
+ghost use Rattle.node_core.specs.Ticking.{IsAtRest, IsOfTurn, gives_up, ruled_as, ruled_by, turned};
 ghost use Rattle.node_core.specs.Messages.{IsConcluded, IsHeard, IsJudged, IsOf, IsPromised, IsRefused, IsStarted, IsTriedSo, changed_by, closed_at, granted_at, message_of, rested};
 ghost use Rattle.node_core.specs.Renewal.{renewed};
 
 use crate::attempts::Attempts;
 use crate::grant_refusal::GrantRefusal;
 use crate::ruling::Ruling;
+use crate::turn::Turn;
 use delivery::Outcome;
 use fate_chain::{Author, Chain, Decree, Final, Kind};
 use mc_types::{Ballot, MsgId, NodeNo, Slot};
@@ -239,6 +241,40 @@ impl Message {
         }
     }
 
+    /// What a tick makes of the message of this id, if it is not kept as it was, once no round of it runs. `up` has the accounts of which a
+    /// session may receive.
+    pub fn turn(
+        &self,
+        id: MsgId,
+        at: &Standpoint,
+        up: &[Text<16>],
+    ) -> Result<Option<Turn>, AllocError>
+        ensures same { IfOk result (IsOfTurn id self.now) }
+        ensures turned { IfOk result (λ turn. (setup : Setup) (k : KeptValue) → IsAtRest setup k id self.now at.now →
+            IsOf setup.node k.incarnation setup.nodes id self.now → turned k id turn ≡ ruled setup k id (first_rule setup k (is_up up.now) id)) }
+    {
+        let Some(ruling) = self.ruling(id, at, up)? else {
+            return Ok(None);
+        };
+        let mut message = self.copy()?;
+        message.drop_round();
+        let Ruling { chain, given_up } = ruling;
+        match given_up {
+            Some(place) => {
+                message.close(place, Closing::GivenUp);
+                let packet = message.start(chain);
+                Ok(Some(Turn { message, packet }))
+            }
+            None => match message.start(chain) {
+                Some(packet) => Ok(Some(Turn {
+                    message,
+                    packet: Some(packet),
+                })),
+                None => Ok(None),
+            },
+        }
+    }
+
     /// What a tick decides on the message of this id by the first rule that fits, if one does: the node's own vote beyond what is known is
     /// followed, or it is decided what is due behind that. `up` has the accounts of which a session may receive.
     pub fn ruling(
@@ -250,6 +286,7 @@ impl Message {
         ensures rule { IfOk result (λ ruling. (setup : Setup) (k : KeptValue) → IsAtRest setup k id self.now at.now →
             option_map ruled_as ruling ≡ option_map ruled_by (first_rule setup k (is_up up.now) id)) }
         ensures id { IfOk result (λ ruling. IfSome ruling (λ it. it.chain.id ≡ id)) }
+        ensures place { IfOk result (λ ruling. IfSome ruling (λ it. IfSome it.given_up (λ place. place ≤ 17))) }
     {
         let known = self.learner.known(id);
         if let Some(chain) = follow(known, self.acceptor.tell(id)) {
@@ -275,6 +312,7 @@ impl Message {
         ensures rule { IfOk result (λ ruling. (setup : Setup) (k : KeptValue) → IsAtRest setup k chain.now.id self.now at.now →
             option_map ruled_as ruling ≡ option_map ruled_by (known_rule setup k (is_up up.now) chain.now.id (Some chain.now.decrees))) }
         ensures id { IfOk result (λ ruling. IfSome ruling (λ it. it.chain.id ≡ chain.now.id)) }
+        ensures place { IfOk result (λ ruling. IfSome ruling (λ it. IfSome it.given_up (λ place. place ≤ 17))) }
     {
         let place = chain.place();
         let Some(due) = at.due(chain, self.attempts.at(place), false, up) else {
@@ -333,7 +371,8 @@ impl Message {
 
 /// The place of the attempt that is given up, if that is due behind the chain at this place.
 fn given_up(due: &Due, place: u8) -> Option<u8>
-    ensures { result ≡ (if gives_up (rule_of due.now) then Some place else None) }
+    ensures place { result ≡ (if gives_up (rule_of due.now) then Some place else None) }
+    ensures same { IfSome result (λ found. found ≡ place) }
 {
     match due {
         Due::GiveUp => Some(place),
