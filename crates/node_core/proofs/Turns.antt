@@ -2,7 +2,6 @@
 use Rattle.std.proofs.Common.{◌≡◌, ℕ, Bool, true, false, List, [], ◌∷◌, Option, Some, None, refl, sym, ap, subst, ◌∙◌}
 use Rattle.std.specs.Prelude.{pred, option_map, if◌then◌else◌}
 use Rattle.mc_model.specs.message.Chain.{Chain}
-use Rattle.mc_model.specs.message.Decree.{Decree}
 use Rattle.mc_model.specs.synod.Ballot.{ballot_of}
 use Rattle.mc_model.specs.synod.Packet.{Packet, Prepare, Slot, slot_at, slot_of}
 use Rattle.mc_model.specs.node.FirstRule.{Close, Delete, Expire, Follow, GiveUp, Lose, Rule, Take, Try, Undeliver}

@@ -1,6 +1,4 @@
 use Rattle.std.proofs.Common.{◌≡◌, ◌∙◌, Some, None, Option, ℕ, refl, sym, ap}
-use Rattle.node_core.specs.declared.message.Message.{Message as Filed}
-use Rattle.node_core.specs.declared.ruling.Ruling.{Ruling}
 use Rattle.node_core.specs.Messages.{rested}
 use Rattle.rules.specs.Dues.{is_up}
 use Rattle.rules.specs.Standpoints.{start_of}
