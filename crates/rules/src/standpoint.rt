@@ -58,7 +58,7 @@ impl Standpoint {
         ensures may { IfSome result (MayBeDue self.now chain.now.decrees) }
     {
         let newest = chain.newest();
-        // Something was taken.
+        // For the proof alone: a decree may follow only if something was taken.
         let _ = chain.submission();
         if cancelled && is_idle(newest) {
             Some(Due::Delete)
@@ -74,7 +74,7 @@ impl Standpoint {
         ensures may { IfSome result (MayBeDue self.now chain.now.decrees) }
     {
         let newest = chain.newest();
-        // Something was taken.
+        // For the proof alone: a decree may follow only if something was taken.
         let _ = chain.submission();
         if self.is_attempt(newest) && newest.author.incarnation == self.author.incarnation {
             Some(Due::Close(closing))
