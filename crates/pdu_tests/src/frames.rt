@@ -1,8 +1,9 @@
 //! Frames out of streams that are cut into pieces. What is expected is the PDUs of which a stream was made.
 
 use crate::bodies::assert_field;
+use crate::full_vectors::ENQUIRE_LINK;
 use crate::vectors::*;
-use pdu_codec::PduFault;
+use pdu_codec::{Body, PduFault, decode};
 use pdu_frames::Framer;
 use std::alloc::Global;
 use std::process::Abort;
@@ -144,6 +145,26 @@ fn each_frame_takes_the_place_of_the_last(rt: HostRuntime) -> Result<(), Fail> {
     for octets in frames {
         assert_fed(&rt, &mut framer, octets, octets.len(), 0);
         assert_taken(&rt, &mut framer, &mut frame, Ok(true), octets);
+    }
+    Ok(())
+}
+
+/// A header alone (SMPP 3.4, section 4.11.1): its first four octets say that it has 16.
+#[test]
+fn an_enquire_link_is_cut_at_every_place(rt: HostRuntime) -> Result<(), Fail> {
+    for place in 0..16 {
+        let mut framer = Framer::make(rt.alloc())?;
+        let mut frame = Vec::new(rt.alloc());
+        let wanted = if place < 4 { 4 - place } else { 16 - place };
+        let (first, second) = ENQUIRE_LINK.split_at(place);
+        assert_fed(&rt, &mut framer, first, place, wanted);
+        assert_taken(&rt, &mut framer, &mut frame, Ok(false), b"");
+        assert_fed(&rt, &mut framer, second, 16 - place, 0);
+        assert_taken(&rt, &mut framer, &mut frame, Ok(true), ENQUIRE_LINK);
+        let pdu = decode(rt.alloc(), &frame)?;
+        assert_eq!(rt; (pdu.status, pdu.sequence), (0x28, 0x29), "{place}");
+        assert_eq!(rt; pdu.body, Body::EnquireLink, "{place}");
+        assert_eq!(rt; framer.wanted(), 4, "{place}");
     }
     Ok(())
 }
