@@ -2,11 +2,12 @@
 use Rattle.std.proofs.Common.{◌≡◌, ℕ, List, ◌++◌, Result, Ok, Err, refl, sym, ap, ◌∙◌}
 use Rattle.octet_fields.specs.Kinds.{join}
 use Rattle.octet_fields.specs.Reading.{content_at, told, nothing_at}
-use Rattle.octet_fields.proofs.Records.{bind-same, front_at-join, contents_at-join}
+use Rattle.octet_fields.specs.Texts.{IsOctets}
+use Rattle.octet_fields.proofs.Records.{bind-same, front_at-join, contents_at-join, whole_takes}
 use Rattle.pdu_fields.specs.declared.fault.Field.TheVariants.{ServiceType}
 use Rattle.pdu_fields.specs.declared.fault.PduFault.{PduFault}
 use Rattle.pdu_fields.specs.declared.fault.PduFault.TheVariants.{Extra}
-use Rattle.pdu_fields.specs.Grammar.{Contents, ◌>>=◌, contents_at, front_at, text, source_parts, destination_parts, envelope_parts, handling_parts, text_parts, message_parts, cancel_parts}
+use Rattle.pdu_fields.specs.Grammar.{Parts, Contents, AreWithin, ◌>>=◌, contents_at, front_at, text, source_parts, destination_parts, envelope_parts, handling_parts, text_parts, message_parts, cancel_parts}
 use Rattle.pdu_fields.specs.Addresses.{address_at, source_at, destination_at}
 use Rattle.pdu_bodies.specs.Pieces.{envelope_at, class_parts, times_parts, flags_parts, handling_at, message_at}
 use Rattle.pdu_bodies.specs.Pieces.{cancelled_parts, cancel_at}
@@ -48,3 +49,7 @@ message-in_pieces octets =
 pub cancel-in_pieces : (octets : List ℕ) → contents_at cancel_parts octets ≡ cancel_at octets
 unfolding address_at cancel_at
 cancel-in_pieces octets = contents_at-join Extra cancelled_parts source_parts destination_parts octets
+
+-- what is read is within the limits of its fields
+pub read-within : (parts : Parts) (octets : List ℕ) (contents : Contents parts) → IsOctets octets → contents_at parts octets ≡ Ok contents → AreWithin parts contents
+read-within parts octets contents are read = (whole_takes Extra parts octets contents are read).within

@@ -1,5 +1,5 @@
 -- Bodies as they stand in octets, and those that have addresses read piece after piece.
-use Rattle.std.specs.Prelude.{ℕ, List, [], ◌∷◌, ◌++◌, Result, Ok, IsOk}
+use Rattle.std.specs.Prelude.{ℕ, List, [], ◌∷◌, ◌++◌, Result, Ok}
 use Rattle.octet_fields.specs.Kinds.{join}
 use Rattle.octet_fields.specs.Reading.{content_at, told, nothing_at}
 use Rattle.pdu_fields.specs.declared.fault.Field.TheVariants.{ServiceType, MessageId}
@@ -18,8 +18,7 @@ use Rattle.pdu_bodies.specs.declared.message.Flags.{Flags}
 use Rattle.pdu_bodies.specs.declared.message.Handling.{Handling}
 use Rattle.pdu_fields.specs.Addresses.{address_contents, source_at, destination_at}
 use Rattle.pdu_fields.specs.Grammar.{Parts, Contents, ◌>>=◌, text, octet, source_parts, destination_parts, envelope_parts, handling_parts}
-use Rattle.pdu_fields.specs.Grammar.{text_parts, message_parts, bind_parts, cancel_parts, front_at, optional_at}
-use Rattle.pdu_fields.specs.Text.{IsText, IsShortMessage}
+use Rattle.pdu_fields.specs.Grammar.{text_parts, message_parts, bind_parts, cancel_parts, front_at}
 use Rattle.pdu_fields.specs.Tlv.{tlvs_in}
 
 -- ---- what stands in a piece
@@ -59,16 +58,6 @@ abbrev pub message_seen : MessageOctets → Contents message_parts
 message_seen m =
     join envelope_parts (handling_parts ++ text_parts) (envelope_contents m.envelope)
     (join handling_parts text_parts (handling_contents m.handling) (m.short_message.now, (tlvs_in m.tlvs.now, tt)))
-
--- what stands where texts and optional parameters are to stand is such
-pub record HasTexts (m : MessageOctets) : Type 0 where
-  pub service_type : IsText 6 m.envelope.service_type.now
-  pub source : IsText 21 m.envelope.source.digits.now
-  pub destination : IsText 21 m.envelope.destination.digits.now
-  pub schedule : IsText 17 m.handling.times.schedule_delivery_time.now
-  pub validity : IsText 17 m.handling.times.validity_period.now
-  pub short : IsShortMessage m.short_message.now
-  pub tlvs : IsOk (optional_at m.tlvs.now)
 
 abbrev pub bind_seen : BindOctets → Contents bind_parts
 bind_seen b =

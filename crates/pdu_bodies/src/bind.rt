@@ -2,8 +2,7 @@
 //! is found to be one.
 
 ghost use Rattle.std.specs.Prelude.{◌≡◌, IfOk};
-ghost use Rattle.pdu_fields.specs.Text.{IsText};
-ghost use Rattle.pdu_fields.specs.Grammar.{IsRead, contents_at, bind_parts};
+ghost use Rattle.pdu_fields.specs.Grammar.{IsRead, AreWithin, contents_at, bind_parts};
 ghost use Rattle.pdu_bodies.specs.Contents.{bind_contents};
 ghost use Rattle.pdu_bodies.specs.Made.{IsMade};
 ghost use Rattle.pdu_bodies.specs.Pieces as pieces;
@@ -27,10 +26,7 @@ struct BindOctets<'a> {
 
 impl BindOctets<'_> {
     fn bind(&self, alloc: Global) -> Result<Bind, AllocError>
-        requires system_id { IsText 16 self.now.system_id.now }
-        requires password { IsText 9 self.now.password.now }
-        requires system_type { IsText 13 self.now.system_type.now }
-        requires address_range { IsText 41 self.now.address_range.now }
+        requires { AreWithin bind_parts (pieces.bind_seen self.now) }
         ensures { IfOk result (λ bind. bind_contents bind ≡ pieces.bind_seen self.now) }
     {
         Ok(Bind {
@@ -55,11 +51,7 @@ pub fn bind_of(alloc: Global, octets: &[u8]) -> Result<Bind, PduFault>
 }
 
 fn bind_at(octets: &[u8]) -> Result<BindOctets<'_>, PduFault>
-    ensures read { IsRead pieces.bind_seen result (contents_at bind_parts octets.now) }
-    ensures system_id { IfOk result (λ bind. IsText 16 bind.system_id.now) }
-    ensures password { IfOk result (λ bind. IsText 9 bind.password.now) }
-    ensures system_type { IfOk result (λ bind. IsText 13 bind.system_type.now) }
-    ensures address_range { IfOk result (λ bind. IsText 41 bind.address_range.now) }
+    ensures { IsRead pieces.bind_seen result (contents_at bind_parts octets.now) }
 {
     let (system_id, rest) = text_at(Field::SystemId, limits::SYSTEM_ID, octets)?;
     let (password, rest) = text_at(Field::Password, limits::PASSWORD, rest)?;

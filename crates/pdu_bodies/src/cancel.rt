@@ -2,8 +2,7 @@
 //! be one.
 
 ghost use Rattle.std.specs.Prelude.{◌≡◌, IfOk};
-ghost use Rattle.pdu_fields.specs.Text.{IsText};
-ghost use Rattle.pdu_fields.specs.Grammar.{IsRead, contents_at, cancel_parts};
+ghost use Rattle.pdu_fields.specs.Grammar.{IsRead, AreWithin, contents_at, cancel_parts};
 ghost use Rattle.pdu_bodies.specs.Contents.{cancel_contents};
 ghost use Rattle.pdu_bodies.specs.Made.{IsMade};
 ghost use Rattle.pdu_bodies.specs.Pieces as pieces;
@@ -26,10 +25,7 @@ struct CancelOctets<'a> {
 
 impl CancelOctets<'_> {
     fn cancel(&self, alloc: Global) -> Result<Cancel, AllocError>
-        requires service_type { IsText 6 self.now.service_type.now }
-        requires message_id { IsText 65 self.now.message_id.now }
-        requires source { IsText 21 self.now.source.digits.now }
-        requires destination { IsText 21 self.now.destination.digits.now }
+        requires { AreWithin cancel_parts (pieces.cancel_seen self.now) }
         ensures { IfOk result (λ cancel. cancel_contents cancel ≡ pieces.cancel_seen self.now) }
     {
         Ok(Cancel {
@@ -58,11 +54,7 @@ fn cancel_in_pieces(alloc: Global, octets: &[u8]) -> Result<Cancel, PduFault>
 
 #[tactic(auto, unfolding(crate::specs::Pieces::cancel_at))]
 fn cancel_at(octets: &[u8]) -> Result<CancelOctets<'_>, PduFault>
-    ensures read { IsRead pieces.cancel_seen result (pieces.cancel_at octets.now) }
-    ensures service_type { IfOk result (λ cancel. IsText 6 cancel.service_type.now) }
-    ensures message_id { IfOk result (λ cancel. IsText 65 cancel.message_id.now) }
-    ensures source { IfOk result (λ cancel. IsText 21 cancel.source.digits.now) }
-    ensures destination { IfOk result (λ cancel. IsText 21 cancel.destination.digits.now) }
+    ensures { IsRead pieces.cancel_seen result (pieces.cancel_at octets.now) }
 {
     let (service_type, rest) = text_at(Field::ServiceType, limits::SERVICE_TYPE, octets)?;
     let (message_id, rest) = text_at(Field::MessageId, limits::MESSAGE_ID, rest)?;

@@ -1,9 +1,9 @@
 //! The body of a submit_sm or a deliver_sm (SMPP 3.4, sections 4.4.1 and 4.6.1), read to its last octet in three pieces. Memory is taken once
 //! the whole body is found to be one.
 
-ghost use Rattle.std.specs.Prelude.{◌≡◌, IfOk};
+ghost use Rattle.std.specs.Prelude.{◌≡◌, IfOk, IsOk};
 ghost use Rattle.pdu_fields.specs.Text.{IsText};
-ghost use Rattle.pdu_fields.specs.Grammar.{message_parts, contents_at, front_at, IsRead};
+ghost use Rattle.pdu_fields.specs.Grammar.{message_parts, contents_at, front_at, optional_at, IsRead, AreWithin};
 ghost use Rattle.pdu_bodies.specs.Contents.{message_contents};
 ghost use Rattle.pdu_bodies.specs.Made.{IsMade};
 ghost use Rattle.pdu_bodies.specs.Pieces as pieces;
@@ -113,7 +113,8 @@ struct MessageOctets<'a> {
 impl MessageOctets<'_> {
     #[tactic(auto, unfolding(pdu_fields::specs::Tlv::tlvs_in))]
     fn message(&self, alloc: Global) -> Result<Message, AllocError>
-        requires { pieces.HasTexts self.now }
+        requires within { AreWithin message_parts (pieces.message_seen self.now) }
+        requires tlvs { IsOk (optional_at self.now.tlvs.now) }
         ensures { IfOk result (λ message. message_contents message ≡ pieces.message_seen self.now) }
     {
         let handling = self.handling;
@@ -142,10 +143,7 @@ impl MessageOctets<'_> {
 
 #[tactic(auto, unfolding(crate::specs::Pieces::envelope_at))]
 fn envelope_at(octets: &[u8]) -> Result<(Envelope<'_>, &[u8]), PduFault>
-    ensures read { IsRead (λ x. (pieces.envelope_contents x.0, x.1.now)) result (pieces.envelope_at octets.now) }
-    ensures service_type { IfOk result (λ x. IsText 6 x.0.service_type.now) }
-    ensures source { IfOk result (λ x. IsText 21 x.0.source.digits.now) }
-    ensures destination { IfOk result (λ x. IsText 21 x.0.destination.digits.now) }
+    ensures { IsRead (λ x. (pieces.envelope_contents x.0, x.1.now)) result (pieces.envelope_at octets.now) }
 {
     let (service_type, rest) = text_at(Field::ServiceType, limits::SERVICE_TYPE, octets)?;
     let (source, rest) = source_at(rest)?;
@@ -173,9 +171,7 @@ fn class_at(octets: &[u8]) -> Result<(Class, &[u8]), PduFault>
 }
 
 fn times_at(octets: &[u8]) -> Result<(TimesOctets<'_>, &[u8]), PduFault>
-    ensures read { IsRead (λ x. (pieces.times_contents x.0, x.1.now)) result (front_at pieces.times_parts octets.now) }
-    ensures schedule { IfOk result (λ x. IsText 17 x.0.schedule_delivery_time.now) }
-    ensures validity { IfOk result (λ x. IsText 17 x.0.validity_period.now) }
+    ensures { IsRead (λ x. (pieces.times_contents x.0, x.1.now)) result (front_at pieces.times_parts octets.now) }
 {
     let (schedule_delivery_time, rest) = text_at(
         Field::ScheduleDeliveryTime,
@@ -208,9 +204,7 @@ fn flags_at(octets: &[u8]) -> Result<(Flags, &[u8]), PduFault>
 
 #[tactic(auto, unfolding(crate::specs::Pieces::handling_at))]
 fn handling_at(octets: &[u8]) -> Result<(Handling<'_>, &[u8]), PduFault>
-    ensures read { IsRead (λ x. (pieces.handling_contents x.0, x.1.now)) result (pieces.handling_at octets.now) }
-    ensures schedule { IfOk result (λ x. IsText 17 x.0.times.schedule_delivery_time.now) }
-    ensures validity { IfOk result (λ x. IsText 17 x.0.times.validity_period.now) }
+    ensures { IsRead (λ x. (pieces.handling_contents x.0, x.1.now)) result (pieces.handling_at octets.now) }
 {
     let (class, rest) = class_at(octets)?;
     let (times, rest) = times_at(rest)?;
@@ -226,7 +220,7 @@ fn handling_at(octets: &[u8]) -> Result<(Handling<'_>, &[u8]), PduFault>
 #[tactic(auto, unfolding(crate::specs::Pieces::message_at, pdu_fields::specs::Tlv::tlvs_in))]
 fn message_at(octets: &[u8]) -> Result<MessageOctets<'_>, PduFault>
     ensures read { IsRead pieces.message_seen result (pieces.message_at octets.now) }
-    ensures texts { IfOk result pieces.HasTexts }
+    ensures tlvs { IfOk result (λ message. IsOk (optional_at message.tlvs.now)) }
 {
     let (envelope, rest) = envelope_at(octets)?;
     let (handling, rest) = handling_at(rest)?;
