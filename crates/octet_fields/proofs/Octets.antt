@@ -1,8 +1,10 @@
 -- Lists of octets, and results.
-use Rattle.std.proofs.Common.{◌≡◌, ℕ, zero, suc, ◌+◌, Bool, true, false, cond, List, [], ◌∷◌, ◌++◌, take, drop, Result, Ok, Err, refl, arith}
+use Rattle.std.proofs.Common.{◌≡◌, ℕ, zero, suc, ◌+◌, ◌≤◌, Bool, true, false, cond, List, [], ◌∷◌, ◌++◌, length, get_or, take, drop, Result, Ok, Err, refl, arith}
 use Rattle.std.proofs.lemmas.List.{get_or-drop}
+use Rattle.std.specs.Int.{w32, from_be_bytes}
 use Rattle.octet_fields.specs.Texts.{IsOctets}
-use Rattle.octet_fields.specs.Reading.{◌>>=◌}
+use Rattle.octet_fields.specs.Kinds.{Four}
+use Rattle.octet_fields.specs.Reading.{◌>>=◌, number_at}
 
 pub IsOctets-drop : (n : ℕ) (octets : List ℕ) → IsOctets octets → IsOctets (drop n octets)
 IsOctets-drop n octets are i = rw get_or-drop (are (n + i))
@@ -36,3 +38,9 @@ ok_is x y e = cc
 pub guard_ok : {A E : Type 0} (b : Bool) (fault : E) (r : Result A E) (x : A) → cond b (Err fault) r ≡ Ok x → (b ≡ false) × (r ≡ Ok x)
 guard_ok true fault r x e = absurd cc
 guard_ok false fault r x e = (refl, e)
+
+-- four octets at the front, as a number
+pub four_at : (octets : List ℕ) (n : ℕ) → 4 ≤ length octets → n ≡ from_be_bytes w32 (get_or octets 0 0 ∷ get_or octets 1 0 ∷ get_or octets 2 0 ∷ get_or octets 3 0 ∷ []) → number_at Four octets ≡ Ok (n, drop 4 octets)
+unfolding number_at
+four_at (a ∷ b ∷ c ∷ d ∷ rest) n long e = rw e refl
+four_at other n long e = absurd (omega arith)

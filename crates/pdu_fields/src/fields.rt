@@ -52,9 +52,18 @@ pub fn counted_at(octets: &[u8]) -> Result<(&[u8], &[u8]), PduFault>
 {
     match octet_fields::counted_at(limits::SHORT_MESSAGE, octets) {
         Ok(message) => Ok(message),
-        Err(Defect::Cut) => Err(PduFault::Cut(Field::SmLength)),
-        Err(Defect::Few) => Err(PduFault::Cut(Field::ShortMessage)),
-        Err(_) => Err(PduFault::TextLength),
+        Err(defect) => Err(message_fault(defect)),
+    }
+}
+
+/// The fault that a defect of sm_length and short_message is.
+fn message_fault(defect: Defect) -> PduFault
+    ensures { result ≡ grammar.message_fault defect }
+{
+    match defect {
+        Defect::Cut => PduFault::Cut(Field::SmLength),
+        Defect::Few => PduFault::Cut(Field::ShortMessage),
+        _ => PduFault::TextLength,
     }
 }
 

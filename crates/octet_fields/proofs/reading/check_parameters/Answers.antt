@@ -1,5 +1,6 @@
-use Rattle.std.proofs.Common.{rules, ℕ, List, ◌∙◌, sym, arith}
-use Rattle.octet_fields.specs.Reading.{content_at}
+use Rattle.std.proofs.Common.{rules, ℕ, List, length, ◌∙◌, refl, sym, arith}
+use Rattle.std.proofs.lemmas.Bool.{lt-ltb}
+use Rattle.octet_fields.specs.Reading.{content_at, parameters_at}
 use Rattle.octet_fields.proofs.Parameters.{tlv-length, is_some-next, parameters-cut, parameters-whole}
 use Rattle.octet_fields.proofs.reading.check_parameters.Goals as goal
 
@@ -22,3 +23,7 @@ pub returns : goal.returns
 unfolding content_at
 returns c =
     parameters-whole c.args.most c.args.octets.now c.loop-after.rest.now (search rules) c.loop-after.invariant (sym c.if-not-is_empty.ensures)
+
+pub returns-then-octets-most : goal.returns-then-octets-most
+unfolding content_at parameters_at
+returns-then-octets-most c = rw (lt-ltb c.args.most (length c.args.octets.now) c.if-octets-most.true) refl
