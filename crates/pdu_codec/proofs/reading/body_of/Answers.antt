@@ -1,4 +1,4 @@
-use Rattle.std.proofs.Common.{refl, ap}
+use Rattle.std.proofs.Common.{inl, refl, ap}
 use Rattle.std.specs.Prelude.{option_map}
 use Rattle.pdu_tables.specs.declared.command.Command.TheVariants as commands
 use Rattle.pdu_bodies.specs.declared.pdu.Body.TheVariants as bodies
@@ -82,3 +82,7 @@ returns-in-EnquireLinkResp c = rw (c.in-Some.is, c.in-EnquireLinkResp.is) c.bare
 pub returns-in-GenericNack : goal.returns-in-GenericNack
 unfolding body_at
 returns-in-GenericNack c = rw (c.in-Some.is, c.in-GenericNack.is) c.bare-in-GenericNack.ensures
+
+pub returns-in_default : goal.returns-in_default
+unfolding body_at
+returns-in_default c = rw c.in_default.is (inl refl)
