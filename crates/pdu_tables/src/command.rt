@@ -1,4 +1,4 @@
-ghost use Rattle.std.specs.Prelude.{◌≡◌, ◌↔◌, ◌≤◌, ◌^◌, IsTrue, IfSome, Some};
+ghost use Rattle.std.specs.Prelude.{◌≡◌, IfSome, Some};
 ghost use Rattle.pdu_tables.specs.CommandCodes.{command_code, command_of};
 
 use crate::codes::{code_of, one_of};
@@ -81,13 +81,6 @@ impl Command {
         ensures { result ≡ command_code self }
     {
         commands!(code_of, self)
-    }
-
-    /// Whether it answers a request; generic_nack does.
-    pub fn is_response(self) -> bool
-        ensures { IsTrue result ↔ (2 ^ 31 ≤ command_code self) }
-    {
-        self.code() >= 0x8000_0000
     }
 
     /// What a command_id stands for; none where it is not in the table.

@@ -7,7 +7,6 @@ fn numbers_stand_for_their_names(rt: HostRuntime) {
     assert_eq!(rt; Command::of_code(0x0000_0004), Some(Command::SubmitSm));
     assert_eq!(rt; Command::SubmitSm.code(), 0x0000_0004);
     assert!(rt; Command::of_code(0x0000_0103).is_none());
-    assert!(rt; Command::SubmitSmResp.is_response());
     assert_eq!(rt; Status::of_code(0x0000_0011), Some(Status::CancelFailed));
     assert_eq!(rt; Status::CancelFailed.code(), 0x0000_0011);
     assert_eq!(rt; State::of_code(2), Some(State::Delivered));
