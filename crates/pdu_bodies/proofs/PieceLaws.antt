@@ -9,7 +9,8 @@ use Rattle.pdu_fields.specs.declared.fault.PduFault.{PduFault}
 use Rattle.pdu_fields.specs.declared.fault.PduFault.TheVariants.{Extra}
 use Rattle.pdu_fields.specs.Grammar.{Parts, Contents, AreWithin, ◌>>=◌, contents_at, front_at, text, source_parts, destination_parts, envelope_parts, handling_parts, text_parts, message_parts, cancel_parts}
 use Rattle.pdu_fields.specs.Addresses.{address_at, source_at, destination_at}
-use Rattle.pdu_bodies.specs.Pieces.{envelope_at, class_parts, times_parts, flags_parts, handling_at, message_at}
+use Rattle.pdu_fields.specs.Handling.{class_parts, times_parts, flags_parts, handling_at}
+use Rattle.pdu_bodies.specs.Pieces.{envelope_at, message_at}
 use Rattle.pdu_bodies.specs.Pieces.{cancelled_parts, cancel_at}
 
 envelope-in_pieces : (octets : List ℕ) → front_at envelope_parts octets ≡ envelope_at octets

@@ -3,8 +3,6 @@ use Rattle.std.specs.Prelude.{ℕ, List, [], ◌∷◌, ◌++◌, Result, Ok}
 use Rattle.octet_fields.specs.Kinds.{join}
 use Rattle.octet_fields.specs.Reading.{content_at, told, nothing_at}
 use Rattle.pdu_fields.specs.declared.fault.Field.TheVariants.{ServiceType, MessageId}
-use Rattle.pdu_fields.specs.declared.fault.Field.TheVariants.{EsmClass, ProtocolId, PriorityFlag, ScheduleDeliveryTime, ValidityPeriod, RegisteredDelivery}
-use Rattle.pdu_fields.specs.declared.fault.Field.TheVariants.{ReplaceIfPresentFlag, DataCoding, SmDefaultMsgId}
 use Rattle.pdu_fields.specs.declared.fault.PduFault.{PduFault}
 use Rattle.pdu_fields.specs.declared.fault.PduFault.TheVariants.{Extra}
 use Rattle.pdu_bodies.specs.declared.bind.BindOctets.{BindOctets}
@@ -12,12 +10,9 @@ use Rattle.pdu_bodies.specs.declared.cancel.CancelOctets.{CancelOctets}
 use Rattle.pdu_bodies.specs.declared.message.Envelope.{Envelope}
 use Rattle.pdu_bodies.specs.declared.message.MessageOctets.{MessageOctets}
 use Rattle.pdu_bodies.specs.declared.message.Parties.{Parties}
-use Rattle.pdu_bodies.specs.declared.message.Class.{Class}
-use Rattle.pdu_bodies.specs.declared.message.TimesOctets.{TimesOctets}
-use Rattle.pdu_bodies.specs.declared.message.Flags.{Flags}
-use Rattle.pdu_bodies.specs.declared.message.Handling.{Handling}
+use Rattle.pdu_fields.specs.Handling.{handling_contents, handling_at}
 use Rattle.pdu_fields.specs.Addresses.{address_contents, source_at, destination_at}
-use Rattle.pdu_fields.specs.Grammar.{Parts, Contents, ◌>>=◌, text, octet, source_parts, destination_parts, envelope_parts, handling_parts}
+use Rattle.pdu_fields.specs.Grammar.{Parts, Contents, ◌>>=◌, text, source_parts, destination_parts, envelope_parts, handling_parts}
 use Rattle.pdu_fields.specs.Grammar.{text_parts, message_parts, bind_parts, cancel_parts, front_at}
 use Rattle.pdu_fields.specs.Tlv.{tlvs_in}
 
@@ -26,29 +21,6 @@ use Rattle.pdu_fields.specs.Tlv.{tlvs_in}
 abbrev pub envelope_contents : Envelope → Contents envelope_parts
 envelope_contents e =
     (e.service_type.now, join source_parts destination_parts (address_contents e.source) (address_contents e.destination))
-
--- how a message is to be handled, in three pieces
-abbrev pub class_parts : Parts
-class_parts = octet EsmClass ∷ octet ProtocolId ∷ octet PriorityFlag ∷ []
-
-abbrev pub times_parts : Parts
-times_parts = text ScheduleDeliveryTime 17 ∷ text ValidityPeriod 17 ∷ []
-
-abbrev pub flags_parts : Parts
-flags_parts = octet RegisteredDelivery ∷ octet ReplaceIfPresentFlag ∷ octet DataCoding ∷ octet SmDefaultMsgId ∷ []
-
-abbrev pub class_contents : Class → Contents class_parts
-class_contents c = (c.esm_class, (c.protocol_id, (c.priority_flag, tt)))
-
-abbrev pub times_contents : TimesOctets → Contents times_parts
-times_contents t = (t.schedule_delivery_time.now, (t.validity_period.now, tt))
-
-abbrev pub flags_contents : Flags → Contents flags_parts
-flags_contents f = (f.registered_delivery, (f.replace_if_present_flag, (f.data_coding, (f.sm_default_msg_id, tt))))
-
-abbrev pub handling_contents : Handling → Contents handling_parts
-handling_contents h =
-    join class_parts (times_parts ++ flags_parts) (class_contents h.class) (join times_parts flags_parts (times_contents h.times) (flags_contents h.flags))
 
 abbrev pub parties_contents : Parties → Contents envelope_parts
 parties_contents p =
@@ -73,11 +45,6 @@ unfoldable pub envelope_at : List ℕ → Result (Contents envelope_parts × Lis
 envelope_at octets =
     told (text ServiceType 6).fault (content_at (text ServiceType 6).kind octets) >>= λ x. source_at x.1 >>= λ y. destination_at y.1
     >>= λ z. Ok ((x.0, join source_parts destination_parts y.0 z.0), z.1)
-
-unfoldable pub handling_at : List ℕ → Result (Contents handling_parts × List ℕ) PduFault
-handling_at octets =
-    front_at class_parts octets >>= λ x. front_at times_parts x.1 >>= λ y. front_at flags_parts y.1
-    >>= λ z. Ok (join class_parts (times_parts ++ flags_parts) x.0 (join times_parts flags_parts y.0 z.0), z.1)
 
 unfoldable pub message_at : List ℕ → Result (Contents message_parts) PduFault
 message_at octets =

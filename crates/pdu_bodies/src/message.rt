@@ -3,15 +3,15 @@
 
 ghost use Rattle.std.specs.Prelude.{◌≡◌, IfOk, IsOk};
 ghost use Rattle.pdu_fields.specs.Text.{IsText};
-ghost use Rattle.pdu_fields.specs.Grammar.{message_parts, contents_at, front_at, optional_at, IsRead, AreWithin};
+ghost use Rattle.pdu_fields.specs.Grammar.{message_parts, contents_at, optional_at, IsRead, AreWithin};
 ghost use Rattle.pdu_bodies.specs.Contents.{message_contents};
 ghost use Rattle.pdu_bodies.specs.Made.{IsMade};
 ghost use Rattle.pdu_bodies.specs.Pieces as pieces;
 
 use crate::pdu::Message;
 use pdu_fields::{
-    Address, AddressOctets, Field, PduFault, ShortMessage, Text, Tlvs, check_optional, counted_at,
-    destination_at, octet_at, source_at, text_at,
+    Address, AddressOctets, Field, HandlingOctets, PduFault, ShortMessage, Text, Tlvs,
+    check_optional, counted_at, destination_at, handling_at, source_at, text_at,
 };
 use pdu_tables::limits;
 use std::alloc::{AllocError, Global};
@@ -54,58 +54,25 @@ impl Envelope<'_> {
     }
 }
 
-/// What a message is, and how urgent.
-#[derive(Clone, Copy)]
-struct Class {
-    esm_class: u8,
-    protocol_id: u8,
-    priority_flag: u8,
-}
-
-/// When a message is to be delivered, and until when, as it stands in octets.
-#[derive(Clone, Copy)]
-struct TimesOctets<'a> {
-    schedule_delivery_time: &'a [u8],
-    validity_period: &'a [u8],
-}
-
-impl TimesOctets<'_> {
-    fn times(&self, alloc: Global) -> Result<Times, AllocError>
-        requires schedule_delivery_time { IsText 17 self.now.schedule_delivery_time.now }
-        requires validity_period { IsText 17 self.now.validity_period.now }
-        ensures schedule { IfOk result (λ times.
-            times.schedule_delivery_time ≡ self.now.schedule_delivery_time.now) }
-        ensures validity { IfOk result (λ times. times.validity_period ≡ self.now.validity_period.now) }
-    {
-        Ok(Times {
-            schedule_delivery_time: Text::of(alloc, self.schedule_delivery_time)?,
-            validity_period: Text::of(alloc, self.validity_period)?,
-        })
-    }
-}
-
-/// Whether a receipt is asked for, whether an older message is to be replaced, and what the short_message is.
-#[derive(Clone, Copy)]
-struct Flags {
-    registered_delivery: u8,
-    replace_if_present_flag: u8,
-    data_coding: u8,
-    sm_default_msg_id: u8,
-}
-
-/// How a message is to be handled, as it stands in octets.
-#[derive(Clone, Copy)]
-struct Handling<'a> {
-    class: Class,
-    times: TimesOctets<'a>,
-    flags: Flags,
+/// The times of a message that is to be handled so.
+fn times_of(alloc: Global, handling: &HandlingOctets<'_>) -> Result<Times, AllocError>
+    requires schedule { IsText 17 handling.now.schedule_delivery_time.now }
+    requires validity { IsText 17 handling.now.validity_period.now }
+    ensures schedule { IfOk result (λ times.
+        times.schedule_delivery_time ≡ handling.now.schedule_delivery_time.now) }
+    ensures validity { IfOk result (λ times. times.validity_period ≡ handling.now.validity_period.now) }
+{
+    Ok(Times {
+        schedule_delivery_time: Text::of(alloc, handling.schedule_delivery_time)?,
+        validity_period: Text::of(alloc, handling.validity_period)?,
+    })
 }
 
 /// A message, as it stands in octets.
 #[derive(Clone, Copy)]
 struct MessageOctets<'a> {
     envelope: Envelope<'a>,
-    handling: Handling<'a>,
+    handling: HandlingOctets<'a>,
     short_message: &'a [u8],
     tlvs: &'a [u8],
 }
@@ -120,21 +87,21 @@ impl MessageOctets<'_> {
         let handling = self.handling;
         let tlvs = Tlvs::of(alloc, self.tlvs)?;
         let short_message = ShortMessage::of(alloc, self.short_message)?;
-        let times = handling.times.times(alloc)?;
+        let times = times_of(alloc, &handling)?;
         let parties = self.envelope.parties(alloc)?;
         Ok(Message {
             service_type: parties.service_type,
             source: parties.source,
             destination: parties.destination,
-            esm_class: handling.class.esm_class,
-            protocol_id: handling.class.protocol_id,
-            priority_flag: handling.class.priority_flag,
+            esm_class: handling.esm_class,
+            protocol_id: handling.protocol_id,
+            priority_flag: handling.priority_flag,
             schedule_delivery_time: times.schedule_delivery_time,
             validity_period: times.validity_period,
-            registered_delivery: handling.flags.registered_delivery,
-            replace_if_present_flag: handling.flags.replace_if_present_flag,
-            data_coding: handling.flags.data_coding,
-            sm_default_msg_id: handling.flags.sm_default_msg_id,
+            registered_delivery: handling.registered_delivery,
+            replace_if_present_flag: handling.replace_if_present_flag,
+            data_coding: handling.data_coding,
+            sm_default_msg_id: handling.sm_default_msg_id,
             short_message,
             tlvs,
         })
@@ -154,67 +121,6 @@ fn envelope_at(octets: &[u8]) -> Result<(Envelope<'_>, &[u8]), PduFault>
         destination,
     };
     Ok((envelope, rest))
-}
-
-fn class_at(octets: &[u8]) -> Result<(Class, &[u8]), PduFault>
-    ensures { IsRead (λ x. (pieces.class_contents x.0, x.1.now)) result (front_at pieces.class_parts octets.now) }
-{
-    let (esm_class, rest) = octet_at(Field::EsmClass, octets)?;
-    let (protocol_id, rest) = octet_at(Field::ProtocolId, rest)?;
-    let (priority_flag, rest) = octet_at(Field::PriorityFlag, rest)?;
-    let class = Class {
-        esm_class,
-        protocol_id,
-        priority_flag,
-    };
-    Ok((class, rest))
-}
-
-fn times_at(octets: &[u8]) -> Result<(TimesOctets<'_>, &[u8]), PduFault>
-    ensures { IsRead (λ x. (pieces.times_contents x.0, x.1.now)) result (front_at pieces.times_parts octets.now) }
-{
-    let (schedule_delivery_time, rest) = text_at(
-        Field::ScheduleDeliveryTime,
-        limits::TIME,
-        octets,
-    )?;
-    let (validity_period, rest) = text_at(Field::ValidityPeriod, limits::TIME, rest)?;
-    let times = TimesOctets {
-        schedule_delivery_time,
-        validity_period,
-    };
-    Ok((times, rest))
-}
-
-fn flags_at(octets: &[u8]) -> Result<(Flags, &[u8]), PduFault>
-    ensures { IsRead (λ x. (pieces.flags_contents x.0, x.1.now)) result (front_at pieces.flags_parts octets.now) }
-{
-    let (registered_delivery, rest) = octet_at(Field::RegisteredDelivery, octets)?;
-    let (replace_if_present_flag, rest) = octet_at(Field::ReplaceIfPresentFlag, rest)?;
-    let (data_coding, rest) = octet_at(Field::DataCoding, rest)?;
-    let (sm_default_msg_id, rest) = octet_at(Field::SmDefaultMsgId, rest)?;
-    let flags = Flags {
-        registered_delivery,
-        replace_if_present_flag,
-        data_coding,
-        sm_default_msg_id,
-    };
-    Ok((flags, rest))
-}
-
-#[tactic(auto, unfolding(crate::specs::Pieces::handling_at))]
-fn handling_at(octets: &[u8]) -> Result<(Handling<'_>, &[u8]), PduFault>
-    ensures { IsRead (λ x. (pieces.handling_contents x.0, x.1.now)) result (pieces.handling_at octets.now) }
-{
-    let (class, rest) = class_at(octets)?;
-    let (times, rest) = times_at(rest)?;
-    let (flags, rest) = flags_at(rest)?;
-    let handling = Handling {
-        class,
-        times,
-        flags,
-    };
-    Ok((handling, rest))
 }
 
 #[tactic(auto, unfolding(crate::specs::Pieces::message_at, pdu_fields::specs::Tlv::tlvs_in))]

@@ -2,6 +2,7 @@
 
 use pdu_fields::{Address, ShortMessage, Text, Tlvs};
 use pdu_tables::Command;
+use std::fmt;
 
 /// A PDU: its status, of any number, its sequence_number, of any number, and its body.
 #[derive(Debug, PartialEq, Eq, Drop)]
@@ -16,7 +17,7 @@ pub struct Pdu {
 
 /// The body of a PDU, by its command. A response whose fields may be left out is, without them, another PDU than one whose
 /// texts are empty.
-#[derive(Debug, PartialEq, Eq, Drop)]
+#[derive(PartialEq, Eq, Drop)]
 pub enum Body {
     BindReceiver(Bind),
     BindReceiverResp(Option<BindAnswer>),
@@ -70,6 +71,13 @@ impl Body {
             Body::EnquireLinkResp => Command::EnquireLinkResp,
             Body::GenericNack => Command::GenericNack,
         }
+    }
+}
+
+/// Its command alone: what it has is not for a log, as the password of a bind.
+impl fmt::Debug for Body {
+    fn fmt<W: fmt::Write>(&self, f: &mut fmt::Formatter<W>) -> fmt::Result {
+        self.command().fmt(f)
     }
 }
 

@@ -1,1 +1,2 @@
 pub mod Optional
+pub mod Runs

@@ -1,6 +1,6 @@
 -- The fields of PDUs (SMPP 3.4, 3.1, 3.2 and 4): for each body the list of its fields, each with its kind, and which fault
 -- it is that a field has no spelling at its place.
-use Rattle.std.specs.Prelude.{ℕ, List, [], ◌∷◌, ◌++◌, take, drop, Result}
+use Rattle.std.specs.Prelude.{ℕ, suc, List, [], ◌∷◌, ◌++◌, get_or, take, drop, Result}
 use Rattle.std.specs.Int.{w32, from_be_bytes}
 use Rattle.octet_fields.specs.declared.defect.Defect.{Defect}
 use Rattle.octet_fields.specs.declared.defect.Defect.TheVariants as defects
@@ -40,6 +40,16 @@ octet_fault field defect = Cut field
 
 abbrev pub octet : Field → Part PduFault
 octet field = record { kind = Number One any; fault = octet_fault field }
+
+-- octets one behind another, each of them a field
+abbrev pub octet_parts : List Field → Parts
+octet_parts [] = []
+octet_parts (first ∷ others) = octet first ∷ octet_parts others
+
+-- what stands in them: the octets from a place on
+abbrev pub octets_from : ℕ → (fields : List Field) → List ℕ → Contents (octet_parts fields)
+octets_from place [] octets = tt
+octets_from place (first ∷ others) octets = (get_or octets place 0, octets_from (suc place) others octets)
 
 abbrev pub message_fault : Defect → PduFault
 message_fault defects.Cut = Cut SmLength

@@ -2,3 +2,4 @@ pub mod Text
 pub mod Grammar
 pub mod Tlv
 pub mod Addresses
+pub mod Handling

@@ -5,7 +5,7 @@ ghost use Rattle.octet_fields.specs.Reading.{content_at, told};
 ghost use Rattle.octet_fields.specs.Reading as fields;
 ghost use Rattle.pdu_fields.specs.Text.{IsText, IsShortMessage};
 ghost use Rattle.pdu_fields.specs.Grammar as grammar;
-ghost use Rattle.pdu_fields.specs.Grammar.{IsRead, text, octet, short_message, optional_at};
+ghost use Rattle.pdu_fields.specs.Grammar.{IsRead, text, octet, octet_parts, octets_from, front_at, short_message, optional_at};
 
 use crate::fault::{Field, PduFault};
 use octet_fields::{Defect, check_parameters};
@@ -41,6 +41,19 @@ pub fn octet_at(field: Field, octets: &[u8]) -> Result<(u8, &[u8]), PduFault>
     match octet_fields::octet_at(octets) {
         Ok(octet) => Ok(octet),
         Err(_) => Err(PduFault::Cut(field)),
+    }
+}
+
+/// Octets one behind another, each of them one of these fields.
+pub fn octets_at<const N: usize>(
+    fields: [Field; N],
+    octets: &[u8],
+) -> Result<([u8; N], &[u8]), PduFault>
+    ensures { IsRead (λ x. (octets_from 0 fields.entry x.0, x.1.now)) result (front_at (octet_parts fields.entry) octets.now) }
+{
+    match octets.split_first_chunk::<N>() {
+        Some((found, rest)) => Ok((*found, rest)),
+        None => Err(PduFault::Cut(fields[octets.len()])),
     }
 }
 
