@@ -1,0 +1,106 @@
+-- A round of a node by itself, from its start to its end, at which whoever waits is answered.
+use Rattle.std.proofs.Common.{◌≡◌, ℕ, List, [], ◌∷◌, length, map, filter, Some, None, refl, sym, ap, subst, ◌∙◌}
+use Rattle.mc_model.specs.message.Decree.{Decree}
+use Rattle.mc_model.specs.synod.Packet.{Prepare, Voted, slot_at}
+use Rattle.mc_model.specs.node.Input.{Delivery}
+use Rattle.mc_model.specs.node.Outputs.{Receipt, Reply}
+use Rattle.mc_model.specs.node.Setup.{Setup}
+use Rattle.node_model.specs.Kept.{Held, Kept, with_message}
+use Rattle.node_model.specs.Answers.{receipts_of, replies_to, still_waits}
+use Rattle.node_model.specs.Outputs.{Stepped, sends}
+use Rattle.node_model.specs.Packets.{settled_for}
+use Rattle.node_model.specs.Starts.{delete_for}
+use Rattle.node_model.specs.Stepped.{stepped}
+use Rattle.alone_laws.specs.Alone.{alone}
+use Rattle.alone_laws.specs.Tables.{TableNode, known_as, with_chain}
+use Rattle.alone_laws.specs.Resting.{IsResting, IsTaken}
+use Rattle.alone_laws.specs.Settling.{Settling, SettlesOn, begins_with}
+use Rattle.alone_laws.proofs.Frames.{given_as, same_then}
+use Rattle.alone_laws.proofs.Leading.{Leads, leads_on, leads_then, settles_on, settling}
+use Rattle.alone_laws.proofs.Stages.{known_rests, known_same, known_with, settled_held, vote_ends}
+use Rattle.alone_laws.proofs.Carrying.{Carried, ballot, round_carried, tried, vote}
+use Rattle.alone_laws.proofs.Calm.{IsCalm, rests_with}
+
+-- What the chain makes of those who wait: nobody is to be settled, nothing is to be deleted, and all are answered so.
+pub record AllAnswered (setup : Setup) (id : ℕ) (chain : List Decree) (held : List Held) (replies : List Reply) : Type 0 where
+  pub settled : map (settled_for 1 id chain) held ≡ held
+  pub undeleted : (k : Kept) → delete_for setup k id held (Some chain) ≡ None
+  pub gone : filter (still_waits 1 (Some chain) id) held ≡ []
+  pub told : replies_to 1 (Some chain) id held ≡ replies
+
+-- deliveries lead to a node at rest
+pub record Ends (setup : Setup) (s : Settling) (t : TableNode) (replies : List Reply) (receipts : List Receipt) : Type 0 where
+  pub kept : Kept
+  pub leads : Leads setup s (settling kept [] replies receipts)
+  pub resting : IsResting kept t
+
+pub ends_after : (setup : Setup) (s u : Settling) (t : TableNode) (replies : List Reply) (receipts : List Receipt) → Leads setup s u → Ends setup u t replies receipts →
+    Ends setup s t replies receipts
+ends_after setup s u t replies receipts leads ends = record { kept = ends.kept; leads = leads_then setup s u _ leads ends.leads; resting = ends.resting }
+
+pub settles_after : (setup : Setup) (step begun : Stepped) (t : TableNode) (replies : List Reply) (receipts : List Receipt) → step ≡ begun →
+    Ends setup (begins_with begun) t replies receipts → SettlesOn setup step t replies receipts
+settles_after setup step begun t replies receipts is ends =
+    subst (λ (s : Stepped). SettlesOn setup s t replies receipts) (sym is)
+    (settles_on setup begun (settling ends.kept [] replies receipts) t ends.leads refl ends.resting)
+
+module _ (first validity : ℕ) (k : Kept) (t : TableNode) (id : ℕ) (decree : Decree) (held : List Held) (replies : List Reply) (calm : IsCalm k t)
+    (held_is : k.held ≡ held) (taken : IsTaken k id (decree ∷ t.table id))
+    (answered : AllAnswered (alone first validity) id (decree ∷ t.table id) held replies) where
+  abbrev setup : Setup
+  setup = alone first validity
+
+  abbrev old : List Decree
+  old = t.table id
+
+  abbrev chain : List Decree
+  chain = decree ∷ old
+
+  abbrev b : ℕ
+  b = ballot first validity id old decree k
+
+  abbrev receipts : List Receipt
+  receipts = receipts_of 1 id (known_as old) chain
+
+  carried : Carried first validity id old decree k
+  carried = round_carried first validity id old decree k calm.up (calm.message id)
+
+  abbrev voted : Kept
+  voted = carried.voted
+
+  taken_then : IsTaken voted id chain
+  taken_then = record { message = taken.message; taken = taken.taken; given = given_as k voted id carried.same.incarnation carried.same.serial taken.given }
+
+  settled_is : settled_held first validity id old decree b voted ≡ held
+  settled_is = ap (map (settled_for 1 id chain)) (carried.held ∙ held_is) ∙ answered.settled
+
+  none_deleted : delete_for setup (known_with first validity id old decree b voted (settled_held first validity id old decree b voted)) id
+      (settled_held first validity id old decree b voted) (Some chain) ≡ None
+  none_deleted =
+      ap (λ (hs : List Held). delete_for setup (known_with first validity id old decree b voted hs) id hs (Some chain)) settled_is
+      ∙ answered.undeleted (known_with first validity id old decree b voted held)
+
+  abbrev end : Kept
+  end = known_with first validity id old decree b voted []
+
+  last_step : stepped setup voted (Delivery (Voted 1 (slot_at id (length old)) (vote first validity id old decree k))) ≡ sends end [] replies receipts
+  last_step =
+      vote_ends first validity id old decree b voted (carried.same.up ∙ calm.up) carried.under taken_then none_deleted
+      ∙ (ap (λ (hs : List Held). sends (known_with first validity id old decree b voted (filter (still_waits 1 (Some chain) id) hs)) []
+      (replies_to 1 (Some chain) id hs) receipts) settled_is
+      ∙ (λ i. sends (known_with first validity id old decree b voted (answered.gone i)) [] (answered.told i) receipts))
+
+  round_leads : Leads setup (settling (with_message k id (tried first validity id old decree k)) (Prepare 1 (slot_at id (length old)) b ∷ []) [] [])
+      (settling end [] replies receipts)
+  round_leads =
+      leads_then setup _ _ _ (carried.leads [] [])
+      (leads_on setup voted (Voted 1 (slot_at id (length old)) (vote first validity id old decree k)) [] [] [] (sends end [] replies receipts) last_step)
+
+  round_rests : IsResting end (record t { table = with_chain t.table id chain })
+  round_rests =
+      rests_with k end t id chain calm (same_then id k voted end carried.same (known_same first validity id old decree b voted [])) refl
+      (known_rests first validity id old decree b voted [] carried.under taken_then)
+
+  pub round_ends : Ends setup (settling (with_message k id (tried first validity id old decree k)) (Prepare 1 (slot_at id (length old)) b ∷ []) [] [])
+      (record t { table = with_chain t.table id chain }) replies receipts
+  round_ends = record { kept = end; leads = round_leads; resting = round_rests }

@@ -1,0 +1,14 @@
+pub mod Frames
+pub mod Deliveries
+pub mod Leading
+pub mod Stages
+pub mod Carrying
+pub mod Calm
+pub mod Ending
+pub mod Single
+pub mod Opening
+pub mod Submits
+pub mod Asking
+pub mod Queries
+pub mod Cancels
+pub mod AnyRequest

@@ -1,0 +1,34 @@
+-- A node by itself with a new store.
+use Rattle.std.proofs.Common.{◌≡◌, ℕ, zero, suc, List, [], ◌∷◌, get_or, refl, arith}
+use Rattle.node_model.specs.Message.{unseen}
+use Rattle.node_model.specs.Stepped.{opened_new}
+use Rattle.alone_laws.specs.Alone.{alone}
+use Rattle.alone_laws.specs.Tables.{new_table}
+use Rattle.alone_laws.specs.Resting.{IsResting}
+
+abbrev AreZeros : List ℕ → Type 0
+AreZeros [] = Unit {0}
+AreZeros (x ∷ xs) = (x ≡ 0) × AreZeros xs
+
+zero_at : (xs : List ℕ) (place : ℕ) → AreZeros xs → get_or xs place 0 ≡ 0
+zero_at [] place zeros = refl
+zero_at (x ∷ xs) zero zeros = zeros.0
+zero_at (x ∷ xs) (suc place) zeros = zero_at xs place zeros.1
+
+pub new_rests : (first validity : ℕ) → IsResting (opened_new (alone first validity)) (new_table first)
+new_rests first validity = record {
+  up = refl;
+  life = record { least = omega arith; most = omega arith };
+  incarnation = refl;
+  clock = refl;
+  serial = refl;
+  ticket = refl;
+  waits = refl;
+  message = λ id. record {
+    known = refl;
+    idle = refl;
+    votes = tt;
+    beyond = λ place above. record { record_is = refl; seen = zero_at unseen.seen place (refl, (refl, (refl, (refl, (refl, (refl, (refl, (refl, (refl, (refl, (refl, (refl, (refl, (refl, (refl, (refl, (refl, (refl, tt)))))))))))))))))) };
+    taken = tt;
+  };
+}

@@ -1,0 +1,129 @@
+-- The table of a node by itself: the chain of each message, and what a request makes of it and is answered (own; SMPP 3.4, 4.4.2,
+-- 4.8.2 and 4.9.2).
+use Rattle.std.specs.Prelude.{◌≡◌, ℕ, suc, max, Bool, false, ◌==◌, ◌&&◌, List, [], ◌∷◌, Option, Some, None, if◌then◌else◌}
+use Rattle.mc_model.specs.message.Ids.{IsSerial, id_of}
+use Rattle.mc_model.specs.message.Submission.{Submission}
+use Rattle.mc_model.specs.message.Decree.{Decree, Deleted, Fate, Kind, Taken}
+use Rattle.mc_model.specs.message.Chain.{taken_in}
+use Rattle.mc_model.specs.node.Actor.{Cancel, Query, Request, Submit, id_in, opening_clock}
+use Rattle.mc_model.specs.node.Effect.{next_serial}
+use Rattle.mc_model.specs.node.Outputs.{Receipt, Reply}
+use Rattle.mc_model.specs.node.Replies.{Accepted, Answer, Kept, NotMatched, NotOwner, Removed, Shown, Unknown}
+use Rattle.node_model.specs.Answers.{is_match, is_owner, receipts_of}
+use Rattle.node_model.specs.Starts.{is_idle}
+
+-- the decrees on each message, the newest first, and none if there is no such message
+abbrev pub Table : Type 0
+Table = ℕ → List Decree
+
+-- The table, the incarnation and the clock of its node, the serial of the next message and the ticket of the next request.
+pub record TableNode : Type 0 where
+  pub incarnation : ℕ
+  pub clock : ℕ
+  pub serial : ℕ
+  pub ticket : ℕ
+  pub table : Table
+
+-- of a node that has a new store: there is no message
+abbrev pub new_table : ℕ → TableNode
+new_table first_serial = record { incarnation = 1; clock = opening_clock; serial = first_serial; ticket = 1; table = λ id. [] }
+
+-- the table with another chain of one message
+abbrev pub with_chain : Table → ℕ → List Decree → Table
+with_chain table id chain = λ other. if other == id then chain else table other
+
+-- what is known of a message with this chain
+abbrev pub known_as : List Decree → Option (List Decree)
+known_as [] = None
+known_as (newest ∷ older) = Some (newest ∷ older)
+
+-- ---- decrees
+
+-- at the clock, or at the moment of the newest decree, if that is later
+abbrev pub moment_behind : ℕ → List Decree → ℕ
+moment_behind clock [] = clock
+moment_behind clock (newest ∷ older) = max clock newest.moment
+
+-- node 1 decrees
+abbrev pub decree_by : TableNode → List Decree → Kind → Decree
+decree_by t chain kind = record {
+  author = record { node = 1; incarnation = t.incarnation };
+  moment = moment_behind t.clock chain;
+  kind = kind;
+}
+
+abbrev pub decreed : TableNode → List Decree → Kind → List Decree
+decreed t chain kind = decree_by t chain kind ∷ chain
+
+-- ---- what a request is answered, by the chain then
+
+-- a query_sm about a message that was taken, or none
+abbrev pub shown : List ℕ → List ℕ → List Decree → Option Submission → Answer
+shown account source chain None = Unknown
+shown account source chain (Some message) = if is_owner message account source then Shown chain else NotOwner
+
+-- a cancel_sm that matches is answered ESME_ROK if the message is DELETED
+abbrev pub removed : Kind → List Decree → Answer
+removed (Fate Deleted error) chain = Removed chain
+removed kind chain = Kept chain
+
+abbrev pub removed_in : List Decree → Answer
+removed_in [] = Unknown
+removed_in (newest ∷ older) = removed newest.kind (newest ∷ older)
+
+abbrev pub cancelled : List ℕ → List ℕ → List ℕ → List Decree → Option Submission → Answer
+cancelled account source destination chain None = Unknown
+cancelled account source destination chain (Some message) =
+    if is_match message account source destination then removed_in chain else NotMatched chain
+
+abbrev pub answer_by : Request → List Decree → Answer
+answer_by (Submit id message) chain = Accepted
+answer_by (Query id account source) chain = shown account source chain (taken_in chain)
+answer_by (Cancel id account source destination) chain = cancelled account source destination chain (taken_in chain)
+
+-- ---- what a request makes of the chain of its message
+
+abbrev pub is_meant : List ℕ → List ℕ → List ℕ → Option Submission → Bool
+is_meant account source destination None = false
+is_meant account source destination (Some message) = is_match message account source destination
+
+-- a cancel_sm deletes a message that it matches while no attempt of it is under way and it has no final state
+abbrev pub is_deleted : List ℕ → List ℕ → List ℕ → List Decree → Bool
+is_deleted account source destination [] = false
+is_deleted account source destination (newest ∷ older) =
+    is_idle newest.kind && is_meant account source destination (taken_in (newest ∷ older))
+
+abbrev pub chain_by : TableNode → Request → List Decree → List Decree
+chain_by t (Submit id message) chain = decreed t chain (Taken message)
+chain_by t (Query id account source) chain = chain
+chain_by t (Cancel id account source destination) chain =
+    if is_deleted account source destination chain then decreed t chain (Fate Deleted 0) else chain
+
+-- ---- a request comes to the table
+
+-- a submit_sm has the next id of the node
+pub record IsNext (t : TableNode) (id : ℕ) : Type 0 where
+  pub serial : IsSerial t.serial
+  pub id_is : id ≡ id_of 1 t.incarnation t.serial
+
+abbrev pub MayCome : TableNode → Request → Type 0
+MayCome t (Submit id message) = IsNext t id
+MayCome t (Query id account source) = Unit {0}
+MayCome t (Cancel id account source destination) = Unit {0}
+
+abbrev pub chain_then : TableNode → Request → List Decree
+chain_then t request = chain_by t request (t.table (id_in request))
+
+abbrev pub requested : TableNode → Request → TableNode
+requested t request = record t {
+  serial = next_serial request t.serial;
+  ticket = suc t.ticket;
+  table = with_chain t.table (id_in request) (chain_then t request);
+}
+
+abbrev pub reply_to : TableNode → Request → Reply
+reply_to t request = record { ticket = t.ticket; id = id_in request; answer = answer_by request (chain_then t request) }
+
+-- a receipt is due on a final state that there was not before
+abbrev pub receipts_by : TableNode → Request → List Receipt
+receipts_by t request = receipts_of 1 (id_in request) (known_as (t.table (id_in request))) (chain_then t request)

@@ -1,0 +1,10 @@
+//! Laws of one node by itself, to which its packets are delivered. The functions do nothing: their contracts are the laws.
+#![tactic(auto)]
+
+mod openings;
+mod requests;
+mod rounds;
+
+pub use openings::a_new_node_is_at_rest;
+pub use requests::a_request_settles;
+pub use rounds::a_round_settles;
