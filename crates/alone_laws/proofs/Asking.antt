@@ -22,7 +22,7 @@ use Rattle.node_model.specs.Starts.{follow}
 use Rattle.node_model.specs.Stepped.{stepped}
 use Rattle.alone_laws.specs.Alone.{alone}
 use Rattle.alone_laws.specs.Tables.{TableNode, known_as}
-use Rattle.alone_laws.specs.Resting.{IsAtRest, IsResting}
+use Rattle.alone_laws.specs.Resting.{IsReady, IsResting}
 use Rattle.alone_laws.proofs.Frames.{eqb_self}
 use Rattle.alone_laws.proofs.Calm.{arrived, held_arrived, newcomer}
 
@@ -32,7 +32,7 @@ abbrev IsWithin : ℕ → ℕ → Option TopVote → Type 0
 IsWithin id bound None = Unit {0}
 IsWithin id bound (Some told) = (told.id ≡ id) × (told.place < bound)
 
-told_within : (k : Kept) (id : ℕ) (chain : List Decree) → IsAtRest k id chain → (bound : ℕ) → IsWithin id (length chain) (told_below k.records id bound)
+told_within : (k : Kept) (id : ℕ) (chain : List Decree) → IsReady k id chain → (bound : ℕ) → IsWithin id (length chain) (told_below k.records id bound)
 told_within k id chain rest zero = tt
 told_within k id chain rest (suc bound) = by_vote (k.records (slot_at id bound)).vote refl (told_below k.records id bound) (told_within k id chain rest bound)
   where
@@ -66,7 +66,7 @@ reached_within id (newest ∷ older) (Some told) within =
     let ahead : nat_lt (length older) told.place ≡ false = le-ltb (length older) told.place (omega arith) in
     record { about = eq-eqb told.id id within.0; reached = le-leb told.place (length older) (omega arith); unfollowed = rw ahead refl }
 
-pub told_is_reached : (k : Kept) (id : ℕ) (chain : List Decree) → IsAtRest k id chain → IsReachedBy id chain (told_of k.records id)
+pub told_is_reached : (k : Kept) (id : ℕ) (chain : List Decree) → IsReady k id chain → IsReachedBy id chain (told_of k.records id)
 told_is_reached k id chain rest = reached_within id chain (told_of k.records id) (told_within k id chain rest most_places)
 
 -- ---- it comes to the request that waits

@@ -1,8 +1,7 @@
 -- What a request leaves at rest: all but its own message.
-use Rattle.std.proofs.Common.{◌≡◌, ℕ, suc, true, List, [], ◌∷◌, ◌++◌, refl, ap, ◌∙◌, inl, inr, arith}
+use Rattle.std.proofs.Common.{◌≡◌, ℕ, suc, true, List, [], ◌∷◌, ◌++◌, refl, ap, ◌∙◌, inl, inr, arith, nat_cmp, sym}
 use Rattle.std.specs.Prelude.{◌==◌, ◌&&◌, nat_lt}
 use Rattle.std.proofs.lemmas.Bool.{and_from, and_parts, lt-ltb, ltb-true, or_cases, or_left, or_right}
-use Rattle.mc_model.specs.message.Decree.{Decree}
 use Rattle.mc_model.specs.message.Ids.{IsIncarnation, incarnation_of, serial_of}
 use Rattle.mc_model.specs.node.Actor.{Cancel, Query, Request, Submit}
 use Rattle.mc_model.specs.node.Effect.{next_serial}
@@ -10,9 +9,13 @@ use Rattle.node_model.specs.Kept.{Held, Kept}
 use Rattle.node_model.specs.Packets.{was_given}
 use Rattle.node_model.specs.Requests.{begun}
 use Rattle.node_model.specs.Ticks.{waits_too}
-use Rattle.alone_laws.specs.Tables.{TableNode, with_chain}
+use Rattle.alone_laws.specs.Tables.{Entry, TableNode, entry_at, with_entry}
+use Rattle.shelf.proofs.Entries.{still_ascends}
 use Rattle.alone_laws.specs.Resting.{IsAtRest, IsResting}
-use Rattle.alone_laws.proofs.Frames.{IsSameBut, each_at_rest, rest_as, rest_but}
+use Rattle.alone_laws.proofs.Frames.{IsSameBut, each_at_rest, rest_as, rest_but, keys_with}
+use Rattle.std.specs.Map.{keys_of}
+use Rattle.std.specs.BTreeSet.{insert_key}
+use Rattle.std.specs.List.Sorted.{IsStrictlySortedBy}
 
 -- at rest, whoever waits
 pub record IsCalm (k : Kept) (t : TableNode) : Type 0 where
@@ -22,12 +25,14 @@ pub record IsCalm (k : Kept) (t : TableNode) : Type 0 where
   pub clock : k.clock ≡ t.clock
   pub serial : k.serial ≡ t.serial
   pub ticket : k.ticket ≡ t.ticket
-  pub message : (id : ℕ) → IsAtRest k id (t.table id)
+  pub ids : keys_of k.messages ≡ keys_of t.table
+  pub ascends : IsStrictlySortedBy nat_cmp (keys_of t.table)
+  pub message : (id : ℕ) → IsAtRest k id (entry_at t.table id)
 
--- one message has another chain, and nobody waits any more
-pub rests_with : (k new : Kept) (t : TableNode) (id : ℕ) (chain : List Decree) → IsCalm k t → IsSameBut id k new → new.held ≡ [] → IsAtRest new id chain →
-    IsResting new (record t { table = with_chain t.table id chain })
-rests_with k new t id chain calm same waits rest = record {
+-- one message has another entry, and nobody waits any more
+pub rests_with : (k new : Kept) (t : TableNode) (id : ℕ) (entry : Entry) → IsCalm k t → IsSameBut id k new → new.held ≡ [] → IsAtRest new id entry →
+    IsResting new (record t { table = with_entry t.table id entry })
+rests_with k new t id entry calm same waits rest = record {
   up = same.up ∙ calm.up;
   life = rw same.incarnation calm.life;
   incarnation = same.incarnation ∙ calm.incarnation;
@@ -35,7 +40,51 @@ rests_with k new t id chain calm same waits rest = record {
   serial = same.serial ∙ calm.serial;
   ticket = same.ticket ∙ calm.ticket;
   waits = waits;
-  message = each_at_rest new t.table id chain rest (λ other apart. rest_but id k new same other apart (t.table other) (calm.message other));
+  ids = same.ids ∙ (ap (λ (ids : List ℕ). insert_key nat_cmp ids id) calm.ids ∙ sym (keys_with t.table id entry));
+  ascends = still_ascends t.table id entry calm.ascends;
+  message = each_at_rest new t.table id entry rest (λ other apart. rest_but id k new same other apart (entry_at t.table other) (calm.message other));
+}
+
+-- or the request that waited is all that has gone
+pub rests_still : (k : Kept) (t : TableNode) → IsCalm k t → IsResting (record k { held = [] }) t
+rests_still k t calm = record {
+  up = calm.up;
+  life = calm.life;
+  incarnation = calm.incarnation;
+  clock = calm.clock;
+  serial = calm.serial;
+  ticket = calm.ticket;
+  waits = refl;
+  ids = calm.ids;
+  ascends = calm.ascends;
+  message = λ id. rest_as k (record k { held = [] }) id (entry_at t.table id) refl (λ place. refl) (λ given. given) (calm.message id);
+}
+
+-- who waits is no matter
+pub calm_with : (k : Kept) (t : TableNode) (held : List Held) → IsCalm k t → IsCalm (record k { held = held }) t
+calm_with k t held calm = record {
+  up = calm.up;
+  life = calm.life;
+  incarnation = calm.incarnation;
+  clock = calm.clock;
+  serial = calm.serial;
+  ticket = calm.ticket;
+  ids = calm.ids;
+  ascends = calm.ascends;
+  message = λ id. rest_as k (record k { held = held }) id (entry_at t.table id) refl (λ place. refl) (λ given. given) (calm.message id);
+}
+
+pub calm_at_rest : (k : Kept) (t : TableNode) → IsResting k t → IsCalm k t
+calm_at_rest k t resting = record {
+  up = resting.up;
+  life = resting.life;
+  incarnation = resting.incarnation;
+  clock = resting.clock;
+  serial = resting.serial;
+  ticket = resting.ticket;
+  ids = resting.ids;
+  ascends = resting.ascends;
+  message = resting.message;
 }
 
 -- an id that was given was given
@@ -72,7 +121,9 @@ calm_arrived k t request resting = record {
   clock = resting.clock;
   serial = ap (next_serial request) resting.serial;
   ticket = ap suc resting.ticket;
-  message = λ id. rest_as k (arrived k request) id (t.table id) refl (λ place. refl) (given_later k request (newcomer k request) id) (resting.message id);
+  ids = resting.ids;
+  ascends = resting.ascends;
+  message = λ id. rest_as k (arrived k request) id (entry_at t.table id) refl (λ place. refl) (given_later k request (newcomer k request) id) (resting.message id);
 }
 
 pub held_arrived : (k : Kept) (t : TableNode) (request : Request) → IsResting k t → (arrived k request).held ≡ newcomer k request ∷ []

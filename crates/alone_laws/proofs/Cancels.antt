@@ -22,15 +22,15 @@ use Rattle.node_model.specs.Starts.{delete_for, is_idle}
 use Rattle.node_model.specs.Stepped.{stepped}
 use Rattle.node_model.specs.Ticks.{begun_with}
 use Rattle.alone_laws.specs.Alone.{alone}
-use Rattle.alone_laws.specs.Tables.{TableNode, cancelled, decree_by, is_deleted, is_meant, known_as, receipts_by, removed, reply_to, requested, with_chain}
+use Rattle.alone_laws.specs.Tables.{TableNode, cancelled, decree_by, is_deleted, is_meant, known_as, receipts_by, removed, reply_to, requested, with_entry, chain_at, Table, extended, decreed, Entry}
 use Rattle.alone_laws.specs.Resting.{IsResting, IsTaken, IsTakenIfAny}
 use Rattle.alone_laws.specs.Settling.{SettlesOn}
-use Rattle.alone_laws.proofs.Frames.{eqb_self, rest_as, same_held}
+use Rattle.alone_laws.proofs.Frames.{eqb_self, entry_here}
 use Rattle.alone_laws.proofs.Leading.{Leads, leads_on, leads_sending, leads_then, settling}
 use Rattle.alone_laws.proofs.Deliveries.{ask_delivered}
 use Rattle.alone_laws.proofs.Carrying.{ballot, round_starts, start, tried}
 use Rattle.alone_laws.proofs.Ending.{AllAnswered, ends_after, round_ends, settles_after}
-use Rattle.alone_laws.proofs.Calm.{IsCalm, arrived, calm_arrived, held_arrived, newcomer, noted, rests_with}
+use Rattle.alone_laws.proofs.Calm.{IsCalm, arrived, calm_arrived, held_arrived, newcomer, noted, rests_still, calm_with}
 use Rattle.alone_laws.proofs.Asking.{IsReachedBy, answer_given, name, tell_delivered, told_is_reached}
 use Rattle.alone_laws.proofs.Queries.{no_receipt}
 
@@ -48,7 +48,7 @@ module _ (first validity : ℕ) (k : Kept) (t : TableNode) (id : ℕ) (account s
   new = newcomer k request
 
   abbrev old : List Decree
-  old = t.table id
+  old = chain_at t.table id
 
   abbrev told : Option TopVote
   told = told_of k.records id
@@ -70,10 +70,10 @@ module _ (first validity : ℕ) (k : Kept) (t : TableNode) (id : ℕ) (account s
   calm = calm_arrived k t request resting
 
   reached : IsReachedBy id old told
-  reached = told_is_reached k id old (resting.message id)
+  reached = told_is_reached k id old (resting.message id).ready
 
   known_is : known ≡ known_as old
-  known_is = (resting.message id).known
+  known_is = (resting.message id).ready.known
 
   reached_is : is_reached known (higher_top None told) ≡ true
   reached_is = ap (λ (o : Option (List Decree)). is_reached o (higher_top None told)) known_is ∙ reached.reached
@@ -127,17 +127,13 @@ module _ (first validity : ℕ) (k : Kept) (t : TableNode) (id : ℕ) (account s
       leads_then setup _ _ _ (leads_sending setup k0 (Ask 1 id named) [] [] [] k0 (Tell 1 named told ∷ []) (ask_delivered first validity k0 calm.up id named))
       (leads_on setup k0 (Tell 1 named told) [] [] [] (sends end packets replies []) is)
 
-  -- what it comes to, if it is deleted, and if not
-  abbrev chain_if : Bool → List Decree
-  chain_if test = if test then decree ∷ old else old
+  -- what it comes to, by the table then and the chain of the message in it
+  abbrev reply_for : List Decree → Reply
+  reply_for chain = record { ticket = t.ticket; id = id; answer = cancelled account source destination chain (taken_in chain) }
 
-  abbrev reply_if : Bool → Reply
-  reply_if test = record { ticket = t.ticket; id = id; answer = cancelled account source destination (chain_if test) (taken_in (chain_if test)) }
-
-  abbrev Outcome : Bool → Type 0
-  Outcome test =
-      SettlesOn setup (stepped setup k (Arrival request)) (record (noted t request) { table = with_chain t.table id (chain_if test) }) (reply_if test ∷ [])
-      (receipts_of 1 id (known_as old) (chain_if test))
+  abbrev Comes : Table → List Decree → Type 0
+  Comes table chain =
+      SettlesOn setup (stepped setup k (Arrival request)) (record (noted t request) { table = table }) (reply_for chain ∷ []) (receipts_of 1 id (known_as old) chain)
 
   -- ---- it is not deleted
 
@@ -164,18 +160,17 @@ module _ (first validity : ℕ) (k : Kept) (t : TableNode) (id : ℕ) (account s
       by_match true is = by_kind newest.kind is
       by_match false is = refl
 
-  kept : is_deleted account source destination old ≡ false → Outcome false
+  kept : is_deleted account source destination old ≡ false → Comes t.table old
   kept not_deleted =
-      subst (SettlesOn setup (stepped setup k (Arrival request)) (record (noted t request) { table = with_chain t.table id old }) (reply_if false ∷ []))
+      subst (SettlesOn setup (stepped setup k (Arrival request)) (noted t request) (reply_for old ∷ []))
       (sym (no_receipt id old))
-      (settles_after setup _ _ (record (noted t request) { table = with_chain t.table id old }) (reply_if false ∷ []) [] begun_is (record {
+      (settles_after setup _ _ (noted t request) (reply_for old ∷ []) [] begun_is (record {
         kept = record k0 { held = [] };
-        leads = asked (record k0 { held = [] }) [] (reply_if false ∷ []) (told_is
+        leads = asked (record k0 { held = [] }) [] (reply_for old ∷ []) (told_is
             ∙ (answer_given setup k0 known new heard held (cancelled account source destination old (taken_in old)) (held_arrived k t request resting) refl
             (start_is ∙ ap deletes not_deleted) (answer_is ∙ kept_answer old (resting.message id).taken not_deleted)
             ∙ (λ i. sends (record k0 { held = [] }) [] (record { ticket = resting.ticket i; id = id; answer = cancelled account source destination old (taken_in old) } ∷ []) [])));
-        resting = rests_with k0 (record k0 { held = [] }) (noted t request) id old calm (same_held k0 id []) refl
-            (rest_as k0 (record k0 { held = [] }) id old refl (λ place. refl) (λ given. given) (calm.message id));
+        resting = rests_still k0 (noted t request) calm;
       }))
 
   -- ---- it is deleted
@@ -210,15 +205,7 @@ module _ (first validity : ℕ) (k : Kept) (t : TableNode) (id : ℕ) (account s
     k1 = record k0 { held = with_held k0.held held }
 
     calm_then : IsCalm k1 (noted t request)
-    calm_then = record {
-      up = calm.up;
-      life = calm.life;
-      incarnation = calm.incarnation;
-      clock = calm.clock;
-      serial = calm.serial;
-      ticket = calm.ticket;
-      message = λ other. rest_as k0 k1 other (t.table other) refl (λ place. refl) (λ given. given) (calm.message other);
-    }
+    calm_then = calm_with k0 (noted t request) (with_held k0.held held) calm
 
     held_is : k1.held ≡ held ∷ []
     held_is =
@@ -231,9 +218,9 @@ module _ (first validity : ℕ) (k : Kept) (t : TableNode) (id : ℕ) (account s
         told_is
         ∙ (ap (λ (o : Option Start). answer_told (started setup k1 id o) held (answer_to 1 known held)) (start_is ∙ ap deletes deleted)
         ∙ (ap (answer_told (started setup k1 id (Some (start first validity id old decree))) held) (answer_is ∙ unanswered old meant)
-        ∙ ap (λ (p : Prepared). answer_told p held None) (round_starts first validity id old decree k1 (calm_then.message id))))
+        ∙ ap (λ (p : Prepared). answer_told p held None) (round_starts first validity id old decree k1 (calm_then.message id).ready)))
 
-    answered : AllAnswered setup id (decree ∷ old) (held ∷ []) (reply_if true ∷ [])
+    answered : AllAnswered setup id (decree ∷ old) (held ∷ []) (reply_for (decree ∷ old) ∷ [])
     answered = record {
       settled = rw (eqb_self id) refl;
       undeleted = λ kept. rw meant.taken.taken refl;
@@ -244,17 +231,19 @@ module _ (first validity : ℕ) (k : Kept) (t : TableNode) (id : ℕ) (account s
     taken_then : IsTaken k1 id (decree ∷ old)
     taken_then = record { message = meant.taken.message; taken = meant.taken.taken; given = meant.taken.given }
 
-    deleted_then : Outcome true
+    deleted_then : Comes (with_entry t.table id (extended old decree)) (decree ∷ old)
     deleted_then =
-        settles_after setup _ _ (record (noted t request) { table = with_chain t.table id (decree ∷ old) }) (reply_if true ∷ [])
+        settles_after setup _ _ (record (noted t request) { table = with_entry t.table id (extended old decree) }) (reply_for (decree ∷ old) ∷ [])
         (receipts_of 1 id (known_as old) (decree ∷ old)) begun_is
-        (ends_after setup _ _ (record (noted t request) { table = with_chain t.table id (decree ∷ old) }) (reply_if true ∷ []) (receipts_of 1 id (known_as old) (decree ∷ old))
+        (ends_after setup _ _ (record (noted t request) { table = with_entry t.table id (extended old decree) }) (reply_for (decree ∷ old) ∷ []) (receipts_of 1 id (known_as old) (decree ∷ old))
         (asked _ _ [] told_then)
-        (round_ends first validity k1 (noted t request) id decree (held ∷ []) (reply_if true ∷ []) calm_then held_is taken_then answered))
+        (round_ends first validity k1 (noted t request) id decree (held ∷ []) (reply_for (decree ∷ old) ∷ []) calm_then held_is taken_then answered))
 
   pub cancel_settles : SettlesOn setup (stepped setup k (Arrival request)) (requested t request) (reply_to t request ∷ []) (receipts_by t request)
   cancel_settles = by_test (is_deleted account source destination old) refl
     where
-      by_test : (test : Bool) → is_deleted account source destination old ≡ test → Outcome test
-      by_test true deleted = deleted_then deleted
+      by_test : (test : Bool) → is_deleted account source destination old ≡ test →
+          Comes (if test then decreed t id (Fate Deleted 0) else t.table) (chain_at (if test then decreed t id (Fate Deleted 0) else t.table) id)
+      by_test true deleted =
+          subst (Comes (with_entry t.table id (extended old decree))) (sym (ap (λ (e : Entry). e.chain) (entry_here t.table id (extended old decree)))) (deleted_then deleted)
       by_test false not_deleted = kept not_deleted

@@ -14,7 +14,7 @@ use Rattle.node_model.specs.Message.{Message, Round}
 use Rattle.node_model.specs.Kept.{Kept, message_at, with_message}
 use Rattle.node_model.specs.Proposer.{Start, highest_round, started, started_at}
 use Rattle.alone_laws.specs.Alone.{alone}
-use Rattle.alone_laws.specs.Resting.{IsAtRest}
+use Rattle.alone_laws.specs.Resting.{IsReady}
 use Rattle.alone_laws.proofs.Frames.{IsSameBut, same_then, same_with}
 use Rattle.alone_laws.proofs.Deliveries.{begun_round, promised_round}
 use Rattle.alone_laws.proofs.Leading.{Leads, leads_sending, leads_then, settling}
@@ -40,16 +40,16 @@ module _ (first validity : ℕ) (id : ℕ) (old : List Decree) (decree : Decree)
   abbrev pub tried : Kept → Message
   tried k = started_at (message_at k id) slot 1 (ballot k) (decree ∷ old)
 
-  unseen_before : (k : Kept) → IsAtRest k id old → highest_round k.records (message_at k id) slot ≡ 0
+  unseen_before : (k : Kept) → IsReady k id old → highest_round k.records (message_at k id) slot ≡ 0
   unseen_before k rest =
       let fresh = rest.beyond (length old) (omega arith) in
       (λ i. max (round_in (fresh.record_is i).promised) (fresh.seen i))
 
-  pub round_starts : (k : Kept) → IsAtRest k id old →
+  pub round_starts : (k : Kept) → IsReady k id old →
       started setup k id (Some start) ≡ record { kept = with_message k id (tried k); packets = Prepare 1 slot (ballot k) ∷ [] }
   round_starts k rest = rw (rest.idle, unseen_before k rest) refl
 
-  pub round_is_under_way : (k : Kept) → IsAtRest k id old → IsUnderWay id old (with_message k id (tried k)) (Some (begun_round slot (ballot k) (decree ∷ old))) blank
+  pub round_is_under_way : (k : Kept) → IsReady k id old → IsUnderWay id old (with_message k id (tried k)) (Some (begun_round slot (ballot k) (decree ∷ old))) blank
   round_is_under_way k rest =
       under_with first validity id old decree (ballot k) k (tried k) None (Some (begun_round slot (ballot k) (decree ∷ old))) blank
       (record {
@@ -57,10 +57,14 @@ module _ (first validity : ℕ) (id : ℕ) (old : List Decree) (decree : Decree)
         round_is = rest.idle;
         votes = rest.votes;
         here_is = (rest.beyond (length old) (omega arith)).record_is;
+        ungranted = (rest.beyond (length old) (omega arith)).ungranted;
+        unclosed = (rest.beyond (length old) (omega arith)).unclosed;
         beyond = λ place above. rest.beyond place (omega (arith, above));
       })
       refl
       (λ place above. get_or-set_other (message_at k id).seen (length old) place 1 0 (λ same. omega arith))
+      refl
+      refl
       refl
 
   -- From its start on a round leads to the vote for it, and nothing else has changed.
@@ -72,7 +76,7 @@ module _ (first validity : ℕ) (id : ℕ) (old : List Decree) (decree : Decree)
     pub leads : (replies : List Reply) (receipts : List Receipt) →
         Leads setup (settling (with_message k id (tried k)) (Prepare 1 slot (ballot k) ∷ []) replies receipts) (settling voted (Voted 1 slot (vote k) ∷ []) replies receipts)
 
-  module _ (k : Kept) (up : k.up ≡ true) (rest : IsAtRest k id old) where
+  module _ (k : Kept) (up : k.up ≡ true) (rest : IsReady k id old) where
     abbrev b : ℕ
     b = ballot k
 
@@ -104,7 +108,7 @@ module _ (first validity : ℕ) (id : ℕ) (old : List Decree) (decree : Decree)
     round_carried = record {
       voted = three.new;
       under = three.under;
-      same = same_then id k k1 three.new (same_with k id (tried k)) (same_then id k1 one.new three.new one.same (same_then id one.new two.new three.new two.same three.same));
+      same = same_then id k k1 three.new (same_with k id (tried k) k.held) (same_then id k1 one.new three.new one.same (same_then id one.new two.new three.new two.same three.same));
       held = three.held ∙ (two.held ∙ one.held);
       leads = λ replies receipts.
           leads_then setup _ _ _ (leads_sending setup k1 (Prepare 1 slot b) [] replies receipts one.new (Promise 1 slot b None ∷ []) one.step)

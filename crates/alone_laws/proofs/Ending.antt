@@ -12,7 +12,7 @@ use Rattle.node_model.specs.Packets.{settled_for}
 use Rattle.node_model.specs.Starts.{delete_for}
 use Rattle.node_model.specs.Stepped.{stepped}
 use Rattle.alone_laws.specs.Alone.{alone}
-use Rattle.alone_laws.specs.Tables.{TableNode, known_as, with_chain}
+use Rattle.alone_laws.specs.Tables.{TableNode, chain_at, extended, known_as, with_entry}
 use Rattle.alone_laws.specs.Resting.{IsResting, IsTaken}
 use Rattle.alone_laws.specs.Settling.{Settling, SettlesOn, begins_with}
 use Rattle.alone_laws.proofs.Frames.{given_as, same_then}
@@ -45,13 +45,13 @@ settles_after setup step begun t replies receipts is ends =
     (settles_on setup begun (settling ends.kept [] replies receipts) t ends.leads refl ends.resting)
 
 module _ (first validity : ℕ) (k : Kept) (t : TableNode) (id : ℕ) (decree : Decree) (held : List Held) (replies : List Reply) (calm : IsCalm k t)
-    (held_is : k.held ≡ held) (taken : IsTaken k id (decree ∷ t.table id))
-    (answered : AllAnswered (alone first validity) id (decree ∷ t.table id) held replies) where
+    (held_is : k.held ≡ held) (taken : IsTaken k id (decree ∷ chain_at t.table id))
+    (answered : AllAnswered (alone first validity) id (decree ∷ chain_at t.table id) held replies) where
   abbrev setup : Setup
   setup = alone first validity
 
   abbrev old : List Decree
-  old = t.table id
+  old = chain_at t.table id
 
   abbrev chain : List Decree
   chain = decree ∷ old
@@ -63,7 +63,7 @@ module _ (first validity : ℕ) (k : Kept) (t : TableNode) (id : ℕ) (decree : 
   receipts = receipts_of 1 id (known_as old) chain
 
   carried : Carried first validity id old decree k
-  carried = round_carried first validity id old decree k calm.up (calm.message id)
+  carried = round_carried first validity id old decree k calm.up (calm.message id).ready
 
   abbrev voted : Kept
   voted = carried.voted
@@ -96,11 +96,11 @@ module _ (first validity : ℕ) (k : Kept) (t : TableNode) (id : ℕ) (decree : 
       leads_then setup _ _ _ (carried.leads [] [])
       (leads_on setup voted (Voted 1 (slot_at id (length old)) (vote first validity id old decree k)) [] [] [] (sends end [] replies receipts) last_step)
 
-  round_rests : IsResting end (record t { table = with_chain t.table id chain })
+  round_rests : IsResting end (record t { table = with_entry t.table id (extended old decree) })
   round_rests =
-      rests_with k end t id chain calm (same_then id k voted end carried.same (known_same first validity id old decree b voted [])) refl
+      rests_with k end t id (extended old decree) calm (same_then id k voted end carried.same (known_same first validity id old decree b voted [])) refl
       (known_rests first validity id old decree b voted [] carried.under taken_then)
 
   pub round_ends : Ends setup (settling (with_message k id (tried first validity id old decree k)) (Prepare 1 (slot_at id (length old)) b ∷ []) [] [])
-      (record t { table = with_chain t.table id chain }) replies receipts
+      (record t { table = with_entry t.table id (extended old decree) }) replies receipts
   round_ends = record { kept = end; leads = round_leads; resting = round_rests }

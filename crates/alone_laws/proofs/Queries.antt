@@ -19,14 +19,13 @@ use Rattle.node_model.specs.Starts.{follow}
 use Rattle.node_model.specs.Stepped.{stepped}
 use Rattle.node_model.specs.Ticks.{begun_with}
 use Rattle.alone_laws.specs.Alone.{alone}
-use Rattle.alone_laws.specs.Tables.{TableNode, known_as, receipts_by, reply_to, requested, shown}
+use Rattle.alone_laws.specs.Tables.{TableNode, known_as, receipts_by, reply_to, requested, shown, chain_at}
 use Rattle.alone_laws.specs.Resting.{IsResting, IsTakenIfAny}
 use Rattle.alone_laws.specs.Settling.{SettlesOn}
-use Rattle.alone_laws.proofs.Frames.{rest_as, same_held}
 use Rattle.alone_laws.proofs.Leading.{leads_on, leads_sending, leads_then}
 use Rattle.alone_laws.proofs.Deliveries.{ask_delivered}
 use Rattle.alone_laws.proofs.Ending.{settles_after}
-use Rattle.alone_laws.proofs.Calm.{IsCalm, arrived, calm_arrived, held_arrived, newcomer, noted, rests_with}
+use Rattle.alone_laws.proofs.Calm.{IsCalm, arrived, calm_arrived, held_arrived, newcomer, noted, rests_still}
 use Rattle.alone_laws.proofs.Asking.{IsReachedBy, answer_given, name, tell_delivered, told_is_reached}
 
 -- ---- a chain that stays as it was has no receipt
@@ -71,7 +70,7 @@ module _ (first validity : ℕ) (k : Kept) (t : TableNode) (id : ℕ) (account s
   new = newcomer k request
 
   abbrev old : List Decree
-  old = t.table id
+  old = chain_at t.table id
 
   abbrev told : Option TopVote
   told = told_of k.records id
@@ -86,10 +85,10 @@ module _ (first validity : ℕ) (k : Kept) (t : TableNode) (id : ℕ) (account s
   calm = calm_arrived k t request resting
 
   reached : IsReachedBy id old told
-  reached = told_is_reached k id old (resting.message id)
+  reached = told_is_reached k id old (resting.message id).ready
 
   known_is : known ≡ known_as old
-  known_is = (resting.message id).known
+  known_is = (resting.message id).ready.known
 
   begun_is : stepped setup k (Arrival request) ≡ begun_with setup k new (record { kept = k0; packets = [] })
   begun_is = rw resting.up refl
@@ -120,5 +119,5 @@ module _ (first validity : ℕ) (k : Kept) (t : TableNode) (id : ℕ) (account s
         leads =
             leads_then setup _ _ _ (leads_sending setup k0 (Ask 1 id named) [] [] [] k0 (Tell 1 named told ∷ []) (ask_delivered first validity k0 calm.up id named))
             (leads_on setup k0 (Tell 1 named told) [] [] [] (sends end [] (reply_to t request ∷ []) []) answered);
-        resting = rests_with k0 end (noted t request) id old calm (same_held k0 id []) refl (rest_as k0 end id old refl (λ place. refl) (λ given. given) (calm.message id));
+        resting = rests_still k0 (noted t request) calm;
       }))

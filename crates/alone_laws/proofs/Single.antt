@@ -8,23 +8,12 @@ use Rattle.node_model.specs.Kept.{Kept}
 use Rattle.node_model.specs.Proposer.{Start}
 use Rattle.node_model.specs.Starts.{is_idle, start_behind}
 use Rattle.alone_laws.specs.Alone.{alone}
-use Rattle.alone_laws.specs.Tables.{TableNode, known_as, with_chain}
+use Rattle.alone_laws.specs.Tables.{TableNode, chain_at, extended, known_as, with_entry}
 use Rattle.alone_laws.specs.Resting.{IsResting, IsTaken}
 use Rattle.alone_laws.specs.Settling.{SettlesOn, round_begun}
 use Rattle.alone_laws.proofs.Carrying.{round_starts}
 use Rattle.alone_laws.proofs.Ending.{AllAnswered, round_ends, settles_after}
-use Rattle.alone_laws.proofs.Calm.{IsCalm}
-
-pub calm_at_rest : (k : Kept) (t : TableNode) → IsResting k t → IsCalm k t
-calm_at_rest k t resting = record {
-  up = resting.up;
-  life = resting.life;
-  incarnation = resting.incarnation;
-  clock = resting.clock;
-  serial = resting.serial;
-  ticket = resting.ticket;
-  message = resting.message;
-}
+use Rattle.alone_laws.proofs.Calm.{calm_at_rest}
 
 -- nobody waits, and nobody is answered
 pub none_answered : (first validity : ℕ) (k : Kept) (id : ℕ) (decree : Decree) (old : List Decree) → IsTaken k id (decree ∷ old) →
@@ -40,10 +29,10 @@ none_answered first validity k id decree old taken = record {
     by_idle true start = refl
     by_idle false start = refl
 
-pub round_settles : (first validity : ℕ) (k : Kept) (t : TableNode) → IsResting k t → (id : ℕ) (decree : Decree) → IsTaken k id (decree ∷ t.table id) →
-    SettlesOn (alone first validity) (round_begun (alone first validity) k id decree (t.table id)) (record t { table = with_chain t.table id (decree ∷ t.table id) }) []
-    (receipts_of 1 id (known_as (t.table id)) (decree ∷ t.table id))
+pub round_settles : (first validity : ℕ) (k : Kept) (t : TableNode) → IsResting k t → (id : ℕ) (decree : Decree) → IsTaken k id (decree ∷ chain_at t.table id) →
+    SettlesOn (alone first validity) (round_begun (alone first validity) k id decree (chain_at t.table id)) (record t { table = with_entry t.table id (extended (chain_at t.table id) decree) }) []
+    (receipts_of 1 id (known_as (chain_at t.table id)) (decree ∷ chain_at t.table id))
 round_settles first validity k t resting id decree taken =
-    settles_after (alone first validity) _ _ (record t { table = with_chain t.table id (decree ∷ t.table id) }) [] (receipts_of 1 id (known_as (t.table id)) (decree ∷ t.table id))
-    (ap concluded_then (round_starts first validity id (t.table id) decree k (resting.message id)))
-    (round_ends first validity k t id decree [] [] (calm_at_rest k t resting) resting.waits taken (none_answered first validity k id decree (t.table id) taken))
+    settles_after (alone first validity) _ _ (record t { table = with_entry t.table id (extended (chain_at t.table id) decree) }) [] (receipts_of 1 id (known_as (chain_at t.table id)) (decree ∷ chain_at t.table id))
+    (ap concluded_then (round_starts first validity id (chain_at t.table id) decree k (resting.message id).ready))
+    (round_ends first validity k t id decree [] [] (calm_at_rest k t resting) resting.waits taken (none_answered first validity k id decree (chain_at t.table id) taken))

@@ -1,5 +1,5 @@
 -- A round of a node by itself: its Prepare, its promise, its Propose and its vote, and the chain that is known then.
-use Rattle.std.proofs.Common.{◌≡◌, ℕ, ◌<◌, true, List, [], ◌∷◌, get_or, length, map, filter, Option, Some, None, refl, ap, ◌∙◌, arith}
+use Rattle.std.proofs.Common.{◌≡◌, ℕ, ◌<◌, true, List, [], ◌∷◌, get_or, length, map, filter, Option, Some, None, refl, ap, ◌∙◌, arith, false, Bool}
 use Rattle.std.specs.Prelude.{nat_le, nat_lt}
 use Rattle.std.proofs.lemmas.Bool.{le-leb, lt-ltb}
 use Rattle.mc_model.specs.message.Decree.{Decree}
@@ -19,10 +19,11 @@ use Rattle.node_model.specs.Starts.{delete_for}
 use Rattle.node_model.specs.Stepped.{stepped}
 use Rattle.node_model.proofs.Places.{message_here}
 use Rattle.alone_laws.specs.Alone.{alone}
-use Rattle.alone_laws.specs.Tables.{known_as}
+use Rattle.alone_laws.specs.Tables.{known_as, extended}
 use Rattle.alone_laws.specs.Resting.{HasVotes, IsAtRest, IsFresh, IsTaken}
-use Rattle.alone_laws.proofs.Frames.{IsSameBut, message_saved, record_at_other, record_here, same_held, same_saved, same_then, same_with, slot_self, votes_as}
+use Rattle.alone_laws.proofs.Frames.{IsSameBut, message_saved, record_at_other, record_here, same_saved, same_with, slot_self, votes_as, fresh_as}
 use Rattle.alone_laws.proofs.Deliveries.{begun_round, prepare_delivered, promise_delivered, promised_round, propose_delivered, voted_delivered}
+use Rattle.mc_model.specs.node.Outcome.{Outcome}
 
 -- A round for the next decree on a chain that is known: it, and the record of its slot.
 pub record IsUnderWay (id : ℕ) (old : List Decree) (k : Kept) (round : Option Round) (here : SlotRecord) : Type 0 where
@@ -30,6 +31,8 @@ pub record IsUnderWay (id : ℕ) (old : List Decree) (k : Kept) (round : Option 
   pub round_is : (message_at k id).round ≡ round
   pub votes : HasVotes k.records id old
   pub here_is : k.records (slot_at id (length old)) ≡ here
+  pub ungranted : (message_at k id).granted (length old) ≡ false
+  pub unclosed : (message_at k id).closed (length old) ≡ None
   pub beyond : (place : ℕ) → length old < place → IsFresh k id place
 
 -- of what is known the next decree is longer
@@ -60,15 +63,20 @@ module _ (first validity : ℕ) (id : ℕ) (old : List Decree) (decree : Decree)
   promise = record { promised = ballot; vote = None }
 
   pub under_with : (k : Kept) (m : Message) (round new : Option Round) (here : SlotRecord) → IsUnderWay id old k round here → m.known ≡ (message_at k id).known →
-      ((place : ℕ) → length old < place → get_or m.seen place 0 ≡ get_or (message_at k id).seen place 0) → m.round ≡ new → IsUnderWay id old (with_message k id m) new here
-  under_with k m round new here under known seen round_is = record {
+      ((place : ℕ) → length old < place → get_or m.seen place 0 ≡ get_or (message_at k id).seen place 0) → m.round ≡ new → m.granted ≡ (message_at k id).granted →
+      m.closed ≡ (message_at k id).closed → IsUnderWay id old (with_message k id m) new here
+  under_with k m round new here under known seen round_is granted closed = record {
     known = ap (λ (x : Message). x.known) (message_here k id m) ∙ (known ∙ under.known);
     round_is = ap (λ (x : Message). x.round) (message_here k id m) ∙ round_is;
     votes = under.votes;
     here_is = under.here_is;
+    ungranted = ap (λ (x : Message). x.granted (length old)) (message_here k id m) ∙ (ap (λ (f : ℕ → Bool). f (length old)) granted ∙ under.ungranted);
+    unclosed = ap (λ (x : Message). x.closed (length old)) (message_here k id m) ∙ (ap (λ (f : ℕ → Option Outcome). f (length old)) closed ∙ under.unclosed);
     beyond = λ place above. record {
       record_is = (under.beyond place above).record_is;
       seen = ap (λ (x : Message). get_or x.seen place 0) (message_here k id m) ∙ (seen place above ∙ (under.beyond place above).seen);
+      ungranted = ap (λ (x : Message). x.granted place) (message_here k id m) ∙ (ap (λ (f : ℕ → Bool). f place) granted ∙ (under.beyond place above).ungranted);
+      unclosed = ap (λ (x : Message). x.closed place) (message_here k id m) ∙ (ap (λ (f : ℕ → Option Outcome). f place) closed ∙ (under.beyond place above).unclosed);
     };
   }
 
@@ -78,10 +86,10 @@ module _ (first validity : ℕ) (id : ℕ) (old : List Decree) (decree : Decree)
     round_is = ap (λ (x : Message). x.round) (message_saved k slot r id) ∙ under.round_is;
     votes = votes_as k.records (saved k slot r).records id old (λ place below. at_other place (λ same. omega arith)) under.votes;
     here_is = record_here k.records slot r;
-    beyond = λ place above. record {
-      record_is = at_other place (λ same. omega arith) ∙ (under.beyond place above).record_is;
-      seen = ap (λ (x : Message). get_or x.seen place 0) (message_saved k slot r id) ∙ (under.beyond place above).seen;
-    };
+    ungranted = ap (λ (x : Message). x.granted (length old)) (message_saved k slot r id) ∙ under.ungranted;
+    unclosed = ap (λ (x : Message). x.closed (length old)) (message_saved k slot r id) ∙ under.unclosed;
+    beyond = λ place above.
+        fresh_as k (saved k slot r) id place (message_saved k slot r id) (at_other place (λ same. omega arith)) (under.beyond place above);
   }
     where
       at_other : (place : ℕ) → (place ≡ length old → ⊥) → (saved k slot r).records (slot_at id place) ≡ k.records (slot_at id place)
@@ -110,8 +118,8 @@ module _ (first validity : ℕ) (id : ℕ) (old : List Decree) (decree : Decree)
   promise_advances k up under = record {
     new = with_message k id (record (message_at k id) { round = promised });
     step = promise_delivered first validity k up slot ballot chain under.round_is;
-    under = under_with k (record (message_at k id) { round = promised }) begun promised promise under refl (λ place above. refl) refl;
-    same = same_with k id (record (message_at k id) { round = promised });
+    under = under_with k (record (message_at k id) { round = promised }) begun promised promise under refl (λ place above. refl) refl refl refl;
+    same = same_with k id (record (message_at k id) { round = promised }) k.held;
     held = refl;
   }
 
@@ -141,25 +149,31 @@ module _ (first validity : ℕ) (id : ℕ) (old : List Decree) (decree : Decree)
 
   -- the message is at rest, whoever still waits
   pub known_rests : (k : Kept) (held : List Held) → IsUnderWay id old k promised (after_vote vote) → IsTaken k id chain →
-      IsAtRest (known_with k held) id chain
+      IsAtRest (known_with k held) id (extended old decree)
   known_rests k held under taken = record {
-    known = ap (λ (x : Message). x.known) here;
-    idle = ap (λ (x : Message). x.round) here ∙ idle_then (message_at k id).round under.round_is;
-    votes = ((ballot, ap (λ (r : SlotRecord). r.vote) under.here_is), under.votes);
-    beyond = λ place above. record {
-      record_is = (under.beyond place (omega (arith, above))).record_is;
-      seen = ap (λ (x : Message). get_or x.seen place 0) here ∙ (under.beyond place (omega (arith, above))).seen;
+    ready = record {
+      known = ap (λ (x : Message). x.known) here;
+      idle = ap (λ (x : Message). x.round) here ∙ idle_then (message_at k id).round under.round_is;
+      votes = ((ballot, ap (λ (r : SlotRecord). r.vote) under.here_is), under.votes);
+      beyond = λ place above.
+          let fresh = under.beyond place (omega (arith, above)) in
+          record {
+            record_is = fresh.record_is;
+            seen = ap (λ (x : Message). get_or x.seen place 0) here ∙ fresh.seen;
+            ungranted = ap (λ (x : Message). x.granted place) here ∙ fresh.ungranted;
+            unclosed = ap (λ (x : Message). x.closed place) here ∙ fresh.unclosed;
+          };
     };
     taken = record { message = taken.message; taken = taken.taken; given = taken.given };
+    granted = ap (λ (x : Message). x.granted (length old)) here ∙ under.ungranted;
+    unclosed = ap (λ (x : Message). x.closed (length old)) here ∙ under.unclosed;
   }
     where
       here : message_at (known_with k held) id ≡ known_then (learned k) chain
       here = message_here k id (known_then (learned k) chain)
 
   pub known_same : (k : Kept) (held : List Held) → IsSameBut id k (known_with k held)
-  known_same k held =
-      same_then id k (with_message k id (known_then (learned k) chain)) (known_with k held) (same_with k id (known_then (learned k) chain))
-      (same_held (with_message k id (known_then (learned k) chain)) id held)
+  known_same k held = same_with k id (known_then (learned k) chain) held
 
   -- its vote is delivered, and no deletion is to be started then
   pub vote_ends : (k : Kept) → k.up ≡ true → IsUnderWay id old k promised (after_vote vote) → IsTaken k id chain →

@@ -1,5 +1,5 @@
 -- A submit_sm comes to a node by itself, which settles.
-use Rattle.std.proofs.Common.{◌≡◌, ℕ, suc, true, List, [], ◌∷◌, length, Option, Some, refl, sym, ap, ◌∙◌, inl, inr, arith}
+use Rattle.std.proofs.Common.{◌≡◌, ℕ, suc, true, List, [], ◌∷◌, length, Option, Some, refl, sym, ap, ◌∙◌, inl, inr, arith, subst}
 use Rattle.std.specs.Prelude.{◌==◌, ◌&&◌, nat_lt}
 use Rattle.std.proofs.lemmas.Bool.{and_from, and_parts, eq-eqb, lt-ltb, ltb-true, or_cases, or_right}
 use Rattle.mc_model.specs.message.Decree.{Decree, Taken}
@@ -16,13 +16,14 @@ use Rattle.node_model.specs.Starts.{take_for}
 use Rattle.node_model.specs.Stepped.{stepped}
 use Rattle.node_model.specs.Ticks.{begun_with}
 use Rattle.alone_laws.specs.Alone.{alone}
-use Rattle.alone_laws.specs.Tables.{TableNode, decree_by, moment_behind, receipts_by, reply_to, requested}
+use Rattle.alone_laws.specs.Tables.{TableNode, decree_by, moment_behind, receipts_by, reply_to, requested, chain_at, Entry, extended, known_as}
 use Rattle.alone_laws.specs.Resting.{IsResting, IsTaken, IsTakenIfAny}
 use Rattle.alone_laws.specs.Settling.{SettlesOn}
-use Rattle.alone_laws.proofs.Frames.{eqb_self}
+use Rattle.alone_laws.proofs.Frames.{eqb_self, entry_here}
 use Rattle.alone_laws.proofs.Carrying.{ballot, round_starts, start, tried}
 use Rattle.alone_laws.proofs.Ending.{AllAnswered, round_ends, settles_after}
 use Rattle.alone_laws.proofs.Calm.{IsCalm, arrived, calm_arrived, held_arrived, newcomer, noted}
+use Rattle.node_model.specs.Answers.{receipts_of}
 
 -- ---- the next id
 
@@ -68,7 +69,7 @@ module _ (first validity : ℕ) (k : Kept) (t : TableNode) (id : ℕ) (message :
   new = newcomer k request
 
   abbrev old : List Decree
-  old = t.table id
+  old = chain_at t.table id
 
   abbrev decree : Decree
   decree = decree_by t old (Taken message)
@@ -103,7 +104,7 @@ module _ (first validity : ℕ) (k : Kept) (t : TableNode) (id : ℕ) (message :
       let up : stepped setup k (Arrival request) ≡ begun_with setup k new (started setup k0 id (take_for setup k new request)) = rw resting.up refl in
       up
       ∙ (ap (λ (o : Option Start). begun_with setup k new (started setup k0 id o)) start_is
-      ∙ ap (begun_with setup k new) (round_starts first validity id old decree k0 (calm.message id)))
+      ∙ ap (begun_with setup k new) (round_starts first validity id old decree k0 (calm.message id).ready))
 
   taken : IsTaken k0 id chain
   taken = record { message = message; taken = refl; given = given_now k id resting.life serial id_is }
@@ -119,7 +120,12 @@ module _ (first validity : ℕ) (k : Kept) (t : TableNode) (id : ℕ) (message :
   held_is : k0.held ≡ new ∷ []
   held_is = held_arrived k t request resting
 
+  abbrev Comes : List Decree → Type 0
+  Comes now =
+      SettlesOn setup (stepped setup k (Arrival request)) (requested t request) (reply_to t request ∷ []) (receipts_of 1 id (known_as old) now)
+
   pub submit_settles : SettlesOn setup (stepped setup k (Arrival request)) (requested t request) (reply_to t request ∷ []) (receipts_by t request)
   submit_settles =
-      settles_after setup _ _ (requested t request) (reply_to t request ∷ []) (receipts_by t request) begun_is
-      (round_ends first validity k0 (noted t request) id decree (new ∷ []) (reply_to t request ∷ []) calm held_is taken answered)
+      subst Comes (sym (ap (λ (e : Entry). e.chain) (entry_here t.table id (extended old decree))))
+      (settles_after setup _ _ (requested t request) (reply_to t request ∷ []) (receipts_of 1 id (known_as old) chain) begun_is
+      (round_ends first validity k0 (noted t request) id decree (new ∷ []) (reply_to t request ∷ []) calm held_is taken answered))

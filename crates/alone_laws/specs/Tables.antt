@@ -1,6 +1,10 @@
 -- The table of a node by itself: the chain of each message, and what a request makes of it and is answered (own; SMPP 3.4, 4.4.2,
 -- 4.8.2 and 4.9.2).
-use Rattle.std.specs.Prelude.{◌≡◌, ℕ, suc, max, Bool, false, ◌==◌, ◌&&◌, List, [], ◌∷◌, Option, Some, None, if◌then◌else◌}
+use Rattle.std.specs.Prelude.{◌≡◌, ℕ, suc, max, Bool, false, ◌&&◌, List, [], ◌∷◌, Option, Some, None, if◌then◌else◌}
+use Rattle.std.specs.Option.{unwrap_or}
+use Rattle.std.specs.Ordering.{nat_cmp}
+use Rattle.std.specs.Map.{lookup}
+use Rattle.std.specs.BTreeMap.{insert_entry, is_at}
 use Rattle.mc_model.specs.message.Ids.{IsSerial, id_of}
 use Rattle.mc_model.specs.message.Submission.{Submission}
 use Rattle.mc_model.specs.message.Decree.{Decree, Deleted, Fate, Kind, Taken}
@@ -12,9 +16,27 @@ use Rattle.mc_model.specs.node.Replies.{Accepted, Answer, Kept, NotMatched, NotO
 use Rattle.node_model.specs.Answers.{is_match, is_owner, receipts_of}
 use Rattle.node_model.specs.Starts.{is_idle}
 
--- the decrees on each message, the newest first, and none if there is no such message
+-- The decrees on a message, the newest first, and whether the newest is an attempt that was granted.
+pub record Entry : Type 0 where
+  pub chain : List Decree
+  pub granted : Bool
+
+-- from id to entry, the ids ascending
 abbrev pub Table : Type 0
-Table = ℕ → List Decree
+Table = List (ℕ × Entry)
+
+-- there is no such message
+abbrev pub nothing : Entry
+nothing = record { chain = []; granted = false }
+
+abbrev pub entry_at : Table → ℕ → Entry
+entry_at table id = unwrap_or (lookup (is_at (nat_cmp id)) table) nothing
+
+abbrev pub chain_at : Table → ℕ → List Decree
+chain_at table id = (entry_at table id).chain
+
+abbrev pub with_entry : Table → ℕ → Entry → Table
+with_entry table id entry = insert_entry nat_cmp table id entry
 
 -- The table, the incarnation and the clock of its node, the serial of the next message and the ticket of the next request.
 pub record TableNode : Type 0 where
@@ -26,11 +48,7 @@ pub record TableNode : Type 0 where
 
 -- of a node that has a new store: there is no message
 abbrev pub new_table : ℕ → TableNode
-new_table first_serial = record { incarnation = 1; clock = opening_clock; serial = first_serial; ticket = 1; table = λ id. [] }
-
--- the table with another chain of one message
-abbrev pub with_chain : Table → ℕ → List Decree → Table
-with_chain table id chain = λ other. if other == id then chain else table other
+new_table first_serial = record { incarnation = 1; clock = opening_clock; serial = first_serial; ticket = 1; table = [] }
 
 -- what is known of a message with this chain
 abbrev pub known_as : List Decree → Option (List Decree)
@@ -52,8 +70,12 @@ decree_by t chain kind = record {
   kind = kind;
 }
 
-abbrev pub decreed : TableNode → List Decree → Kind → List Decree
-decreed t chain kind = decree_by t chain kind ∷ chain
+-- one decree more stands on the chain
+abbrev pub extended : List Decree → Decree → Entry
+extended chain decree = record { chain = decree ∷ chain; granted = false }
+
+abbrev pub decreed : TableNode → ℕ → Kind → Table
+decreed t id kind = with_entry t.table id (extended (chain_at t.table id) (decree_by t (chain_at t.table id) kind))
 
 -- ---- what a request is answered, by the chain then
 
@@ -81,7 +103,7 @@ answer_by (Submit id message) chain = Accepted
 answer_by (Query id account source) chain = shown account source chain (taken_in chain)
 answer_by (Cancel id account source destination) chain = cancelled account source destination chain (taken_in chain)
 
--- ---- what a request makes of the chain of its message
+-- ---- what a request makes of the table
 
 abbrev pub is_meant : List ℕ → List ℕ → List ℕ → Option Submission → Bool
 is_meant account source destination None = false
@@ -93,11 +115,11 @@ is_deleted account source destination [] = false
 is_deleted account source destination (newest ∷ older) =
     is_idle newest.kind && is_meant account source destination (taken_in (newest ∷ older))
 
-abbrev pub chain_by : TableNode → Request → List Decree → List Decree
-chain_by t (Submit id message) chain = decreed t chain (Taken message)
-chain_by t (Query id account source) chain = chain
-chain_by t (Cancel id account source destination) chain =
-    if is_deleted account source destination chain then decreed t chain (Fate Deleted 0) else chain
+abbrev pub table_by : TableNode → Request → Table
+table_by t (Submit id message) = decreed t id (Taken message)
+table_by t (Query id account source) = t.table
+table_by t (Cancel id account source destination) =
+    if is_deleted account source destination (chain_at t.table id) then decreed t id (Fate Deleted 0) else t.table
 
 -- ---- a request comes to the table
 
@@ -111,19 +133,18 @@ MayCome t (Submit id message) = IsNext t id
 MayCome t (Query id account source) = Unit {0}
 MayCome t (Cancel id account source destination) = Unit {0}
 
-abbrev pub chain_then : TableNode → Request → List Decree
-chain_then t request = chain_by t request (t.table (id_in request))
-
 abbrev pub requested : TableNode → Request → TableNode
-requested t request = record t {
-  serial = next_serial request t.serial;
-  ticket = suc t.ticket;
-  table = with_chain t.table (id_in request) (chain_then t request);
-}
+requested t request = record t { serial = next_serial request t.serial; ticket = suc t.ticket; table = table_by t request }
 
+-- it is answered by the table then
 abbrev pub reply_to : TableNode → Request → Reply
-reply_to t request = record { ticket = t.ticket; id = id_in request; answer = answer_by request (chain_then t request) }
+reply_to t request = record {
+  ticket = t.ticket;
+  id = id_in request;
+  answer = answer_by request (chain_at (table_by t request) (id_in request));
+}
 
 -- a receipt is due on a final state that there was not before
 abbrev pub receipts_by : TableNode → Request → List Receipt
-receipts_by t request = receipts_of 1 (id_in request) (known_as (t.table (id_in request))) (chain_then t request)
+receipts_by t request =
+    receipts_of 1 (id_in request) (known_as (chain_at t.table (id_in request))) (chain_at (table_by t request) (id_in request))

@@ -5,7 +5,7 @@ ghost use Rattle.mc_model.specs.message.Decree.{Decree};
 ghost use Rattle.node_model.specs.Kept.{Kept};
 ghost use Rattle.node_model.specs.Answers.{receipts_of};
 ghost use Rattle.alone_laws.specs.Alone.{alone};
-ghost use Rattle.alone_laws.specs.Tables.{TableNode, known_as, with_chain};
+ghost use Rattle.alone_laws.specs.Tables.{TableNode, chain_at, extended, known_as, with_entry};
 ghost use Rattle.alone_laws.specs.Resting.{IsResting, IsTaken};
 ghost use Rattle.alone_laws.specs.Settling.{SettlesOn, round_begun};
 
@@ -14,7 +14,8 @@ ghost use Rattle.alone_laws.specs.Settling.{SettlesOn, round_begun};
 /// goes out if the decree is a final state for which one was asked.
 pub fn a_round_settles()
     ensures { (first_serial default_validity : ℕ) (k : Kept) (t : TableNode) → IsResting k t → (id : ℕ) (decree : Decree) →
-        IsTaken k id (decree ∷ t.table id) →
-        SettlesOn (alone first_serial default_validity) (round_begun (alone first_serial default_validity) k id decree (t.table id))
-        (record t { table = with_chain t.table id (decree ∷ t.table id) }) [] (receipts_of 1 id (known_as (t.table id)) (decree ∷ t.table id)) }
+        IsTaken k id (decree ∷ chain_at t.table id) →
+        SettlesOn (alone first_serial default_validity) (round_begun (alone first_serial default_validity) k id decree (chain_at t.table id))
+        (record t { table = with_entry t.table id (extended (chain_at t.table id) decree) }) []
+        (receipts_of 1 id (known_as (chain_at t.table id)) (decree ∷ chain_at t.table id)) }
 {}
