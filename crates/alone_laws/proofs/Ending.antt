@@ -1,6 +1,7 @@
 -- A round of a node by itself, from its start to its end, at which whoever waits is answered.
-use Rattle.std.proofs.Common.{◌≡◌, ℕ, List, [], ◌∷◌, length, map, filter, Some, None, refl, sym, ap, subst, ◌∙◌}
-use Rattle.mc_model.specs.message.Decree.{Decree}
+use Rattle.std.proofs.Common.{◌≡◌, ℕ, List, [], ◌∷◌, length, map, filter, Some, None, refl, sym, ap, subst, ◌∙◌, Bool, false, Option}
+use Rattle.std.specs.Prelude.{Bool, true, false, ◌&&◌, if◌then◌else◌}
+use Rattle.mc_model.specs.message.Decree.{Decree, Fate, Deleted}
 use Rattle.mc_model.specs.synod.Packet.{Prepare, Voted, slot_at}
 use Rattle.mc_model.specs.node.Input.{Delivery}
 use Rattle.mc_model.specs.node.Outputs.{Receipt, Reply}
@@ -9,7 +10,7 @@ use Rattle.node_model.specs.Kept.{Held, Kept, with_message}
 use Rattle.node_model.specs.Answers.{receipts_of, replies_to, still_waits}
 use Rattle.node_model.specs.Outputs.{Stepped, sends}
 use Rattle.node_model.specs.Packets.{settled_for}
-use Rattle.node_model.specs.Starts.{delete_for}
+use Rattle.node_model.specs.Starts.{delete_for, start_behind, delete_of, is_idle}
 use Rattle.node_model.specs.Stepped.{stepped}
 use Rattle.alone_laws.specs.Alone.{alone}
 use Rattle.alone_laws.specs.Tables.{TableNode, chain_at, extended, known_as, with_entry}
@@ -20,6 +21,8 @@ use Rattle.alone_laws.proofs.Leading.{Leads, leads_on, leads_then, settles_on, s
 use Rattle.alone_laws.proofs.Stages.{known_rests, known_same, known_with, settled_held, vote_ends}
 use Rattle.alone_laws.proofs.Carrying.{Carried, ballot, round_carried, tried, vote}
 use Rattle.alone_laws.proofs.Calm.{IsCalm, rests_with}
+use Rattle.mc_model.specs.message.Submission.{Submission}
+use Rattle.mc_model.specs.message.Chain.{taken_in}
 
 -- What the chain makes of those who wait: nobody is to be settled, nothing is to be deleted, and all are answered so.
 pub record AllAnswered (setup : Setup) (id : ℕ) (chain : List Decree) (held : List Held) (replies : List Reply) : Type 0 where
@@ -27,6 +30,18 @@ pub record AllAnswered (setup : Setup) (id : ℕ) (chain : List Decree) (held : 
   pub undeleted : (k : Kept) → delete_for setup k id held (Some chain) ≡ None
   pub gone : filter (still_waits 1 (Some chain) id) held ≡ []
   pub told : replies_to 1 (Some chain) id held ≡ replies
+
+-- nothing is deleted for nobody
+pub nobody_deletes : (setup : Setup) (k : Kept) (id : ℕ) (newest : Decree) (older : List Decree) → delete_for setup k id [] (Some (newest ∷ older)) ≡ None
+nobody_deletes setup k id newest older = by_taken (taken_in (newest ∷ older))
+  where
+    by_idle : (idle : Bool) → (if idle && false then Some (start_behind setup k newest older (Fate Deleted 0)) else None) ≡ None
+    by_idle true = refl
+    by_idle false = refl
+
+    by_taken : (taken : Option Submission) → delete_of setup k id [] newest older taken ≡ None
+    by_taken None = refl
+    by_taken (Some message) = by_idle (is_idle newest.kind)
 
 -- deliveries lead to a node at rest
 pub record Ends (setup : Setup) (s : Settling) (t : TableNode) (replies : List Reply) (receipts : List Receipt) : Type 0 where

@@ -12,3 +12,7 @@ pub mod Asking
 pub mod Queries
 pub mod Cancels
 pub mod AnyRequest
+pub mod Rules
+pub mod Apart
+pub mod Phases
+pub mod SideBySide

@@ -3,3 +3,4 @@ pub mod Alone
 pub mod Tables
 pub mod Resting
 pub mod Settling
+pub mod Ticks
