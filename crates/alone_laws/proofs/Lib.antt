@@ -16,3 +16,7 @@ pub mod Rules
 pub mod Apart
 pub mod Phases
 pub mod SideBySide
+pub mod Grounds
+pub mod Ruling
+pub mod Mapped
+pub mod Clocked

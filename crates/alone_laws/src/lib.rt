@@ -4,7 +4,9 @@
 mod openings;
 mod requests;
 mod rounds;
+mod ticks;
 
 pub use openings::a_new_node_is_at_rest;
 pub use requests::a_request_settles;
 pub use rounds::a_round_settles;
+pub use ticks::a_tick_settles;
