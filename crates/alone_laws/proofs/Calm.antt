@@ -29,8 +29,33 @@ pub record IsCalm (k : Kept) (t : TableNode) : Type 0 where
   pub ascends : IsStrictlySortedBy nat_cmp (keys_of t.table)
   pub message : (id : ℕ) → IsAtRest k id (entry_at t.table id)
 
--- one message has another entry, and nobody waits any more
-pub rests_with : (k new : Kept) (t : TableNode) (id : ℕ) (entry : Entry) → IsCalm k t → IsSameBut id k new → new.held ≡ [] → IsAtRest new id entry →
+-- but for one message
+pub record IsCalmBut (id : ℕ) (k : Kept) (t : TableNode) : Type 0 where
+  pub up : k.up ≡ true
+  pub life : IsIncarnation k.incarnation
+  pub incarnation : k.incarnation ≡ t.incarnation
+  pub clock : k.clock ≡ t.clock
+  pub serial : k.serial ≡ t.serial
+  pub ticket : k.ticket ≡ t.ticket
+  pub ids : keys_of k.messages ≡ keys_of t.table
+  pub ascends : IsStrictlySortedBy nat_cmp (keys_of t.table)
+  pub message : (other : ℕ) → (other ≡ id → ⊥) → IsAtRest k other (entry_at t.table other)
+
+pub calm_but : (id : ℕ) (k : Kept) (t : TableNode) → IsCalm k t → IsCalmBut id k t
+calm_but id k t calm = record {
+  up = calm.up;
+  life = calm.life;
+  incarnation = calm.incarnation;
+  clock = calm.clock;
+  serial = calm.serial;
+  ticket = calm.ticket;
+  ids = calm.ids;
+  ascends = calm.ascends;
+  message = λ other apart. calm.message other;
+}
+
+-- that message has another entry, and nobody waits any more
+pub rests_with : (k new : Kept) (t : TableNode) (id : ℕ) (entry : Entry) → IsCalmBut id k t → IsSameBut id k new → new.held ≡ [] → IsAtRest new id entry →
     IsResting new (record t { table = with_entry t.table id entry })
 rests_with k new t id entry calm same waits rest = record {
   up = same.up ∙ calm.up;
@@ -42,7 +67,7 @@ rests_with k new t id entry calm same waits rest = record {
   waits = waits;
   ids = same.ids ∙ (ap (λ (ids : List ℕ). insert_key nat_cmp ids id) calm.ids ∙ sym (keys_with t.table id entry));
   ascends = still_ascends t.table id entry calm.ascends;
-  message = each_at_rest new t.table id entry rest (λ other apart. rest_but id k new same other apart (entry_at t.table other) (calm.message other));
+  message = each_at_rest new t.table id entry rest (λ other apart. rest_but id k new same other apart (entry_at t.table other) (calm.message other apart));
 }
 
 -- or the request that waited is all that has gone

@@ -30,7 +30,7 @@ use Rattle.alone_laws.proofs.Leading.{Leads, leads_on, leads_sending, leads_then
 use Rattle.alone_laws.proofs.Deliveries.{ask_delivered}
 use Rattle.alone_laws.proofs.Carrying.{ballot, round_starts, start, tried}
 use Rattle.alone_laws.proofs.Ending.{AllAnswered, ends_after, round_ends, settles_after}
-use Rattle.alone_laws.proofs.Calm.{IsCalm, arrived, calm_arrived, held_arrived, newcomer, noted, rests_still, calm_with}
+use Rattle.alone_laws.proofs.Calm.{IsCalm, arrived, calm_arrived, held_arrived, newcomer, noted, rests_still, calm_with, calm_but}
 use Rattle.alone_laws.proofs.Asking.{IsReachedBy, answer_given, name, tell_delivered, told_is_reached}
 use Rattle.alone_laws.proofs.Queries.{no_receipt}
 
@@ -237,7 +237,7 @@ module _ (first validity : ℕ) (k : Kept) (t : TableNode) (id : ℕ) (account s
         (receipts_of 1 id (known_as old) (decree ∷ old)) begun_is
         (ends_after setup _ _ (record (noted t request) { table = with_entry t.table id (extended old decree) }) (reply_for (decree ∷ old) ∷ []) (receipts_of 1 id (known_as old) (decree ∷ old))
         (asked _ _ [] told_then)
-        (round_ends first validity k1 (noted t request) id decree (held ∷ []) (reply_for (decree ∷ old) ∷ []) calm_then held_is taken_then answered))
+        (round_ends first validity k1 (noted t request) id decree (held ∷ []) (reply_for (decree ∷ old) ∷ []) (calm_but id k1 (noted t request) calm_then) (calm_then.message id).ready held_is taken_then answered))
 
   pub cancel_settles : SettlesOn setup (stepped setup k (Arrival request)) (requested t request) (reply_to t request ∷ []) (receipts_by t request)
   cancel_settles = by_test (is_deleted account source destination old) refl

@@ -14,13 +14,13 @@ use Rattle.node_model.specs.Starts.{delete_for, start_behind, delete_of, is_idle
 use Rattle.node_model.specs.Stepped.{stepped}
 use Rattle.alone_laws.specs.Alone.{alone}
 use Rattle.alone_laws.specs.Tables.{TableNode, chain_at, extended, known_as, with_entry}
-use Rattle.alone_laws.specs.Resting.{IsResting, IsTaken}
+use Rattle.alone_laws.specs.Resting.{IsReady, IsResting, IsTaken}
 use Rattle.alone_laws.specs.Settling.{Settling, SettlesOn, begins_with}
 use Rattle.alone_laws.proofs.Frames.{given_as, same_then}
 use Rattle.alone_laws.proofs.Leading.{Leads, leads_on, leads_then, settles_on, settling}
 use Rattle.alone_laws.proofs.Stages.{known_rests, known_same, known_with, settled_held, vote_ends}
 use Rattle.alone_laws.proofs.Carrying.{Carried, ballot, round_carried, tried, vote}
-use Rattle.alone_laws.proofs.Calm.{IsCalm, rests_with}
+use Rattle.alone_laws.proofs.Calm.{IsCalmBut, rests_with}
 use Rattle.mc_model.specs.message.Submission.{Submission}
 use Rattle.mc_model.specs.message.Chain.{taken_in}
 
@@ -59,7 +59,7 @@ settles_after setup step begun t replies receipts is ends =
     subst (λ (s : Stepped). SettlesOn setup s t replies receipts) (sym is)
     (settles_on setup begun (settling ends.kept [] replies receipts) t ends.leads refl ends.resting)
 
-module _ (first validity : ℕ) (k : Kept) (t : TableNode) (id : ℕ) (decree : Decree) (held : List Held) (replies : List Reply) (calm : IsCalm k t)
+module _ (first validity : ℕ) (k : Kept) (t : TableNode) (id : ℕ) (decree : Decree) (held : List Held) (replies : List Reply) (calm : IsCalmBut id k t) (ready : IsReady k id (chain_at t.table id))
     (held_is : k.held ≡ held) (taken : IsTaken k id (decree ∷ chain_at t.table id))
     (answered : AllAnswered (alone first validity) id (decree ∷ chain_at t.table id) held replies) where
   abbrev setup : Setup
@@ -78,7 +78,7 @@ module _ (first validity : ℕ) (k : Kept) (t : TableNode) (id : ℕ) (decree : 
   receipts = receipts_of 1 id (known_as old) chain
 
   carried : Carried first validity id old decree k
-  carried = round_carried first validity id old decree k calm.up (calm.message id).ready
+  carried = round_carried first validity id old decree k calm.up ready
 
   abbrev voted : Kept
   voted = carried.voted

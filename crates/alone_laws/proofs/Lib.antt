@@ -20,3 +20,5 @@ pub mod Grounds
 pub mod Ruling
 pub mod Mapped
 pub mod Clocked
+pub mod Granting
+pub mod AnyEvent

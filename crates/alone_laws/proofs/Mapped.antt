@@ -60,7 +60,7 @@ less_among id other [] above is_in = absurd is_in
 less_among id other (first ∷ ids) above (inl same) = subst (λ (x : ℕ). nat_cmp id x ≡ Less) (sym same) above.0
 less_among id other (first ∷ ids) above (inr among) = less_among id other ids above.1 among
 
-insert_listed : (id : ℕ) (ids : List ℕ) → IsStrictlySortedBy nat_cmp ids → In id ids → insert_key nat_cmp ids id ≡ ids
+pub insert_listed : (id : ℕ) (ids : List ℕ) → IsStrictlySortedBy nat_cmp ids → In id ids → insert_key nat_cmp ids id ≡ ids
 unfolding IsStrictlySortedBy
 insert_listed id [] ascends is_in = absurd is_in
 insert_listed id (first ∷ ids) ascends (inl same) = let equal : nat_cmp id first ≡ Equal = grind (arith, nat_tests) in rw equal refl

@@ -87,7 +87,7 @@ some_chain : (t : TableNode) (up : List ℕ → Bool) (granted : Bool) (chain : 
 some_chain t up granted [] taken kind is = absurd (cc)
 some_chain t up granted (newest ∷ older) taken kind is = omega arith
 
-taken_now : (k : Kept) (id : ℕ) (chain : List Decree) → 0 < length chain → IsTakenIfAny k id chain → IsTaken k id chain
+pub taken_now : (k : Kept) (id : ℕ) (chain : List Decree) → 0 < length chain → IsTakenIfAny k id chain → IsTaken k id chain
 taken_now k id [] some taken = absurd (omega (arith, some))
 taken_now k id (newest ∷ older) some taken = taken
 

@@ -10,7 +10,7 @@ use Rattle.alone_laws.specs.Resting.{IsResting, IsTaken}
 use Rattle.alone_laws.specs.Settling.{SettlesOn, round_begun}
 use Rattle.alone_laws.proofs.Carrying.{round_starts}
 use Rattle.alone_laws.proofs.Ending.{AllAnswered, round_ends, settles_after, nobody_deletes}
-use Rattle.alone_laws.proofs.Calm.{calm_at_rest}
+use Rattle.alone_laws.proofs.Calm.{calm_at_rest, calm_but}
 
 -- nobody waits, and nobody is answered
 pub none_answered : (first validity : ℕ) (id : ℕ) (decree : Decree) (old : List Decree) → AllAnswered (alone first validity) id (decree ∷ old) [] []
@@ -27,4 +27,4 @@ pub round_settles : (first validity : ℕ) (k : Kept) (t : TableNode) → IsRest
 round_settles first validity k t resting id decree taken =
     settles_after (alone first validity) _ _ (record t { table = with_entry t.table id (extended (chain_at t.table id) decree) }) [] (receipts_of 1 id (known_as (chain_at t.table id)) (decree ∷ chain_at t.table id))
     (ap concluded_then (round_starts first validity id (chain_at t.table id) decree k (resting.message id).ready))
-    (round_ends first validity k t id decree [] [] (calm_at_rest k t resting) resting.waits taken (none_answered first validity id decree (chain_at t.table id)))
+    (round_ends first validity k t id decree [] [] (calm_but id k t (calm_at_rest k t resting)) (resting.message id).ready resting.waits taken (none_answered first validity id decree (chain_at t.table id)))

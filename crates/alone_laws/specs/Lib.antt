@@ -4,3 +4,5 @@ pub mod Tables
 pub mod Resting
 pub mod Settling
 pub mod Ticks
+pub mod Attempts
+pub mod Events

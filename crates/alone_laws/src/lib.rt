@@ -1,11 +1,15 @@
 //! Laws of one node by itself, to which its packets are delivered. The functions do nothing: their contracts are the laws.
 #![tactic(auto)]
 
+mod attempts;
+mod events;
 mod openings;
 mod requests;
 mod rounds;
 mod ticks;
 
+pub use attempts::{a_grant_settles, a_response_settles};
+pub use events::one_node_alone_is_the_table;
 pub use openings::a_new_node_is_at_rest;
 pub use requests::a_request_settles;
 pub use rounds::a_round_settles;
