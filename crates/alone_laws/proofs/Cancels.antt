@@ -1,5 +1,5 @@
 -- A cancel_sm comes to a node by itself, which settles.
-use Rattle.std.proofs.Common.{◌≡◌, ℕ, Bool, true, false, List, [], ◌∷◌, length, max, Option, Some, None, refl, sym, ap, subst, ◌∙◌}
+use Rattle.std.proofs.Common.{◌≡◌, ℕ, Bool, true, false, List, [], ◌∷◌, length, max, Option, Some, None, refl, sym, ap, subst, ◌∙◌, arith}
 use Rattle.std.specs.Prelude.{◌&&◌, ◌||◌, if◌then◌else◌}
 use Rattle.std.proofs.lemmas.Bool.{and_parts, true≢false}
 use Rattle.mc_model.specs.message.Decree.{Attempt, Decree, Deleted, Delivered, Expired, Failed, Fate, Kind, Rejected, Taken, Undeliverable}
@@ -26,7 +26,7 @@ use Rattle.alone_laws.specs.Tables.{TableNode, cancelled, decree_by, is_deleted,
 use Rattle.alone_laws.specs.Resting.{IsResting, IsTaken, IsTakenIfAny}
 use Rattle.alone_laws.specs.Settling.{SettlesOn}
 use Rattle.alone_laws.proofs.Frames.{eqb_self, entry_here}
-use Rattle.alone_laws.proofs.Leading.{Leads, leads_on, leads_sending, leads_then, settling}
+use Rattle.alone_laws.proofs.Leading.{Leads, leads_on, leads_sending, leads_then, settling, few_enough}
 use Rattle.alone_laws.proofs.Deliveries.{ask_delivered}
 use Rattle.alone_laws.proofs.Carrying.{ballot, round_starts, start, tried}
 use Rattle.alone_laws.proofs.Ending.{AllAnswered, ends_after, round_ends, settles_after}
@@ -122,7 +122,7 @@ module _ (first validity : ℕ) (k : Kept) (t : TableNode) (id : ℕ) (account s
       ∙ ap (λ (b : Bool). answer_by (known_as old) b true request) reached.reached
 
   asked : (end : Kept) (packets : List Packet) (replies : List Reply) → stepped setup k0 (Delivery (Tell 1 named told)) ≡ sends end packets replies [] →
-      Leads setup (settling k0 (Ask 1 id named ∷ []) [] []) (settling end packets replies [])
+      Leads setup 2 (settling k0 (Ask 1 id named ∷ []) [] []) (settling end packets replies [])
   asked end packets replies is =
       leads_then setup _ _ _ (leads_sending setup k0 (Ask 1 id named) [] [] [] k0 (Tell 1 named told ∷ []) (ask_delivered first validity k0 calm.up id named))
       (leads_on setup k0 (Tell 1 named told) [] [] [] (sends end packets replies []) is)
@@ -171,7 +171,7 @@ module _ (first validity : ℕ) (k : Kept) (t : TableNode) (id : ℕ) (account s
             (start_is ∙ ap deletes not_deleted) (answer_is ∙ kept_answer old (resting.message id).taken not_deleted)
             ∙ (λ i. sends (record k0 { held = [] }) [] (record { ticket = resting.ticket i; id = id; answer = cancelled account source destination old (taken_in old) } ∷ []) [])));
         resting = rests_still k0 (noted t request) calm;
-      }))
+      }) (few_enough (noted t request) (omega arith)))
 
   -- ---- it is deleted
 
@@ -238,6 +238,7 @@ module _ (first validity : ℕ) (k : Kept) (t : TableNode) (id : ℕ) (account s
         (ends_after setup _ _ (record (noted t request) { table = with_entry t.table id (extended old decree) }) (reply_for (decree ∷ old) ∷ []) (receipts_of 1 id (known_as old) (decree ∷ old))
         (asked _ _ [] told_then)
         (round_ends first validity k1 (noted t request) id decree (held ∷ []) (reply_for (decree ∷ old) ∷ []) (calm_but id k1 (noted t request) calm_then) (calm_then.message id).ready held_is taken_then answered))
+        (few_enough (record (noted t request) { table = with_entry t.table id (extended old decree) }) (omega arith))
 
   pub cancel_settles : SettlesOn setup (stepped setup k (Arrival request)) (requested t request) (reply_to t request ∷ []) (receipts_by t request)
   cancel_settles = by_test (is_deleted account source destination old) refl

@@ -74,7 +74,7 @@ module _ (first validity : ℕ) (id : ℕ) (old : List Decree) (decree : Decree)
     pub same : IsSameBut id k voted
     pub held : voted.held ≡ k.held
     pub leads : (replies : List Reply) (receipts : List Receipt) →
-        Leads setup (settling (with_message k id (tried k)) (Prepare 1 slot (ballot k) ∷ []) replies receipts) (settling voted (Voted 1 slot (vote k) ∷ []) replies receipts)
+        Leads setup 3 (settling (with_message k id (tried k)) (Prepare 1 slot (ballot k) ∷ []) replies receipts) (settling voted (Voted 1 slot (vote k) ∷ []) replies receipts)
 
   module _ (k : Kept) (up : k.up ≡ true) (rest : IsReady k id old) where
     abbrev b : ℕ

@@ -1,5 +1,5 @@
 -- A tick comes to a node by itself, which settles.
-use Rattle.std.proofs.Common.{◌≡◌, ℕ, max, true, List, [], ◌∷◌, ◌++◌, filter, flat_map, map, Option, Some, None, refl, sym, ap, subst, ◌∙◌, inl, inr, arith, Bool}
+use Rattle.std.proofs.Common.{◌≡◌, ℕ, max, true, List, [], ◌∷◌, ◌++◌, filter, flat_map, map, Option, Some, None, refl, sym, ap, subst, ◌∙◌, inl, inr, arith, Bool, length, ◌≤◌, ◌*◌, ◌+◌}
 use Rattle.std.specs.Prelude.{nat_lt, not}
 use Rattle.std.proofs.lemmas.Bool.{lt-ltb}
 use Rattle.std.specs.List.Sorted.{IsStrictlySortedBy}
@@ -23,7 +23,7 @@ use Rattle.alone_laws.specs.Alone.{alone}
 use Rattle.alone_laws.specs.Tables.{Entry, TableNode, chain_at, decree_by, entry_at, known_as, nothing}
 use Rattle.alone_laws.specs.Ticks.{at_clock, due, each_due, entry_then, entry_with, receipts_between, ticked}
 use Rattle.alone_laws.specs.Resting.{IsAtRest, IsResting}
-use Rattle.alone_laws.specs.Settling.{SettlesOn}
+use Rattle.alone_laws.specs.Settling.{SettlesOn, most_deliveries}
 use Rattle.alone_laws.proofs.Apart.{Each, IsApart, Next, IsSameApart, apart_then}
 use Rattle.alone_laws.proofs.Ending.{settles_after}
 use Rattle.alone_laws.proofs.Frames.{given_as, rest_as}
@@ -31,13 +31,22 @@ use Rattle.alone_laws.proofs.Mapped.{among_keys, among_of, at_mapped, distinct_o
 use Rattle.alone_laws.proofs.Queries.{no_receipt}
 use Rattle.alone_laws.proofs.Ruling.{EachRests, Ruled, all_ruled, are_apart, are_listed, ballot, next_at, round_if, rounds_of, AreAmong}
 use Rattle.alone_laws.proofs.SideBySide.{AllEnd, Rests, all_end, receipts}
-use Rattle.alone_laws.proofs.Leading.{leads_then, settling}
+use Rattle.alone_laws.proofs.Leading.{leads_then, settling, leads_same}
+use Rattle.std.proofs.lemmas.List.{length-map}
 
 -- ---- which rounds there are
 
 module _ (t : TableNode) (up : List ℕ → Bool) where
   abbrev due_at : ℕ → Option Kind
   due_at id = due t up (entry_at t.table id)
+
+  few_due : (ids : List ℕ) → length (rounds_of t up ids) ≤ length ids
+  few_due [] = omega arith
+  few_due (id ∷ ids) = by_due (due_at id) (few_due ids)
+    where
+      by_due : (kind : Option Kind) → length (rounds_of t up ids) ≤ length ids → length (round_if t up id (entry_at t.table id) kind ++ rounds_of t up ids) ≤ length (id ∷ ids)
+      by_due None few = omega (arith, few)
+      by_due (Some kind) few = omega (arith, few)
 
   -- none for a message for which nothing is due
   apart_if_none : (other : ℕ) → due_at other ≡ None → (ids : List ℕ) → IsApart other (rounds_of t up ids)
@@ -187,12 +196,20 @@ module _ (first validity : ℕ) (k : Kept) (t0 : TableNode) (moment : ℕ) (up :
     message = λ id. subst (IsAtRest ended.new id) (sym (entry_after t up id)) (message_then id);
   }
 
+  few_rounds : 4 * length (rounds_of t up ids) + 0 ≤ most_deliveries (ticked t0 moment up)
+  few_rounds =
+      let rounds : length (rounds_of t up ids) ≤ length ids = few_due t up ids in
+      let listed : length ids ≡ length t0.table = length-map t0.table (λ (e : ℕ × Entry). e.0) in
+      let entries : length (ticked t0 moment up).table ≡ length t0.table = length-map t0.table (λ (e : ℕ × Entry). (e.0, entry_then t up e.1)) in
+      omega (arith, rounds, listed, entries)
+
   pub tick_settles : SettlesOn setup (stepped setup k (Tick moment up)) (ticked t0 moment up) [] (receipts_between t0.table (ticked t0 moment up).table)
   tick_settles =
       settles_after setup _ _ (ticked t0 moment up) [] (receipts_between t0.table (ticked t0 moment up).table)
       (begun_is ∙ ap (λ (p : Prepared). sends p.kept p.packets [] []) begun.prepared)
       (record {
         kept = ended.new;
-        leads = leads_then setup _ _ _ ended.leads (0, λ i. settling ended.new [] [] (receipts_are t up first validity (ballot first validity t up) ids i));
+        leads = leads_then setup _ _ _ ended.leads (leads_same setup _ _ (λ i. settling ended.new [] [] (receipts_are t up first validity (ballot first validity t up) ids i)));
         resting = rests_then;
       })
+      few_rounds

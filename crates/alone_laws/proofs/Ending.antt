@@ -1,5 +1,5 @@
 -- A round of a node by itself, from its start to its end, at which whoever waits is answered.
-use Rattle.std.proofs.Common.{◌≡◌, ℕ, List, [], ◌∷◌, length, map, filter, Some, None, refl, sym, ap, subst, ◌∙◌, Bool, false, Option}
+use Rattle.std.proofs.Common.{◌≡◌, ℕ, List, [], ◌∷◌, length, map, filter, Some, None, refl, sym, ap, subst, ◌∙◌, Bool, false, Option, ◌+◌, ◌≤◌}
 use Rattle.std.specs.Prelude.{Bool, true, false, ◌&&◌, if◌then◌else◌}
 use Rattle.mc_model.specs.message.Decree.{Decree, Fate, Deleted}
 use Rattle.mc_model.specs.synod.Packet.{Prepare, Voted, slot_at}
@@ -15,9 +15,9 @@ use Rattle.node_model.specs.Stepped.{stepped}
 use Rattle.alone_laws.specs.Alone.{alone}
 use Rattle.alone_laws.specs.Tables.{TableNode, chain_at, extended, known_as, with_entry}
 use Rattle.alone_laws.specs.Resting.{IsReady, IsResting, IsTaken}
-use Rattle.alone_laws.specs.Settling.{Settling, SettlesOn, begins_with}
+use Rattle.alone_laws.specs.Settling.{Settling, SettlesOn, begins_with, most_deliveries}
 use Rattle.alone_laws.proofs.Frames.{given_as, same_then}
-use Rattle.alone_laws.proofs.Leading.{Leads, leads_on, leads_then, settles_on, settling}
+use Rattle.alone_laws.proofs.Leading.{Leads, leads_on, leads_then, settles_on, settling, leads_most}
 use Rattle.alone_laws.proofs.Stages.{known_rests, known_same, known_with, settled_held, vote_ends}
 use Rattle.alone_laws.proofs.Carrying.{Carried, ballot, round_carried, tried, vote}
 use Rattle.alone_laws.proofs.Calm.{IsCalmBut, rests_with}
@@ -43,21 +43,21 @@ nobody_deletes setup k id newest older = by_taken (taken_in (newest ∷ older))
     by_taken None = refl
     by_taken (Some message) = by_idle (is_idle newest.kind)
 
--- deliveries lead to a node at rest
-pub record Ends (setup : Setup) (s : Settling) (t : TableNode) (replies : List Reply) (receipts : List Receipt) : Type 0 where
+-- this many deliveries at most lead to a node at rest
+pub record Ends (setup : Setup) (most : ℕ) (s : Settling) (t : TableNode) (replies : List Reply) (receipts : List Receipt) : Type 0 where
   pub kept : Kept
-  pub leads : Leads setup s (settling kept [] replies receipts)
+  pub leads : Leads setup most s (settling kept [] replies receipts)
   pub resting : IsResting kept t
 
-pub ends_after : (setup : Setup) (s u : Settling) (t : TableNode) (replies : List Reply) (receipts : List Receipt) → Leads setup s u → Ends setup u t replies receipts →
-    Ends setup s t replies receipts
+pub ends_after : (setup : Setup) {m n : ℕ} (s u : Settling) (t : TableNode) (replies : List Reply) (receipts : List Receipt) → Leads setup m s u → Ends setup n u t replies receipts →
+    Ends setup (m + n) s t replies receipts
 ends_after setup s u t replies receipts leads ends = record { kept = ends.kept; leads = leads_then setup s u _ leads ends.leads; resting = ends.resting }
 
-pub settles_after : (setup : Setup) (step begun : Stepped) (t : TableNode) (replies : List Reply) (receipts : List Receipt) → step ≡ begun →
-    Ends setup (begins_with begun) t replies receipts → SettlesOn setup step t replies receipts
-settles_after setup step begun t replies receipts is ends =
+pub settles_after : (setup : Setup) {n : ℕ} (step begun : Stepped) (t : TableNode) (replies : List Reply) (receipts : List Receipt) → step ≡ begun →
+    Ends setup n (begins_with begun) t replies receipts → n ≤ most_deliveries t → SettlesOn setup step t replies receipts
+settles_after setup step begun t replies receipts is ends within =
     subst (λ (s : Stepped). SettlesOn setup s t replies receipts) (sym is)
-    (settles_on setup begun (settling ends.kept [] replies receipts) t ends.leads refl ends.resting)
+    (settles_on setup begun (settling ends.kept [] replies receipts) t (leads_most setup (most_deliveries t) _ _ within ends.leads) refl ends.resting)
 
 module _ (first validity : ℕ) (k : Kept) (t : TableNode) (id : ℕ) (decree : Decree) (held : List Held) (replies : List Reply) (calm : IsCalmBut id k t) (ready : IsReady k id (chain_at t.table id))
     (held_is : k.held ≡ held) (taken : IsTaken k id (decree ∷ chain_at t.table id))
@@ -105,7 +105,7 @@ module _ (first validity : ℕ) (k : Kept) (t : TableNode) (id : ℕ) (decree : 
       (replies_to 1 (Some chain) id hs) receipts) settled_is
       ∙ (λ i. sends (known_with first validity id old decree b voted (answered.gone i)) [] (answered.told i) receipts))
 
-  round_leads : Leads setup (settling (with_message k id (tried first validity id old decree k)) (Prepare 1 (slot_at id (length old)) b ∷ []) [] [])
+  round_leads : Leads setup 4 (settling (with_message k id (tried first validity id old decree k)) (Prepare 1 (slot_at id (length old)) b ∷ []) [] [])
       (settling end [] replies receipts)
   round_leads =
       leads_then setup _ _ _ (carried.leads [] [])
@@ -116,6 +116,6 @@ module _ (first validity : ℕ) (k : Kept) (t : TableNode) (id : ℕ) (decree : 
       rests_with k end t id (extended old decree) calm (same_then id k voted end carried.same (known_same first validity id old decree b voted [])) refl
       (known_rests first validity id old decree b voted [] carried.under taken_then)
 
-  pub round_ends : Ends setup (settling (with_message k id (tried first validity id old decree k)) (Prepare 1 (slot_at id (length old)) b ∷ []) [] [])
+  pub round_ends : Ends setup 4 (settling (with_message k id (tried first validity id old decree k)) (Prepare 1 (slot_at id (length old)) b ∷ []) [] [])
       (record t { table = with_entry t.table id (extended old decree) }) replies receipts
   round_ends = record { kept = end; leads = round_leads; resting = round_rests }

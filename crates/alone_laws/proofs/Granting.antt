@@ -31,6 +31,7 @@ use Rattle.alone_laws.proofs.Grounds.{IsGround, closed_ground, closed_then, take
 use Rattle.alone_laws.proofs.Mapped.{among_keys, insert_listed}
 use Rattle.alone_laws.proofs.Ruling.{taken_now}
 use Rattle.alone_laws.proofs.Single.{none_answered}
+use Rattle.alone_laws.proofs.Leading.{leads_same, few_enough}
 
 -- ---- a grant
 
@@ -106,9 +107,9 @@ module _ (first validity : ℕ) (k : Kept) (t : TableNode) (id : ℕ) (resting :
         let begun : stepped setup k (Grant (newest_slot t id)) ≡ on_grant k (newest_slot t id) = rw resting.up refl in
         settles_after setup _ _ (granted_at t id) [] [] begun (record {
           kept = after_grant;
-          leads = (0, refl);
+          leads = leads_same setup _ _ refl;
           resting = rests_with k after_grant t id (record entry { granted = true }) (calm_but id k t (calm_at_rest k t resting)) (same_with k id given k.held) resting.waits granted_rests;
-        })
+        }) (few_enough (granted_at t id) (omega arith))
 
     -- ---- an outcome
 
@@ -173,6 +174,7 @@ module _ (first validity : ℕ) (k : Kept) (t : TableNode) (id : ℕ) (resting :
           (round_ends first validity closed t id decree [] [] calm_then ground.ready resting.waits
           (taken_more closed id decree old (record { message = taken.message; taken = taken.taken; given = taken.given }))
           (none_answered first validity id decree old))
+          (few_enough (concluded_at t id outcome) (omega arith))
 
   pub grant_settles : refusal_at t id ≡ None → SettlesOn setup (stepped setup k (Grant (newest_slot t id))) (granted_at t id) [] []
   grant_settles allowed = grant_then (some_if_granted entry.granted old allowed)

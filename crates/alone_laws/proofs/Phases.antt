@@ -1,5 +1,5 @@
 -- Packets of several rounds, delivered one after the other: each leads its own round on.
-use Rattle.std.proofs.Common.{◌≡◌, ℕ, true, List, [], ◌∷◌, ◌++◌, flat_map, map, refl, sym, ap, ◌∙◌, append-nil, append_assoc}
+use Rattle.std.proofs.Common.{◌≡◌, ℕ, true, List, [], ◌∷◌, ◌++◌, flat_map, map, refl, sym, ap, ◌∙◌, append-nil, append_assoc, length, arith}
 use Rattle.std.specs.Ordering.{nat_cmp}
 use Rattle.std.specs.Map.{keys_of}
 use Rattle.std.specs.BTreeSet.{insert_key}
@@ -12,7 +12,7 @@ use Rattle.node_model.specs.Outputs.{sends}
 use Rattle.node_model.specs.Stepped.{stepped}
 use Rattle.alone_laws.proofs.Apart.{AreApart, AreListed, Each, IsApart, IsSameApart, Next, apart_more, apart_none, each_but, listed_as}
 use Rattle.alone_laws.proofs.Frames.{IsSameBut}
-use Rattle.alone_laws.proofs.Leading.{Leads, leads_on, leads_then, settling}
+use Rattle.alone_laws.proofs.Leading.{Leads, leads_on, leads_then, settling, leads_most, leads_same}
 
 module _ (setup : Setup) (P Q : Kept → Next → Type 0) (packet : Next → Packet) (sent : Next → List Packet) (due : Next → List Receipt) where
   -- the packet of a round is delivered
@@ -31,7 +31,7 @@ module _ (setup : Setup) (P Q : Kept → Next → Type 0) (packet : Next → Pac
 
   pub record AllPass (rounds : List Next) (k : Kept) (queue : List Packet) (replies : List Reply) (receipts : List Receipt) : Type 0 where
     pub new : Kept
-    pub leads : Leads setup (settling k (map packet rounds ++ queue) replies receipts)
+    pub leads : Leads setup (length rounds) (settling k (map packet rounds ++ queue) replies receipts)
         (settling new (queue ++ flat_map sent rounds) replies (receipts ++ flat_map due rounds))
     pub each : Each Q new rounds
     pub same : IsSameApart rounds k new
@@ -42,11 +42,11 @@ module _ (setup : Setup) (P Q : Kept → Next → Type 0) (packet : Next → Pac
   joined own round rounds k queue replies receipts apart listed one rest = record {
     new = rest.new;
     leads =
-        leads_then setup _ _ _ (leads_on setup k (packet round) (map packet rounds ++ queue) replies receipts (sends one.new (sent round) [] (due round)) one.step)
+        leads_most setup (length (round ∷ rounds)) _ _ (omega arith) (leads_then setup _ _ _ (leads_on setup k (packet round) (map packet rounds ++ queue) replies receipts (sends one.new (sent round) [] (due round)) one.step)
         (leads_then setup _ _ _
-        (0, λ i. settling one.new (append_assoc (map packet rounds) queue (sent round) i) (append-nil replies i) (receipts ++ due round))
+        (leads_same setup _ _ (λ i. settling one.new (append_assoc (map packet rounds) queue (sent round) i) (append-nil replies i) (receipts ++ due round)))
         (leads_then setup _ _ _ rest.leads
-        (0, λ i. settling rest.new (append_assoc queue (sent round) (flat_map sent rounds) i) replies (append_assoc receipts (due round) (flat_map due rounds) i))));
+        (leads_same setup _ _ (λ i. settling rest.new (append_assoc queue (sent round) (flat_map sent rounds) i) replies (append_assoc receipts (due round) (flat_map due rounds) i))))));
     each = (own.behind rounds one.new rest.new rest.same round apart one.after, rest.each);
     same = apart_more round rounds k one.new rest.new one.same one.held listed rest.same;
   }
@@ -55,7 +55,7 @@ module _ (setup : Setup) (P Q : Kept → Next → Type 0) (packet : Next → Pac
       AreApart rounds → AreListed (keys_of k.messages) rounds → Each P k rounds → AllPass rounds k queue replies receipts
   all_pass own [] k queue replies receipts up held apart listed each = record {
     new = k;
-    leads = (0, λ i. settling k (sym (append-nil queue) i) replies (sym (append-nil receipts) i));
+    leads = leads_same setup _ _ (λ i. settling k (sym (append-nil queue) i) replies (sym (append-nil receipts) i));
     each = tt;
     same = apart_none k;
   }

@@ -1,5 +1,5 @@
 -- A query_sm comes to a node by itself, which settles.
-use Rattle.std.proofs.Common.{◌≡◌, ℕ, Bool, true, false, List, [], ◌∷◌, Option, Some, None, is_none, refl, sym, ap, subst, ◌∙◌}
+use Rattle.std.proofs.Common.{◌≡◌, ℕ, Bool, true, false, List, [], ◌∷◌, Option, Some, None, is_none, refl, sym, ap, subst, ◌∙◌, arith}
 use Rattle.std.specs.Prelude.{◌==◌, ◌&&◌, not, if◌then◌else◌}
 use Rattle.mc_model.specs.message.Decree.{Decree, Final}
 use Rattle.mc_model.specs.message.Chain.{final_in, taken_in}
@@ -22,7 +22,7 @@ use Rattle.alone_laws.specs.Alone.{alone}
 use Rattle.alone_laws.specs.Tables.{TableNode, known_as, receipts_by, reply_to, requested, shown, chain_at}
 use Rattle.alone_laws.specs.Resting.{IsResting, IsTakenIfAny}
 use Rattle.alone_laws.specs.Settling.{SettlesOn}
-use Rattle.alone_laws.proofs.Leading.{leads_on, leads_sending, leads_then}
+use Rattle.alone_laws.proofs.Leading.{leads_on, leads_sending, leads_then, few_enough}
 use Rattle.alone_laws.proofs.Deliveries.{ask_delivered}
 use Rattle.alone_laws.proofs.Ending.{settles_after}
 use Rattle.alone_laws.proofs.Calm.{IsCalm, arrived, calm_arrived, held_arrived, newcomer, noted, rests_still}
@@ -120,4 +120,4 @@ module _ (first validity : ℕ) (k : Kept) (t : TableNode) (id : ℕ) (account s
             leads_then setup _ _ _ (leads_sending setup k0 (Ask 1 id named) [] [] [] k0 (Tell 1 named told ∷ []) (ask_delivered first validity k0 calm.up id named))
             (leads_on setup k0 (Tell 1 named told) [] [] [] (sends end [] (reply_to t request ∷ []) []) answered);
         resting = rests_still k0 (noted t request) calm;
-      }))
+      }) (few_enough (requested t request) (omega arith)))

@@ -1,5 +1,5 @@
 -- Rounds of several messages that start at one tick run side by side.
-use Rattle.std.proofs.Common.{◌≡◌, ℕ, true, List, [], ◌∷◌, ◌++◌, flat_map, filter, length, map, Option, Some, None, refl, sym, ap, ◌∙◌, append-nil}
+use Rattle.std.proofs.Common.{◌≡◌, ℕ, true, List, [], ◌∷◌, ◌++◌, flat_map, filter, length, map, Option, Some, None, refl, sym, ap, ◌∙◌, append-nil, arith, ◌*◌}
 use Rattle.std.specs.Prelude.{nat_lt}
 use Rattle.std.specs.Map.{keys_of}
 use Rattle.mc_model.specs.message.Decree.{Decree}
@@ -21,7 +21,7 @@ use Rattle.alone_laws.proofs.Apart.{AreApart, AreListed, Each, IsApart, IsSameAp
 use Rattle.alone_laws.proofs.Deliveries.{begun_round, promised_round}
 use Rattle.alone_laws.proofs.Ending.{nobody_deletes}
 use Rattle.alone_laws.proofs.Frames.{IsSameBut, fresh_as, given_as, rest_as, votes_as}
-use Rattle.alone_laws.proofs.Leading.{Leads, leads_then, settling}
+use Rattle.alone_laws.proofs.Leading.{Leads, leads_then, settling, leads_most, leads_same}
 use Rattle.alone_laws.proofs.Phases.{AreOwn, Passes, all_pass, none_each, one_each}
 use Rattle.alone_laws.proofs.Stages.{IsUnderWay, known_rests, known_same, known_with, prepare_advances, promise_advances, propose_advances, vote_ends}
 
@@ -187,17 +187,17 @@ module _ (first validity ballot : ℕ) where
 
     pub record AllEnd (rounds : List Next) (k : Kept) : Type 0 where
       pub new : Kept
-      pub leads : Leads setup (settling k (map prepares rounds) [] []) (settling new [] [] (flat_map receipts rounds))
+      pub leads : Leads setup (4 * length rounds) (settling k (map prepares rounds) [] []) (settling new [] [] (flat_map receipts rounds))
       pub each : Each Rests new rounds
       pub same : IsSameApart rounds k new
 
     -- packets of one kind lead to those of the next, and to nothing else
     one_kind : (packet next : Next → Packet) (rounds : List Next) (k new : Kept) →
-        Leads setup (settling k (map packet rounds ++ []) [] []) (settling new ([] ++ flat_map (λ round. next round ∷ []) rounds) [] ([] ++ flat_map nothing_due rounds)) →
-        Leads setup (settling k (map packet rounds) [] []) (settling new (map next rounds) [] [])
+        Leads setup (length rounds) (settling k (map packet rounds ++ []) [] []) (settling new ([] ++ flat_map (λ round. next round ∷ []) rounds) [] ([] ++ flat_map nothing_due rounds)) →
+        Leads setup (length rounds) (settling k (map packet rounds) [] []) (settling new (map next rounds) [] [])
     one_kind packet next rounds k new leads =
-        leads_then setup _ _ _ (0, λ i. settling k (sym (append-nil (map packet rounds)) i) [] [])
-        (leads_then setup _ _ _ leads (0, λ i. settling new (one_each next rounds i) [] (none_each nothing_due (λ round. refl) rounds i)))
+        leads_most setup (length rounds) _ _ (omega arith) (leads_then setup _ _ _ (leads_same setup _ _ (λ i. settling k (sym (append-nil (map packet rounds)) i) [] []))
+        (leads_then setup _ _ _ leads (leads_same setup _ _ (λ i. settling new (one_each next rounds i) [] (none_each nothing_due (λ round. refl) rounds i)))))
 
     pub all_end : (rounds : List Next) (k : Kept) → k.up ≡ true → k.held ≡ [] → AreApart rounds → AreListed (keys_of k.messages) rounds →
         Each (Goes begun untouched) k rounds → AllEnd rounds k
@@ -214,12 +214,12 @@ module _ (first validity ballot : ℕ) where
         record {
           new = four.new;
           leads =
-              leads_then setup _ _ _ (one_kind prepares promises rounds k one.new one.leads)
+              leads_most setup (4 * length rounds) _ _ (omega arith) (leads_then setup _ _ _ (one_kind prepares promises rounds k one.new one.leads)
               (leads_then setup _ _ _ (one_kind promises proposes rounds one.new two.new two.leads)
               (leads_then setup _ _ _ (one_kind proposes votes rounds two.new three.new three.leads)
-              (leads_then setup _ _ _ (0, λ i. settling three.new (sym (append-nil (map votes rounds)) i) [] [])
+              (leads_then setup _ _ _ (leads_same setup _ _ (λ i. settling three.new (sym (append-nil (map votes rounds)) i) [] []))
               (leads_then setup _ _ _ four.leads
-              (0, λ i. settling four.new (none_each no_packet (λ round. refl) rounds i) [] (flat_map receipts rounds))))));
+              (leads_same setup _ _ (λ i. settling four.new (none_each no_packet (λ round. refl) rounds i) [] (flat_map receipts rounds))))))));
           each = four.each;
           same = apart_then rounds k three.new four.new same_three four.same;
         }

@@ -1,5 +1,5 @@
 -- One round that starts at a node by itself.
-use Rattle.std.proofs.Common.{ℕ, List, [], ◌∷◌, refl, ap}
+use Rattle.std.proofs.Common.{ℕ, List, [], ◌∷◌, refl, ap, arith}
 use Rattle.mc_model.specs.message.Decree.{Decree}
 use Rattle.node_model.specs.Answers.{receipts_of}
 use Rattle.node_model.specs.Attempts.{concluded_then}
@@ -11,6 +11,7 @@ use Rattle.alone_laws.specs.Settling.{SettlesOn, round_begun}
 use Rattle.alone_laws.proofs.Carrying.{round_starts}
 use Rattle.alone_laws.proofs.Ending.{AllAnswered, round_ends, settles_after, nobody_deletes}
 use Rattle.alone_laws.proofs.Calm.{calm_at_rest, calm_but}
+use Rattle.alone_laws.proofs.Leading.{few_enough}
 
 -- nobody waits, and nobody is answered
 pub none_answered : (first validity : ℕ) (id : ℕ) (decree : Decree) (old : List Decree) → AllAnswered (alone first validity) id (decree ∷ old) [] []
@@ -28,3 +29,4 @@ round_settles first validity k t resting id decree taken =
     settles_after (alone first validity) _ _ (record t { table = with_entry t.table id (extended (chain_at t.table id) decree) }) [] (receipts_of 1 id (known_as (chain_at t.table id)) (decree ∷ chain_at t.table id))
     (ap concluded_then (round_starts first validity id (chain_at t.table id) decree k (resting.message id).ready))
     (round_ends first validity k t id decree [] [] (calm_but id k t (calm_at_rest k t resting)) (resting.message id).ready resting.waits taken (none_answered first validity id decree (chain_at t.table id)))
+    (few_enough (record t { table = with_entry t.table id (extended (chain_at t.table id) decree) }) (omega arith))

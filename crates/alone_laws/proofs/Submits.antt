@@ -24,6 +24,7 @@ use Rattle.alone_laws.proofs.Carrying.{ballot, round_starts, start, tried}
 use Rattle.alone_laws.proofs.Ending.{AllAnswered, round_ends, settles_after}
 use Rattle.alone_laws.proofs.Calm.{IsCalm, arrived, calm_arrived, held_arrived, newcomer, noted, calm_but}
 use Rattle.node_model.specs.Answers.{receipts_of}
+use Rattle.alone_laws.proofs.Leading.{few_enough}
 
 -- ---- the next id
 
@@ -128,4 +129,5 @@ module _ (first validity : ℕ) (k : Kept) (t : TableNode) (id : ℕ) (message :
   submit_settles =
       subst Comes (sym (ap (λ (e : Entry). e.chain) (entry_here t.table id (extended old decree))))
       (settles_after setup _ _ (requested t request) (reply_to t request ∷ []) (receipts_of 1 id (known_as old) chain) begun_is
-      (round_ends first validity k0 (noted t request) id decree (new ∷ []) (reply_to t request ∷ []) (calm_but id k0 (noted t request) calm) (calm.message id).ready held_is taken answered))
+      (round_ends first validity k0 (noted t request) id decree (new ∷ []) (reply_to t request ∷ []) (calm_but id k0 (noted t request) calm) (calm.message id).ready held_is taken answered)
+      (few_enough (requested t request) (omega arith)))

@@ -6,3 +6,4 @@ pub mod Settling
 pub mod Ticks
 pub mod Attempts
 pub mod Events
+pub mod Examples

@@ -1,5 +1,5 @@
 -- A node by itself settles: each packet that it sends is delivered once, to itself, in the order of sending (own).
-use Rattle.std.specs.Prelude.{◌≡◌, ℕ, zero, suc, List, [], ◌∷◌, ◌++◌, length, Some}
+use Rattle.std.specs.Prelude.{◌≡◌, ℕ, zero, suc, List, [], ◌∷◌, ◌++◌, length, Some, ◌+◌, ◌*◌, ◌≤◌}
 use Rattle.mc_model.specs.message.Decree.{Decree}
 use Rattle.mc_model.specs.synod.Packet.{Packet}
 use Rattle.mc_model.specs.node.Input.{Delivery}
@@ -47,9 +47,14 @@ abbrev pub delivered : Setup → ℕ → Settling → Settling
 delivered setup zero s = s
 delivered setup (suc more) s = delivered setup more (first_delivered setup s s.packets)
 
+-- a round takes four deliveries, and a question two
+abbrev pub most_deliveries : TableNode → ℕ
+most_deliveries t = 6 + 4 * length t.table
+
 -- After a step a node settles on a table: after so many deliveries no packet is left, it is at rest on it, and it gave out these.
 pub record SettlesOn (setup : Setup) (step : Stepped) (t : TableNode) (replies : List Reply) (receipts : List Receipt) : Type 0 where
   pub deliveries : ℕ
+  pub few : deliveries ≤ most_deliveries t
   pub left : (delivered setup deliveries (begins_with step)).packets ≡ []
   pub resting : IsResting (delivered setup deliveries (begins_with step)).kept t
   pub replies_are : (delivered setup deliveries (begins_with step)).replies ≡ replies
