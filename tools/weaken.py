@@ -18,7 +18,7 @@ import tempfile
 
 ROOT = os.path.dirname(os.path.dirname(os.path.abspath(__file__)))
 FOLDER = os.path.join(ROOT, "tools", "weakenings")
-CRATES = ["mc_model", "mc_parts", "mc_laws", "node_model", "shelf", "node_laws"]
+CRATES = ["mc_model", "mc_parts", "mc_laws", "node_model", "shelf", "node_laws", "alone_laws"]
 
 
 def read(name):

@@ -2,16 +2,17 @@
 use Rattle.std.proofs.Common.{ℕ, List, [], ◌∷◌}
 use Rattle.node_model.specs.Kept.{Kept}
 use Rattle.alone_laws.specs.Alone.{alone}
-use Rattle.alone_laws.specs.Events.{Concludes, Event, Grants, MayAllHappen, MayHappen, Requests, RunsAs, SettlesBy, Ticks, happened, kept_by}
+use Rattle.alone_laws.specs.Events.{Concludes, Event, Grants, MayAllHappen, MayHappen, Refuses, Requests, RunsAs, SettlesBy, Ticks, happened, kept_by}
 use Rattle.alone_laws.specs.Tables.{TableNode}
 use Rattle.alone_laws.specs.Resting.{IsResting}
-use Rattle.alone_laws.proofs.AnyRequest.{request_settles}
+use Rattle.alone_laws.proofs.AnyRequest.{request_settles, refusal_settles}
 use Rattle.alone_laws.proofs.Clocked.{tick_settles}
 use Rattle.alone_laws.proofs.Granting.{grant_settles, response_settles}
 
 module _ (first validity : ℕ) where
   event_settles : (k : Kept) (t : TableNode) → IsResting k t → (event : Event) → MayHappen t event → SettlesBy (alone first validity) k t event
   event_settles k t resting (Requests request) may = request_settles first validity k t resting request may
+  event_settles k t resting (Refuses status) may = refusal_settles first validity k t resting status
   event_settles k t resting (Ticks moment up) may = tick_settles first validity k t moment up resting
   event_settles k t resting (Grants id) may = grant_settles first validity k t id resting may
   event_settles k t resting (Concludes id outcome) may = response_settles first validity k t id resting may outcome

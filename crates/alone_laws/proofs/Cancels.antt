@@ -164,7 +164,7 @@ module _ (first validity : ℕ) (k : Kept) (t : TableNode) (id : ℕ) (account s
   kept not_deleted =
       subst (SettlesOn setup (stepped setup k (Arrival request)) (noted t request) (reply_for old ∷ []))
       (sym (no_receipt id old))
-      (settles_after setup _ _ (noted t request) (reply_for old ∷ []) [] begun_is (record {
+      (settles_after setup _ _ (noted t request) (reply_for old ∷ []) [] begun_is refl refl (record {
         kept = record k0 { held = [] };
         leads = asked (record k0 { held = [] }) [] (reply_for old ∷ []) (told_is
             ∙ (answer_given setup k0 known new heard held (cancelled account source destination old (taken_in old)) (held_arrived k t request resting) refl
@@ -234,7 +234,7 @@ module _ (first validity : ℕ) (k : Kept) (t : TableNode) (id : ℕ) (account s
     deleted_then : Comes (with_entry t.table id (extended old decree)) (decree ∷ old)
     deleted_then =
         settles_after setup _ _ (record (noted t request) { table = with_entry t.table id (extended old decree) }) (reply_for (decree ∷ old) ∷ [])
-        (receipts_of 1 id (known_as old) (decree ∷ old)) begun_is
+        (receipts_of 1 id (known_as old) (decree ∷ old)) begun_is refl refl
         (ends_after setup _ _ (record (noted t request) { table = with_entry t.table id (extended old decree) }) (reply_for (decree ∷ old) ∷ []) (receipts_of 1 id (known_as old) (decree ∷ old))
         (asked _ _ [] told_then)
         (round_ends first validity k1 (noted t request) id decree (held ∷ []) (reply_for (decree ∷ old) ∷ []) (calm_but id k1 (noted t request) calm_then) (calm_then.message id).ready held_is taken_then answered))

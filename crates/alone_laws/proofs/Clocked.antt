@@ -207,6 +207,8 @@ module _ (first validity : ℕ) (k : Kept) (t0 : TableNode) (moment : ℕ) (up :
   tick_settles =
       settles_after setup _ _ (ticked t0 moment up) [] (receipts_between t0.table (ticked t0 moment up).table)
       (begun_is ∙ ap (λ (p : Prepared). sends p.kept p.packets [] []) begun.prepared)
+      refl
+      refl
       (record {
         kept = ended.new;
         leads = leads_then setup _ _ _ ended.leads (leads_same setup _ _ (λ i. settling ended.new [] [] (receipts_are t up first validity (ballot first validity t up) ids i)));

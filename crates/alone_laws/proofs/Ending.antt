@@ -54,10 +54,10 @@ pub ends_after : (setup : Setup) {m n : ℕ} (s u : Settling) (t : TableNode) (r
 ends_after setup s u t replies receipts leads ends = record { kept = ends.kept; leads = leads_then setup s u _ leads ends.leads; resting = ends.resting }
 
 pub settles_after : (setup : Setup) {n : ℕ} (step begun : Stepped) (t : TableNode) (replies : List Reply) (receipts : List Receipt) → step ≡ begun →
-    Ends setup n (begins_with begun) t replies receipts → n ≤ most_deliveries t → SettlesOn setup step t replies receipts
-settles_after setup step begun t replies receipts is ends within =
+    begun.outputs.replies ≡ [] → begun.outputs.receipts ≡ [] → Ends setup n (begins_with begun) t replies receipts → n ≤ most_deliveries t → SettlesOn setup step t replies receipts
+settles_after setup step begun t replies receipts is no_replies no_receipts ends within =
     subst (λ (s : Stepped). SettlesOn setup s t replies receipts) (sym is)
-    (settles_on setup begun (settling ends.kept [] replies receipts) t (leads_most setup (most_deliveries t) _ _ within ends.leads) refl ends.resting)
+    (settles_on setup begun (settling ends.kept [] replies receipts) t no_replies no_receipts (leads_most setup (most_deliveries t) _ _ within ends.leads) refl ends.resting)
 
 module _ (first validity : ℕ) (k : Kept) (t : TableNode) (id : ℕ) (decree : Decree) (held : List Held) (replies : List Reply) (calm : IsCalmBut id k t) (ready : IsReady k id (chain_at t.table id))
     (held_is : k.held ≡ held) (taken : IsTaken k id (decree ∷ chain_at t.table id))

@@ -63,9 +63,11 @@ module _ (setup : Setup) where
   }
 
   -- the node settles where they end
-  pub settles_on : (step : Stepped) (end : Settling) (t : TableNode) → Leads setup (most_deliveries t) (begins_with step) end → end.packets ≡ [] → IsResting end.kept t →
+  pub settles_on : (step : Stepped) (end : Settling) (t : TableNode) → step.outputs.replies ≡ [] → step.outputs.receipts ≡ [] → Leads setup (most_deliveries t) (begins_with step) end → end.packets ≡ [] → IsResting end.kept t →
       SettlesOn setup step t end.replies end.receipts
-  settles_on step end t leads left resting = record {
+  settles_on step end t no_replies no_receipts leads left resting = record {
+    replies_later = no_replies;
+    receipts_later = no_receipts;
     deliveries = leads.deliveries;
     few = leads.few;
     left = ap (λ (s : Settling). s.packets) leads.reached ∙ left;

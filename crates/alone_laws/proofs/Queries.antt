@@ -114,7 +114,7 @@ module _ (first validity : ℕ) (k : Kept) (t : TableNode) (id : ℕ) (account s
   pub query_settles : SettlesOn setup (stepped setup k (Arrival request)) (requested t request) (reply_to t request ∷ []) (receipts_by t request)
   query_settles =
       subst (SettlesOn setup (stepped setup k (Arrival request)) (requested t request) (reply_to t request ∷ [])) (sym (no_receipt id old))
-      (settles_after setup _ _ (requested t request) (reply_to t request ∷ []) [] begun_is (record {
+      (settles_after setup _ _ (requested t request) (reply_to t request ∷ []) [] begun_is refl refl (record {
         kept = end;
         leads =
             leads_then setup _ _ _ (leads_sending setup k0 (Ask 1 id named) [] [] [] k0 (Tell 1 named told ∷ []) (ask_delivered first validity k0 calm.up id named))

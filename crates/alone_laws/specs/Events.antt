@@ -1,7 +1,7 @@
 -- What happens to a node by itself, one event after the other, each once the node has settled (own).
 use Rattle.std.specs.Prelude.{◌≡◌, ℕ, ◌<◌, Bool, List, [], ◌∷◌, length, None}
 use Rattle.mc_model.specs.node.Actor.{Request}
-use Rattle.mc_model.specs.node.Input.{Arrival, Grant, Input, Response, Tick}
+use Rattle.mc_model.specs.node.Input.{Arrival, Grant, Input, Refusal, Response, Tick}
 use Rattle.mc_model.specs.node.Outcome.{Outcome}
 use Rattle.mc_model.specs.node.Outputs.{Receipt, Reply}
 use Rattle.mc_model.specs.node.Setup.{Setup}
@@ -14,6 +14,8 @@ use Rattle.alone_laws.specs.Settling.{SettlesOn, begins_with, delivered}
 
 pub data Event : Type 0 where
   Requests : Request → Event
+  -- a request is answered at once, with this command_status
+  Refuses : ℕ → Event
   -- a moment, and which accounts have a session that may receive
   Ticks : ℕ → (List ℕ → Bool) → Event
   -- the newest attempt of a message is granted, and what came of it
@@ -23,12 +25,14 @@ pub data Event : Type 0 where
 -- a submit_sm has the next id, a grant is one that is not refused, and an outcome is of a message that there is
 abbrev pub MayHappen : TableNode → Event → Type 0
 MayHappen t (Requests request) = MayCome t request
+MayHappen t (Refuses status) = Unit {0}
 MayHappen t (Ticks moment up) = Unit {0}
 MayHappen t (Grants id) = refusal_at t id ≡ None
 MayHappen t (Concludes id outcome) = 0 < length (chain_at t.table id)
 
 abbrev pub input_of : TableNode → Event → Input
 input_of t (Requests request) = Arrival request
+input_of t (Refuses status) = Refusal status
 input_of t (Ticks moment up) = Tick moment up
 input_of t (Grants id) = Grant (newest_slot t id)
 input_of t (Concludes id outcome) = Response (newest_slot t id) outcome
@@ -37,18 +41,21 @@ input_of t (Concludes id outcome) = Response (newest_slot t id) outcome
 
 abbrev pub happened : TableNode → Event → TableNode
 happened t (Requests request) = requested t request
+happened t (Refuses status) = t
 happened t (Ticks moment up) = ticked t moment up
 happened t (Grants id) = granted_at t id
 happened t (Concludes id outcome) = concluded_at t id outcome
 
 abbrev pub replies_by : TableNode → Event → List Reply
 replies_by t (Requests request) = reply_to t request ∷ []
+replies_by t (Refuses status) = []
 replies_by t (Ticks moment up) = []
 replies_by t (Grants id) = []
 replies_by t (Concludes id outcome) = []
 
 abbrev pub receipts_of_event : TableNode → Event → List Receipt
 receipts_of_event t (Requests request) = receipts_by t request
+receipts_of_event t (Refuses status) = []
 receipts_of_event t (Ticks moment up) = receipts_between t.table (ticked t moment up).table
 receipts_of_event t (Grants id) = []
 receipts_of_event t (Concludes id outcome) = receipts_on t id outcome

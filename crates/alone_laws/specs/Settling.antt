@@ -51,8 +51,11 @@ delivered setup (suc more) s = delivered setup more (first_delivered setup s s.p
 abbrev pub most_deliveries : TableNode → ℕ
 most_deliveries t = 6 + 4 * length t.table
 
--- After a step a node settles on a table: after so many deliveries no packet is left, it is at rest on it, and it gave out these.
+-- After a step, which gives out nobody's reply and no receipt, a node settles on a table: after so many deliveries no packet is left,
+-- it is at rest on it, and it gave out these.
 pub record SettlesOn (setup : Setup) (step : Stepped) (t : TableNode) (replies : List Reply) (receipts : List Receipt) : Type 0 where
+  pub replies_later : step.outputs.replies ≡ []
+  pub receipts_later : step.outputs.receipts ≡ []
   pub deliveries : ℕ
   pub few : deliveries ≤ most_deliveries t
   pub left : (delivered setup deliveries (begins_with step)).packets ≡ []

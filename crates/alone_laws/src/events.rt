@@ -8,7 +8,7 @@ ghost use Rattle.alone_laws.specs.Events.{Event, MayAllHappen, RunsAs};
 ghost use Rattle.alone_laws.specs.Tables.{TableNode, new_table};
 ghost use Rattle.alone_laws.specs.Resting.{IsResting};
 
-/// For every list of events, requests, ticks, grants and outcomes, each of which comes once the node has settled after the one before: a node
+/// For every list of events, requests, refusals, ticks, grants and outcomes, each of which comes once the node has settled after the one before: a node
 /// at rest, as one with a new store is, settles after each of them on the table that all events so far make of its table, and with each
 /// gives out the replies and the receipts of that table, and no others.
 pub fn one_node_alone_is_the_table()
