@@ -10,7 +10,7 @@ use Rattle.alone_laws.proofs.Clocked.{tick_settles}
 use Rattle.alone_laws.proofs.Granting.{grant_settles, response_settles}
 
 module _ (first validity : ℕ) where
-  event_settles : (k : Kept) (t : TableNode) → IsResting k t → (event : Event) → MayHappen t event → SettlesBy (alone first validity) k t event
+  pub event_settles : (k : Kept) (t : TableNode) → IsResting k t → (event : Event) → MayHappen t event → SettlesBy (alone first validity) k t event
   event_settles k t resting (Requests request) may = request_settles first validity k t resting request may
   event_settles k t resting (Refuses status) may = refusal_settles first validity k t resting status
   event_settles k t resting (Ticks moment up) may = tick_settles first validity k t moment up resting

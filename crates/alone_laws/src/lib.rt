@@ -11,7 +11,7 @@ mod settling;
 mod ticks;
 
 pub use attempts::{a_grant_settles, a_response_settles};
-pub use events::one_node_alone_is_the_table;
+pub use events::{an_event_settles, one_node_alone_is_the_table};
 pub use examples::a_message_is_delivered_on_the_table;
 pub use openings::a_new_node_is_at_rest;
 pub use requests::a_request_settles;
