@@ -18,11 +18,14 @@ use Rattle.alone_laws.specs.Resting.{IsReady, IsResting, IsTaken}
 use Rattle.alone_laws.specs.Settling.{Settling, SettlesOn, begins_with, most_deliveries}
 use Rattle.alone_laws.proofs.Frames.{given_as, same_then}
 use Rattle.alone_laws.proofs.Leading.{Leads, leads_on, leads_then, settles_on, settling, leads_most}
-use Rattle.alone_laws.proofs.Stages.{known_rests, known_same, known_with, settled_held, vote_ends}
+use Rattle.alone_laws.proofs.Stages.{known_rests, known_same, known_with, settled_held, vote_ends, IsUnderWay}
 use Rattle.alone_laws.proofs.Carrying.{Carried, ballot, round_carried, tried, vote}
 use Rattle.alone_laws.proofs.Calm.{IsCalmBut, rests_with}
 use Rattle.mc_model.specs.message.Submission.{Submission}
 use Rattle.mc_model.specs.message.Chain.{taken_in}
+use Rattle.alone_laws.proofs.Deliveries.{promised_round}
+use Rattle.mc_model.specs.synod.Acceptor.{after_vote}
+use Rattle.mc_model.specs.synod.OneSlot.{vote_at}
 
 -- What the chain makes of those who wait: nobody is to be settled, nothing is to be deleted, and all are answered so.
 pub record AllAnswered (setup : Setup) (id : ℕ) (chain : List Decree) (held : List Held) (replies : List Reply) : Type 0 where
@@ -42,6 +45,40 @@ nobody_deletes setup k id newest older = by_taken (taken_in (newest ∷ older))
     by_taken : (taken : Option Submission) → delete_of setup k id [] newest older taken ≡ None
     by_taken None = refl
     by_taken (Some message) = by_idle (is_idle newest.kind)
+
+-- nobody waits, and nobody is answered
+pub none_answered : (first validity : ℕ) (id : ℕ) (decree : Decree) (old : List Decree) → AllAnswered (alone first validity) id (decree ∷ old) [] []
+none_answered first validity id decree old = record {
+  settled = refl;
+  undeleted = λ kept. nobody_deletes (alone first validity) kept id decree old;
+  gone = refl;
+  told = refl;
+}
+
+-- the vote for the chain is delivered, and all are answered
+module _ (first validity : ℕ) (id : ℕ) (old : List Decree) (decree : Decree) (ballot : ℕ) (k : Kept) (up : k.up ≡ true)
+    (under : IsUnderWay id old k (Some (promised_round (slot_at id (length old)) ballot (decree ∷ old))) (after_vote (vote_at ballot (decree ∷ old))))
+    (taken : IsTaken k id (decree ∷ old)) (held : List Held) (replies : List Reply) (held_is : k.held ≡ held)
+    (answered : AllAnswered (alone first validity) id (decree ∷ old) held replies) where
+  abbrev then_held : List Held → Kept
+  then_held hs = known_with first validity id old decree ballot k hs
+
+  settled_is : settled_held first validity id old decree ballot k ≡ held
+  settled_is = ap (map (settled_for 1 id (decree ∷ old))) held_is ∙ answered.settled
+
+  none_deleted : delete_for (alone first validity) (then_held (settled_held first validity id old decree ballot k)) id
+      (settled_held first validity id old decree ballot k) (Some (decree ∷ old)) ≡ None
+  none_deleted =
+      ap (λ (hs : List Held). delete_for (alone first validity) (then_held hs) id hs (Some (decree ∷ old))) settled_is
+      ∙ answered.undeleted (then_held held)
+
+  pub vote_answered : stepped (alone first validity) k (Delivery (Voted 1 (slot_at id (length old)) (vote_at ballot (decree ∷ old))))
+      ≡ sends (then_held []) [] replies (receipts_of 1 id (known_as old) (decree ∷ old))
+  vote_answered =
+      vote_ends first validity id old decree ballot k up under taken none_deleted
+      ∙ (ap (λ (hs : List Held). sends (then_held (filter (still_waits 1 (Some (decree ∷ old)) id) hs)) []
+      (replies_to 1 (Some (decree ∷ old)) id hs) (receipts_of 1 id (known_as old) (decree ∷ old))) settled_is
+      ∙ (λ i. sends (then_held (answered.gone i)) [] (answered.told i) (receipts_of 1 id (known_as old) (decree ∷ old))))
 
 -- this many deliveries at most lead to a node at rest
 pub record Ends (setup : Setup) (most : ℕ) (s : Settling) (t : TableNode) (replies : List Reply) (receipts : List Receipt) : Type 0 where
@@ -86,24 +123,12 @@ module _ (first validity : ℕ) (k : Kept) (t : TableNode) (id : ℕ) (decree : 
   taken_then : IsTaken voted id chain
   taken_then = record { message = taken.message; taken = taken.taken; given = given_as k voted id carried.same.incarnation carried.same.serial taken.given }
 
-  settled_is : settled_held first validity id old decree b voted ≡ held
-  settled_is = ap (map (settled_for 1 id chain)) (carried.held ∙ held_is) ∙ answered.settled
-
-  none_deleted : delete_for setup (known_with first validity id old decree b voted (settled_held first validity id old decree b voted)) id
-      (settled_held first validity id old decree b voted) (Some chain) ≡ None
-  none_deleted =
-      ap (λ (hs : List Held). delete_for setup (known_with first validity id old decree b voted hs) id hs (Some chain)) settled_is
-      ∙ answered.undeleted (known_with first validity id old decree b voted held)
-
   abbrev end : Kept
   end = known_with first validity id old decree b voted []
 
   last_step : stepped setup voted (Delivery (Voted 1 (slot_at id (length old)) (vote first validity id old decree k))) ≡ sends end [] replies receipts
   last_step =
-      vote_ends first validity id old decree b voted (carried.same.up ∙ calm.up) carried.under taken_then none_deleted
-      ∙ (ap (λ (hs : List Held). sends (known_with first validity id old decree b voted (filter (still_waits 1 (Some chain) id) hs)) []
-      (replies_to 1 (Some chain) id hs) receipts) settled_is
-      ∙ (λ i. sends (known_with first validity id old decree b voted (answered.gone i)) [] (answered.told i) receipts))
+      vote_answered first validity id old decree b voted (carried.same.up ∙ calm.up) carried.under taken_then held replies (carried.held ∙ held_is) answered
 
   round_leads : Leads setup 4 (settling (with_message k id (tried first validity id old decree k)) (Prepare 1 (slot_at id (length old)) b ∷ []) [] [])
       (settling end [] replies receipts)

@@ -1,5 +1,5 @@
 -- Rounds of several messages that start at one tick run side by side.
-use Rattle.std.proofs.Common.{◌≡◌, ℕ, true, List, [], ◌∷◌, ◌++◌, flat_map, filter, length, map, Option, Some, None, refl, sym, ap, ◌∙◌, append-nil, arith, ◌*◌}
+use Rattle.std.proofs.Common.{◌≡◌, ℕ, true, List, [], ◌∷◌, ◌++◌, flat_map, length, map, Option, Some, None, refl, sym, ap, ◌∙◌, append-nil, arith, ◌*◌}
 use Rattle.std.specs.Prelude.{nat_lt}
 use Rattle.std.specs.Map.{keys_of}
 use Rattle.mc_model.specs.message.Decree.{Decree}
@@ -8,22 +8,19 @@ use Rattle.mc_model.specs.synod.Packet.{Packet, Prepare, Promise, Propose, Slot,
 use Rattle.mc_model.specs.synod.Acceptor.{SlotRecord, after_vote, blank}
 use Rattle.mc_model.specs.node.Outputs.{Receipt}
 use Rattle.mc_model.specs.node.Setup.{Setup}
-use Rattle.node_model.specs.Answers.{receipts_of, replies_to, still_waits}
-use Rattle.node_model.specs.Kept.{Held, Kept, message_at}
+use Rattle.node_model.specs.Answers.{receipts_of}
+use Rattle.node_model.specs.Kept.{Kept, message_at}
 use Rattle.node_model.specs.Message.{Message, Round}
-use Rattle.node_model.specs.Outputs.{sends}
-use Rattle.node_model.specs.Packets.{settled_for}
-use Rattle.node_model.specs.Starts.{delete_for}
 use Rattle.alone_laws.specs.Alone.{alone}
 use Rattle.alone_laws.specs.Tables.{extended, known_as}
 use Rattle.alone_laws.specs.Resting.{IsAtRest, IsTaken}
 use Rattle.alone_laws.proofs.Apart.{AreApart, AreListed, Each, IsApart, IsSameApart, Next, apart_then, listed_as}
 use Rattle.alone_laws.proofs.Deliveries.{begun_round, promised_round}
-use Rattle.alone_laws.proofs.Ending.{nobody_deletes}
+use Rattle.alone_laws.proofs.Ending.{none_answered, vote_answered}
 use Rattle.alone_laws.proofs.Frames.{IsSameBut, fresh_as, given_as, rest_as, votes_as}
 use Rattle.alone_laws.proofs.Leading.{Leads, leads_then, settling, leads_most, leads_same}
 use Rattle.alone_laws.proofs.Phases.{AreOwn, Passes, all_pass, none_each, one_each}
-use Rattle.alone_laws.proofs.Stages.{IsUnderWay, known_rests, known_same, known_with, prepare_advances, promise_advances, propose_advances, vote_ends}
+use Rattle.alone_laws.proofs.Stages.{Advances, IsUnderWay, known_rests, known_same, known_with, prepare_advances, promise_advances, propose_advances}
 
 -- ---- a round that goes on while others do
 
@@ -110,48 +107,40 @@ module _ (first validity ballot : ℕ) where
   abbrev pub Rests : Kept → Next → Type 0
   Rests k next = IsAtRest k next.id (extended next.old next.decree)
 
+  -- a packet that leads its round on to the next passes
+  module _ (round : Next → Option Round) (here : Next → SlotRecord) (packet following : Next → Packet) (P : Kept → Next → Type 0) where
+    advanced : (k : Kept) (next : Next) → IsTaken k next.id (next.decree ∷ next.old) →
+        Advances first validity next.id next.old next.decree ballot k (packet next) (following next) (round next) (here next) →
+        Passes setup P (Goes round here) packet (λ other. following other ∷ []) nothing_due k next
+    advanced k next taken on = record {
+      new = on.new;
+      step = on.step;
+      after = record { under = on.under; taken = taken_still k on.new next.id (next.decree ∷ next.old) on.same.incarnation on.same.serial taken };
+      same = on.same;
+      held = on.held;
+    }
+
   module _ (above : nat_lt 0 ballot ≡ true) where
     prepares_own : AreOwn setup (Goes begun untouched) (Goes begun promise) prepares (λ next. promises next ∷ []) nothing_due
     prepares_own = record {
-      passes = λ k next up held goes.
-          let on = prepare_advances first validity next.id next.old next.decree ballot k up above goes.under in
-          record {
-            new = on.new;
-            step = on.step;
-            after = record { under = on.under; taken = taken_still k on.new next.id (next.decree ∷ next.old) on.same.incarnation on.same.serial goes.taken };
-            same = on.same;
-            held = on.held;
-          };
+      passes = λ k next up held goes. advanced begun promise prepares promises (Goes begun untouched) k next goes.taken
+          (prepare_advances first validity next.id next.old next.decree ballot k up above goes.under);
       before = goes_but begun untouched;
       behind = goes_apart begun promise;
     }
 
     promises_own : AreOwn setup (Goes begun promise) (Goes promised promise) promises (λ next. proposes next ∷ []) nothing_due
     promises_own = record {
-      passes = λ k next up held goes.
-          let on = promise_advances first validity next.id next.old next.decree ballot k up goes.under in
-          record {
-            new = on.new;
-            step = on.step;
-            after = record { under = on.under; taken = taken_still k on.new next.id (next.decree ∷ next.old) on.same.incarnation on.same.serial goes.taken };
-            same = on.same;
-            held = on.held;
-          };
+      passes = λ k next up held goes. advanced promised promise promises proposes (Goes begun promise) k next goes.taken
+          (promise_advances first validity next.id next.old next.decree ballot k up goes.under);
       before = goes_but begun promise;
       behind = goes_apart promised promise;
     }
 
     proposes_own : AreOwn setup (Goes promised promise) (Goes promised voted) proposes (λ next. votes next ∷ []) nothing_due
     proposes_own = record {
-      passes = λ k next up held goes.
-          let on = propose_advances first validity next.id next.old next.decree ballot k up goes.under in
-          record {
-            new = on.new;
-            step = on.step;
-            after = record { under = on.under; taken = taken_still k on.new next.id (next.decree ∷ next.old) on.same.incarnation on.same.serial goes.taken };
-            same = on.same;
-            held = on.held;
-          };
+      passes = λ k next up held goes. advanced promised voted proposes votes (Goes promised promise) k next goes.taken
+          (propose_advances first validity next.id next.old next.decree ballot k up goes.under);
       before = goes_but promised promise;
       behind = goes_apart promised voted;
     }
@@ -160,16 +149,7 @@ module _ (first validity ballot : ℕ) where
         Passes setup (Goes promised voted) Rests votes (λ round. []) receipts k next
     vote_passes k next up held goes = record {
       new = known_with first validity next.id next.old next.decree ballot k [];
-      step =
-          vote_ends first validity next.id next.old next.decree ballot k up goes.under goes.taken
-          (ap (λ (hs : List Held). delete_for setup (known_with first validity next.id next.old next.decree ballot k (map (settled_for 1 next.id (next.decree ∷ next.old)) hs)) next.id
-          (map (settled_for 1 next.id (next.decree ∷ next.old)) hs) (Some (next.decree ∷ next.old))) held
-          ∙ nobody_deletes setup (known_with first validity next.id next.old next.decree ballot k []) next.id next.decree next.old)
-          ∙ ap (λ (hs : List Held). sends
-          (known_with first validity next.id next.old next.decree ballot k (filter (still_waits 1 (Some (next.decree ∷ next.old)) next.id) (map (settled_for 1 next.id (next.decree ∷ next.old)) hs)))
-          []
-          (replies_to 1 (Some (next.decree ∷ next.old)) next.id (map (settled_for 1 next.id (next.decree ∷ next.old)) hs))
-          (receipts next)) held;
+      step = vote_answered first validity next.id next.old next.decree ballot k up goes.under goes.taken [] [] held (none_answered first validity next.id next.decree next.old);
       after = known_rests first validity next.id next.old next.decree ballot k [] goes.under goes.taken;
       same = known_same first validity next.id next.old next.decree ballot k [];
       held = sym held;

@@ -1,5 +1,5 @@
 -- One round that starts at a node by itself.
-use Rattle.std.proofs.Common.{ℕ, List, [], ◌∷◌, refl, ap, arith}
+use Rattle.std.proofs.Common.{ℕ, [], ◌∷◌, refl, ap, arith}
 use Rattle.mc_model.specs.message.Decree.{Decree}
 use Rattle.node_model.specs.Answers.{receipts_of}
 use Rattle.node_model.specs.Attempts.{concluded_then}
@@ -9,18 +9,9 @@ use Rattle.alone_laws.specs.Tables.{TableNode, chain_at, extended, known_as, wit
 use Rattle.alone_laws.specs.Resting.{IsResting, IsTaken}
 use Rattle.alone_laws.specs.Settling.{SettlesOn, round_begun}
 use Rattle.alone_laws.proofs.Carrying.{round_starts}
-use Rattle.alone_laws.proofs.Ending.{AllAnswered, round_ends, settles_after, nobody_deletes}
+use Rattle.alone_laws.proofs.Ending.{round_ends, settles_after, none_answered}
 use Rattle.alone_laws.proofs.Calm.{calm_at_rest, calm_but}
 use Rattle.alone_laws.proofs.Leading.{few_enough}
-
--- nobody waits, and nobody is answered
-pub none_answered : (first validity : ℕ) (id : ℕ) (decree : Decree) (old : List Decree) → AllAnswered (alone first validity) id (decree ∷ old) [] []
-none_answered first validity id decree old = record {
-  settled = refl;
-  undeleted = λ kept. nobody_deletes (alone first validity) kept id decree old;
-  gone = refl;
-  told = refl;
-}
 
 pub round_settles : (first validity : ℕ) (k : Kept) (t : TableNode) → IsResting k t → (id : ℕ) (decree : Decree) → IsTaken k id (decree ∷ chain_at t.table id) →
     SettlesOn (alone first validity) (round_begun (alone first validity) k id decree (chain_at t.table id)) (record t { table = with_entry t.table id (extended (chain_at t.table id) decree) }) []
