@@ -1,5 +1,5 @@
 -- Each request that may come settles.
-use Rattle.std.proofs.Common.{refl, arith, ℕ, [], ◌∷◌, sym, subst, ◌∙◌, ◌≡◌, Some, arith}
+use Rattle.std.proofs.Common.{refl, arith, ℕ, [], ◌∷◌, sym, subst, ◌∙◌, ◌≡◌, Some}
 use Rattle.mc_model.specs.message.Ids.{IsSerial, id_of}
 use Rattle.mc_model.specs.node.Actor.{Cancel, Query, Request, Submit}
 use Rattle.mc_model.specs.node.Input.{Arrival, Refusal}

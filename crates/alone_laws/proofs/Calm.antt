@@ -2,6 +2,9 @@
 use Rattle.std.proofs.Common.{◌≡◌, ℕ, suc, true, List, [], ◌∷◌, ◌++◌, refl, ap, ◌∙◌, inl, inr, arith, nat_cmp, sym}
 use Rattle.std.specs.Prelude.{◌==◌, ◌&&◌, nat_lt}
 use Rattle.std.proofs.lemmas.Bool.{and_from, and_parts, lt-ltb, ltb-true, or_cases, or_left, or_right}
+use Rattle.std.specs.Map.{keys_of}
+use Rattle.std.specs.BTreeSet.{insert_key}
+use Rattle.std.specs.List.Sorted.{IsStrictlySortedBy}
 use Rattle.mc_model.specs.message.Ids.{IsIncarnation, incarnation_of, serial_of}
 use Rattle.mc_model.specs.node.Actor.{Cancel, Query, Request, Submit}
 use Rattle.mc_model.specs.node.Effect.{next_serial}
@@ -9,13 +12,10 @@ use Rattle.node_model.specs.Kept.{Held, Kept}
 use Rattle.node_model.specs.Packets.{was_given}
 use Rattle.node_model.specs.Requests.{begun}
 use Rattle.node_model.specs.Ticks.{waits_too}
-use Rattle.alone_laws.specs.Tables.{Entry, TableNode, entry_at, with_entry}
 use Rattle.shelf.proofs.Entries.{still_ascends}
+use Rattle.alone_laws.specs.Tables.{Entry, TableNode, entry_at, with_entry}
 use Rattle.alone_laws.specs.Resting.{IsAtRest, IsResting}
 use Rattle.alone_laws.proofs.Frames.{IsSameBut, each_at_rest, rest_as, rest_but, keys_with}
-use Rattle.std.specs.Map.{keys_of}
-use Rattle.std.specs.BTreeSet.{insert_key}
-use Rattle.std.specs.List.Sorted.{IsStrictlySortedBy}
 
 -- at rest, whoever waits
 pub record IsCalm (k : Kept) (t : TableNode) : Type 0 where

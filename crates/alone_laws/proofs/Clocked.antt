@@ -7,6 +7,7 @@ use Rattle.std.specs.Map.{keys_of}
 use Rattle.std.specs.Option.{unwrap_or}
 use Rattle.std.specs.Ordering.{nat_cmp}
 use Rattle.std.specs.BTreeMap.{is_at}
+use Rattle.std.proofs.lemmas.List.{length-map}
 use Rattle.mc_model.specs.message.Decree.{Kind}
 use Rattle.mc_model.specs.synod.Lists.{In}
 use Rattle.mc_model.specs.node.Input.{Tick}
@@ -32,7 +33,6 @@ use Rattle.alone_laws.proofs.Queries.{no_receipt}
 use Rattle.alone_laws.proofs.Ruling.{EachRests, Ruled, all_ruled, are_apart, are_listed, ballot, next_at, round_if, rounds_of, AreAmong}
 use Rattle.alone_laws.proofs.SideBySide.{AllEnd, Rests, all_end, receipts}
 use Rattle.alone_laws.proofs.Leading.{leads_then, settling, leads_same}
-use Rattle.std.proofs.lemmas.List.{length-map}
 
 -- ---- which rounds there are
 

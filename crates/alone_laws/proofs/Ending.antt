@@ -1,8 +1,12 @@
 -- A round of a node by itself, from its start to its end, at which whoever waits is answered.
 use Rattle.std.proofs.Common.{◌≡◌, ℕ, List, [], ◌∷◌, length, map, filter, Some, None, refl, sym, ap, subst, ◌∙◌, Bool, false, Option, ◌+◌, ◌≤◌}
-use Rattle.std.specs.Prelude.{Bool, true, false, ◌&&◌, if◌then◌else◌}
+use Rattle.std.specs.Prelude.{true, ◌&&◌, if◌then◌else◌}
 use Rattle.mc_model.specs.message.Decree.{Decree, Fate, Deleted}
+use Rattle.mc_model.specs.message.Submission.{Submission}
+use Rattle.mc_model.specs.message.Chain.{taken_in}
 use Rattle.mc_model.specs.synod.Packet.{Prepare, Voted, slot_at}
+use Rattle.mc_model.specs.synod.Acceptor.{after_vote}
+use Rattle.mc_model.specs.synod.OneSlot.{vote_at}
 use Rattle.mc_model.specs.node.Input.{Delivery}
 use Rattle.mc_model.specs.node.Outputs.{Receipt, Reply}
 use Rattle.mc_model.specs.node.Setup.{Setup}
@@ -21,11 +25,7 @@ use Rattle.alone_laws.proofs.Leading.{Leads, leads_on, leads_then, settles_on, s
 use Rattle.alone_laws.proofs.Stages.{known_rests, known_same, known_with, settled_held, vote_ends, IsUnderWay}
 use Rattle.alone_laws.proofs.Carrying.{Carried, ballot, round_carried, tried, vote}
 use Rattle.alone_laws.proofs.Calm.{IsCalmBut, rests_with}
-use Rattle.mc_model.specs.message.Submission.{Submission}
-use Rattle.mc_model.specs.message.Chain.{taken_in}
 use Rattle.alone_laws.proofs.Deliveries.{promised_round}
-use Rattle.mc_model.specs.synod.Acceptor.{after_vote}
-use Rattle.mc_model.specs.synod.OneSlot.{vote_at}
 
 -- What the chain makes of those who wait: nobody is to be settled, nothing is to be deleted, and all are answered so.
 pub record AllAnswered (setup : Setup) (id : ℕ) (chain : List Decree) (held : List Held) (replies : List Reply) : Type 0 where

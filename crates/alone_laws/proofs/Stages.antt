@@ -8,6 +8,7 @@ use Rattle.mc_model.specs.synod.Packet.{Packet, Prepare, Promise, Propose, Slot,
 use Rattle.mc_model.specs.synod.Acceptor.{SlotRecord, after_vote, blank}
 use Rattle.mc_model.specs.node.Input.{Delivery}
 use Rattle.mc_model.specs.node.Setup.{Setup}
+use Rattle.mc_model.specs.node.Outcome.{Outcome}
 use Rattle.node_model.specs.Message.{Message, Round}
 use Rattle.node_model.specs.Kept.{Held, Kept, message_at, saved, with_message}
 use Rattle.node_model.specs.Answers.{receipts_of, replies_to, still_waits}
@@ -23,7 +24,6 @@ use Rattle.alone_laws.specs.Tables.{known_as, extended}
 use Rattle.alone_laws.specs.Resting.{HasVotes, IsAtRest, IsFresh, IsTaken}
 use Rattle.alone_laws.proofs.Frames.{IsSameBut, message_saved, record_at_other, record_here, same_saved, same_with, slot_self, votes_as, fresh_as}
 use Rattle.alone_laws.proofs.Deliveries.{begun_round, prepare_delivered, promise_delivered, promised_round, propose_delivered, voted_delivered}
-use Rattle.mc_model.specs.node.Outcome.{Outcome}
 
 -- A round for the next decree on a chain that is known: it, and the record of its slot.
 pub record IsUnderWay (id : ℕ) (old : List Decree) (k : Kept) (round : Option Round) (here : SlotRecord) : Type 0 where

@@ -15,6 +15,7 @@ use Rattle.node_model.specs.Proposer.{Start, started}
 use Rattle.node_model.specs.Starts.{take_for}
 use Rattle.node_model.specs.Stepped.{stepped}
 use Rattle.node_model.specs.Ticks.{begun_with}
+use Rattle.node_model.specs.Answers.{receipts_of}
 use Rattle.alone_laws.specs.Alone.{alone}
 use Rattle.alone_laws.specs.Tables.{TableNode, decree_by, moment_behind, receipts_by, reply_to, requested, chain_at, Entry, extended, known_as}
 use Rattle.alone_laws.specs.Resting.{IsResting, IsTaken, IsTakenIfAny}
@@ -23,7 +24,6 @@ use Rattle.alone_laws.proofs.Frames.{eqb_self, entry_here}
 use Rattle.alone_laws.proofs.Carrying.{ballot, round_starts, start, tried}
 use Rattle.alone_laws.proofs.Ending.{AllAnswered, round_ends, settles_after}
 use Rattle.alone_laws.proofs.Calm.{IsCalm, arrived, calm_arrived, held_arrived, newcomer, noted, calm_but}
-use Rattle.node_model.specs.Answers.{receipts_of}
 use Rattle.alone_laws.proofs.Leading.{few_enough}
 
 -- ---- the next id

@@ -1,10 +1,10 @@
 -- What the table of a node by itself says of attempts that are asked for, and of what came of one (own).
 use Rattle.std.specs.Prelude.{ℕ, pred, Bool, true, ◌==◌, not, List, [], ◌∷◌, length, Option, Some, None, if◌then◌else◌}
 use Rattle.mc_model.specs.message.Decree.{Attempt, Decree, Failed, Fate, Kind, Taken}
+use Rattle.mc_model.specs.synod.Packet.{Slot, slot_at}
 use Rattle.mc_model.specs.node.Grant.{AlreadyGranted, GrantRefusal, NotChosen, NotMine, OlderIncarnation}
 use Rattle.mc_model.specs.node.Outcome.{Outcome, decree_of}
 use Rattle.mc_model.specs.node.Outputs.{Receipt}
-use Rattle.mc_model.specs.synod.Packet.{Slot, slot_at}
 use Rattle.node_model.specs.Answers.{receipts_of}
 use Rattle.alone_laws.specs.Tables.{TableNode, chain_at, decree_by, decreed, entry_at, known_as, with_entry}
 

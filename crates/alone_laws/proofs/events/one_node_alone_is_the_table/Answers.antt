@@ -1,6 +1,6 @@
+use Rattle.alone_laws.specs.Tables.{new_table}
 use Rattle.alone_laws.proofs.AnyEvent.{events_run}
 use Rattle.alone_laws.proofs.Opening.{new_rests}
-use Rattle.alone_laws.specs.Tables.{new_table}
 use Rattle.alone_laws.proofs.events.one_node_alone_is_the_table.Goals as goal
 
 pub returns-clause-from_rest : goal.returns-clause-from_rest
