@@ -1,5 +1,5 @@
 -- Deliveries one after the other.
-use Rattle.std.proofs.Common.{◌≡◌, ℕ, zero, suc, ◌+◌, List, [], ◌∷◌, ◌++◌, refl, sym, ap, subst, ◌∙◌, append-nil, arith, ◌≤◌}
+use Rattle.std.proofs.Common.{◌≡◌, ℕ, zero, suc, ◌+◌, List, [], ◌∷◌, ◌++◌, refl, sym, ap, subst, ◌∙◌, append-nil, arith, ◌≤◌, ◌-◌, inl, inr}
 use Rattle.mc_model.specs.synod.Packet.{Packet}
 use Rattle.mc_model.specs.node.Input.{Delivery}
 use Rattle.mc_model.specs.node.Outputs.{Receipt, Reply}
@@ -10,6 +10,7 @@ use Rattle.node_model.specs.Stepped.{stepped}
 use Rattle.alone_laws.specs.Tables.{TableNode}
 use Rattle.alone_laws.specs.Resting.{IsResting}
 use Rattle.alone_laws.specs.Settling.{Settling, SettlesOn, begins_with, delivered, first_delivered, goes_on, most_deliveries}
+use Rattle.std.proofs.lemmas.Bool.{cases_lt}
 
 abbrev pub settling : Kept → List Packet → List Reply → List Receipt → Settling
 settling k packets replies receipts = record { kept = k; packets = packets; replies = replies; receipts = receipts }
@@ -81,3 +82,18 @@ pub nothing_more : (setup : Setup) (s : Settling) → s.packets ≡ [] → (more
 nothing_more setup s left zero = refl
 nothing_more setup s left (suc more) =
     ap (λ (packets : List Packet). delivered setup more (first_delivered setup s packets)) left ∙ nothing_more setup s left more
+
+module _ (setup : Setup) (s : Settling) where
+  pub goes_on_by_one : (n : ℕ) → delivered setup (n + 1) s ≡ first_delivered setup (delivered setup n s) (delivered setup n s).packets
+  goes_on_by_one n = delivered_then setup n 1 s
+
+  pub ends_at : (n : ℕ) → (delivered setup n s).packets ≡ [] → (m : ℕ) → n ≤ m → delivered setup m s ≡ delivered setup n s
+  ends_at n left m later =
+      let sum : m ≡ n + (m - n) = omega (arith, later) in
+      ap (λ (deliveries : ℕ). delivered setup deliveries s) sum ∙ (delivered_then setup n (m - n) s ∙ nothing_more setup (delivered setup n s) left (m - n))
+
+  pub one_end : (n m : ℕ) → (delivered setup n s).packets ≡ [] → (delivered setup m s).packets ≡ [] → delivered setup n s ≡ delivered setup m s
+  one_end n m left also = elim (cases_lt n m) [
+    | inl below ↦ sym (ends_at n left m (omega (arith, below)))
+    | inr from ↦ ends_at m also n from
+  ]

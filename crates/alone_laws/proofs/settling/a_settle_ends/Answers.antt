@@ -1,5 +1,5 @@
-use Rattle.alone_laws.proofs.Leading.{nothing_more}
+use Rattle.alone_laws.proofs.Leading.{ends_at}
 use Rattle.alone_laws.proofs.settling.a_settle_ends.Goals as goal
 
 pub returns : goal.returns
-returns c setup s left more = nothing_more setup s left more
+returns c setup s n left m later = ends_at setup s n left m later
