@@ -22,3 +22,4 @@ pub mod Mapped
 pub mod Clocked
 pub mod Granting
 pub mod AnyEvent
+pub mod NobodyUp

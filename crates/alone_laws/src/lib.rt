@@ -17,4 +17,4 @@ pub use openings::a_new_node_is_at_rest;
 pub use requests::a_request_settles;
 pub use rounds::a_round_settles;
 pub use settling::{a_settle_ends, a_settle_goes_on, a_settle_has_one_end};
-pub use ticks::a_tick_settles;
+pub use ticks::{a_tick_settles, messages_expire_while_nobody_is_up};
