@@ -1,5 +1,6 @@
 -- Deliveries one after the other.
 use Rattle.std.proofs.Common.{◌≡◌, ℕ, zero, suc, ◌+◌, List, [], ◌∷◌, ◌++◌, refl, sym, ap, subst, ◌∙◌, append-nil, arith, ◌≤◌, ◌-◌, inl, inr}
+use Rattle.std.proofs.lemmas.Bool.{cases_lt}
 use Rattle.mc_model.specs.synod.Packet.{Packet}
 use Rattle.mc_model.specs.node.Input.{Delivery}
 use Rattle.mc_model.specs.node.Outputs.{Receipt, Reply}
@@ -10,7 +11,6 @@ use Rattle.node_model.specs.Stepped.{stepped}
 use Rattle.alone_laws.specs.Tables.{TableNode}
 use Rattle.alone_laws.specs.Resting.{IsResting}
 use Rattle.alone_laws.specs.Settling.{Settling, SettlesOn, begins_with, delivered, first_delivered, goes_on, most_deliveries}
-use Rattle.std.proofs.lemmas.Bool.{cases_lt}
 
 abbrev pub settling : Kept → List Packet → List Reply → List Receipt → Settling
 settling k packets replies receipts = record { kept = k; packets = packets; replies = replies; receipts = receipts }

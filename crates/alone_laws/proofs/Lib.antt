@@ -23,3 +23,4 @@ pub mod Clocked
 pub mod Granting
 pub mod AnyEvent
 pub mod NobodyUp
+pub mod Chained

@@ -2,6 +2,7 @@
 #![tactic(auto)]
 
 mod attempts;
+mod chains;
 mod events;
 mod examples;
 mod openings;
@@ -11,6 +12,7 @@ mod settling;
 mod ticks;
 
 pub use attempts::{a_grant_settles, a_response_settles};
+pub use chains::{chains_expire_while_nobody_is_up, entries_stand_by_their_chains};
 pub use events::{an_event_settles, one_node_alone_is_the_table};
 pub use examples::a_message_is_delivered_on_the_table;
 pub use openings::a_new_node_is_at_rest;
