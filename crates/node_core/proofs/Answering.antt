@@ -32,7 +32,8 @@ use Rattle.node_core.specs.declared.step.Next.{Next}
 use Rattle.node_core.specs.declared.step.Step.{Step}
 use Rattle.node_core.specs.Keeping.{AreOf, IsTaken, acceptor_in, filed_as, kept_of, records_of}
 use Rattle.node_core.specs.Messages.{IsJudged, IsOf, changed_by, message_of}
-use Rattle.node_core.specs.Steps.{IsAnswer, IsNext, IsStep, entries_after, installed, rested_if}
+use Rattle.node_core.specs.Steps.{IsAnswer, IsNext, IsStep, entries_after, installed, kept_then, rested_if}
+use Rattle.node_core.proofs.Queueing.{asked_same, held_same, place_same}
 use Rattle.node_core.proofs.Entries.{message_looked_up, message_put, own_at, own_put, records_put}
 
 -- ---- a message that is taken out
@@ -73,12 +74,13 @@ next_entries k id m next is =
     ap (λ (b : Bool). entries_after (rested_if b k.messages.entries) next.messages.items) is.drops ∙ is.entries
 
 pub nexts : (k : Holding) (id : ℕ) (m : Filed) (next : Next) → IsNext k id m next →
-    kept_of (installed k next) ≡ kept_of (holding k (with_value k.messages.entries id m))
+    kept_then k next ≡ kept_of (holding k (with_value k.messages.entries id m))
 nexts k id m next is = let entries = next_entries k id m next is in λ i. record (kept_of k) {
   records = records_of (entries i);
   clock = is.clock i;
   serial = is.serial i;
   ticket = is.ticket i;
+  held = held_same k next is.queue i;
   messages = map filed_as (entries i);
 }
 
@@ -122,8 +124,8 @@ module _ (k : Holding) (slot : Slot) (taken new : Filed) (judgement : SlotRecord
     attempts = is_judged.attempts i;
   })) ∙ is_taken.message
 
-  kept_then : kept_of (holding k (with_value Entries slot.id new)) ≡ saved (kept_of k) slot Judged.after
-  kept_then = λ i. record (kept_of k) {
+  kept_new : kept_of (holding k (with_value Entries slot.id new)) ≡ saved (kept_of k) slot Judged.after
+  kept_new = λ i. record (kept_of k) {
     records = fun_ext records_then i;
     messages = (message_put Entries slot.id new ∙ ap (λ (m : Message). insert_entry nat_cmp (map filed_as Entries) slot.id m) message_new) i;
   }
@@ -145,7 +147,7 @@ module _ (k : Holding) (slot : Slot) (taken new : Filed) (judgement : SlotRecord
 
   pub answered : IsStep k (judged (kept_of k) slot Judged) step
   answered = record {
-    kept = nexts k slot.id new step.next is_answer.next ∙ kept_then;
+    kept = nexts k slot.id new step.next is_answer.next ∙ kept_new;
     outputs = is_answer.outputs ∙ ap (λ (packet : Packet). record nothing { packets = packet ∷ [] }) (is_judged.answer ∙ ap (λ (j : Judgement). j.answer) judged_here);
     saves = λ other.
         ap (λ (es : List (ℕ × Filed)). records_of es other) (next_entries k slot.id new step.next is_answer.next)
@@ -154,8 +156,10 @@ module _ (k : Holding) (slot : Slot) (taken new : Filed) (judgement : SlotRecord
     own = λ own. record {
       each = subst (λ (es : List (ℕ × Filed)). AreOf k.setup k.incarnation es) (sym (next_entries k slot.id new step.next is_answer.next))
           (own_put k.setup k.incarnation Entries slot.id new (of_new (is_taken.own own)) own.each);
+      asked = asked_same k step.next is_answer.next.queue is_answer.next.ticket own;
     };
     room = is_answer.next.room;
+    place = place_same k.queue step.next.queue is_answer.next.queue;
   }
 
 -- ---- what comes from a node of the cluster

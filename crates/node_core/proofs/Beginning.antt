@@ -7,6 +7,7 @@ use Rattle.mc_model.specs.synod.Acceptor.{Records}
 use Rattle.mc_model.specs.node.Setup.{Setup}
 use Rattle.node_model.specs.Message.{Message}
 use Rattle.fate_chain.specs.declared.decree.Author.{Author}
+use Rattle.requests.specs.Waiting.{held_in}
 use Rattle.shelf.specs.Shelved.{value_at}
 use Rattle.shelf.proofs.Visited.{value_visited, visited}
 use Rattle.synod_acceptor.specs.Records.{record_at}
@@ -14,6 +15,7 @@ use Rattle.node_core.specs.declared.kept.Kept.{Kept as Holding}
 use Rattle.node_core.specs.declared.message.Message.{Message as Filed}
 use Rattle.node_core.specs.Keeping.{AreOf, AreUnseen, IsOpen, acceptor_in, records_of}
 use Rattle.node_core.specs.Renewal.{renewed}
+use Rattle.node_core.proofs.Queueing.{asked_none}
 
 module _ (me : Author) where
   abbrev all_renewed : List (ℕ × Filed) → List (ℕ × Filed)
@@ -48,14 +50,15 @@ module _ (me : Author) where
       ∙ same_acceptor slot (value_at entries slot.id)
 
   pub begun : (with : Setup) (starts : ℕ) (records : Records) (old new : Holding) → me.node ≡ old.setup.node → new.setup ≡ old.setup →
-      new.incarnation ≡ me.incarnation → new.clock ≡ old.clock → new.serial ≡ old.serial → new.ticket ≡ old.ticket →
+      new.incarnation ≡ me.incarnation → new.clock ≡ old.clock → new.serial ≡ old.serial → new.ticket ≡ old.ticket → held_in new.queue ≡ held_in old.queue →
       new.messages.entries ≡ all_renewed old.messages.entries → IsOpen with starts records old → IsOpen with me.incarnation records new
-  begun with starts records old new node setup incarnation clock serial ticket entries is = record {
+  begun with starts records old new node setup incarnation clock serial ticket held entries is = record {
     setup = setup ∙ is.setup;
     incarnation = incarnation;
     clock = clock ∙ is.clock;
     serial = serial ∙ is.serial;
     ticket = ticket ∙ is.ticket;
+    held = held ∙ is.held;
     kept = λ slot. ap (λ (es : List (ℕ × Filed)). records_of es slot) entries ∙ records_still old.messages.entries slot ∙ is.kept slot;
     fresh = subst AreUnseen (sym entries) (unseen_still old.messages.entries is.fresh);
     own = record {
@@ -63,5 +66,6 @@ module _ (me : Author) where
           (subst (λ (starts : ℕ). AreOf new.setup starts (all_renewed old.messages.entries)) (sym incarnation)
           (subst (λ (s : Setup). AreOf s me.incarnation (all_renewed old.messages.entries)) (sym setup)
           (own_now old.setup old.incarnation old.messages.entries node is.fresh is.own.each)));
+      asked = asked_none new.setup.node new.incarnation new.ticket (held_in new.queue) (held ∙ is.held);
     };
   }

@@ -24,30 +24,39 @@ use Rattle.synod_proposer.specs.Proposing.{counted_in, is_own, proposed_in}
 use Rattle.node_core.specs.declared.kept.Kept.{Kept as Holding}
 use Rattle.node_core.specs.declared.message.Message.{Message as Filed}
 use Rattle.node_core.specs.declared.step.Step.{Step}
-use Rattle.node_core.specs.Keeping.{AreOf, AreOwn, IsTaken, filed_as, kept_of, records_of}
+use Rattle.node_core.specs.Keeping.{AreOf, AreOwn, IsAs, IsTaken, filed_as, kept_of, records_of}
 use Rattle.node_core.specs.Messages.{IsOfSame, IsPromised, IsRefused, changed_by, message_of}
 use Rattle.node_core.specs.Steps.{IsLeft, IsStep, giving}
 use Rattle.node_core.specs.Lists.{listed}
 use Rattle.node_core.proofs.Answering.{holding, next_entries, nexts}
+use Rattle.node_core.proofs.Queueing.{asked_same, place_same}
 use Rattle.node_core.proofs.Entries.{message_put, own_put, records_kept}
 
-module _ (k : Holding) (id : ℕ) (taken new : Filed) (to : Message) (outputs : Outputs) (step : Step)
-    (is_taken : IsTaken k id taken) (same : IsOfSame id taken new) (is : message_of id new ≡ to) (is_left : IsLeft k id new outputs step) where
+-- a message that was taken out and changed
+pub as_changed : (k : Holding) (id : ℕ) (old new : Filed) (was to : Message) → IsAs k id old was → IsOfSame id old new → message_of id new ≡ to → IsAs k id new to
+as_changed k id old new was to is same message = record {
+  own = λ own. same.of k.setup.node k.incarnation k.setup.nodes (is.own own);
+  message = message;
+  records = λ place. ap (λ a. record_at a (slot_at id place)) same.acceptor ∙ is.records place;
+}
+
+module _ (k : Holding) (id : ℕ) (new : Filed) (to : Message) (outputs : Outputs) (step : Step)
+    (is : IsAs k id new to) (is_left : IsLeft k id new outputs step) where
   abbrev Entries : List (ℕ × Filed)
   Entries = k.messages.entries
 
   records_then : (other : Slot) → records_of (with_value Entries id new) other ≡ records_of Entries other
-  records_then = records_kept Entries id new (λ place. ap (λ a. record_at a (slot_at id place)) same.acceptor ∙ is_taken.records place)
+  records_then = records_kept Entries id new is.records
 
-  kept_then : kept_of (holding k (with_value Entries id new)) ≡ with_message (kept_of k) id to
-  kept_then = λ i. record (kept_of k) {
+  kept_new : kept_of (holding k (with_value Entries id new)) ≡ with_message (kept_of k) id to
+  kept_new = λ i. record (kept_of k) {
     records = fun_ext records_then i;
-    messages = (message_put Entries id new ∙ ap (λ (m : Message). insert_entry nat_cmp (map filed_as Entries) id m) is) i;
+    messages = (message_put Entries id new ∙ ap (λ (m : Message). insert_entry nat_cmp (map filed_as Entries) id m) is.message) i;
   }
 
-  pub left : IsStep k (record { kept = with_message (kept_of k) id to; outputs = outputs }) step
-  left = record {
-    kept = nexts k id new step.next is_left.next ∙ kept_then;
+  pub left_as : IsStep k (record { kept = with_message (kept_of k) id to; outputs = outputs }) step
+  left_as = record {
+    kept = nexts k id new step.next is_left.next ∙ kept_new;
     outputs = is_left.gives;
     saves = λ other.
         ap (λ (es : List (ℕ × Filed)). records_of es other) (next_entries k id new step.next is_left.next)
@@ -55,10 +64,17 @@ module _ (k : Holding) (id : ℕ) (taken new : Filed) (to : Message) (outputs : 
         ∙ sym (ap (λ (change : Option Change). changed_by change (records_of Entries) other) is_left.change);
     own = λ own. record {
       each = subst (λ (es : List (ℕ × Filed)). AreOf k.setup k.incarnation es) (sym (next_entries k id new step.next is_left.next))
-          (own_put k.setup k.incarnation Entries id new (same.of k.setup.node k.incarnation k.setup.nodes (is_taken.own own)) own.each);
+          (own_put k.setup k.incarnation Entries id new (is.own own) own.each);
+      asked = asked_same k step.next is_left.next.queue is_left.next.ticket own;
     };
     room = is_left.next.room;
+    place = place_same k.queue step.next.queue is_left.next.queue;
   }
+
+pub left : (k : Holding) (id : ℕ) (taken new : Filed) (to : Message) (outputs : Outputs) (step : Step) → IsTaken k id taken → IsOfSame id taken new →
+    message_of id new ≡ to → IsLeft k id new outputs step → IsStep k (record { kept = with_message (kept_of k) id to; outputs = outputs }) step
+left k id taken new to outputs step is_taken same is is_left =
+    left_as k id new to outputs step (as_changed k id taken new (message_at (kept_of k) id) to is_taken same is) is_left
 
 -- ---- a refusal
 

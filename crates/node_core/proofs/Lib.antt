@@ -1,11 +1,14 @@
 pub mod Attempting
 pub mod Entries
 pub mod Putting
+pub mod Queueing
 pub mod Answering
 pub mod Leaving
 pub mod Grants
 pub mod Ticks
 pub mod Turns
+pub mod Tells
+pub mod Knowing
 pub mod Opening
 pub mod Voting
 pub mod Beginning

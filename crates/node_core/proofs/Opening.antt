@@ -19,6 +19,7 @@ use Rattle.mc_model.specs.node.Setup.{Setup}
 use Rattle.mc_parts.proofs.Membership.{slots_same}
 use Rattle.node_model.specs.Message.{unseen}
 use Rattle.node_model.specs.Stepped.{opened_over}
+use Rattle.requests.specs.Waiting.{held_in}
 use Rattle.shelf.specs.Shelved.{value_at, with_value}
 use Rattle.synod_acceptor.proofs.Slots.{is_same}
 use Rattle.synod_acceptor.specs.Records.{entries_of, entry_of, held_at, or_blank, record_at}
@@ -33,6 +34,7 @@ use Rattle.node_core.specs.Messages.{IsOf, message_of}
 use Rattle.node_core.specs.Nodes.{HasOpened, Standing}
 use Rattle.node_core.specs.Steps.{IsInstalled, IsNext}
 use Rattle.node_core.proofs.Answering.{next_entries}
+use Rattle.node_core.proofs.Queueing.{asked_none, asked_still, held_same}
 use Rattle.node_core.proofs.Entries.{own_put, records_put, same_key}
 
 -- ---- nothing was heard
@@ -69,6 +71,7 @@ filed old new kept id taken m next about is_taken records same of is_next is = l
   clock = is.clock ∙ is_next.clock;
   serial = is.serial ∙ is_next.serial;
   ticket = is.ticket ∙ is_next.ticket;
+  held = is.queue ∙ held_same old next is_next.queue;
   records = λ slot.
       ap (λ (es : List (ℕ × Filed)). records_of es slot) entries
       ∙ records_put old.messages.entries id m (slot_recorded kept) (record_of kept) (sym about)
@@ -79,6 +82,7 @@ filed old new kept id taken m next about is_taken records same of is_next is = l
         (subst (λ (s : Setup). AreOf s new.incarnation (with_value old.messages.entries id m)) (sym is.setup)
         (subst (λ (starts : ℕ). AreOf old.setup starts (with_value old.messages.entries id m)) (sym is.incarnation)
         (own_put old.setup old.incarnation old.messages.entries id m (of (is_taken.own own)) own.each)));
+    asked = asked_still old new is.setup is.incarnation (is.ticket ∙ is_next.ticket) (is.queue ∙ held_same old next is_next.queue) own;
   };
   fresh = λ fresh. subst AreUnseen (sym entries) (unseen_put old.messages.entries id m (same id ∙ is_taken.message ∙ unseen_at old.messages.entries id fresh) fresh);
 }
@@ -141,21 +145,26 @@ pub record IsFiling (with : Setup) (starts : ℕ) (left all : List Record) (k : 
   pub clock : k.clock ≡ opening_clock
   pub serial : k.serial ≡ with.first_serial
   pub ticket : k.ticket ≡ 1
+  pub held : held_in k.queue ≡ []
   pub records : (slot : Slot) → over (entries_of left) (records_of k.messages.entries) slot ≡ record_at (entries_of all) slot
   pub fresh : AreUnseen k.messages.entries
   pub own : AreOwn k
 
 pub filing_begins : (with : Setup) (starts : ℕ) (all : List Record) (k : Holding) → k.setup ≡ with → k.incarnation ≡ starts →
-    k.clock ≡ opening_clock → k.serial ≡ with.first_serial → k.ticket ≡ 1 → k.messages.entries ≡ [] → IsFiling with starts all all k
-filing_begins with starts all k setup incarnation clock serial ticket none = record {
+    k.clock ≡ opening_clock → k.serial ≡ with.first_serial → k.ticket ≡ 1 → held_in k.queue ≡ [] → k.messages.entries ≡ [] → IsFiling with starts all all k
+filing_begins with starts all k setup incarnation clock serial ticket held none = record {
   setup = setup;
   incarnation = incarnation;
   clock = clock;
   serial = serial;
   ticket = ticket;
+  held = held;
   records = λ slot. over_blank (entries_of all) (records_of k.messages.entries) slot (ap (λ (es : List (ℕ × Filed)). records_of es slot) none);
   fresh = subst AreUnseen (sym none) tt;
-  own = record { each = subst (λ (es : List (ℕ × Filed)). AreOf k.setup k.incarnation es) (sym none) tt };
+  own = record {
+    each = subst (λ (es : List (ℕ × Filed)). AreOf k.setup k.incarnation es) (sym none) tt;
+    asked = asked_none k.setup.node k.incarnation k.ticket (held_in k.queue) held;
+  };
 }
 
 pub filing_goes_on : (with : Setup) (starts : ℕ) (left front all : List Record) (last : Record) (old new : Holding) → left ≡ front ++ last ∷ [] →
@@ -166,6 +175,7 @@ filing_goes_on with starts left front all last old new split is_filed filing = r
   clock = is_filed.clock ∙ filing.clock;
   serial = is_filed.serial ∙ filing.serial;
   ticket = is_filed.ticket ∙ filing.ticket;
+  held = is_filed.held ∙ filing.held;
   records = λ slot. over_filed left front last old new slot split is_filed ∙ filing.records slot;
   fresh = is_filed.fresh filing.fresh;
   own = is_filed.own filing.own;
@@ -179,6 +189,7 @@ filing_ends with starts left all k none filing = record {
   clock = filing.clock;
   serial = filing.serial;
   ticket = filing.ticket;
+  held = filing.held;
   kept = λ slot. sym (ap (λ (rs : List Record). over (entries_of rs) (records_of k.messages.entries) slot) none) ∙ filing.records slot;
   fresh = filing.fresh;
   own = filing.own;
@@ -194,6 +205,7 @@ open_over with starts one other k is same = record {
   clock = is.clock;
   serial = is.serial;
   ticket = is.ticket;
+  held = is.held;
   kept = λ slot. is.kept slot ∙ same slot;
   fresh = is.fresh;
   own = is.own;
@@ -220,6 +232,7 @@ opened with records starts node life is works of_node of_start = record {
     clock = is.clock i;
     serial = is.serial i;
     ticket = is.ticket i;
+    held = is.held i;
     messages = messages_are node.kept.messages.entries is.fresh i;
   };
   listed = λ slot differs. listed_in node.kept.messages.entries slot.id (λ none. differs (sym (is.kept slot) ∙ ap (λ (found : Option Filed). record_at (acceptor_in found) slot) none));

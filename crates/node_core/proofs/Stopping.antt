@@ -1,5 +1,5 @@
 -- What a save leaves that was stopped.
-use Rattle.std.proofs.Common.{◌≡◌, ◌⊎◌, refl, sym, ap, subst, ◌∙◌, inl, inr, Option, Some, None, if◌then◌else◌}
+use Rattle.std.proofs.Common.{◌≡◌, ◌⊎◌, sym, ap, subst, ◌∙◌, inl, inr, Option, Some, None, if◌then◌else◌}
 use Rattle.mc_model.specs.synod.Packet.{Slot, same_slot}
 use Rattle.mc_model.specs.synod.Acceptor.{Records, SlotRecord}
 use Rattle.node_model.specs.Kept.{Kept}

@@ -2,22 +2,14 @@
 use Rattle.std.proofs.Common.{◌≡◌, ℕ, ◌<◌, Bool, true, false, List, [], ◌∷◌, length, Option, Some, None, refl, sym, ap, subst, ◌∙◌, arith}
 use Rattle.std.proofs.lemmas.Bool.{and_parts}
 use Rattle.std.proofs.lemmas.Bool.Decides.{nat_tests}
-use Rattle.std.specs.Prelude.{◌==◌, ◌&&◌, not, if◌then◌else◌}
-use Rattle.mc_model.specs.message.Ids.{node_of}
-use Rattle.mc_model.specs.message.Submission.{Submission}
+use Rattle.std.specs.Prelude.{◌&&◌, if◌then◌else◌}
 use Rattle.mc_model.specs.message.Decree.{Decree}
-use Rattle.mc_model.specs.message.Chain.{final_in, taken_in}
-use Rattle.mc_model.specs.synod.OneSlot.{Vote}
-use Rattle.mc_model.specs.node.Outputs.{Receipt}
-use Rattle.mc_model.specs.node.Setup.{Setup}
-use Rattle.node_model.specs.Answers.{had_fate, receipt_by, receipts_of}
-use Rattle.node_model.specs.Kept.{Kept, message_at, with_message}
+use Rattle.node_model.specs.Kept.{message_at, with_message}
 use Rattle.node_model.specs.Learner.{heard, is_shorter, makes_known}
 use Rattle.node_model.specs.Message.{Message}
-use Rattle.node_model.specs.Outputs.{Stepped, leaves, sends}
-use Rattle.node_model.specs.Packets.{answered_then, heard_in, known_then, on_known, on_voted, vote_concerns}
-use Rattle.node_model.specs.Proposer.{Start, started, unless_reached}
-use Rattle.node_model.specs.Starts.{delete_for, delete_of, is_idle}
+use Rattle.node_model.specs.Outputs.{nothing, Stepped, leaves}
+use Rattle.node_model.specs.Packets.{known_then, on_known, on_voted, vote_concerns}
+use Rattle.node_model.specs.Proposer.{unless_reached}
 use Rattle.synod_acceptor.proofs.Slots.{is_same}
 use Rattle.synod_acceptor.specs.Votes.{slot_in, vote_of}
 use Rattle.synod_acceptor.specs.declared.vote.Vote.{Vote as Cast}
@@ -27,12 +19,12 @@ use Rattle.synod_proposer.specs.Proposing.{IsOfSame as IsOfSameProposer, Proposi
 use Rattle.node_core.specs.declared.kept.Kept.{Kept as Holding}
 use Rattle.node_core.specs.declared.message.Message.{Message as Filed}
 use Rattle.node_core.specs.declared.step.Step.{Step}
-use Rattle.node_core.specs.Keeping.{AreOwn, IsTaken, kept_of}
+use Rattle.node_core.specs.Keeping.{AreOwn, IsAs, IsTaken, kept_of}
 use Rattle.node_core.specs.Attempting.{IsBacked}
 use Rattle.node_core.specs.Messages.{IsHeard, IsOfSame, message_of}
-use Rattle.node_core.specs.Steps.{IsLeft, IsStep, giving}
-use Rattle.node_core.specs.Voting.{id_concerns, receipt_if, voted_in}
-use Rattle.node_core.proofs.Leaving.{left}
+use Rattle.node_core.specs.Steps.{IsLeft, IsStep}
+use Rattle.node_core.specs.Voting.{id_concerns, voted_in}
+use Rattle.node_core.proofs.Leaving.{as_changed, left}
 
 -- ---- one message
 
@@ -100,46 +92,6 @@ module _ (old : Filed) (sender : ℕ) (vote : Cast) (learner : Learned) (grows :
         message = now ∙ sym (ap (λ (b : Bool). known_if b (heard (message_of vote.chain.id old) sender (vote_of vote)) vote.chain.decrees) test);
       }
 
--- ---- what becomes known, if no request waits
-
-no_delete : (setup : Setup) (k : Kept) (id : ℕ) (chain : List Decree) → delete_for setup k id [] (Some chain) ≡ None
-no_delete setup k id [] = refl
-no_delete setup k id (newest ∷ older) = by_taken (taken_in (newest ∷ older))
-  where
-    by_test : (test : Bool) (start : Start) → (if test && false then Some start else None) ≡ None
-    by_test true start = refl
-    by_test false start = refl
-
-    by_taken : (taken : Option Submission) → delete_of setup k id [] newest older taken ≡ None
-    by_taken None = refl
-    by_taken (Some taken) = by_test (is_idle newest.kind) _
-
-known_alone : (k : Holding) (id : ℕ) (m : Message) (chain : List Decree) →
-    on_known k.setup (kept_of k) id m chain ≡ sends (with_message (kept_of k) id (known_then m chain)) [] [] (receipts_of k.setup.node id m.known chain)
-known_alone k id m chain =
-    let now = with_message (kept_of k) id (known_then m chain) in
-    ap (λ (start : Option Start). answered_then k.setup now id m.known chain (started k.setup now id start)) (no_delete k.setup now id chain)
-
-receipts_are : (node id : ℕ) (before : Option (List Decree)) (chain : List Decree) →
-    receipt_if (true && not (had_fate before)) node id chain ≡ receipts_of node id before chain
-receipts_are node id before chain = by_tests (node_of id == node) (had_fate before)
-  where
-    by_tests : (own fate : Bool) →
-        (if true && not fate then (if own && not false then receipt_by id chain (final_in chain) (taken_in chain) else []) else []) ≡ (if own && not fate then receipt_by id chain (final_in chain) (taken_in chain) else [])
-    by_tests true true = refl
-    by_tests true false = refl
-    by_tests false true = refl
-    by_tests false false = refl
-
-voted_by : (k : Holding) (id : ℕ) (m : Message) (vote : Vote) (grows : Bool) → grows ≡ makes_known k.setup.nodes m vote →
-    sends (with_message (kept_of k) id (known_if grows m vote.chain)) [] [] (receipt_if (grows && not (had_fate m.known)) k.setup.node id vote.chain) ≡ heard_in k.setup (kept_of k) id m vote
-voted_by k id m vote true test =
-    ap (λ (receipts : List Receipt). sends (with_message (kept_of k) id (known_then m vote.chain)) [] [] receipts) (receipts_are k.setup.node id m.known vote.chain)
-    ∙ sym (known_alone k id m vote.chain)
-    ∙ ap (λ (b : Bool). if b then on_known k.setup (kept_of k) id m vote.chain else leaves (with_message (kept_of k) id m)) test
-voted_by k id m vote false test =
-    ap (λ (b : Bool). if b then on_known k.setup (kept_of k) id m vote.chain else leaves (with_message (kept_of k) id m)) test
-
 -- ---- whether it concerns the node
 
 concerns : (k : Holding) (vote : Cast) (test : Bool) → id_concerns k.setup (kept_of k) vote.chain.id ≡ test →
@@ -151,20 +103,38 @@ pub voted_elsewhere : (k : Holding) (sender : ℕ) (vote : Cast) (step : Step) �
 voted_elsewhere k sender vote step test is =
     subst (λ (s : Stepped). IsStep k s step) (sym (ap (λ (b : Bool). if b then on_voted k.setup (kept_of k) sender (slot_in vote) (vote_of vote) else leaves (kept_of k)) (concerns k vote false test))) is
 
-pub voted_here : (k : Holding) (sender : ℕ) (vote : Cast) (taken new : Filed) (grows had : Bool) (step : Step) → AreOwn k →
-    id_concerns k.setup (kept_of k) vote.chain.id ≡ true → IsTaken k vote.chain.id taken → had ≡ had_fate (message_of vote.chain.id taken).known →
-    IsHeard taken sender vote new grows →
-    IsLeft k vote.chain.id new (giving [] (receipt_if (grows && not had) k.setup.node vote.chain.id vote.chain.decrees)) step → IsStep k (voted_in k.setup (kept_of k) sender (slot_in vote) (vote_of vote)) step
-voted_here k sender vote taken new grows had step own test is_taken fate is_heard is_left =
-    let id = vote.chain.id in
-    let of = is_taken.own own in
-    let m = heard (message_at (kept_of k) id) sender (vote_of vote) in
-    let decides : grows ≡ makes_known k.setup.nodes m (vote_of vote) = is_heard.decides ∙ (λ i. makes_known (of.learner i) (heard (is_taken.message i) sender (vote_of vote)) (vote_of vote)) in
-    let message : message_of id new ≡ known_if grows m vote.chain.decrees = is_heard.message ∙ ap (λ (n : Message). known_if grows (heard n sender (vote_of vote)) vote.chain.decrees) is_taken.message in
-    let had_is : had ≡ had_fate m.known = fate ∙ ap (λ (n : Message). had_fate n.known) is_taken.message in
-    let receipts = receipt_if (grows && not (had_fate m.known)) k.setup.node id vote.chain.decrees in
-    let leaves_it : IsLeft k id new (giving [] receipts) step = subst (λ (b : Bool). IsLeft k id new (giving [] (receipt_if (grows && not b) k.setup.node id vote.chain.decrees)) step) had_is is_left in
-    subst (λ (s : Stepped). IsStep k s step)
-    (voted_by k id m (vote_of vote) grows decides
-    ∙ sym (ap (λ (b : Bool). if b then on_voted k.setup (kept_of k) sender (slot_in vote) (vote_of vote) else leaves (kept_of k)) (concerns k vote true test)))
-    (left k id taken new (known_if grows m vote.chain.decrees) (giving [] receipts) step is_taken is_heard.same message leaves_it)
+module _ (k : Holding) (sender : ℕ) (vote : Cast) (taken new : Filed) (grows : Bool) (step : Step) (own : AreOwn k)
+    (test : id_concerns k.setup (kept_of k) vote.chain.id ≡ true) (is_taken : IsTaken k vote.chain.id taken) (is_heard : IsHeard taken sender vote new grows) where
+  abbrev id : ℕ
+  id = vote.chain.id
+
+  abbrev m : Message
+  m = heard (message_at (kept_of k) id) sender (vote_of vote)
+
+  message_is : message_of id new ≡ known_if grows m vote.chain.decrees
+  message_is = is_heard.message ∙ ap (λ (n : Message). known_if grows (heard n sender (vote_of vote)) vote.chain.decrees) is_taken.message
+
+  decides : grows ≡ makes_known k.setup.nodes m (vote_of vote)
+  decides = is_heard.decides ∙ (λ i. makes_known ((is_taken.own own).learner i) (heard (is_taken.message i) sender (vote_of vote)) (vote_of vote))
+
+  abbrev heard_if : Bool → Stepped
+  heard_if b = if b then on_known k.setup (kept_of k) id m vote.chain.decrees else leaves (with_message (kept_of k) id m)
+
+  voted_is : heard_if grows ≡ voted_in k.setup (kept_of k) sender (slot_in vote) (vote_of vote)
+  voted_is =
+      ap heard_if decides
+      ∙ sym (ap (λ (b : Bool). if b then on_voted k.setup (kept_of k) sender (slot_in vote) (vote_of vote) else leaves (kept_of k)) (concerns k vote true test))
+
+  pub voted_only : grows ≡ false → IsLeft k id new nothing step → IsStep k (voted_in k.setup (kept_of k) sender (slot_in vote) (vote_of vote)) step
+  voted_only not_known is_left =
+      subst (λ (s : Stepped). IsStep k s step) (ap heard_if (sym not_known) ∙ voted_is)
+      (left k id taken new m nothing step is_taken is_heard.same (message_is ∙ ap (λ (b : Bool). known_if b m vote.chain.decrees) not_known) is_left)
+
+  pub known_as : grows ≡ true → IsAs k id new (known_then m vote.chain.decrees)
+  known_as is_known =
+      as_changed k id taken new (message_at (kept_of k) id) (known_then m vote.chain.decrees) is_taken is_heard.same
+      (message_is ∙ ap (λ (b : Bool). known_if b m vote.chain.decrees) is_known)
+
+  pub voted_known : grows ≡ true → IsStep k (on_known k.setup (kept_of k) id m vote.chain.decrees) step →
+      IsStep k (voted_in k.setup (kept_of k) sender (slot_in vote) (vote_of vote)) step
+  voted_known is_known is = subst (λ (s : Stepped). IsStep k s step) (ap heard_if (sym is_known) ∙ voted_is) is

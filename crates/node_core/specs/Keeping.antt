@@ -6,6 +6,7 @@ use Rattle.mc_model.specs.node.Actor.{opening_clock}
 use Rattle.mc_model.specs.node.Setup.{Setup}
 use Rattle.node_model.specs.Message.{Message, unseen}
 use Rattle.node_model.specs.Kept.{Kept, message_at}
+use Rattle.requests.specs.Waiting.{held_in}
 use Rattle.shelf.specs.Shelved.{value_at}
 use Rattle.synod_acceptor.specs.Records.{record_at}
 use Rattle.synod_acceptor.specs.Votes.{record_of, slot_recorded}
@@ -13,6 +14,7 @@ use Rattle.synod_acceptor.specs.declared.record.Record.{Record}
 use Rattle.node_core.specs.declared.kept.Kept.{Kept as Holding}
 use Rattle.node_core.specs.declared.message.Message.{Message as Filed}
 use Rattle.node_core.specs.Messages.{IsOf, message_of}
+use Rattle.node_core.specs.Queueing.{AreAsked}
 
 abbrev pub acceptor_in : Option Filed → List (Slot × SlotRecord)
 acceptor_in None = []
@@ -25,7 +27,6 @@ records_of entries = λ slot. record_at (acceptor_in (value_at entries slot.id))
 abbrev pub filed_as : ℕ × Filed → ℕ × Message
 filed_as entry = (entry.0, message_of entry.0 entry.1)
 
--- no request waits
 abbrev pub kept_of : Holding → Kept
 kept_of k = record {
   records = records_of k.messages.entries;
@@ -34,7 +35,7 @@ kept_of k = record {
   clock = k.clock;
   serial = k.serial;
   ticket = k.ticket;
-  held = [];
+  held = held_in k.queue;
   messages = map filed_as k.messages.entries;
 }
 
@@ -43,14 +44,20 @@ abbrev pub AreOf : Setup → ℕ → List (ℕ × Filed) → Type 0
 AreOf setup starts [] = Unit {0}
 AreOf setup starts (first ∷ others) = IsOf setup.node starts setup.nodes first.0 first.1 × AreOf setup starts others
 
+-- so is each request that waits
 pub record AreOwn (k : Holding) : Type 0 where
   pub each : AreOf k.setup k.incarnation k.messages.entries
+  pub asked : AreAsked k.setup.node k.incarnation k.ticket (held_in k.queue)
+
+-- this message of its own, with the records that are kept of this id, is as this one of the model
+pub record IsAs (k : Holding) (id : ℕ) (m : Filed) (to : Message) : Type 0 where
+  pub own : AreOwn k → IsOf k.setup.node k.incarnation k.setup.nodes id m
+  pub message : message_of id m ≡ to
+  pub records : (place : ℕ) → record_at m.acceptor (slot_at id place) ≡ records_of k.messages.entries (slot_at id place)
 
 -- a message that was taken out of it is what is kept of this id
-pub record IsTaken (k : Holding) (id : ℕ) (m : Filed) : Type 0 where
-  pub own : AreOwn k → IsOf k.setup.node k.incarnation k.setup.nodes id m
-  pub message : message_of id m ≡ message_at (kept_of k) id
-  pub records : (place : ℕ) → record_at m.acceptor (slot_at id place) ≡ records_of k.messages.entries (slot_at id place)
+abbrev pub IsTaken : Holding → ℕ → Filed → Type 0
+IsTaken k id m = IsAs k id m (message_at (kept_of k) id)
 
 -- ---- what it keeps when it opens
 
@@ -66,6 +73,7 @@ pub record IsOpen (with : Setup) (starts : ℕ) (records : Records) (k : Holding
   pub clock : k.clock ≡ opening_clock
   pub serial : k.serial ≡ with.first_serial
   pub ticket : k.ticket ≡ 1
+  pub held : held_in k.queue ≡ []
   pub kept : (slot : Slot) → records_of k.messages.entries slot ≡ records slot
   pub fresh : AreUnseen k.messages.entries
   pub own : AreOwn k
@@ -77,6 +85,7 @@ pub record IsFiled (old : Holding) (kept : Record) (new : Holding) : Type 0 wher
   pub clock : new.clock ≡ old.clock
   pub serial : new.serial ≡ old.serial
   pub ticket : new.ticket ≡ old.ticket
+  pub held : held_in new.queue ≡ held_in old.queue
   pub records : (slot : Slot) → records_of new.messages.entries slot ≡ with_record (records_of old.messages.entries) (slot_recorded kept) (record_of kept) slot
   pub fresh : AreUnseen old.messages.entries → AreUnseen new.messages.entries
   pub own : AreOwn old → AreOwn new

@@ -1,10 +1,13 @@
 pub mod Lists
 pub mod Attempting
 pub mod Messages
+pub mod Queueing
+pub mod Deleting
 pub mod Keeping
 pub mod Steps
 pub mod Pendings
 pub mod Nodes
 pub mod Voting
+pub mod Telling
 pub mod Renewal
 pub mod Ticking

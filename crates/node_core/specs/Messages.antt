@@ -118,6 +118,14 @@ abbrev pub prepare_from : ℕ → ℕ → Records → Message → ℕ → Option
 prepare_from me starts records m id None = None
 prepare_from me starts records m id (Some start) = prepare_for me starts records m (slot_at id start.place)
 
+-- A round starts for a chain at a place, if there is one and it may.
+pub record IsStartedFor (old : Filed) (id : ℕ) (start : Option Start) (new : Filed) (packet : Option Sent) : Type 0 where
+  pub same : IsOfSame id old new
+  pub message : message_of id new
+      ≡ with_start old.proposer.node old.proposer.incarnation (record_at old.acceptor) (message_of id old) id start
+  pub prepares : option_map packet_of packet
+      ≡ prepare_from old.proposer.node old.proposer.incarnation (record_at old.acceptor) (message_of id old) id start
+
 -- The attempt at a place is granted, or closed, and nothing else changes.
 abbrev pub granted_at : Message → ℕ → Message
 granted_at m place = record m { granted = λ other. if other == place then true else m.granted other }

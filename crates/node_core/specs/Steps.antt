@@ -7,10 +7,12 @@ use Rattle.mc_model.specs.node.Input.{Delivery, Grant, Input, Response}
 use Rattle.mc_model.specs.node.Outputs.{Outputs, Receipt}
 use Rattle.mc_model.specs.node.Setup.{Setup}
 use Rattle.node_model.specs.Attempts.{grant_refusal}
-use Rattle.node_model.specs.Kept.{Kept}
+use Rattle.node_model.specs.Kept.{Held, Kept}
 use Rattle.node_model.specs.Outputs.{Stepped, nothing}
 use Rattle.node_model.specs.Stepped.{stepped}
 use Rattle.delivery.specs.Kept.{outcome_kept}
+use Rattle.requests.specs.Replying.{reply_given}
+use Rattle.requests.specs.Waiting.{held_in}
 use Rattle.shelf.specs.Shelved.{Shelved, with_value}
 use Rattle.synod_acceptor.specs.Packets.{packet_of}
 use Rattle.synod_acceptor.specs.declared.acceptor.Verdict.{Verdict}
@@ -21,12 +23,14 @@ use Rattle.node_core.specs.declared.input.Input.TheVariants as given
 use Rattle.node_core.specs.declared.kept.Kept.{Kept as Holding}
 use Rattle.node_core.specs.declared.message.Message.{Message as Filed}
 use Rattle.node_core.specs.declared.outputs.Outputs.{Outputs as Sent}
+use Rattle.node_core.specs.declared.queue_change.QueueChange.TheVariants as changes
 use Rattle.node_core.specs.declared.step.Next.{Next}
 use Rattle.node_core.specs.declared.step.Put.{Put}
 use Rattle.node_core.specs.declared.step.Step.{Step}
 use Rattle.node_core.specs.Attempting.{is_open, known_slot, reason_of}
-use Rattle.node_core.specs.Keeping.{AreOwn, kept_of, records_of}
+use Rattle.node_core.specs.Keeping.{AreOf, AreOwn, kept_of, records_of}
 use Rattle.node_core.specs.Messages.{changed_by, rested}
+use Rattle.node_core.specs.Queueing.{AreAsked, HasPlace, requeued}
 
 -- What comes to the code, to a node that keeps this. A grant is asked for of the attempt in which the known chain ends.
 abbrev pub input_of : Kept → Given → Input
@@ -54,7 +58,9 @@ granted_of chain = slot_of chain.id chain.decrees
 
 abbrev pub outputs_of : Sent → Outputs
 outputs_of o = record nothing {
+  ticket = o.ticket;
   packets = map packet_of o.packets.items;
+  replies = map reply_given o.replies.items;
   receipts = map receipt_of o.receipts.items;
   granted = option_map granted_of o.granted;
 }
@@ -73,7 +79,7 @@ rested_entry entry = (entry.0, rested entry.1)
 abbrev pub rested_if : Bool → List (ℕ × Filed) → List (ℕ × Filed)
 rested_if drops entries = if drops then map rested_entry entries else entries
 
--- what is kept after it
+-- what is kept after it, but for the requests that wait
 abbrev pub installed : Holding → Next → Holding
 installed k next = record k {
   clock = next.clock;
@@ -82,6 +88,13 @@ installed k next = record k {
   messages = record k.messages { entries = entries_after (rested_if next.drops_rounds k.messages.entries) next.messages.items };
 }
 
+-- the requests that wait after it, and what is kept with them
+abbrev pub held_then : Holding → Next → List Held
+held_then k next = requeued k.setup.nodes (held_in k.queue) next.queue
+
+abbrev pub kept_then : Holding → Next → Kept
+kept_then k next = record (kept_of (installed k next)) { held = held_then k next }
+
 pub record IsInstalled (old : Holding) (next : Next) (new : Holding) : Type 0 where
   pub setup : new.setup ≡ old.setup
   pub incarnation : new.incarnation ≡ old.incarnation
@@ -89,6 +102,7 @@ pub record IsInstalled (old : Holding) (next : Next) (new : Holding) : Type 0 wh
   pub serial : new.serial ≡ next.serial
   pub ticket : new.ticket ≡ next.ticket
   pub entries : new.messages.entries ≡ entries_after (rested_if next.drops_rounds old.messages.entries) next.messages.items
+  pub queue : held_in new.queue ≡ requeued old.setup.nodes (held_in old.queue) next.queue
 
 -- there is room for its messages
 abbrev pub room_in : Option ℕ → ℕ
@@ -104,17 +118,24 @@ pub record IsNext (k : Holding) (id : ℕ) (m : Filed) (next : Next) : Type 0 wh
   pub serial : next.serial ≡ k.serial
   pub ticket : next.ticket ≡ k.ticket
   pub drops : next.drops_rounds ≡ false
+  pub queue : next.queue ≡ changes.Same
   pub entries : entries_after k.messages.entries next.messages.items ≡ with_value k.messages.entries id m
   pub room : HasRoom k.messages next
+
+-- what is kept after it is the node's own
+pub record AreOwnThen (k : Holding) (next : Next) : Type 0 where
+  pub each : AreOf k.setup k.incarnation (installed k next).messages.entries
+  pub asked : AreAsked k.setup.node k.incarnation next.ticket (held_then k next)
 
 -- A step of the code is this one: it keeps the same and gives out the same, and once its change is saved, the records that are saved are
 -- those that are kept.
 pub record IsStep (k : Holding) (to : Stepped) (step : Step) : Type 0 where
-  pub kept : kept_of (installed k step.next) ≡ to.kept
+  pub kept : kept_then k step.next ≡ to.kept
   pub outputs : outputs_of step.outputs ≡ to.outputs
   pub saves : (slot : Slot) → records_of (installed k step.next).messages.entries slot ≡ changed_by step.change (records_of k.messages.entries) slot
-  pub own : AreOwn k → AreOwn (installed k step.next)
+  pub own : AreOwn k → AreOwnThen k step.next
   pub room : HasRoom k.messages step.next
+  pub place : HasPlace k.queue step.next.queue
 
 -- the step of the model for this input, which is not refused
 pub record IsStepFor (k : Holding) (input : Given) (step : Step) : Type 0 where

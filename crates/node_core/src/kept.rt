@@ -18,6 +18,9 @@ ghost use Rattle.synod_acceptor.specs.Records.{entries_of, record_at};
 ghost use Rattle.synod_acceptor.specs.Votes.{report_of, slot_in, slot_reported, told_vote, vote_of};
 ghost use Rattle.node_core.specs.Keeping.{AreOwn, IsFiled, IsOpen, IsTaken, kept_of};
 ghost use Rattle.node_core.specs.Lists.{listed};
+ghost use Rattle.node_core.specs.Queueing.{HasPlace, requeued};
+ghost use Rattle.node_core.specs.declared.queue_change.QueueChange.TheVariants.{Same};
+ghost use Rattle.requests.specs.Waiting.{held_in};
 ghost use Rattle.node_core.specs.Voting.{id_concerns, receipt_if, voted_in};
 ghost use Rattle.node_core.specs.Steps.{HasRoom, IsAnswer, IsFault, IsInstalled, IsLeft, IsNext, IsStep, IsStepFor, entries_after, giving, receipt_of, refused_by, rested_if};
 
@@ -25,19 +28,21 @@ use crate::fault::StepFault;
 use crate::input::{Input, sender};
 use crate::message::{Message, fate_in};
 use crate::outputs::Outputs;
+use crate::queue_change::QueueChange;
 use crate::renewal::Renewal;
 use crate::round_drop::RoundDrop;
 use crate::setup::Setup;
 use crate::step::{Next, Put, Step};
 use fate_chain::{Author, Chain, Final, Submission};
 use mc_types::{Ballot, Incarnation, Moment, MsgId, NodeNo, Slot};
+use requests::Queue;
 use rules::Standpoint;
 use shelf::Shelf;
 use std::alloc::{AllocError, Global};
 use synod_acceptor::{Name, Packet, Record, Report, Verdict, Vote};
 
-/// What a node keeps in an incarnation: its clock, the serial of its next message, the ticket of its next request, and what it knows of
-/// each message of which it heard.
+/// What a node keeps in an incarnation: its clock, the serial of its next message, the ticket of its next request, the requests that wait,
+/// and what it knows of each message of which it heard.
 #[derive(Drop)]
 pub struct Kept {
     pub(crate) alloc: Global,
@@ -46,6 +51,7 @@ pub struct Kept {
     clock: Moment,
     serial: u32,
     ticket: u64,
+    pub(crate) queue: Queue,
     messages: Shelf<Message>,
 }
 
@@ -67,6 +73,7 @@ impl Kept {
             clock: Moment::least(),
             serial,
             ticket: 1,
+            queue: Queue::make(alloc)?,
             messages: Shelf::empty(alloc),
         };
         while let Some(stored) = records.pop() {
@@ -137,13 +144,14 @@ impl Kept {
                 ..
             } => self.on_refused(*slot, *ballot, *promised),
             Packet::Voted { from, vote } => self.on_voted(*from, vote),
-            Packet::Tell { .. } => Ok(self.same()),
+            Packet::Tell { from, name, told } => self.on_tell(*from, *name, told.as_ref()),
         }
     }
 
     /// Keeps what is to be kept after a step; there is room for it. It takes no memory.
     pub fn install(&mut self, next: Next)
-        requires { HasRoom self.old.messages next }
+        requires room { HasRoom self.old.messages next }
+        requires place { HasPlace self.old.queue next.queue }
         ensures { IsInstalled self.old next self.new }
     {
         let Next {
@@ -151,6 +159,7 @@ impl Kept {
             serial,
             ticket,
             drops_rounds,
+            queue,
             messages,
             room,
         } = next;
@@ -160,6 +169,7 @@ impl Kept {
         if let Some(room) = room {
             self.messages.make_room(room);
         }
+        requeue(&mut self.queue, queue, self.setup.nodes);
         rest_if(&mut self.messages, drops_rounds);
         put_each(&mut self.messages, messages);
     }
@@ -172,9 +182,11 @@ impl Kept {
     }
 
     /// A step that does nothing.
-    fn same(&self) -> Step
+    pub(crate) fn same(&self) -> Step
         ensures step { IsStep self.now (leaves (kept_of self.now)) result }
+        ensures ticket { result.outputs.ticket ≡ None }
         ensures packets { result.outputs.packets.items ≡ [] }
+        ensures replies { result.outputs.replies.items ≡ [] }
         ensures receipts { result.outputs.receipts.items ≡ [] }
         ensures change { result.change ≡ None }
     {
@@ -191,6 +203,7 @@ impl Kept {
         ensures serial { result.serial ≡ self.now.serial }
         ensures ticket { result.ticket ≡ self.now.ticket }
         ensures drops { result.drops_rounds ≡ false }
+        ensures queue { result.queue ≡ Same }
         ensures messages { result.messages.items ≡ [] }
         ensures room { result.room ≡ None }
     {
@@ -199,6 +212,7 @@ impl Kept {
             serial: self.serial,
             ticket: self.ticket,
             drops_rounds: false,
+            queue: QueueChange::Same,
             messages: Vec::new(self.alloc),
             room: None,
         }
@@ -277,9 +291,10 @@ impl Kept {
         }
         let mut message = self.taken(id)?;
         let had_fate = message.has_fate(id);
-        let grows = message.heard(from, vote)?;
-        let receipt = self.receipt(grows, had_fate, &vote.chain)?;
-        self.leave(id, message, None, receipt)
+        if !message.heard(from, vote)? {
+            return self.leave(id, message, None, None);
+        }
+        self.learned(message, had_fate, &vote.chain)
     }
 
     /// Whether votes on the message of an id concern it: of its own messages only those that it has taken do.
@@ -291,17 +306,12 @@ impl Kept {
             || (id.incarnation() == self.incarnation && id.serial() < self.serial)
     }
 
-    /// The chain, once more, if it grows to have the first final state, and this node is to write a receipt of that.
-    fn receipt(
-        &self,
-        grows: bool,
-        had_fate: bool,
-        chain: &Chain,
-    ) -> Result<Option<Chain>, AllocError>
+    /// The chain, once more, if it has the first final state that is known of its message, and this node is to write a receipt of that.
+    pub(crate) fn receipt(&self, had_fate: bool, chain: &Chain) -> Result<Option<Chain>, AllocError>
         ensures { IfOk result (λ receipt. listed (option_map receipt_of receipt)
-            ≡ receipt_if (grows && not had_fate) self.now.setup.node chain.now.id chain.now.decrees) }
+            ≡ receipt_if (not had_fate) self.now.setup.node chain.now.id chain.now.decrees) }
     {
-        if !grows || had_fate {
+        if had_fate {
             return Ok(None);
         }
         let Some(last) = fate_in(chain) else {
@@ -404,7 +414,7 @@ impl Kept {
     }
 
     /// How many nodes the cluster has.
-    fn nodes(&self) -> u8
+    pub(crate) fn nodes(&self) -> u8
         ensures { result ≡ self.now.setup.nodes }
     {
         self.setup.nodes
@@ -458,6 +468,20 @@ impl Kept {
         next.messages.push(Put { id, message })?;
         next.room = Some(self.messages.room(self.alloc, 1)?);
         Ok(next)
+    }
+}
+
+/// Makes of the requests that wait what a step makes of them. It takes no memory.
+fn requeue(queue: &mut Queue, change: QueueChange, nodes: u8)
+    requires { HasPlace queue.old change }
+    ensures { held_in queue.new ≡ requeued nodes (held_in queue.old) change }
+{
+    match change {
+        QueueChange::Same => {}
+        QueueChange::Push(held) => queue.push(held),
+        QueueChange::Replace(held) => queue.replace(held),
+        QueueChange::Remove(ticket) => queue.remove(ticket),
+        QueueChange::Settle(chain) => queue.settle(nodes, &chain),
     }
 }
 

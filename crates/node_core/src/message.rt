@@ -26,8 +26,9 @@ ghost use Rattle.node_model.specs.Ticks.{ruled};
 ghost use Rattle.node_model.specs.Rules.{first_rule, known_rule};
 ghost use Rattle.rules.specs.Dues.{is_up, rule_of};
 ghost use Rattle.node_core.specs.Ticking.{IsAtRest, IsOfTurn, gives_up, ruled_as, ruled_by, turned};
-ghost use Rattle.node_core.specs.Messages.{IsConcluded, IsHeard, IsJudged, IsOf, IsPromised, IsRefused, IsStarted, IsTriedSo, changed_by, closed_at, granted_at, message_of, rested};
+ghost use Rattle.node_core.specs.Messages.{IsConcluded, IsHeard, IsJudged, IsOf, IsPromised, IsRefused, IsStarted, IsStartedFor, IsTriedSo, changed_by, closed_at, granted_at, message_of, rested};
 ghost use Rattle.node_core.specs.Renewal.{renewed};
+ghost use Rattle.requests.specs.Waiting.{known_of};
 
 use crate::attempts::Attempts;
 use crate::grant_refusal::GrantRefusal;
@@ -161,6 +162,22 @@ impl Message {
             None => 0,
         };
         self.proposer.start(chain, own).ok()
+    }
+
+    /// Starts the round for a chain of it, if there is one, and gives its Prepare, if it may start. Else it changes nothing. It takes no
+    /// memory.
+    pub fn start_for(&mut self, next: Option<Chain>) -> Option<Packet>
+        ensures { (id : ℕ) → IfSome next (λ chain. chain.id ≡ id) → IsStartedFor self.old id (option_map start_of next) self.new result }
+    {
+        self.start(next?)
+    }
+
+    /// The chain of the message of this id that is known. It takes no memory.
+    pub fn known(&self, id: MsgId) -> Option<&Chain>
+        ensures known { known_of (option_copied result) ≡ (message_of id self.now).known }
+        ensures id { IfSome (option_copied result) (λ chain. chain.id ≡ id) }
+    {
+        self.learner.known(id)
     }
 
     /// The chain of the message of this id that is known, if the attempt in which it ends may be granted to an author. Else the first reason

@@ -4,14 +4,19 @@ ghost use Rattle.std.specs.Prelude.{◌≡◌, [], None, Some, IfOk};
 ghost use Rattle.node_core.specs.Lists.{listed};
 
 use fate_chain::Chain;
+use requests::Reply;
 use std::alloc::{AllocError, Global};
 use synod_acceptor::Packet;
 
 /// What a step gives out, the oldest first.
 #[derive(Debug, Drop)]
 pub struct Outputs {
+    /// The ticket under which the request waits that came.
+    pub ticket: Option<u64>,
     /// The packets that it sends, each to all nodes.
     pub packets: Vec<Packet>,
+    /// The replies to requests that waited.
+    pub replies: Vec<Reply>,
     /// For each receipt that is due, the chain of its message.
     pub receipts: Vec<Chain>,
     /// The chain that ends in the attempt that is granted.
@@ -21,12 +26,16 @@ pub struct Outputs {
 impl Outputs {
     /// Nothing. It takes no memory.
     pub(crate) fn nothing(alloc: Global) -> Outputs
+        ensures ticket { result.ticket ≡ None }
         ensures packets { result.packets.items ≡ [] }
+        ensures replies { result.replies.items ≡ [] }
         ensures receipts { result.receipts.items ≡ [] }
         ensures granted { result.granted ≡ None }
     {
         Outputs {
+            ticket: None,
             packets: Vec::new(alloc),
+            replies: Vec::new(alloc),
             receipts: Vec::new(alloc),
             granted: None,
         }
@@ -34,12 +43,16 @@ impl Outputs {
 
     /// The chain of an attempt that is granted. It takes no memory.
     pub(crate) fn granting(alloc: Global, chain: Chain) -> Outputs
+        ensures ticket { result.ticket ≡ None }
         ensures packets { result.packets.items ≡ [] }
+        ensures replies { result.replies.items ≡ [] }
         ensures receipts { result.receipts.items ≡ [] }
         ensures granted { result.granted ≡ Some chain }
     {
         Outputs {
+            ticket: None,
             packets: Vec::new(alloc),
+            replies: Vec::new(alloc),
             receipts: Vec::new(alloc),
             granted: Some(chain),
         }
@@ -51,7 +64,9 @@ impl Outputs {
         packet: Option<Packet>,
         receipt: Option<Chain>,
     ) -> Result<Outputs, AllocError>
+        ensures ticket { IfOk result (λ outputs. outputs.ticket ≡ None) }
         ensures packets { IfOk result (λ outputs. outputs.packets.items ≡ listed packet) }
+        ensures replies { IfOk result (λ outputs. outputs.replies.items ≡ []) }
         ensures receipts { IfOk result (λ outputs. outputs.receipts.items ≡ listed receipt) }
         ensures granted { IfOk result (λ outputs. outputs.granted ≡ None) }
     {

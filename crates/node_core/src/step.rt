@@ -2,6 +2,7 @@
 
 use crate::message::Message;
 use crate::outputs::Outputs;
+use crate::queue_change::QueueChange;
 use mc_types::{Moment, MsgId};
 use shelf::Room;
 use synod_acceptor::Change;
@@ -13,7 +14,7 @@ pub struct Put {
     pub message: Box<Message>,
 }
 
-/// What is kept after a step: the clock, the serial of the next message, the ticket of the next request, whether all rounds end, and then
+/// What is kept after a step: the clock, the serial of the next message, the ticket of the next request, whether all rounds end, what becomes of the requests that wait, and then
 /// each message that is not kept as it was, with room for them, if room is wanted. Of several messages of an id the first counts.
 #[derive(Drop)]
 pub struct Next {
@@ -21,6 +22,7 @@ pub struct Next {
     pub serial: u32,
     pub ticket: u64,
     pub drops_rounds: bool,
+    pub queue: QueueChange,
     pub messages: Vec<Put>,
     pub room: Option<Room<Message>>,
 }

@@ -13,8 +13,9 @@ returns c = λ with starts records is.
       clock = c.args.self.now.clock;
       serial = c.args.self.now.serial;
       ticket = c.args.self.now.ticket;
+      queue = c.args.self.now.queue;
       messages = c.for_each.new.self;
     } in
     subst (λ (starts : ℕ). IsOpen with starts records new) c.author-me.ensures.incarnation
-    (begun c.author-me.result with starts records c.args.self.now new c.author-me.ensures.node refl (sym c.author-me.ensures.incarnation) refl refl refl
+    (begun c.author-me.result with starts records c.args.self.now new c.author-me.ensures.node refl (sym c.author-me.ensures.incarnation) refl refl refl refl
     c.for_each.ensures.entries is)

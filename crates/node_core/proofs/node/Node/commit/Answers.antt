@@ -1,5 +1,4 @@
-use Rattle.std.proofs.Common.{rules, ◌≡◌, ◌⊎◌, refl, sym, ap, subst, ◌∙◌, true, false}
-use Rattle.node_core.specs.declared.kept.Kept.{Kept}
+use Rattle.std.proofs.Common.{rules, ◌≡◌, refl, sym, ap, subst, ◌∙◌, true, false}
 use Rattle.node_core.specs.Nodes.{HasStopped, Standing, seen}
 use Rattle.node_core.specs.Pendings.{Awaited}
 use Rattle.node_core.proofs.Stopping.{stopped}
