@@ -1,5 +1,5 @@
 -- A step that answers by a verdict is the model's.
-use Rattle.std.proofs.Common.{◌≡◌, ℕ, Bool, true, List, [], ◌∷◌, map, Option, Some, None, refl, sym, ap, subst, ◌∙◌}
+use Rattle.std.proofs.Common.{◌≡◌, suc, ℕ, Bool, true, List, [], ◌∷◌, map, Option, Some, None, refl, sym, ap, subst, ◌∙◌}
 use Rattle.std.proofs.Math.Path.{fun_ext}
 use Rattle.std.specs.Prelude.{IfOk, Result, Ok, Err, option_map, if◌then◌else◌}
 use Rattle.std.specs.Option.{unwrap_or}
@@ -79,7 +79,7 @@ nexts k id m next is = let entries = next_entries k id m next is in λ i. record
   records = records_of (entries i);
   clock = is.clock i;
   serial = is.serial i;
-  ticket = is.ticket i;
+  ticket = suc (is.given i);
   held = held_same k next is.queue i;
   messages = map filed_as (entries i);
 }
@@ -156,7 +156,7 @@ module _ (k : Holding) (slot : Slot) (taken new : Filed) (judgement : SlotRecord
     own = λ own. record {
       each = subst (λ (es : List (ℕ × Filed)). AreOf k.setup k.incarnation es) (sym (next_entries k slot.id new step.next is_answer.next))
           (own_put k.setup k.incarnation Entries slot.id new (of_new (is_taken.own own)) own.each);
-      asked = asked_same k step.next is_answer.next.queue is_answer.next.ticket own;
+      asked = asked_same k step.next is_answer.next.queue is_answer.next.given own;
     };
     room = is_answer.next.room;
     place = place_same k.queue step.next.queue is_answer.next.queue;

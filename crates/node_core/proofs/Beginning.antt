@@ -1,5 +1,5 @@
 -- A node that opens keeps the same in whatever incarnation.
-use Rattle.std.proofs.Common.{◌≡◌, refl, sym, ap, subst, ◌∙◌, ℕ, List, [], ◌∷◌, map, Option, Some, None}
+use Rattle.std.proofs.Common.{◌≡◌, suc, refl, sym, ap, subst, ◌∙◌, ℕ, List, [], ◌∷◌, map, Option, Some, None}
 use Rattle.std.proofs.lemmas.Bool.{true≢false}
 use Rattle.std.specs.Option.{option_map}
 use Rattle.mc_model.specs.synod.Packet.{Slot}
@@ -50,14 +50,14 @@ module _ (me : Author) where
       ∙ same_acceptor slot (value_at entries slot.id)
 
   pub begun : (with : Setup) (starts : ℕ) (records : Records) (old new : Holding) → me.node ≡ old.setup.node → new.setup ≡ old.setup →
-      new.incarnation ≡ me.incarnation → new.clock ≡ old.clock → new.serial ≡ old.serial → new.ticket ≡ old.ticket → held_in new.queue ≡ held_in old.queue →
+      new.incarnation ≡ me.incarnation → new.clock ≡ old.clock → new.serial ≡ old.serial → new.given ≡ old.given → held_in new.queue ≡ held_in old.queue →
       new.messages.entries ≡ all_renewed old.messages.entries → IsOpen with starts records old → IsOpen with me.incarnation records new
-  begun with starts records old new node setup incarnation clock serial ticket held entries is = record {
+  begun with starts records old new node setup incarnation clock serial given held entries is = record {
     setup = setup ∙ is.setup;
     incarnation = incarnation;
     clock = clock ∙ is.clock;
     serial = serial ∙ is.serial;
-    ticket = ticket ∙ is.ticket;
+    given = given ∙ is.given;
     held = held ∙ is.held;
     kept = λ slot. ap (λ (es : List (ℕ × Filed)). records_of es slot) entries ∙ records_still old.messages.entries slot ∙ is.kept slot;
     fresh = subst AreUnseen (sym entries) (unseen_still old.messages.entries is.fresh);
@@ -66,6 +66,6 @@ module _ (me : Author) where
           (subst (λ (starts : ℕ). AreOf new.setup starts (all_renewed old.messages.entries)) (sym incarnation)
           (subst (λ (s : Setup). AreOf s me.incarnation (all_renewed old.messages.entries)) (sym setup)
           (own_now old.setup old.incarnation old.messages.entries node is.fresh is.own.each)));
-      asked = asked_none new.setup.node new.incarnation new.ticket (held_in new.queue) (held ∙ is.held);
+      asked = asked_none new.setup.node new.incarnation (suc new.given) (held_in new.queue) (held ∙ is.held);
     };
   }

@@ -1,5 +1,5 @@
 -- A chain that becomes known settles and answers requests, may start a deletion, and may be due a receipt, as in the model.
-use Rattle.std.proofs.Common.{◌≡◌, ℕ, Bool, true, false, List, [], ◌∷◌, map, Option, Some, refl, sym, ap, subst, ◌∙◌}
+use Rattle.std.proofs.Common.{◌≡◌, suc, ℕ, Bool, true, false, List, [], ◌∷◌, map, Option, Some, refl, sym, ap, subst, ◌∙◌}
 use Rattle.std.specs.Prelude.{◌==◌, ◌&&◌, filter, not, option_map, if◌then◌else◌}
 use Rattle.std.specs.List.{list_any}
 use Rattle.mc_model.specs.message.Ids.{node_of}
@@ -126,6 +126,6 @@ module _ (k : Holding) (message new : Filed) (chain : Chain) (m : Message) (next
       subst (λ (s : Stepped). IsStep k s (record { outputs = outputs; change = step0.change; next = record step0.next { queue = changes.Settle copy } }))
       ((λ i. record { kept = record (with_message (kept_of k) id left) { held = requeues i }; outputs = outputs_are i }) ∙ known_so taken cancelled is_taken asked starts)
       (requeued_step k (record { kept = with_message (kept_of k) id left; outputs = giving (listed (option_map packet_of packet)) (listed (option_map receipt_of receipt)) })
-      step0 (changes.Settle copy) outputs base is_left.next.ticket tt
-      (λ mine. subst (λ (c : Chain). AreAsked k.setup.node k.incarnation k.ticket (requeued k.setup.nodes (held_in k.queue) (changes.Settle c))) (sym same)
-      (asked_settled k.setup.node k.incarnation k.ticket k.setup.nodes id decrees (held_in k.queue) mine.asked)))
+      step0 (changes.Settle copy) outputs base is_left.next.given tt
+      (λ mine. subst (λ (c : Chain). AreAsked k.setup.node k.incarnation (suc k.given) (requeued k.setup.nodes (held_in k.queue) (changes.Settle c))) (sym same)
+      (asked_settled k.setup.node k.incarnation (suc k.given) k.setup.nodes id decrees (held_in k.queue) mine.asked)))

@@ -65,7 +65,7 @@ module _ (k : Holding) (id : ℕ) (new : Filed) (to : Message) (outputs : Output
     own = λ own. record {
       each = subst (λ (es : List (ℕ × Filed)). AreOf k.setup k.incarnation es) (sym (next_entries k id new step.next is_left.next))
           (own_put k.setup k.incarnation Entries id new (is.own own) own.each);
-      asked = asked_same k step.next is_left.next.queue is_left.next.ticket own;
+      asked = asked_same k step.next is_left.next.queue is_left.next.given own;
     };
     room = is_left.next.room;
     place = place_same k.queue step.next.queue is_left.next.queue;

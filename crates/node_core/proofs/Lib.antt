@@ -9,6 +9,7 @@ pub mod Ticks
 pub mod Turns
 pub mod Tells
 pub mod Knowing
+pub mod Arrivals
 pub mod Opening
 pub mod Voting
 pub mod Beginning

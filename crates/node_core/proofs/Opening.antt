@@ -1,5 +1,5 @@
 -- What a node keeps that opens over the records of its store.
-use Rattle.std.proofs.Common.{◌≡◌, ℕ, Bool, true, false, cond, List, [], ◌∷◌, ◌++◌, map, Option, Some, None, refl, sym, ap, subst, ◌∙◌, inl, inr, arith}
+use Rattle.std.proofs.Common.{◌≡◌, suc, ℕ, Bool, true, false, cond, List, [], ◌∷◌, ◌++◌, map, Option, Some, None, refl, sym, ap, subst, ◌∙◌, inl, inr, arith}
 use Rattle.std.specs.Prelude.{if◌then◌else◌}
 use Rattle.std.specs.Option.{unwrap_or}
 use Rattle.std.proofs.Math.Path.{fun_ext}
@@ -70,7 +70,7 @@ filed old new kept id taken m next about is_taken records same of is_next is = l
   incarnation = is.incarnation;
   clock = is.clock ∙ is_next.clock;
   serial = is.serial ∙ is_next.serial;
-  ticket = is.ticket ∙ is_next.ticket;
+  given = is.given ∙ is_next.given;
   held = is.queue ∙ held_same old next is_next.queue;
   records = λ slot.
       ap (λ (es : List (ℕ × Filed)). records_of es slot) entries
@@ -82,7 +82,7 @@ filed old new kept id taken m next about is_taken records same of is_next is = l
         (subst (λ (s : Setup). AreOf s new.incarnation (with_value old.messages.entries id m)) (sym is.setup)
         (subst (λ (starts : ℕ). AreOf old.setup starts (with_value old.messages.entries id m)) (sym is.incarnation)
         (own_put old.setup old.incarnation old.messages.entries id m (of (is_taken.own own)) own.each)));
-    asked = asked_still old new is.setup is.incarnation (is.ticket ∙ is_next.ticket) (is.queue ∙ held_same old next is_next.queue) own;
+    asked = asked_still old new is.setup is.incarnation (is.given ∙ is_next.given) (is.queue ∙ held_same old next is_next.queue) own;
   };
   fresh = λ fresh. subst AreUnseen (sym entries) (unseen_put old.messages.entries id m (same id ∙ is_taken.message ∙ unseen_at old.messages.entries id fresh) fresh);
 }
@@ -144,26 +144,26 @@ pub record IsFiling (with : Setup) (starts : ℕ) (left all : List Record) (k : 
   pub incarnation : k.incarnation ≡ starts
   pub clock : k.clock ≡ opening_clock
   pub serial : k.serial ≡ with.first_serial
-  pub ticket : k.ticket ≡ 1
+  pub given : k.given ≡ 0
   pub held : held_in k.queue ≡ []
   pub records : (slot : Slot) → over (entries_of left) (records_of k.messages.entries) slot ≡ record_at (entries_of all) slot
   pub fresh : AreUnseen k.messages.entries
   pub own : AreOwn k
 
 pub filing_begins : (with : Setup) (starts : ℕ) (all : List Record) (k : Holding) → k.setup ≡ with → k.incarnation ≡ starts →
-    k.clock ≡ opening_clock → k.serial ≡ with.first_serial → k.ticket ≡ 1 → held_in k.queue ≡ [] → k.messages.entries ≡ [] → IsFiling with starts all all k
-filing_begins with starts all k setup incarnation clock serial ticket held none = record {
+    k.clock ≡ opening_clock → k.serial ≡ with.first_serial → k.given ≡ 0 → held_in k.queue ≡ [] → k.messages.entries ≡ [] → IsFiling with starts all all k
+filing_begins with starts all k setup incarnation clock serial given held none = record {
   setup = setup;
   incarnation = incarnation;
   clock = clock;
   serial = serial;
-  ticket = ticket;
+  given = given;
   held = held;
   records = λ slot. over_blank (entries_of all) (records_of k.messages.entries) slot (ap (λ (es : List (ℕ × Filed)). records_of es slot) none);
   fresh = subst AreUnseen (sym none) tt;
   own = record {
     each = subst (λ (es : List (ℕ × Filed)). AreOf k.setup k.incarnation es) (sym none) tt;
-    asked = asked_none k.setup.node k.incarnation k.ticket (held_in k.queue) held;
+    asked = asked_none k.setup.node k.incarnation (suc k.given) (held_in k.queue) held;
   };
 }
 
@@ -174,7 +174,7 @@ filing_goes_on with starts left front all last old new split is_filed filing = r
   incarnation = is_filed.incarnation ∙ filing.incarnation;
   clock = is_filed.clock ∙ filing.clock;
   serial = is_filed.serial ∙ filing.serial;
-  ticket = is_filed.ticket ∙ filing.ticket;
+  given = is_filed.given ∙ filing.given;
   held = is_filed.held ∙ filing.held;
   records = λ slot. over_filed left front last old new slot split is_filed ∙ filing.records slot;
   fresh = is_filed.fresh filing.fresh;
@@ -188,7 +188,7 @@ filing_ends with starts left all k none filing = record {
   incarnation = filing.incarnation;
   clock = filing.clock;
   serial = filing.serial;
-  ticket = filing.ticket;
+  given = filing.given;
   held = filing.held;
   kept = λ slot. sym (ap (λ (rs : List Record). over (entries_of rs) (records_of k.messages.entries) slot) none) ∙ filing.records slot;
   fresh = filing.fresh;
@@ -204,7 +204,7 @@ open_over with starts one other k is same = record {
   incarnation = is.incarnation;
   clock = is.clock;
   serial = is.serial;
-  ticket = is.ticket;
+  given = is.given;
   held = is.held;
   kept = λ slot. is.kept slot ∙ same slot;
   fresh = is.fresh;
@@ -231,7 +231,7 @@ opened with records starts node life is works of_node of_start = record {
     incarnation = is.incarnation i;
     clock = is.clock i;
     serial = is.serial i;
-    ticket = is.ticket i;
+    ticket = suc (is.given i);
     held = is.held i;
     messages = messages_are node.kept.messages.entries is.fresh i;
   };

@@ -1,13 +1,17 @@
 -- The requests that wait after a step.
-use Rattle.std.proofs.Common.{◌≡◌, ℕ, ◌<◌, Bool, true, false, cond, List, [], ◌∷◌, map, Option, Some, None, refl, sym, ap, subst, ◌∙◌, arith}
+use Rattle.std.proofs.Common.{◌≡◌, ℕ, suc, ◌<◌, ◌++◌, length, Bool, true, false, cond, List, [], ◌∷◌, map, Option, Some, None, refl, sym, ap, subst, ◌∙◌, arith}
 use Rattle.std.specs.Prelude.{◌==◌, IfSome, filter, not, if◌then◌else◌}
+use Rattle.std.specs.Box.{box_value}
+use Rattle.std.specs.Global.{Box}
 use Rattle.std.proofs.lemmas.Bool.{eqb-true}
+use Rattle.mc_model.specs.node.Room.{most_waiting}
 use Rattle.mc_model.specs.message.Decree.{Decree}
 use Rattle.mc_model.specs.synod.Packet.{TopVote}
 use Rattle.mc_model.specs.node.Replies.{Answer}
 use Rattle.mc_model.specs.node.Setup.{Setup}
 use Rattle.node_model.specs.Kept.{Held, Kept}
-use Rattle.requests.specs.Waiting.{Waits, held_in}
+use Rattle.requests.specs.Queues.{IsAbove}
+use Rattle.requests.specs.Waiting.{Waits, held_in, held_of}
 use Rattle.node_core.specs.declared.kept.Kept.{Kept as Holding}
 use Rattle.node_core.specs.declared.queue_change.QueueChange.{QueueChange}
 use Rattle.node_core.specs.declared.queue_change.QueueChange.TheVariants as changes
@@ -31,13 +35,13 @@ asked_none node incarnation ticket held none =
 
 -- ---- they stay as they are
 
-pub asked_still : (old new : Holding) → new.setup ≡ old.setup → new.incarnation ≡ old.incarnation → new.ticket ≡ old.ticket →
-    held_in new.queue ≡ held_in old.queue → AreOwn old → AreAsked new.setup.node new.incarnation new.ticket (held_in new.queue)
+pub asked_still : (old new : Holding) → new.setup ≡ old.setup → new.incarnation ≡ old.incarnation → new.given ≡ old.given →
+    held_in new.queue ≡ held_in old.queue → AreOwn old → AreAsked new.setup.node new.incarnation (suc new.given) (held_in new.queue)
 asked_still old new setup incarnation ticket held own =
-    subst (λ (hs : List Held). AreAsked new.setup.node new.incarnation new.ticket hs) (sym held)
-    (subst (λ (t : ℕ). AreAsked new.setup.node new.incarnation t (held_in old.queue)) (sym ticket)
-    (subst (λ (n : ℕ). AreAsked new.setup.node n old.ticket (held_in old.queue)) (sym incarnation)
-    (subst (λ (s : Setup). AreAsked s.node old.incarnation old.ticket (held_in old.queue)) (sym setup) own.asked)))
+    subst (λ (hs : List Held). AreAsked new.setup.node new.incarnation (suc new.given) hs) (sym held)
+    (subst (λ (t : ℕ). AreAsked new.setup.node new.incarnation t (held_in old.queue)) (sym (ap suc ticket))
+    (subst (λ (n : ℕ). AreAsked new.setup.node n (suc old.given) (held_in old.queue)) (sym incarnation)
+    (subst (λ (s : Setup). AreAsked s.node old.incarnation (suc old.given) (held_in old.queue)) (sym setup) own.asked)))
 
 pub held_same : (k : Holding) (next : Next) → next.queue ≡ changes.Same → held_then k next ≡ held_in k.queue
 held_same k next is = ap (λ (change : QueueChange). requeued k.setup.nodes (held_in k.queue) change) is
@@ -45,11 +49,11 @@ held_same k next is = ap (λ (change : QueueChange). requeued k.setup.nodes (hel
 pub place_same : (waits : List Waits) (change : QueueChange) → change ≡ changes.Same → HasPlace waits change
 place_same waits change is = subst (λ (c : QueueChange). HasPlace waits c) (sym is) tt
 
-pub asked_same : (k : Holding) (next : Next) → next.queue ≡ changes.Same → next.ticket ≡ k.ticket → AreOwn k →
-    AreAsked k.setup.node k.incarnation next.ticket (held_then k next)
+pub asked_same : (k : Holding) (next : Next) → next.queue ≡ changes.Same → next.given ≡ k.given → AreOwn k →
+    AreAsked k.setup.node k.incarnation (suc next.given) (held_then k next)
 asked_same k next is ticket own =
-    subst (λ (held : List Held). AreAsked k.setup.node k.incarnation next.ticket held) (sym (held_same k next is))
-    (subst (λ (t : ℕ). AreAsked k.setup.node k.incarnation t (held_in k.queue)) (sym ticket) own.asked)
+    subst (λ (held : List Held). AreAsked k.setup.node k.incarnation (suc next.given) held) (sym (held_same k next is))
+    (subst (λ (t : ℕ). AreAsked k.setup.node k.incarnation t (held_in k.queue)) (sym (ap suc ticket)) own.asked)
 
 -- ---- one of them
 
@@ -180,9 +184,9 @@ replaced_gone new (h ∷ others) = by_test (ticket_of h == ticket_of new) refl (
 
 -- ---- a step that changes them besides
 
-pub requeued_step : (k : Holding) (to : Stepped) (step : Step) (queue : QueueChange) (outputs : Sent) → IsStep k to step → step.next.ticket ≡ k.ticket →
+pub requeued_step : (k : Holding) (to : Stepped) (step : Step) (queue : QueueChange) (outputs : Sent) → IsStep k to step → step.next.given ≡ k.given →
     HasPlace k.queue queue →
-    (AreOwn k → AreAsked k.setup.node k.incarnation k.ticket (requeued k.setup.nodes (held_in k.queue) queue)) →
+    (AreOwn k → AreAsked k.setup.node k.incarnation (suc k.given) (requeued k.setup.nodes (held_in k.queue) queue)) →
     IsStep k (record { kept = record to.kept { held = requeued k.setup.nodes (held_in k.queue) queue }; outputs = outputs_of outputs })
     (record { outputs = outputs; change = step.change; next = record step.next { queue = queue } })
 requeued_step k to step queue outputs is ticket place asked = record {
@@ -191,8 +195,45 @@ requeued_step k to step queue outputs is ticket place asked = record {
   saves = is.saves;
   own = λ own. record {
     each = (is.own own).each;
-    asked = subst (λ (t : ℕ). AreAsked k.setup.node k.incarnation t (requeued k.setup.nodes (held_in k.queue) queue)) (sym ticket) (asked own);
+    asked = subst (λ (t : ℕ). AreAsked k.setup.node k.incarnation t (requeued k.setup.nodes (held_in k.queue) queue)) (sym (ap suc ticket)) (asked own);
   };
   room = is.room;
   place = place;
+}
+
+-- one more waits, under the next ticket
+asked_more : (node incarnation ticket : ℕ) (held : List Held) (new : Held) → ticket_of new ≡ ticket → IsSound node incarnation new →
+    AreAsked node incarnation ticket held → AreAsked node incarnation (suc ticket) (held ++ new ∷ [])
+asked_more node incarnation ticket [] new is sound asked = record {
+  above = (omega (arith, is), tt);
+  numbered = (sound.numbered, tt);
+  told = (sound.told, tt);
+}
+asked_more node incarnation ticket (h ∷ others) new is sound asked =
+    let rest = asked_more node incarnation ticket others new is sound (record { above = asked.above.1; numbered = asked.numbered.1; told = asked.told.1 }) in
+    let lower = asked.above.0 in
+    record {
+      above = (omega (arith, lower), rest.above);
+      numbered = (asked.numbered.0, rest.numbered);
+      told = (asked.told.0, rest.told);
+    }
+
+pub arrived_step : (k : Holding) (to : Stepped) (step : Step) (serial : ℕ) (new : Box Waits) (outputs : Sent) → IsStep k to step → ticket_of (held_of (box_value new)) ≡ suc k.given →
+    length k.queue < most_waiting → IsSound k.setup.node k.incarnation (held_of (box_value new)) → AreOwn k →
+    IsStep k
+    (record {
+      kept = record to.kept { serial = serial; ticket = suc (suc k.given); held = held_in k.queue ++ held_of (box_value new) ∷ [] };
+      outputs = outputs_of outputs;
+    })
+    (record { outputs = outputs; change = step.change; next = record step.next { serial = serial; given = suc k.given; queue = changes.Push new } })
+arrived_step k to step serial new outputs is ticket room sound own = record {
+  kept = ap (λ (kept : Kept). record kept { serial = serial; ticket = suc (suc k.given); held = held_in k.queue ++ held_of (box_value new) ∷ [] }) is.kept;
+  outputs = refl;
+  saves = is.saves;
+  own = λ mine. record {
+    each = (is.own mine).each;
+    asked = asked_more k.setup.node k.incarnation (suc k.given) (held_in k.queue) (held_of (box_value new)) ticket sound mine.asked;
+  };
+  room = is.room;
+  place = (room, subst (IsAbove (held_in k.queue)) (sym ticket) own.asked.above);
 }

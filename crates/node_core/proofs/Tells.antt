@@ -230,7 +230,7 @@ pub sound_asked : (k : Holding) (name : Name) (h : Held) → AreOwn k → asked_
 sound_asked k name h own some = by_test (is_own_name k.setup (kept_of k) name) some
   where
     by_test : (test : Bool) → (if test then held_at (held_in k.queue) name.ticket else None) ≡ Some h → IsSound k.setup.node k.incarnation h
-    by_test true is = asked_at k.setup.node k.incarnation k.ticket (held_in k.queue) name.ticket h own.asked is
+    by_test true is = asked_at k.setup.node k.incarnation (suc k.given) (held_in k.queue) name.ticket h own.asked is
     by_test false is = absurd (cc)
 
 module _ (k : Holding) (known : Option (List Decree)) (told : Held) (next : Option Start) (step0 : Step) (verdict : Vec Reply × QueueChange) where
@@ -295,7 +295,7 @@ module _ (k : Holding) (known : Option (List Decree)) (told : Held) (next : Opti
       ∙ ap (λ (start : Option Start). answer_told (started k.setup (record (kept_of k) { held = with_held (held_in k.queue) new }) (id_of told) start) new (answer_to k.setup.nodes known new)) starts
       ∙ told_is
 
-  pub told_here : (outputs : Sent) → AreOwn k → IsSound k.setup.node k.incarnation told → IsStep k (started_alone prepared) step0 → step0.next.ticket ≡ k.ticket →
+  pub told_here : (outputs : Sent) → AreOwn k → IsSound k.setup.node k.incarnation told → IsStep k (started_alone prepared) step0 → step0.next.given ≡ k.given →
       IsVerdict k.setup.nodes known new verdict → next ≡ next_told k.setup (kept_of k) (settles k.setup.nodes known told) known new →
       outputs_of outputs ≡ record (outputs_of step0.outputs) { replies = map reply_given verdict.0.items } →
       IsStep k (told_to k.setup (kept_of k) known told) (record { outputs = outputs; change = step0.change; next = record step0.next { queue = verdict.1 } })
@@ -307,5 +307,5 @@ module _ (k : Holding) (known : Option (List Decree)) (told : Held) (next : Opti
         outputs = (gives ∙ ap (λ (o : Outputs). record o { replies = map reply_given verdict.0.items }) base.outputs) i;
       }) ∙ made_is starts is)
       (requeued_step k (started_alone prepared) step0 verdict.1 outputs base ticket (is.place k.queue)
-      (λ mine. subst (λ (held : List Held). AreAsked k.setup.node k.incarnation k.ticket held) (sym (is.leaves k.setup.nodes (held_in k.queue)))
-      (asked_left k.setup.node k.incarnation k.ticket (answer_to k.setup.nodes known new) new (sound_settled k.setup.node k.incarnation k.setup.nodes known told sound) (held_in k.queue) mine.asked)))
+      (λ mine. subst (λ (held : List Held). AreAsked k.setup.node k.incarnation (suc k.given) held) (sym (is.leaves k.setup.nodes (held_in k.queue)))
+      (asked_left k.setup.node k.incarnation (suc k.given) (answer_to k.setup.nodes known new) new (sound_settled k.setup.node k.incarnation k.setup.nodes known told sound) (held_in k.queue) mine.asked)))

@@ -1,5 +1,5 @@
 -- What a node of the code keeps, as the node's model says it.
-use Rattle.std.specs.Prelude.{◌≡◌, ℕ, true, List, [], ◌∷◌, map, Option, Some, None}
+use Rattle.std.specs.Prelude.{◌≡◌, ℕ, suc, true, List, [], ◌∷◌, map, Option, Some, None}
 use Rattle.mc_model.specs.synod.Packet.{Slot, slot_at}
 use Rattle.mc_model.specs.synod.Acceptor.{Records, SlotRecord, with_record}
 use Rattle.mc_model.specs.node.Actor.{opening_clock}
@@ -34,7 +34,7 @@ kept_of k = record {
   incarnation = k.incarnation;
   clock = k.clock;
   serial = k.serial;
-  ticket = k.ticket;
+  ticket = suc k.given;
   held = held_in k.queue;
   messages = map filed_as k.messages.entries;
 }
@@ -47,7 +47,7 @@ AreOf setup starts (first ∷ others) = IsOf setup.node starts setup.nodes first
 -- so is each request that waits
 pub record AreOwn (k : Holding) : Type 0 where
   pub each : AreOf k.setup k.incarnation k.messages.entries
-  pub asked : AreAsked k.setup.node k.incarnation k.ticket (held_in k.queue)
+  pub asked : AreAsked k.setup.node k.incarnation (suc k.given) (held_in k.queue)
 
 -- this message of its own, with the records that are kept of this id, is as this one of the model
 pub record IsAs (k : Holding) (id : ℕ) (m : Filed) (to : Message) : Type 0 where
@@ -72,7 +72,7 @@ pub record IsOpen (with : Setup) (starts : ℕ) (records : Records) (k : Holding
   pub incarnation : k.incarnation ≡ starts
   pub clock : k.clock ≡ opening_clock
   pub serial : k.serial ≡ with.first_serial
-  pub ticket : k.ticket ≡ 1
+  pub given : k.given ≡ 0
   pub held : held_in k.queue ≡ []
   pub kept : (slot : Slot) → records_of k.messages.entries slot ≡ records slot
   pub fresh : AreUnseen k.messages.entries
@@ -84,7 +84,7 @@ pub record IsFiled (old : Holding) (kept : Record) (new : Holding) : Type 0 wher
   pub incarnation : new.incarnation ≡ old.incarnation
   pub clock : new.clock ≡ old.clock
   pub serial : new.serial ≡ old.serial
-  pub ticket : new.ticket ≡ old.ticket
+  pub given : new.given ≡ old.given
   pub held : held_in new.queue ≡ held_in old.queue
   pub records : (slot : Slot) → records_of new.messages.entries slot ≡ with_record (records_of old.messages.entries) (slot_recorded kept) (record_of kept) slot
   pub fresh : AreUnseen old.messages.entries → AreUnseen new.messages.entries

@@ -9,5 +9,6 @@ pub mod Pendings
 pub mod Nodes
 pub mod Voting
 pub mod Telling
+pub mod Arriving
 pub mod Renewal
 pub mod Ticking

@@ -1,5 +1,5 @@
 -- A step of the code, as a step of the node's model.
-use Rattle.std.specs.Prelude.{◌≡◌, ℕ, ◌≤◌, ◌-◌, max, Bool, false, List, [], ◌∷◌, length, map, option_map, Option, Some, None, if◌then◌else◌}
+use Rattle.std.specs.Prelude.{◌≡◌, ℕ, suc, ◌≤◌, ◌-◌, max, Bool, false, List, [], ◌∷◌, length, map, option_map, Option, Some, None, if◌then◌else◌}
 use Rattle.std.specs.Box.{box_value}
 use Rattle.mc_model.specs.message.Chain.{Chain}
 use Rattle.mc_model.specs.synod.Packet.{Packet, Slot, slot_of}
@@ -84,7 +84,7 @@ abbrev pub installed : Holding → Next → Holding
 installed k next = record k {
   clock = next.clock;
   serial = next.serial;
-  ticket = next.ticket;
+  given = next.given;
   messages = record k.messages { entries = entries_after (rested_if next.drops_rounds k.messages.entries) next.messages.items };
 }
 
@@ -100,7 +100,7 @@ pub record IsInstalled (old : Holding) (next : Next) (new : Holding) : Type 0 wh
   pub incarnation : new.incarnation ≡ old.incarnation
   pub clock : new.clock ≡ next.clock
   pub serial : new.serial ≡ next.serial
-  pub ticket : new.ticket ≡ next.ticket
+  pub given : new.given ≡ next.given
   pub entries : new.messages.entries ≡ entries_after (rested_if next.drops_rounds old.messages.entries) next.messages.items
   pub queue : held_in new.queue ≡ requeued old.setup.nodes (held_in old.queue) next.queue
 
@@ -116,7 +116,7 @@ HasRoom shelf next = length next.messages.items ≤ max shelf.room (room_in next
 pub record IsNext (k : Holding) (id : ℕ) (m : Filed) (next : Next) : Type 0 where
   pub clock : next.clock ≡ k.clock
   pub serial : next.serial ≡ k.serial
-  pub ticket : next.ticket ≡ k.ticket
+  pub given : next.given ≡ k.given
   pub drops : next.drops_rounds ≡ false
   pub queue : next.queue ≡ changes.Same
   pub entries : entries_after k.messages.entries next.messages.items ≡ with_value k.messages.entries id m
@@ -125,7 +125,7 @@ pub record IsNext (k : Holding) (id : ℕ) (m : Filed) (next : Next) : Type 0 wh
 -- what is kept after it is the node's own
 pub record AreOwnThen (k : Holding) (next : Next) : Type 0 where
   pub each : AreOf k.setup k.incarnation (installed k next).messages.entries
-  pub asked : AreAsked k.setup.node k.incarnation next.ticket (held_then k next)
+  pub asked : AreAsked k.setup.node k.incarnation (suc next.given) (held_then k next)
 
 -- A step of the code is this one: it keeps the same and gives out the same, and once its change is saved, the records that are saved are
 -- those that are kept.

@@ -1,6 +1,6 @@
 //! What a node keeps.
 
-ghost use Rattle.std.specs.Prelude.{◌≡◌, ℕ, ◌≤◌, ◌&&◌, length, [], None, IfErr, IfOk, OnOk, not, option_map, false};
+ghost use Rattle.std.specs.Prelude.{◌≡◌, ℕ, suc, ◌≤◌, ◌&&◌, length, [], None, IfErr, IfOk, OnOk, not, option_map, false};
 ghost use Rattle.std.specs.Option.{option_copied};
 ghost use Rattle.mc_model.specs.node.Setup.{Setup as SetupValue};
 ghost use Rattle.mc_model.specs.synod.Acceptor.{Records};
@@ -9,6 +9,7 @@ ghost use Rattle.fate_chain.specs.Kinds.{final_of};
 ghost use Rattle.node_model.specs.Answers.{is_asked};
 ghost use Rattle.node_model.specs.Outputs.{leaves};
 ghost use Rattle.mc_model.specs.message.Ids.{IsId};
+ghost use Rattle.mc_model.specs.node.Room.{last_ticket};
 ghost use Rattle.node_model.specs.Kept.{message_at};
 ghost use Rattle.node_model.specs.Proposer.{is_own_ballot, runs_at};
 ghost use Rattle.node_model.specs.Packets.{is_member, on_ask, on_packet, on_prepare, on_promise, on_propose, on_refused};
@@ -41,7 +42,7 @@ use shelf::Shelf;
 use std::alloc::{AllocError, Global};
 use synod_acceptor::{Name, Packet, Record, Report, Verdict, Vote};
 
-/// What a node keeps in an incarnation: its clock, the serial of its next message, the ticket of its next request, the requests that wait,
+/// What a node keeps in an incarnation: its clock, the serial of its next message, how many tickets were given, the requests that wait,
 /// and what it knows of each message of which it heard.
 #[derive(Drop)]
 pub struct Kept {
@@ -50,7 +51,7 @@ pub struct Kept {
     incarnation: Incarnation,
     clock: Moment,
     serial: u32,
-    ticket: u64,
+    given: u64,
     pub(crate) queue: Queue,
     messages: Shelf<Message>,
 }
@@ -72,7 +73,7 @@ impl Kept {
             incarnation,
             clock: Moment::least(),
             serial,
-            ticket: 1,
+            given: 0,
             queue: Queue::make(alloc)?,
             messages: Shelf::empty(alloc),
         };
@@ -157,7 +158,7 @@ impl Kept {
         let Next {
             clock,
             serial,
-            ticket,
+            given,
             drops_rounds,
             queue,
             messages,
@@ -165,7 +166,7 @@ impl Kept {
         } = next;
         self.clock = clock;
         self.serial = serial;
-        self.ticket = ticket;
+        self.given = given;
         if let Some(room) = room {
             self.messages.make_room(room);
         }
@@ -201,7 +202,7 @@ impl Kept {
     fn unchanged(&self) -> Next
         ensures clock { result.clock ≡ self.now.clock }
         ensures serial { result.serial ≡ self.now.serial }
-        ensures ticket { result.ticket ≡ self.now.ticket }
+        ensures given { result.given ≡ self.now.given }
         ensures drops { result.drops_rounds ≡ false }
         ensures queue { result.queue ≡ Same }
         ensures messages { result.messages.items ≡ [] }
@@ -210,7 +211,7 @@ impl Kept {
         Next {
             clock: self.clock,
             serial: self.serial,
-            ticket: self.ticket,
+            given: self.given,
             drops_rounds: false,
             queue: QueueChange::Same,
             messages: Vec::new(self.alloc),
@@ -383,6 +384,28 @@ impl Kept {
         self.setup
     }
 
+    /// Its clock.
+    pub(crate) fn clock(&self) -> Moment
+        ensures { result ≡ self.now.clock }
+    {
+        self.clock
+    }
+
+    /// The serial of its next message, 100000 if none is left.
+    pub(crate) fn serial(&self) -> u32
+        ensures { result ≡ self.now.serial }
+    {
+        self.serial
+    }
+
+    /// The ticket of the next request, if one is left.
+    pub(crate) fn next_ticket(&self) -> u64
+        requires { suc self.now.given ≤ last_ticket }
+        ensures { result ≡ suc self.now.given }
+    {
+        self.given + 1
+    }
+
     /// The incarnation.
     pub fn incarnation(&self) -> Incarnation
         ensures { result ≡ self.now.incarnation }
@@ -421,7 +444,7 @@ impl Kept {
     }
 
     /// Its number.
-    fn node(&self) -> NodeNo
+    pub(crate) fn node(&self) -> NodeNo
         ensures { result ≡ self.now.setup.node }
     {
         self.setup.node

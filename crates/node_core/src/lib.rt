@@ -1,6 +1,7 @@
 //! One node over the synod: what it keeps, and what a step does with it, over a store that outlives its stops.
 #![tactic(auto)]
 
+mod arriving;
 mod attempts;
 mod fault;
 mod grant_refusal;

@@ -1,6 +1,6 @@
 //! What a step gives out.
 
-ghost use Rattle.std.specs.Prelude.{◌≡◌, [], None, Some, IfOk};
+ghost use Rattle.std.specs.Prelude.{◌≡◌, [], ◌++◌, None, Some, IfOk, OnOk};
 ghost use Rattle.node_core.specs.Lists.{listed};
 
 use fate_chain::Chain;
@@ -78,5 +78,19 @@ impl Outputs {
             outputs.receipts.push(chain)?;
         }
         Ok(outputs)
+    }
+
+    /// Sends a packet besides, if there is one.
+    pub(crate) fn send(&mut self, packet: Option<Packet>) -> Result<(), AllocError>
+        ensures packets { OnOk result (self.new.packets.items ≡ self.old.packets.items ++ listed packet) }
+        ensures ticket { self.new.ticket ≡ self.old.ticket }
+        ensures replies { self.new.replies ≡ self.old.replies }
+        ensures receipts { self.new.receipts ≡ self.old.receipts }
+        ensures granted { self.new.granted ≡ self.old.granted }
+    {
+        if let Some(packet) = packet {
+            self.packets.push(packet)?;
+        }
+        Ok(())
     }
 }

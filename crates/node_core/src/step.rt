@@ -14,13 +14,13 @@ pub struct Put {
     pub message: Box<Message>,
 }
 
-/// What is kept after a step: the clock, the serial of the next message, the ticket of the next request, whether all rounds end, what becomes of the requests that wait, and then
+/// What is kept after a step: the clock, the serial of the next message, how many tickets are given, whether all rounds end, what becomes of the requests that wait, and then
 /// each message that is not kept as it was, with room for them, if room is wanted. Of several messages of an id the first counts.
 #[derive(Drop)]
 pub struct Next {
     pub clock: Moment,
     pub serial: u32,
-    pub ticket: u64,
+    pub given: u64,
     pub drops_rounds: bool,
     pub queue: QueueChange,
     pub messages: Vec<Put>,

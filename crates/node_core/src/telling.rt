@@ -135,7 +135,7 @@ impl Kept {
         requires own { AreOwn self.now }
         requires id { IfSome next (λ chain. chain.id ≡ id) }
         ensures step { IfOk result (IsStep self.now (started_alone (started self.now.setup (kept_of self.now) id (option_map start_of next)))) }
-        ensures ticket { IfOk result (λ step. step.next.ticket ≡ self.now.ticket) }
+        ensures given { IfOk result (λ step. step.next.given ≡ self.now.given) }
     {
         let Some(next) = next else {
             return Ok(self.same());

@@ -1,20 +1,22 @@
 //! Requests that wait.
 
-ghost use Rattle.std.specs.Prelude.{◌≡◌, ◌&&◌, ◌||◌, None, Some, IfOk, OnErr, OnOk, option_map, if◌then◌else◌};
+ghost use Rattle.std.specs.Prelude.{◌≡◌, ◌&&◌, ◌||◌, None, Some, IfOk, IfSome, OnErr, OnOk, false, option_map, if◌then◌else◌};
 ghost use Rattle.std.specs.Option.{option_copied};
 ghost use Rattle.mc_model.specs.message.Chain.{taken_in};
 ghost use Rattle.mc_model.specs.message.Submission.{Submission as SubmissionValue};
 ghost use Rattle.mc_model.specs.node.Replies.{Unknown};
 ghost use Rattle.node_model.specs.Answers.{answer_to, still_waits};
 ghost use Rattle.node_model.specs.Packets.{settled_for, tells_about};
-ghost use Rattle.node_model.specs.Requests.{begun, higher_top, id_of, is_cancel, is_settled, is_untold, settled_by, settles, ticket_of, told_by};
-ghost use Rattle.node_model.specs.Starts.{cancels};
+ghost use Rattle.mc_model.specs.node.Setup.{Setup};
+ghost use Rattle.node_model.specs.Kept.{Kept};
+ghost use Rattle.node_model.specs.Requests.{asks, begun, higher_top, id_of, is_cancel, is_settled, is_untold, settled_by, settles, ticket_of, told_by};
+ghost use Rattle.node_model.specs.Starts.{cancels, take_for};
 ghost use Rattle.node_model.specs.Ticks.{is_late, late_reply};
 ghost use Rattle.synod_acceptor.specs.Packets.{packet_of};
 ghost use Rattle.synod_acceptor.specs.Votes.{told_vote};
 ghost use Rattle.requests.specs.Questions.{question_by};
 ghost use Rattle.requests.specs.Replying.{answer_given, answer_with, reply_given, reply_to, reply_with};
-ghost use Rattle.requests.specs.Submits.{begun_of};
+ghost use Rattle.requests.specs.Submits.{IsNumberedBy, begun_of, start_of};
 ghost use Rattle.requests.specs.Tops.{over, shown_by, told_by_most};
 ghost use Rattle.requests.specs.Waiting.{IsSince, held_of, known_of, request_of};
 
@@ -325,6 +327,29 @@ impl Held {
         if self.id() == chain.id() {
             self.settle(nodes, Some(chain));
         }
+    }
+
+    /// The chain by which its message is taken, if it is a submit_sm, of its id. An `Err` is want of memory.
+    pub fn chain(&self) -> Result<Option<Chain>, AllocError>
+        ensures start { IfOk result (λ chain. (setup : Setup) (k : Kept) → IsNumberedBy setup.node k.incarnation (held_of self.now).waiting.request →
+            option_map start_of chain ≡ take_for setup k (held_of self.now) (held_of self.now).waiting.request) }
+        ensures id { IfOk result (λ chain. IfSome chain (λ it. it.id ≡ id_of (held_of self.now))) }
+        ensures asks { IfOk result (λ chain. IfSome chain (λ it. asks (held_of self.now).waiting.request ≡ false)) }
+    {
+        match &self.request {
+            Request::Submit(taken) => Ok(Some(taken.chain().copy()?)),
+            _ => Ok(None),
+        }
+    }
+
+    /// Its question, for the node and the incarnation in which it waits, if it asks one.
+    pub fn asked(&self, node: NodeNo, incarnation: Incarnation) -> Option<Packet>
+        ensures { option_map packet_of result ≡ (if asks (held_of self.now).waiting.request then Some (question_by node incarnation (held_of self.now)) else None) }
+    {
+        if !self.request.asks() {
+            return None;
+        }
+        Some(self.question(node, incarnation))
     }
 
     /// The message of a submit_sm of this id.

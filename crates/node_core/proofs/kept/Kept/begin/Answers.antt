@@ -12,7 +12,7 @@ returns c = λ with starts records is.
       incarnation = c.args.incarnation;
       clock = c.args.self.now.clock;
       serial = c.args.self.now.serial;
-      ticket = c.args.self.now.ticket;
+      given = c.args.self.now.given;
       queue = c.args.self.now.queue;
       messages = c.for_each.new.self;
     } in

@@ -22,4 +22,4 @@ returns c =
     let start = c.in_ok-next.ensures.start ∙ (λ i. next_told k.setup (kept_of k) (settles_is i) (known_is i) (new_is i)) in
     let outputs : Outputs = record c.in_ok-step.step.outputs { replies = c.in_ok-replies.replies } in
     told_here k known told (option_map start_of c.in_ok-next.next) c.in_ok-step.step (c.in_ok-replies.replies, c.in_ok-replies.queue) outputs
-    c.requires.own c.requires.sound (rw c.id-id.ensures at c.in_ok-step.ensures.step) c.in_ok-step.ensures.ticket verdict start refl
+    c.requires.own c.requires.sound (rw c.id-id.ensures at c.in_ok-step.ensures.step) c.in_ok-step.ensures.given verdict start refl
