@@ -3,6 +3,7 @@
 
 mod cancel;
 mod desk;
+mod door;
 mod fates;
 mod laws;
 mod query;
@@ -12,6 +13,7 @@ mod table;
 mod times;
 
 pub use desk::Desk;
+pub use door::{Admitted, Door};
 pub use laws::{
     fates_are_permitted, owners_are_those_of_the_rules, tickets_are_distinct, unrouted_are_refused,
 };

@@ -1,0 +1,231 @@
+//! What is looked at when a request comes: what is refused at once, and what waits.
+
+ghost use Rattle.std.specs.Prelude.{◌≡◌, ◌≤◌, ℕ, false, true, Ok, IfOk, OnOk};
+ghost use Rattle.desk.specs.Desk.{fields_refusal, submission_of};
+ghost use Rattle.mc_types.specs.Texts.{id_in};
+ghost use Rattle.desk.specs.declared.request.Request.TheVariants as requests;
+ghost use Rattle.desk.specs.Admissions.{MayWait, about, admitted, asked_as, submitted_as};
+
+use crate::request::Request;
+use crate::times::Times;
+use fate_chain::Submission;
+use mc_types::{Moment, MsgId};
+use pdu_codec::{Cancel, Message, Query, Text};
+use pdu_tables::Status;
+use std::alloc::AllocError;
+
+/// The greatest serial of a message in an incarnation.
+const MOST_SERIAL: u32 = 99999;
+/// The tags of the optional parameters that are passed on: user_message_reference, sar_msg_ref_num,
+/// sar_total_segments and sar_segment_seqnum.
+const PASSED: [u16; 4] = [0x0204, 0x020c, 0x020e, 0x020f];
+
+/// What is looked at when a request comes: the clock, how long a message is valid that asks for nothing else, in seconds, the serial
+/// of the next message (100000 if none is left), and whether no request more may wait.
+#[derive(Clone, Copy, Debug)]
+pub struct Door {
+    pub clock: Moment,
+    pub validity: u32,
+    pub serial: u32,
+    pub busy: bool,
+}
+
+/// What waits of a request that is not refused.
+#[derive(Debug, Drop)]
+pub enum Admitted {
+    /// What is taken of a submit_sm.
+    Submit(Submission),
+    /// A query_sm of an account, about the message of an id.
+    Query {
+        id: MsgId,
+        account: Text<16>,
+        source: Text<21>,
+    },
+    /// A cancel_sm of an account, about the message of an id.
+    Cancel {
+        id: MsgId,
+        account: Text<16>,
+        source: Text<21>,
+        destination: Text<21>,
+    },
+}
+
+impl Door {
+    ghost use Rattle.desk.specs.Times.{AreToCome, times_of};
+    ghost use Rattle.desk.specs.Desk.{submit_judged, with_room};
+
+    /// What waits of a request of an account, or the status with which it is refused at once. An outer `Err` is want of memory.
+    pub fn admit(
+        &self,
+        account: &Text<16>,
+        request: Request,
+    ) -> Result<Result<Admitted, Status>, AllocError>
+        ensures admitted { IfOk result (λ judged. (next : ℕ) → asked_as next judged ≡ admitted self.now next account.now request) }
+        ensures waits { IfOk result (λ judged. IfOk judged (MayWait self.now)) }
+    {
+        match request {
+            Request::Submit(message, target) => self.submit(account, message, target),
+            Request::Ask(query) => self.query(account, query),
+            Request::Cancel(cancel) => self.cancel(account, cancel),
+        }
+    }
+
+    /// What is taken of a submit_sm, with the account that a route leads to, if one does.
+    fn submit(
+        &self,
+        account: &Text<16>,
+        message: Message,
+        target: Option<Text<16>>,
+    ) -> Result<Result<Admitted, Status>, AllocError>
+        ensures admitted { IfOk result (λ judged. (next : ℕ) → asked_as next judged ≡ submitted_as self.now next account.now message target) }
+        ensures waits { IfOk result (λ judged. IfOk judged (MayWait self.now)) }
+    {
+        let Some(target) = target else {
+            return Ok(Err(Status::InvalidDestinationAddress));
+        };
+        match self.judge(&message) {
+            Err(status) => Ok(Err(status)),
+            Ok(times) => {
+                let taken = submission(account, target, times, message)?;
+                Ok(Ok(Admitted::Submit(taken)))
+            }
+        }
+    }
+
+    /// What waits of a query_sm.
+    fn query(
+        &self,
+        account: &Text<16>,
+        query: Query,
+    ) -> Result<Result<Admitted, Status>, AllocError>
+        ensures admitted { IfOk result (λ judged. (next : ℕ) → asked_as next judged ≡ admitted self.now next account.now (requests.Ask query)) }
+        ensures waits { IfOk result (λ judged. IfOk judged (MayWait self.now)) }
+    {
+        let id = match self.about(&query.message_id) {
+            Ok(id) => id,
+            Err(status) => return Ok(Err(status)),
+        };
+        let account = account.copy()?;
+        Ok(Ok(Admitted::Query {
+            id,
+            account,
+            source: query.source.digits,
+        }))
+    }
+
+    /// What waits of a cancel_sm.
+    fn cancel(
+        &self,
+        account: &Text<16>,
+        cancel: Cancel,
+    ) -> Result<Result<Admitted, Status>, AllocError>
+        ensures admitted { IfOk result (λ judged. (next : ℕ) → asked_as next judged ≡ admitted self.now next account.now (requests.Cancel cancel)) }
+        ensures waits { IfOk result (λ judged. IfOk judged (MayWait self.now)) }
+    {
+        if cancel.message_id.is_empty() {
+            return Ok(Err(Status::CancelFailed));
+        }
+        let id = match self.about(&cancel.message_id) {
+            Ok(id) => id,
+            Err(status) => return Ok(Err(status)),
+        };
+        let account = account.copy()?;
+        Ok(Ok(Admitted::Cancel {
+            id,
+            account,
+            source: cancel.source.digits,
+            destination: cancel.destination.digits,
+        }))
+    }
+
+    /// The id that a request names, if another request may wait.
+    fn about(&self, text: &Text<65>) -> Result<MsgId, Status>
+        ensures id { result ≡ about self.now.busy (id_in text.now) }
+        ensures room { OnOk result (self.now.busy ≡ false) }
+    {
+        let Ok(id) = MsgId::read(text.octets()) else {
+            return Err(Status::InvalidMessageId);
+        };
+        if self.busy {
+            return Err(Status::Throttled);
+        }
+        Ok(id)
+    }
+
+    /// The times of a submit_sm that has a route, or the status with which it is refused at once.
+    pub(crate) fn judge(&self, message: &Message) -> Result<Times, Status>
+        ensures judged { result ≡ submit_judged true self.now.clock self.now.validity self.now.serial self.now.busy message.now }
+        ensures times { IfOk result (λ times. AreToCome self.now.clock times) }
+        ensures room { OnOk result ((self.now.serial ≤ 99999) × (self.now.busy ≡ false)) }
+    {
+        if let Some(status) = fields_refusal(message) {
+            return Err(status);
+        }
+        match self.times(message) {
+            Err(status) => Err(status),
+            Ok(times) => self.with_room(times),
+        }
+    }
+
+    /// The times of a message that comes now, or the status that refuses them.
+    fn times(&self, message: &Message) -> Result<Times, Status>
+        ensures judged { result ≡ times_of self.now.validity self.now.clock message.now }
+        ensures to_come { IfOk result (λ times. AreToCome self.now.clock times) }
+    {
+        Times::of(self.validity, self.clock, message)
+    }
+
+    /// The times of a message, if there is a serial for it and room for a request.
+    fn with_room(&self, times: Times) -> Result<Times, Status>
+        ensures judged { result ≡ with_room self.now.serial self.now.busy (Ok times) }
+        ensures times { IfOk result (λ left. left ≡ times) }
+        ensures room { OnOk result ((self.now.serial ≤ 99999) × (self.now.busy ≡ false)) }
+    {
+        if self.serial > MOST_SERIAL {
+            return Err(Status::MessageQueueFull);
+        }
+        if self.busy {
+            return Err(Status::Throttled);
+        }
+        Ok(times)
+    }
+}
+
+/// The status with which a submit_sm that has a route is refused before its times are looked at, if it is.
+fn fields_refusal(message: &Message) -> Option<Status>
+    ensures { result ≡ fields_refusal true message.now }
+{
+    if message.destination.digits.is_empty() {
+        return Some(Status::InvalidDestinationAddress);
+    }
+    (message.registered_delivery % 4 == 3).then_some(Status::InvalidRegisteredDelivery)
+}
+
+/// What is taken of a submit_sm of an account that goes to another.
+pub(crate) fn submission(
+    account: &Text<16>,
+    target: Text<16>,
+    times: Times,
+    message: Message,
+) -> Result<Submission, AllocError>
+    ensures { IfOk result (λ taken. taken ≡ submission_of account.now target times message) }
+{
+    let submitter = account.copy()?;
+    let passed = message.tlvs.with_tags(&PASSED)?;
+    Ok(Submission {
+        submitter,
+        target,
+        service_type: message.service_type,
+        source: message.source,
+        destination: message.destination,
+        esm_class: message.esm_class,
+        protocol_id: message.protocol_id,
+        priority_flag: message.priority_flag,
+        registered_delivery: message.registered_delivery,
+        data_coding: message.data_coding,
+        schedule: times.schedule(),
+        expiry: times.expiry(),
+        text: message.short_message,
+        passed,
+    })
+}
