@@ -1,5 +1,5 @@
 -- A step that answers by a verdict is the model's.
-use Rattle.std.proofs.Common.{◌≡◌, suc, ℕ, Bool, true, List, [], ◌∷◌, map, Option, Some, None, refl, sym, ap, subst, ◌∙◌}
+use Rattle.std.proofs.Common.{◌≡◌, ◌≤◌, suc, ℕ, Bool, true, List, [], ◌∷◌, map, Option, Some, None, refl, sym, ap, subst, ◌∙◌}
 use Rattle.std.proofs.Math.Path.{fun_ext}
 use Rattle.std.specs.Prelude.{IfOk, Result, Ok, Err, option_map, if◌then◌else◌}
 use Rattle.std.specs.Option.{unwrap_or}
@@ -157,6 +157,7 @@ module _ (k : Holding) (slot : Slot) (taken new : Filed) (judgement : SlotRecord
       each = subst (λ (es : List (ℕ × Filed)). AreOf k.setup k.incarnation es) (sym (next_entries k slot.id new step.next is_answer.next))
           (own_put k.setup k.incarnation Entries slot.id new (of_new (is_taken.own own)) own.each);
       asked = asked_same k step.next is_answer.next.queue is_answer.next.given own;
+      serial = subst (λ (n : ℕ). 1 ≤ n) (sym is_answer.next.serial) own.serial;
     };
     room = is_answer.next.room;
     place = place_same k.queue step.next.queue is_answer.next.queue;

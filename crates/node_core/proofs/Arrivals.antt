@@ -48,6 +48,11 @@ ticket_left waiting ticket free = by_tests (nat_le most_waiting waiting) (nat_lt
     by_tests false true is left = absurd (cc)
     by_tests false false is left = grind (arith, nat_tests)
 
+serial_least : (request : Request) (serial : ℕ) → 1 ≤ serial → 1 ≤ next_serial request serial
+serial_least (Submit id message) serial least = omega (arith, least)
+serial_least (Query id account source) serial least = least
+serial_least (Cancel id account source destination) serial least = least
+
 -- of what is kept a round reads neither the requests that wait nor the numbers that were given
 module _ (setup : Setup) (k : Kept) (serial ticket : ℕ) (held : List Held) (id : ℕ) where
   abbrev begun_at : Start → Prepared
@@ -124,7 +129,7 @@ module _ (k : Holding) (request : Request) (new : Box Waits) (is : held_of (box_
         outputs = (gives ∙ ap (λ (o : Outputs). record o { ticket = Some (suc k.given); packets = o.packets ++ listed asked }) base.outputs) i;
       }) ∙ arrives_so start starts)
       (arrived_step k (started_alone (prepared start)) step0 (next_serial request k.serial) new outputs base (ap ticket_of is) (room_left (length k.queue) (suc k.given) free)
-      (subst (IsSound k.setup.node k.incarnation) (sym is) sound) own)
+      (subst (IsSound k.setup.node k.incarnation) (sym is) sound) own (serial_least request k.serial own.serial))
 
 -- a packet more is sent
 pub sent_more : (before after : List Cast) (one : Option Cast) (to : Option Packet) → after ≡ before ++ listed one → option_map packet_of one ≡ to →

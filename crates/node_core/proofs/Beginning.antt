@@ -1,5 +1,5 @@
 -- A node that opens keeps the same in whatever incarnation.
-use Rattle.std.proofs.Common.{◌≡◌, suc, refl, sym, ap, subst, ◌∙◌, ℕ, List, [], ◌∷◌, map, Option, Some, None}
+use Rattle.std.proofs.Common.{◌≡◌, ◌≤◌, suc, refl, sym, ap, subst, ◌∙◌, ℕ, List, [], ◌∷◌, map, Option, Some, None}
 use Rattle.std.proofs.lemmas.Bool.{true≢false}
 use Rattle.std.specs.Option.{option_map}
 use Rattle.mc_model.specs.synod.Packet.{Slot}
@@ -67,5 +67,6 @@ module _ (me : Author) where
           (subst (λ (s : Setup). AreOf s me.incarnation (all_renewed old.messages.entries)) (sym setup)
           (own_now old.setup old.incarnation old.messages.entries node is.fresh is.own.each)));
       asked = asked_none new.setup.node new.incarnation (suc new.given) (held_in new.queue) (held ∙ is.held);
+      serial = subst (λ (n : ℕ). 1 ≤ n) (sym serial) is.own.serial;
     };
   }

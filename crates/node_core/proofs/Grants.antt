@@ -21,6 +21,7 @@ use Rattle.node_model.specs.Outputs.{Stepped, nothing}
 use Rattle.node_model.specs.Proposer.{Prepared, Start, highest_round, last_round, started, started_at}
 use Rattle.node_model.specs.Rules.{is_attempt_by}
 use Rattle.node_model.proofs.Places.{message_here}
+use Rattle.pdu_tables.specs.StatusCodes.{status_code}
 use Rattle.requests.specs.Replying.{reply_given}
 use Rattle.rules.specs.Standpoints.{kept_of as kept_for, setup_of}
 use Rattle.rules.specs.declared.standpoint.Standpoint.{Standpoint}
@@ -214,10 +215,10 @@ granted_here k id taken new step own given is_taken is is_left =
 pub granted_step : (k : Holding) (id place : ℕ) (chain : Chain) (taken new : Filed) (outputs : Sent-outputs) (next : Next) → AreOwn k →
     grant_refusal k.setup (kept_of k) id ≡ None → (message_at (kept_of k) id).known ≡ Some chain.decrees → chain.id ≡ id →
     place ≡ pred (length chain.decrees) → IsTaken k id taken → IsTriedSo taken (λ m. granted_at m place) new →
-    outputs.ticket ≡ None → outputs.packets.items ≡ [] → outputs.replies.items ≡ [] → outputs.receipts.items ≡ [] → outputs.granted ≡ Some chain →
+    outputs.ticket ≡ None → outputs.refused ≡ None → outputs.packets.items ≡ [] → outputs.replies.items ≡ [] → outputs.receipts.items ≡ [] → outputs.granted ≡ Some chain →
     IsNext k id new next →
     IsStep k (on_grant (kept_of k) (known_slot (kept_of k) id)) (record { outputs = outputs; change = None; next = next })
-granted_step k id place chain taken new outputs next own given known of at is_taken is ticket packets replies receipts granted is_next =
+granted_step k id place chain taken new outputs next own given known of at is_taken is ticket refused packets replies receipts granted is_next =
     let slot : granted_of chain ≡ known_slot (kept_of k) id = λ i. slot_at (of i) (known_place (sym known i)) in
     let here = at ∙ sym (ap known_place known) in
     granted_here k id taken new (record { outputs = outputs; change = None; next = next }) own given is_taken
@@ -225,6 +226,7 @@ granted_step k id place chain taken new outputs next own given known of at is_ta
       gives =
           (λ i. record nothing {
             ticket = ticket i;
+            refused = option_map status_code (refused i);
             packets = map packet_of (packets i);
             replies = map reply_given (replies i);
             receipts = map receipt_of (receipts i);

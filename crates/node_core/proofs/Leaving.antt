@@ -1,5 +1,5 @@
 -- A step that keeps a message and saves nothing is the model's.
-use Rattle.std.proofs.Common.{◌≡◌, ℕ, Bool, true, false, List, [], ◌∷◌, map, Option, Some, None, refl, sym, ap, subst, ◌∙◌}
+use Rattle.std.proofs.Common.{◌≡◌, ◌≤◌, ℕ, Bool, true, false, List, [], ◌∷◌, map, Option, Some, None, refl, sym, ap, subst, ◌∙◌}
 use Rattle.std.proofs.Math.Path.{fun_ext}
 use Rattle.std.specs.Prelude.{◌==◌, ◌&&◌, option_map, if◌then◌else◌}
 use Rattle.std.proofs.lemmas.Bool.{true≢false}
@@ -66,6 +66,7 @@ module _ (k : Holding) (id : ℕ) (new : Filed) (to : Message) (outputs : Output
       each = subst (λ (es : List (ℕ × Filed)). AreOf k.setup k.incarnation es) (sym (next_entries k id new step.next is_left.next))
           (own_put k.setup k.incarnation Entries id new (is.own own) own.each);
       asked = asked_same k step.next is_left.next.queue is_left.next.given own;
+      serial = subst (λ (n : ℕ). 1 ≤ n) (sym is_left.next.serial) own.serial;
     };
     room = is_left.next.room;
     place = place_same k.queue step.next.queue is_left.next.queue;

@@ -1,5 +1,5 @@
 -- What a node keeps that opens over the records of its store.
-use Rattle.std.proofs.Common.{◌≡◌, suc, ℕ, Bool, true, false, cond, List, [], ◌∷◌, ◌++◌, map, Option, Some, None, refl, sym, ap, subst, ◌∙◌, inl, inr, arith}
+use Rattle.std.proofs.Common.{◌≡◌, ◌≤◌, suc, ℕ, Bool, true, false, cond, List, [], ◌∷◌, ◌++◌, map, Option, Some, None, refl, sym, ap, subst, ◌∙◌, inl, inr, arith}
 use Rattle.std.specs.Prelude.{if◌then◌else◌}
 use Rattle.std.specs.Option.{unwrap_or}
 use Rattle.std.proofs.Math.Path.{fun_ext}
@@ -83,6 +83,7 @@ filed old new kept id taken m next about is_taken records same of is_next is = l
         (subst (λ (starts : ℕ). AreOf old.setup starts (with_value old.messages.entries id m)) (sym is.incarnation)
         (own_put old.setup old.incarnation old.messages.entries id m (of (is_taken.own own)) own.each)));
     asked = asked_still old new is.setup is.incarnation (is.given ∙ is_next.given) (is.queue ∙ held_same old next is_next.queue) own;
+    serial = subst (λ (n : ℕ). 1 ≤ n) (sym (is.serial ∙ is_next.serial)) own.serial;
   };
   fresh = λ fresh. subst AreUnseen (sym entries) (unseen_put old.messages.entries id m (same id ∙ is_taken.message ∙ unseen_at old.messages.entries id fresh) fresh);
 }
@@ -150,9 +151,9 @@ pub record IsFiling (with : Setup) (starts : ℕ) (left all : List Record) (k : 
   pub fresh : AreUnseen k.messages.entries
   pub own : AreOwn k
 
-pub filing_begins : (with : Setup) (starts : ℕ) (all : List Record) (k : Holding) → k.setup ≡ with → k.incarnation ≡ starts →
+pub filing_begins : (with : Setup) (starts : ℕ) (all : List Record) (k : Holding) → 1 ≤ with.first_serial → k.setup ≡ with → k.incarnation ≡ starts →
     k.clock ≡ opening_clock → k.serial ≡ with.first_serial → k.given ≡ 0 → held_in k.queue ≡ [] → k.messages.entries ≡ [] → IsFiling with starts all all k
-filing_begins with starts all k setup incarnation clock serial given held none = record {
+filing_begins with starts all k least setup incarnation clock serial given held none = record {
   setup = setup;
   incarnation = incarnation;
   clock = clock;
@@ -164,6 +165,7 @@ filing_begins with starts all k setup incarnation clock serial given held none =
   own = record {
     each = subst (λ (es : List (ℕ × Filed)). AreOf k.setup k.incarnation es) (sym none) tt;
     asked = asked_none k.setup.node k.incarnation (suc k.given) (held_in k.queue) held;
+    serial = subst (λ (n : ℕ). 1 ≤ n) (sym serial) least;
   };
 }
 

@@ -1,5 +1,5 @@
 -- The requests that wait after a step.
-use Rattle.std.proofs.Common.{◌≡◌, ℕ, suc, ◌<◌, ◌++◌, length, Bool, true, false, cond, List, [], ◌∷◌, map, Option, Some, None, refl, sym, ap, subst, ◌∙◌, arith}
+use Rattle.std.proofs.Common.{◌≡◌, ◌≤◌, ℕ, suc, ◌<◌, ◌++◌, length, Bool, true, false, cond, List, [], ◌∷◌, map, Option, Some, None, refl, sym, ap, subst, ◌∙◌, arith}
 use Rattle.std.specs.Prelude.{◌==◌, IfSome, filter, not, if◌then◌else◌}
 use Rattle.std.specs.Box.{box_value}
 use Rattle.std.specs.Global.{Box}
@@ -196,6 +196,7 @@ requeued_step k to step queue outputs is ticket place asked = record {
   own = λ own. record {
     each = (is.own own).each;
     asked = subst (λ (t : ℕ). AreAsked k.setup.node k.incarnation t (requeued k.setup.nodes (held_in k.queue) queue)) (sym (ap suc ticket)) (asked own);
+    serial = (is.own own).serial;
   };
   room = is.room;
   place = place;
@@ -219,20 +220,21 @@ asked_more node incarnation ticket (h ∷ others) new is sound asked =
     }
 
 pub arrived_step : (k : Holding) (to : Stepped) (step : Step) (serial : ℕ) (new : Box Waits) (outputs : Sent) → IsStep k to step → ticket_of (held_of (box_value new)) ≡ suc k.given →
-    length k.queue < most_waiting → IsSound k.setup.node k.incarnation (held_of (box_value new)) → AreOwn k →
+    length k.queue < most_waiting → IsSound k.setup.node k.incarnation (held_of (box_value new)) → AreOwn k → 1 ≤ serial →
     IsStep k
     (record {
       kept = record to.kept { serial = serial; ticket = suc (suc k.given); held = held_in k.queue ++ held_of (box_value new) ∷ [] };
       outputs = outputs_of outputs;
     })
     (record { outputs = outputs; change = step.change; next = record step.next { serial = serial; given = suc k.given; queue = changes.Push new } })
-arrived_step k to step serial new outputs is ticket room sound own = record {
+arrived_step k to step serial new outputs is ticket room sound own least = record {
   kept = ap (λ (kept : Kept). record kept { serial = serial; ticket = suc (suc k.given); held = held_in k.queue ++ held_of (box_value new) ∷ [] }) is.kept;
   outputs = refl;
   saves = is.saves;
   own = λ mine. record {
     each = (is.own mine).each;
     asked = asked_more k.setup.node k.incarnation (suc k.given) (held_in k.queue) (held_of (box_value new)) ticket sound mine.asked;
+    serial = least;
   };
   room = is.room;
   place = (room, subst (IsAbove (held_in k.queue)) (sym ticket) own.asked.above);

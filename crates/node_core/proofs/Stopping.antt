@@ -20,7 +20,7 @@ change_over (Some change) one other same slot =
     ap (λ (r : SlotRecord). if same_slot slot (slot_recorded change.after) then record_of change.after else r) (same.each slot)
 
 abbrev pub After : Holding → Input → Records
-After k input = (stepped k.setup (kept_of k) (input_of (kept_of k) input)).kept.records
+After k input = (stepped k.setup (kept_of k) (input_of k.setup (kept_of k) input)).kept.records
 
 after_step : (k : Holding) (input : Input) (step : Step) (stored new : Records) → IsStepFor k input step → AreSame stored (records_of k.messages.entries) →
     AreSame new stored ⊎ AreSame new (changed_by step.change stored) → AreSame new stored ⊎ AreSame new (After k input)

@@ -1,5 +1,5 @@
 -- What a node of the code keeps, as the node's model says it.
-use Rattle.std.specs.Prelude.{◌≡◌, ℕ, suc, true, List, [], ◌∷◌, map, Option, Some, None}
+use Rattle.std.specs.Prelude.{◌≡◌, ◌≤◌, ℕ, suc, true, List, [], ◌∷◌, map, Option, Some, None}
 use Rattle.mc_model.specs.synod.Packet.{Slot, slot_at}
 use Rattle.mc_model.specs.synod.Acceptor.{Records, SlotRecord, with_record}
 use Rattle.mc_model.specs.node.Actor.{opening_clock}
@@ -44,10 +44,11 @@ abbrev pub AreOf : Setup → ℕ → List (ℕ × Filed) → Type 0
 AreOf setup starts [] = Unit {0}
 AreOf setup starts (first ∷ others) = IsOf setup.node starts setup.nodes first.0 first.1 × AreOf setup starts others
 
--- so is each request that waits
+-- so is each request that waits, and its serials begin at 1
 pub record AreOwn (k : Holding) : Type 0 where
   pub each : AreOf k.setup k.incarnation k.messages.entries
   pub asked : AreAsked k.setup.node k.incarnation (suc k.given) (held_in k.queue)
+  pub serial : 1 ≤ k.serial
 
 -- this message of its own, with the records that are kept of this id, is as this one of the model
 pub record IsAs (k : Holding) (id : ℕ) (m : Filed) (to : Message) : Type 0 where

@@ -1,4 +1,5 @@
 pub mod Lists
+pub mod Setups
 pub mod Attempting
 pub mod Messages
 pub mod Queueing

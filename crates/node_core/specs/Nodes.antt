@@ -45,7 +45,7 @@ pub record IsUnmoved (old new : Seen) : Type 0 where
 pub record HasStopped (old : Seen) (input : Input) (new : Seen) : Type 0 where
   pub kept : new.kept ≡ old.kept
   pub broken : new.broken ≡ true
-  pub stored : AreSame new.stored old.stored ⊎ AreSame new.stored (stepped old.kept.setup (kept_of old.kept) (input_of (kept_of old.kept) input)).kept.records
+  pub stored : AreSame new.stored old.stored ⊎ AreSame new.stored (stepped old.kept.setup (kept_of old.kept) (input_of old.kept.setup (kept_of old.kept) input)).kept.records
   pub started : new.started ≡ old.started
 
 -- Its messages are its own, and unless a save failed, its records are those that are stored.
@@ -75,8 +75,8 @@ fault_in node input = if node.broken then Some Broken else refused_by node.kept.
 
 -- The node took the step of the model, gave out what it gives out, and keeps what it leaves. It is the same node in the same incarnation.
 pub record HasTaken {S : Type 0} (old : Standing S) (input : Input) (new : Standing S) (outputs : Outputs) : Type 0 where
-  pub kept : kept_of new.kept ≡ (stepped old.kept.setup (kept_of old.kept) (input_of (kept_of old.kept) input)).kept
-  pub given : outputs_of outputs ≡ (stepped old.kept.setup (kept_of old.kept) (input_of (kept_of old.kept) input)).outputs
+  pub kept : kept_of new.kept ≡ (stepped old.kept.setup (kept_of old.kept) (input_of old.kept.setup (kept_of old.kept) input)).kept
+  pub given : outputs_of outputs ≡ (stepped old.kept.setup (kept_of old.kept) (input_of old.kept.setup (kept_of old.kept) input)).outputs
   pub allowed : refused_by old.kept.setup (kept_of old.kept) input ≡ None
   pub setup : new.kept.setup ≡ old.kept.setup
   pub incarnation : new.kept.incarnation ≡ old.kept.incarnation

@@ -1,9 +1,12 @@
 -- A step of the code, as a step of the node's model.
-use Rattle.std.specs.Prelude.{◌≡◌, ℕ, suc, ◌≤◌, ◌-◌, max, Bool, false, List, [], ◌∷◌, length, map, option_map, Option, Some, None, if◌then◌else◌}
+use Rattle.std.specs.Prelude.{◌≡◌, ℕ, suc, ◌≤◌, ◌-◌, max, Bool, false, List, [], ◌∷◌, length, map, option_map, Option, Some, None, Result, Ok, Err, if◌then◌else◌}
 use Rattle.std.specs.Box.{box_value}
 use Rattle.mc_model.specs.message.Chain.{Chain}
 use Rattle.mc_model.specs.synod.Packet.{Packet, Slot, slot_of}
-use Rattle.mc_model.specs.node.Input.{Delivery, Grant, Input, Response}
+use Rattle.mc_model.specs.message.Ids.{id_of}
+use Rattle.mc_model.specs.node.Actor.{Request}
+use Rattle.mc_model.specs.node.Input.{Arrival, Delivery, Grant, Input, Refusal, Response}
+use Rattle.mc_model.specs.node.Room.{is_busy}
 use Rattle.mc_model.specs.node.Outputs.{Outputs, Receipt}
 use Rattle.mc_model.specs.node.Setup.{Setup}
 use Rattle.node_model.specs.Attempts.{grant_refusal}
@@ -11,6 +14,11 @@ use Rattle.node_model.specs.Kept.{Held, Kept}
 use Rattle.node_model.specs.Outputs.{Stepped, nothing}
 use Rattle.node_model.specs.Stepped.{stepped}
 use Rattle.delivery.specs.Kept.{outcome_kept}
+use Rattle.desk.specs.Admissions.{admitted}
+use Rattle.desk.specs.declared.door.Door.{Door}
+use Rattle.desk.specs.declared.request.Request.{Request as Asked}
+use Rattle.pdu_tables.specs.StatusCodes.{status_code}
+use Rattle.pdu_tables.specs.declared.status.Status.{Status}
 use Rattle.requests.specs.Replying.{reply_given}
 use Rattle.requests.specs.Waiting.{held_in}
 use Rattle.shelf.specs.Shelved.{Shelved, with_value}
@@ -32,15 +40,32 @@ use Rattle.node_core.specs.Keeping.{AreOf, AreOwn, kept_of, records_of}
 use Rattle.node_core.specs.Messages.{changed_by, rested}
 use Rattle.node_core.specs.Queueing.{AreAsked, HasPlace, requeued}
 
+-- what is looked at when a request comes, and the id that a submit_sm gets
+abbrev pub door_at : Setup → Kept → Door
+door_at setup k =
+    record { clock = k.clock; validity = setup.default_validity; serial = k.serial; busy = is_busy (length k.held) k.ticket }
+
+abbrev pub next_id : Setup → Kept → ℕ
+next_id setup k = id_of setup.node k.incarnation k.serial
+
+abbrev pub judged_as : Result Request Status → Input
+judged_as (Ok request) = Arrival request
+judged_as (Err status) = Refusal (status_code status)
+
+abbrev pub requested : Setup → Kept → List ℕ → Asked → Input
+requested setup k account request = judged_as (admitted (door_at setup k) (next_id setup k) account request)
+
 -- What comes to the code, to a node that keeps this. A grant is asked for of the attempt in which the known chain ends.
-abbrev pub input_of : Kept → Given → Input
-input_of k (given.Packet packet) = Delivery (packet_of packet)
-input_of k (given.Grant id) = Grant (known_slot k id)
-input_of k (given.Answered slot outcome) = Response slot (outcome_kept outcome)
+abbrev pub input_of : Setup → Kept → Given → Input
+input_of setup k (given.Packet packet) = Delivery (packet_of packet)
+input_of setup k (given.Request account request) = requested setup k account request
+input_of setup k (given.Grant id) = Grant (known_slot k id)
+input_of setup k (given.Answered slot outcome) = Response slot (outcome_kept outcome)
 
 -- why it is refused
 abbrev pub refused_by : Setup → Kept → Given → Option StepFault
 refused_by setup k (given.Packet packet) = None
+refused_by setup k (given.Request account request) = None
 refused_by setup k (given.Grant id) = option_map (λ refusal. faults.Grant (reason_of refusal)) (grant_refusal setup k id)
 refused_by setup k (given.Answered slot outcome) = if is_open k slot then None else Some faults.NotGranted
 
@@ -59,6 +84,7 @@ granted_of chain = slot_of chain.id chain.decrees
 abbrev pub outputs_of : Sent → Outputs
 outputs_of o = record nothing {
   ticket = o.ticket;
+  refused = option_map status_code o.refused;
   packets = map packet_of o.packets.items;
   replies = map reply_given o.replies.items;
   receipts = map receipt_of o.receipts.items;
@@ -126,6 +152,7 @@ pub record IsNext (k : Holding) (id : ℕ) (m : Filed) (next : Next) : Type 0 wh
 pub record AreOwnThen (k : Holding) (next : Next) : Type 0 where
   pub each : AreOf k.setup k.incarnation (installed k next).messages.entries
   pub asked : AreAsked k.setup.node k.incarnation (suc next.given) (held_then k next)
+  pub serial : 1 ≤ next.serial
 
 -- A step of the code is this one: it keeps the same and gives out the same, and once its change is saved, the records that are saved are
 -- those that are kept.
@@ -139,7 +166,7 @@ pub record IsStep (k : Holding) (to : Stepped) (step : Step) : Type 0 where
 
 -- the step of the model for this input, which is not refused
 pub record IsStepFor (k : Holding) (input : Given) (step : Step) : Type 0 where
-  pub is : IsStep k (stepped k.setup (kept_of k) (input_of (kept_of k) input)) step
+  pub is : IsStep k (stepped k.setup (kept_of k) (input_of k.setup (kept_of k) input)) step
   pub allowed : refused_by k.setup (kept_of k) input ≡ None
 
 -- it answers by a verdict, and keeps this message

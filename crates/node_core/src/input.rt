@@ -5,12 +5,16 @@ ghost use Rattle.node_model.specs.Stepped.{sender_of};
 ghost use Rattle.synod_acceptor.specs.Packets.{packet_of};
 
 use delivery::Outcome;
+use desk::Request;
 use mc_types::{MsgId, NodeNo, Slot};
+use pdu_codec::Text;
 use synod_acceptor::Packet;
 
 /// What comes to a node.
 #[derive(Debug, Drop)]
 pub enum Input {
+    /// A request of an account: a submit_sm, with the account that a route leads to, if one does, a query_sm or a cancel_sm.
+    Request(Text<16>, Request),
     /// A packet that a node sent, or that anybody made up.
     Packet(Packet),
     /// The attempt in which the known chain of a message ends is asked for.

@@ -9,7 +9,7 @@ ghost use Rattle.fate_chain.specs.Kinds.{final_of};
 ghost use Rattle.node_model.specs.Answers.{is_asked};
 ghost use Rattle.node_model.specs.Outputs.{leaves};
 ghost use Rattle.mc_model.specs.message.Ids.{IsId};
-ghost use Rattle.mc_model.specs.node.Room.{last_ticket};
+ghost use Rattle.mc_model.specs.node.Room.{is_busy, last_ticket};
 ghost use Rattle.node_model.specs.Kept.{message_at};
 ghost use Rattle.node_model.specs.Proposer.{is_own_ballot, runs_at};
 ghost use Rattle.node_model.specs.Packets.{is_member, on_ask, on_packet, on_prepare, on_promise, on_propose, on_refused};
@@ -106,18 +106,22 @@ impl Kept {
 
     /// The step that an input leads to. It changes nothing, and copies what is kept of the input's message alone. A refusal comes before
     /// any memory is taken.
-    pub fn step(&self, input: &Input) -> Result<Step, StepFault>
+    pub fn step(&self, input: Input) -> Result<Step, StepFault>
         requires { AreOwn self.now }
-        ensures ok { IfOk result (IsStepFor self.now input.now) }
-        ensures faults { IfErr result (IsFault (refused_by self.now.setup (kept_of self.now) input.now)) }
+        ensures ok { IfOk result (IsStepFor self.now input) }
+        ensures faults { IfErr result (IsFault (refused_by self.now.setup (kept_of self.now) input)) }
     {
         match input {
             Input::Packet(packet) => {
-                let step = self.on_packet(packet)?;
+                let step = self.on_packet(&packet)?;
                 Ok(step)
             }
-            Input::Grant(id) => self.on_grant(*id),
-            Input::Answered(slot, outcome) => self.on_answered(*slot, *outcome),
+            Input::Request(account, request) => {
+                let step = self.on_request(&account, request)?;
+                Ok(step)
+            }
+            Input::Grant(id) => self.on_grant(id),
+            Input::Answered(slot, outcome) => self.on_answered(slot, outcome),
         }
     }
 
@@ -186,6 +190,7 @@ impl Kept {
     pub(crate) fn same(&self) -> Step
         ensures step { IsStep self.now (leaves (kept_of self.now)) result }
         ensures ticket { result.outputs.ticket ≡ None }
+        ensures refused { result.outputs.refused ≡ None }
         ensures packets { result.outputs.packets.items ≡ [] }
         ensures replies { result.outputs.replies.items ≡ [] }
         ensures receipts { result.outputs.receipts.items ≡ [] }
@@ -396,6 +401,13 @@ impl Kept {
         ensures { result ≡ self.now.serial }
     {
         self.serial
+    }
+
+    /// Whether no request more may wait: 1,000 wait, or no ticket is left.
+    pub(crate) fn is_busy(&self) -> bool
+        ensures { result ≡ is_busy (length self.now.queue) (suc self.now.given) }
+    {
+        self.queue.is_full() || self.given == u64::MAX
     }
 
     /// The ticket of the next request, if one is left.

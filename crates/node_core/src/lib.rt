@@ -17,6 +17,7 @@ mod outputs;
 mod pending;
 mod queue_change;
 mod renewal;
+mod requesting;
 mod round_drop;
 mod ruling;
 mod setup;

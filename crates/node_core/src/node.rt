@@ -70,9 +70,10 @@ impl<S: StableStore> Node<S> {
         ensures faults { IfErr result (IsFault (fault_in self.now input)) }
     {
         self.judge()?;
-        let step = self.kept.step(&input)?;
+        let given = Snapshot::of(&input);
+        let step = self.kept.step(input)?;
         Ok(Pending {
-            input,
+            given,
             step,
             was: Snapshot::of(&self.kept),
         })

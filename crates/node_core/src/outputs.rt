@@ -4,6 +4,7 @@ ghost use Rattle.std.specs.Prelude.{◌≡◌, [], ◌++◌, None, Some, IfOk, O
 ghost use Rattle.node_core.specs.Lists.{listed};
 
 use fate_chain::Chain;
+use pdu_tables::Status;
 use requests::Reply;
 use std::alloc::{AllocError, Global};
 use synod_acceptor::Packet;
@@ -13,6 +14,8 @@ use synod_acceptor::Packet;
 pub struct Outputs {
     /// The ticket under which the request waits that came.
     pub ticket: Option<u64>,
+    /// The status with which the request that came is refused.
+    pub refused: Option<Status>,
     /// The packets that it sends, each to all nodes.
     pub packets: Vec<Packet>,
     /// The replies to requests that waited.
@@ -27,6 +30,7 @@ impl Outputs {
     /// Nothing. It takes no memory.
     pub(crate) fn nothing(alloc: Global) -> Outputs
         ensures ticket { result.ticket ≡ None }
+        ensures refused { result.refused ≡ None }
         ensures packets { result.packets.items ≡ [] }
         ensures replies { result.replies.items ≡ [] }
         ensures receipts { result.receipts.items ≡ [] }
@@ -34,6 +38,7 @@ impl Outputs {
     {
         Outputs {
             ticket: None,
+            refused: None,
             packets: Vec::new(alloc),
             replies: Vec::new(alloc),
             receipts: Vec::new(alloc),
@@ -44,6 +49,7 @@ impl Outputs {
     /// The chain of an attempt that is granted. It takes no memory.
     pub(crate) fn granting(alloc: Global, chain: Chain) -> Outputs
         ensures ticket { result.ticket ≡ None }
+        ensures refused { result.refused ≡ None }
         ensures packets { result.packets.items ≡ [] }
         ensures replies { result.replies.items ≡ [] }
         ensures receipts { result.receipts.items ≡ [] }
@@ -51,6 +57,7 @@ impl Outputs {
     {
         Outputs {
             ticket: None,
+            refused: None,
             packets: Vec::new(alloc),
             replies: Vec::new(alloc),
             receipts: Vec::new(alloc),
@@ -65,6 +72,7 @@ impl Outputs {
         receipt: Option<Chain>,
     ) -> Result<Outputs, AllocError>
         ensures ticket { IfOk result (λ outputs. outputs.ticket ≡ None) }
+        ensures refused { IfOk result (λ outputs. outputs.refused ≡ None) }
         ensures packets { IfOk result (λ outputs. outputs.packets.items ≡ listed packet) }
         ensures replies { IfOk result (λ outputs. outputs.replies.items ≡ []) }
         ensures receipts { IfOk result (λ outputs. outputs.receipts.items ≡ listed receipt) }
@@ -84,6 +92,7 @@ impl Outputs {
     pub(crate) fn send(&mut self, packet: Option<Packet>) -> Result<(), AllocError>
         ensures packets { OnOk result (self.new.packets.items ≡ self.old.packets.items ++ listed packet) }
         ensures ticket { self.new.ticket ≡ self.old.ticket }
+        ensures refused { self.new.refused ≡ self.old.refused }
         ensures replies { self.new.replies ≡ self.old.replies }
         ensures receipts { self.new.receipts ≡ self.old.receipts }
         ensures granted { self.new.granted ≡ self.old.granted }

@@ -16,7 +16,7 @@ use std::snapshot::Snapshot;
 /// Contracts see what the node kept when it was prepared, and the input.
 #[derive(Drop)]
 pub struct Pending {
-    pub(crate) input: Input,
+    pub(crate) given: Snapshot<Input>,
     pub(crate) step: Step,
     pub(crate) was: Snapshot<Kept>,
 }
@@ -28,15 +28,15 @@ impl Model for Pending {
 
     ghost use Rattle.node_core.specs.Steps.{IsStepFor};
 
-    ghost view = { λ p. record { was = p.was.value; input = p.input } };
+    ghost view = { λ p. record { was = p.was.value; input = p.given.value } };
 
-    ghost invariant = { λ p. IsStepFor p.was.value p.input p.step };
+    ghost invariant = { λ p. IsStepFor p.was.value p.given.value p.step };
 }
 
 impl Pending {
     /// What `commit` will give.
     pub fn outputs(&self) -> &Outputs
-        ensures { outputs_of result.now ≡ (stepped self.now.was.setup (kept_of self.now.was) (input_of (kept_of self.now.was) self.now.input)).outputs }
+        ensures { outputs_of result.now ≡ (stepped self.now.was.setup (kept_of self.now.was) (input_of self.now.was.setup (kept_of self.now.was) self.now.input)).outputs }
     {
         &self.step.outputs
     }

@@ -12,6 +12,7 @@ use Rattle.node_core.specs.Lists.{listed}
 use Rattle.node_core.specs.Steps.{IsStep, granted_of, outputs_of, receipt_of}
 use Rattle.mc_model.specs.node.Effect.{next_serial}
 use Rattle.requests.specs.Replying.{reply_given}
+use Rattle.pdu_tables.specs.StatusCodes.{status_code}
 use Rattle.requests.specs.Submits.{IsNumberedBy}
 use Rattle.requests.specs.Waiting.{held_of, request_of}
 use Rattle.rules.specs.Standpoints.{start_of}
@@ -36,7 +37,7 @@ returns c =
     let gives : outputs_of outputs ≡ record (outputs_of c.in_ok-step.step.outputs) { ticket = Some (suc k.given); packets = (outputs_of c.in_ok-step.step.outputs).packets ++ listed (if asks request then Some (question k.setup (kept_of k) (begun (suc k.given) k.clock request)) else None) } =
     (λ i. record {
       ticket = Some (c.next_ticket-ticket.ensures i);
-      refused = None;
+      refused = option_map status_code (c.in_ok-send.ensures.refused i);
       packets = sent_more c.in_ok-step.step.outputs.packets.items c.send.new.self.packets.items c.asked-question.result (if asks request then Some (question k.setup (kept_of k) (begun (suc k.given) k.clock request)) else None) c.in_ok-send.ensures.packets asked i;
       replies = map reply_given (c.in_ok-send.ensures.replies i).items;
       receipts = map receipt_of (c.in_ok-send.ensures.receipts i).items;

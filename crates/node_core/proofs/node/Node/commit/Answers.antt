@@ -16,7 +16,7 @@ returns-in-Err-Device-clause-device g c = λ device.
     (record {
       kept = refl;
       broken = refl;
-      stored = stopped c.self.inside.kept c.pending.inside.was.value c.args.pending.input c.pending.inside.input c.pending.inside.step
+      stored = stopped c.self.inside.kept c.pending.inside.was.value c.args.pending.input c.pending.inside.given.value c.pending.inside.step
           (records c.self.inside.store) (records c.save.new.store) kept (ap (λ (p : Awaited). p.input) c.pending.view_is) c.pending.invariant
           (c.self.invariant.saved works) c.in-Err-Device.ensures.device;
       started = c.save.ensures.started;
