@@ -8,4 +8,6 @@ mod opening;
 #[cfg(test)]
 mod packets;
 #[cfg(test)]
+mod requests;
+#[cfg(test)]
 mod values;

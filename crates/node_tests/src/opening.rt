@@ -1,7 +1,7 @@
 //! How a node opens, and what a device that fails leaves.
 
-use crate::values::{Answer, answer_to, ask, node, opened, prepare, propose};
-use node_core::{Setup, StepFault, open_node};
+use crate::values::{Answer, answer_to, ask, node, opened, prepare, propose, setup};
+use node_core::{StepFault, open_node};
 use stable_store::{FailingStore, Found, ListStore, StableStore, StoreFault};
 use std::test::Fail;
 
@@ -26,12 +26,7 @@ fn what_was_voted_outlives_a_stop(rt: HostRuntime) -> Result<(), Fail> {
 
 #[test]
 fn each_start_is_another_incarnation(rt: HostRuntime) -> Result<(), Fail> {
-    let setup = Setup {
-        node: node(2)?,
-        nodes: 3,
-        first_serial: 1,
-        default_validity: 172800,
-    };
+    let setup = setup()?;
     let mut store = ListStore::make(rt.alloc());
     for start in 1..4u16 {
         let Ok((node, life)) = open_node(rt.alloc(), store, setup) else {
@@ -72,12 +67,7 @@ fn a_store_is_handed_back(rt: HostRuntime) -> Result<(), Fail> {
     for _ in 0..9999 {
         store.next_incarnation()?;
     }
-    let setup = Setup {
-        node: node(2)?,
-        nodes: 3,
-        first_serial: 1,
-        default_validity: 172800,
-    };
+    let setup = setup()?;
     match open_node(rt.alloc(), store, setup) {
         Ok(_) => return Err("no incarnation is left".into()),
         Err((fault, mut store)) => {
@@ -90,12 +80,7 @@ fn a_store_is_handed_back(rt: HostRuntime) -> Result<(), Fail> {
 
 #[test]
 fn a_broken_node_opens_again(rt: HostRuntime) -> Result<(), Fail> {
-    let setup = Setup {
-        node: node(2)?,
-        nodes: 3,
-        first_serial: 1,
-        default_validity: 172800,
-    };
+    let setup = setup()?;
     let store = FailingStore::make(ListStore::make(rt.alloc()), 1, Found::After);
     let Ok((mut node, first)) = open_node(rt.alloc(), store, setup) else {
         return Err("it opens".into());

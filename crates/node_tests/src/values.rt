@@ -29,15 +29,14 @@ pub fn slot(alloc: Global) -> Result<Slot, Fail> {
     Ok(vote(alloc, 262161)?.slot())
 }
 
+// That of the second node of three.
+pub fn setup() -> Result<Setup, Fail> {
+    Ok(Setup::make(node(2)?, 3, 1, 172800)?)
+}
+
 // The second node of three.
 pub fn opened<S: StableStore + Drop>(alloc: Global, store: S) -> Result<Node<S>, Fail> {
-    let setup = Setup {
-        node: node(2)?,
-        nodes: 3,
-        first_serial: 1,
-        default_validity: 172800,
-    };
-    match open_node(alloc, store, setup) {
+    match open_node(alloc, store, setup()?) {
         Ok((node, _life)) => Ok(node),
         Err(_) => Err("it opens".into()),
     }
