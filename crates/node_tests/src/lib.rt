@@ -2,12 +2,12 @@
 #![tactic(auto)]
 
 #[cfg(test)]
+mod asking;
+#[cfg(test)]
 mod attempts;
 #[cfg(test)]
 mod opening;
 #[cfg(test)]
 mod packets;
-#[cfg(test)]
-mod requests;
 #[cfg(test)]
 mod values;
