@@ -8,8 +8,8 @@ use Rattle.alone_laws.specs.Tables.{TableNode, new_table}
 use Rattle.alone_laws.specs.Events.{Concludes, Event, Grants, Requests, Ticks, happened}
 
 -- 2024-01-31T00:00:00Z, and the account sme1
-abbrev pub noon : ℕ
-noon = 1706659200
+abbrev pub midnight : ℕ
+midnight = 1706659200
 
 abbrev pub account : List ℕ
 account = 115 ∷ 109 ∷ 101 ∷ 49 ∷ []
@@ -42,9 +42,9 @@ message = record {
 abbrev pub first_id : ℕ
 first_id = 1000100001
 
--- it is taken at noon, attempted at a tick and granted
+-- it is taken at midnight, attempted at a tick and granted
 abbrev pub begins : List Event
-begins = Ticks noon (λ text. false) ∷ Requests (Submit first_id message) ∷ Ticks noon (λ text. true) ∷ Grants first_id ∷ []
+begins = Ticks midnight (λ text. false) ∷ Requests (Submit first_id message) ∷ Ticks midnight (λ text. true) ∷ Grants first_id ∷ []
 
 -- and answered ESME_ROK
 abbrev pub concludes : Event
@@ -67,7 +67,7 @@ abbrev pub asks : Event
 asks = Requests (Query first_id account sender)
 
 abbrev pub decreed : Kind → Decree
-decreed kind = record { author = record { node = 1; incarnation = 1 }; moment = noon; kind = kind }
+decreed kind = record { author = record { node = 1; incarnation = 1 }; moment = midnight; kind = kind }
 
 abbrev pub delivered : List Decree
 delivered = decreed (Fate Delivered 0) ∷ decreed (Attempt 1) ∷ decreed (Taken message) ∷ []
