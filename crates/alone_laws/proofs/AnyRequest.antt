@@ -34,3 +34,7 @@ refusal_settles first validity k t resting status =
     let begun : stepped (alone first validity) k (Refusal status) ≡ refused_with k status = rw resting.up refl in
     settles_after (alone first validity) _ _ t [] [] begun refl refl (record { kept = k; leads = leads_same (alone first validity) _ _ refl; resting = resting })
     (few_enough t (omega arith))
+
+pub refusal_given : (first validity : ℕ) (k : Kept) (t : TableNode) → IsResting k t → (status : ℕ) →
+    (stepped (alone first validity) k (Refusal status)).outputs.refused ≡ Some status
+refusal_given first validity k t resting status = rw resting.up refl

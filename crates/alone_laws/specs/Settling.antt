@@ -51,8 +51,8 @@ delivered setup (suc more) s = delivered setup more (first_delivered setup s s.p
 abbrev pub most_deliveries : TableNode → ℕ
 most_deliveries t = 6 + 4 * length t.table
 
--- After a step, which gives out nobody's reply and no receipt, a node settles on a table: after so many deliveries no packet is left,
--- it is at rest on it, and it gave out these.
+-- After a step, which by itself answers nobody and gives out no receipt, a node settles on a table: after so many deliveries no packet
+-- is left, it is at rest on that table, and it gave out these replies and receipts.
 pub record SettlesOn (setup : Setup) (step : Stepped) (t : TableNode) (replies : List Reply) (receipts : List Receipt) : Type 0 where
   pub replies_later : step.outputs.replies ≡ []
   pub receipts_later : step.outputs.receipts ≡ []

@@ -79,12 +79,12 @@ decreed t id kind = with_entry t.table id (extended (chain_at t.table id) (decre
 
 -- ---- what a request is answered, by the chain then
 
--- a query_sm about a message that was taken, or none
+-- a query_sm about a message, if there is such a message
 abbrev pub shown : List ℕ → List ℕ → List Decree → Option Submission → Answer
 shown account source chain None = Unknown
 shown account source chain (Some message) = if is_owner message account source then Shown chain else NotOwner
 
--- a cancel_sm that matches is answered ESME_ROK if the message is DELETED
+-- a cancel_sm that matches, by the newest decree: ESME_ROK if the message is DELETED
 abbrev pub removed : Kind → List Decree → Answer
 removed (Fate Deleted error) chain = Removed chain
 removed kind chain = Kept chain

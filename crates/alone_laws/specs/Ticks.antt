@@ -39,7 +39,7 @@ tries_again up message failed attempts now =
     due_if (up && (nat_lt attempts most_attempts && (nat_lt now message.expiry && nat_le (failed + retry_delay * attempts) now)))
     (Attempt (attempts + 1))
 
--- by the newest decree, and whether it was granted, and the target of the message is up
+-- by the newest decree: whether it was granted, and whether the target of the message is up
 abbrev pub due_behind : TableNode → Bool → Bool → Submission → Decree → List Decree → Kind → Option Kind
 due_behind t granted up message newest older (Taken taken) =
     option_or (expires message (moment_behind t.clock (newest ∷ older))) (tries up message (moment_behind t.clock (newest ∷ older)))

@@ -15,9 +15,9 @@ pub fn an_event_settles()
         SettlesBy (alone first_serial default_validity) k t event }
 {}
 
-/// For every list of events, requests, refusals, ticks, grants and outcomes, each of which comes once the node has settled after the one before: a node
-/// at rest, as one with a new store is, settles after each of them on the table that all events so far make of its table, and with each
-/// gives out the replies and the receipts of that table, and no others.
+/// For every list of events, requests, refusals, ticks, grants and outcomes, each of which comes once the node has settled after the one
+/// before: a node at rest, as one with a new store is, settles after each of them on the table that all events so far make of its table, and
+/// with each gives out the replies and the receipts of that table, and no others.
 pub fn one_node_alone_is_the_table()
     ensures from_rest { (first_serial default_validity : ℕ) (k : Kept) (t : TableNode) → IsResting k t → (events : List Event) →
         MayAllHappen t events → RunsAs (alone first_serial default_validity) k t events }
