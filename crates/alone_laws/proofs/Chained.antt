@@ -1,5 +1,5 @@
 -- The chains of a table, once it changes.
-use Rattle.std.proofs.Common.{◌≡◌, ℕ, Bool, true, false, cond, List, [], ◌∷◌, map, Option, Some, None, refl, ap, ◌∙◌, arith, unwrap_or}
+use Rattle.std.proofs.Common.{◌≡◌, ℕ, Bool, true, false, cond, List, [], ◌∷◌, map, Option, Some, None, refl, ap, ◌∙◌, arith, unwrap_or, sym}
 use Rattle.std.specs.Prelude.{if◌then◌else◌}
 use Rattle.std.specs.Map.{lookup}
 use Rattle.std.specs.Option.{option_map}
@@ -29,6 +29,16 @@ chain_found id (e ∷ table) = by_order (nat_cmp id e.0) refl (chain_found id ta
     by_order Less is rest = rest
     by_order Equal is rest = let same : e.0 ≡ id = grind (arith, nat_tests) in ap (λ (n : ℕ). Some (chain_under n e.1.chain)) same
     by_order Greater is rest = rest
+
+pub decrees_found : (id : ℕ) (table : Table) → chain_at table id ≡ unwrap_or (option_map (λ chain. chain.decrees) (lookup (is_at (nat_cmp id)) (chains_of table))) []
+decrees_found id table =
+    by_entry (lookup (is_at (nat_cmp id)) table)
+    ∙ ap (λ (o : Option Chain). unwrap_or (option_map (λ chain. chain.decrees) o) []) (sym (chain_found id table))
+  where
+    by_entry : (found : Option Entry) →
+        (unwrap_or found nothing).chain ≡ unwrap_or (option_map (λ chain. chain.decrees) (option_map (λ entry. chain_under id entry.chain) found)) []
+    by_entry None = refl
+    by_entry (Some entry) = refl
 
 -- a chain is put under its id
 pub chains_with : (table : Table) (id : ℕ) (entry : Entry) →

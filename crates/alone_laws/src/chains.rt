@@ -1,12 +1,12 @@
 //! The table by its chains alone, each under its own id, as the text of a script has it.
 
-ghost use Rattle.std.specs.Prelude.{◌≡◌, ℕ, map};
+ghost use Rattle.std.specs.Prelude.{◌≡◌, ℕ, [], map};
 ghost use Rattle.std.specs.Map.{lookup};
-ghost use Rattle.std.specs.Option.{option_map};
+ghost use Rattle.std.specs.Option.{option_map, unwrap_or};
 ghost use Rattle.std.specs.Ordering.{nat_cmp};
 ghost use Rattle.std.specs.BTreeMap.{insert_entry, is_at};
 ghost use Rattle.mc_model.specs.node.Actor.{Request};
-ghost use Rattle.alone_laws.specs.Tables.{Entry, Table, TableNode, requested, with_entry};
+ghost use Rattle.alone_laws.specs.Tables.{Entry, Table, TableNode, chain_at, requested, with_entry};
 ghost use Rattle.alone_laws.specs.Ticks.{each_due, nobody_up};
 ghost use Rattle.alone_laws.specs.Chains.{HasNoAttempts, chain_under, chains_of, expired};
 
@@ -14,6 +14,8 @@ ghost use Rattle.alone_laws.specs.Chains.{HasNoAttempts, chain_under, chains_of,
 pub fn entries_stand_by_their_chains()
     ensures found { (table : Table) (id : ℕ) → lookup (is_at (nat_cmp id)) (chains_of table)
         ≡ option_map (λ entry. chain_under id entry.chain) (lookup (is_at (nat_cmp id)) table) }
+    ensures decrees { (table : Table) (id : ℕ) →
+        chain_at table id ≡ unwrap_or (option_map (λ chain. chain.decrees) (lookup (is_at (nat_cmp id)) (chains_of table))) [] }
     ensures put { (table : Table) (id : ℕ) (entry : Entry) →
         chains_of (with_entry table id entry) ≡ insert_entry nat_cmp (chains_of table) id (chain_under id entry.chain) }
 {}
