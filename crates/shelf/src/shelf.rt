@@ -4,6 +4,9 @@ ghost use Rattle.std.specs.Prelude.{◌≡◌, ◌≤◌, ◌<◌, ◌+◌, ◌-
 ghost use Rattle.std.specs.Option.{option_copied, option_copied_mut};
 ghost use Rattle.std.specs.Borrow.{sem};
 ghost use Rattle.std.specs.List.{insert, slice_get};
+ghost use Rattle.std.specs.List.Sorted.{IsStrictlySortedBy};
+ghost use Rattle.std.specs.Map.{keys_of};
+ghost use Rattle.std.specs.Ordering.{nat_cmp};
 ghost use Rattle.std.specs.Vec.{vec_capacity, vec_len};
 ghost use Rattle.std.specs.Box.{box_value};
 ghost use Rattle.shelf.specs.Shelved.{Serves, value_at, with_value};
@@ -97,9 +100,10 @@ impl<V> Shelf<V> {
         }
     }
 
-    /// The key at a place in their order, from 0 on, and its value; none from `len` on.
+    /// The key at a place in their order, from 0 on, and its value; none from `len` on. Each key is higher than the one before.
     pub fn at(&self, place: usize) -> Option<(u64, &V)>
-        ensures { option_map entry_seen result ≡ slice_get self.now.entries place }
+        ensures entry { option_map entry_seen result ≡ slice_get self.now.entries place }
+        ensures ascends { IsStrictlySortedBy nat_cmp (keys_of self.now.entries) }
     {
         let (key, value) = self.entries.get(place)?;
         Some((*key, value))
