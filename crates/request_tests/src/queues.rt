@@ -1,8 +1,8 @@
 //! The requests that wait, in their queue.
 
 use crate::values::{
-    Known, alone, cancel, conclude, deleted, expire, id, message, query, questions, submit, taken,
-    tell, vote_for,
+    Known, after, alone, cancel, conclude, deleted, expire, id, message, query, questions, submit,
+    taken, tell, vote_for,
 };
 use requests::Queue;
 use std::collections::BTreeSet;
@@ -20,7 +20,8 @@ fn a_queue_begins_empty(rt: HostRuntime) -> Result<(), Fail> {
 #[test]
 fn a_submit_starts_the_round_of_its_chain(rt: HostRuntime) -> Result<(), Fail> {
     let mut queue = alone(rt.alloc(), submit(rt.alloc())?)?;
-    let chain = queue.taken(id()?)?.ok_or("a chain")?;
+    assert!(rt; queue.taken(after(30)?, id()?).is_none());
+    let chain = queue.taken(after(29)?, id()?).ok_or("a chain")?.copy()?;
     assert!(rt; chain.is(&taken(rt.alloc())?));
     assert_eq!(rt; questions(&queue)?, 0);
     assert_eq!(rt; conclude(&mut queue, &chain)?, ("accepted", 0));
@@ -36,7 +37,7 @@ fn a_cancel_is_settled_when_its_chain_is_known(rt: HostRuntime) -> Result<(), Fa
     let known = taken(rt.alloc())?;
     assert!(rt; queue.cancels_then(3, &known));
     assert_eq!(rt; conclude(&mut queue, &known)?, ("waits", 1));
-    assert!(rt; queue.cancels(id()?, &message(rt.alloc())?));
+    assert!(rt; queue.cancels(after(29)?, id()?, &message(rt.alloc())?));
     assert_eq!(rt;
         conclude(&mut queue, &deleted(rt.alloc())?)?,
         ("removed", 0)
@@ -74,7 +75,9 @@ fn the_highest_vote_is_shown(rt: HostRuntime) -> Result<(), Fail> {
     tell(rt.alloc(), &mut held, 1, Known::Tried)?;
     let queue = alone(rt.alloc(), held)?;
     let lower = vote_for(rt.alloc(), Known::Taken)?;
-    let shown = queue.shown(id()?, lower.as_ref()).ok_or("a vote")?;
+    let shown = queue
+        .shown(after(29)?, id()?, lower.as_ref())
+        .ok_or("a vote")?;
     assert_eq!(rt; shown.chain.place(), 1);
     Ok(())
 }
@@ -84,7 +87,7 @@ fn a_walk_has_the_ids_of_requests(rt: HostRuntime) -> Result<(), Fail> {
     let queue = alone(rt.alloc(), query(rt.alloc(), b"sme1")?)?;
     let mut ids = BTreeSet::new(rt.alloc());
     ids.insert(1000100002)?;
-    queue.put_ids(&mut ids)?;
+    queue.put_ids(after(29)?, &mut ids)?;
     assert_eq!(rt; ids.len(), 2);
     assert!(rt; ids.contains(&1000100001));
     Ok(())

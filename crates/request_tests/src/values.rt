@@ -221,5 +221,5 @@ pub fn expire(queue: &mut Queue, seconds: u16) -> Result<(&'static str, usize), 
 
 // How many questions the first of three nodes asks for it.
 pub fn questions(queue: &Queue) -> Result<usize, Fail> {
-    Ok(queue.questions(node(1)?, first()?, 3)?.len())
+    Ok(queue.questions(after(29)?, node(1)?, first()?, 3)?.len())
 }

@@ -1,10 +1,11 @@
 -- The requests that wait in the code (own).
-use Rattle.std.specs.Prelude.{ℕ, ◌<◌, ◌≤◌, List, [], ◌∷◌, length, map}
+use Rattle.std.specs.Prelude.{ℕ, ◌<◌, ◌≤◌, List, [], ◌∷◌, filter, length, map, not}
 use Rattle.std.specs.Global.{Box}
 use Rattle.std.specs.Box.{box_value}
 use Rattle.mc_model.specs.node.Room.{most_waiting}
 use Rattle.node_model.specs.Kept.{Held}
 use Rattle.node_model.specs.Requests.{ticket_of}
+use Rattle.node_model.specs.Ticks.{is_late}
 use Rattle.requests.specs.Waiting.{Waits, held_in}
 
 -- each ticket is lower than this one
@@ -30,3 +31,7 @@ pub record IsQueue (capacity : ℕ) (waits : List Waits) : Type 0 where
 -- those in boxes
 abbrev pub boxed_in : List (Box Waits) → List Held
 boxed_in boxes = held_in (map box_value boxes)
+
+-- those that did not wait too long at a clock
+abbrev pub timely : ℕ → List Held → List Held
+timely clock held = filter (λ h. not (is_late clock h)) held

@@ -1,6 +1,6 @@
 //! The requests that wait.
 
-ghost use Rattle.std.specs.Prelude.{◌≡◌, ◌<◌, ◌≤◌, ◌++◌, ◌∷◌, ◌==◌, [], Some, filter, length, map, nat_le, not, option_map, IfOk, OnOk};
+ghost use Rattle.std.specs.Prelude.{◌≡◌, ◌<◌, ◌≤◌, ◌++◌, ◌∷◌, ◌==◌, [], Some, filter, length, map, nat_le, not, option_map, IfOk, IfSome, OnOk};
 ghost use Rattle.std.specs.Box.{box_value};
 ghost use Rattle.std.specs.List.{list_any};
 ghost use Rattle.std.specs.Option.{option_copied};
@@ -19,7 +19,7 @@ ghost use Rattle.node_model.specs.Ticks.{ids_with, is_late, late_reply};
 ghost use Rattle.synod_acceptor.specs.Packets.{packet_of};
 ghost use Rattle.synod_acceptor.specs.Votes.{told_vote};
 ghost use Rattle.requests.specs.Questions.{question_by};
-ghost use Rattle.requests.specs.Queues.{IsAbove};
+ghost use Rattle.requests.specs.Queues.{IsAbove, timely};
 ghost use Rattle.requests.specs.Replying.{reply_given};
 ghost use Rattle.requests.specs.Submits.{AreNumberedBy, start_of};
 ghost use Rattle.requests.specs.Waiting.{held_in, held_of};
@@ -140,11 +140,11 @@ impl Queue {
         cancels_then(&self.held, nodes, chain)
     }
 
-    /// Whether the message of an id is to be deleted for a cancel_sm that was settled.
-    pub fn cancels(&self, id: MsgId, message: &Submission) -> bool
-        ensures { result ≡ list_any (cancels id message.now) (held_in self.now) }
+    /// Whether the message of an id is to be deleted for a cancel_sm that was settled and did not wait too long at this clock.
+    pub fn cancels(&self, clock: Moment, id: MsgId, message: &Submission) -> bool
+        ensures { result ≡ list_any (cancels id message.now) (timely clock (held_in self.now)) }
     {
-        cancels(&self.held, id, message)
+        cancels(&self.held, clock, id, message)
     }
 
     /// The replies to those that waited for 30 seconds or longer, by ascending tickets. An `Err` is want of memory.
@@ -156,48 +156,58 @@ impl Queue {
 
     /// Takes away those that waited for 30 seconds or longer. It takes no memory.
     pub fn expire(&mut self, clock: Moment)
-        ensures { held_in self.new ≡ filter (λ h. not (is_late clock h)) (held_in self.old) }
+        ensures { held_in self.new ≡ timely clock (held_in self.old) }
     {
         keep_timely(&mut self.held, clock);
     }
 
-    /// The questions of those to which no majority of so many nodes told, for the node and the incarnation in which they wait, by
-    /// ascending tickets. An `Err` is want of memory.
+    /// The questions of those that did not wait too long at this clock and to which no majority of so many nodes told, for the node and
+    /// the incarnation in which they wait, by ascending tickets. An `Err` is want of memory.
     pub fn questions(
         &self,
+        clock: Moment,
         node: NodeNo,
         incarnation: Incarnation,
         nodes: u8,
     ) -> Result<Vec<Packet>, AllocError>
-        ensures { IfOk result (λ packets. map packet_of packets.items ≡ map (question_by node incarnation) (filter (is_untold nodes) (held_in self.now))) }
+        ensures { IfOk result (λ packets. map packet_of packets.items ≡ map (question_by node incarnation) (filter (is_untold nodes) (timely clock (held_in self.now)))) }
     {
-        questions(*self.held.allocator(), &self.held, node, incarnation, nodes)
+        questions(
+            *self.held.allocator(),
+            &self.held,
+            clock,
+            node,
+            incarnation,
+            nodes,
+        )
     }
 
-    /// Puts the ids of the messages that the requests are about into a set of ids. An `Err` is want of memory, and leaves some of
-    /// them in it.
-    pub fn put_ids(&self, ids: &mut BTreeSet<u64>) -> Result<(), AllocError>
-        ensures { OnOk result (ids.new.keys ≡ ids_with (held_in self.now) ids.old.keys) }
+    /// Puts the ids of the messages into a set of ids that the requests are about which did not wait too long at this clock. An `Err` is
+    /// want of memory, and leaves some of them in it.
+    pub fn put_ids(&self, clock: Moment, ids: &mut BTreeSet<u64>) -> Result<(), AllocError>
+        ensures { OnOk result (ids.new.keys ≡ ids_with (timely clock (held_in self.now)) ids.old.keys) }
     {
-        put_ids(&self.held, ids)
+        put_ids(&self.held, clock, ids)
     }
 
-    /// The chain by which the message of an id is taken, if a submit_sm of it waits. An `Err` is want of memory.
-    pub fn taken(&self, id: MsgId) -> Result<Option<Chain>, AllocError>
-        ensures { IfOk result (λ chain. (setup : Setup) (k : Kept) → AreNumberedBy setup.node k.incarnation (held_in self.now) →
-            option_map start_of chain ≡ taken_for setup k id (held_in self.now)) }
+    /// The chain by which the message of an id is taken, if a submit_sm of it waits that did not wait too long at this clock. It takes no
+    /// memory.
+    pub fn taken(&self, clock: Moment, id: MsgId) -> Option<&Chain>
+        ensures start { (setup : Setup) (k : Kept) → AreNumberedBy setup.node k.incarnation (timely clock (held_in self.now)) →
+            option_map start_of (option_copied result) ≡ taken_for setup k id (timely clock (held_in self.now)) }
+        ensures id { IfSome (option_copied result) (λ chain. chain.id ≡ id) }
     {
-        let Some(taken) = first_taken(&self.held, id) else {
-            return Ok(None);
-        };
-        Ok(Some(taken.chain().copy()?))
+        match first_taken(&self.held, clock, id) {
+            Some(taken) => Some(taken.chain()),
+            None => None,
+        }
     }
 
-    /// The highest of a vote and of those that were told to the requests of an id.
-    pub fn shown<'a>(&'a self, id: MsgId, told: Option<&'a Vote>) -> Option<&'a Vote>
-        ensures { told_vote (option_copied result) ≡ shown_to id (held_in self.now) (told_vote (option_copied told.entry)) }
+    /// The highest of a vote and of those that were told to the requests of an id that did not wait too long at this clock.
+    pub fn shown<'a>(&'a self, clock: Moment, id: MsgId, told: Option<&'a Vote>) -> Option<&'a Vote>
+        ensures { told_vote (option_copied result) ≡ shown_to id (timely clock (held_in self.now)) (told_vote (option_copied told.entry)) }
     {
-        shown(&self.held, id, told)
+        shown(&self.held, clock, id, told)
     }
 }
 

@@ -16,7 +16,7 @@ ghost use Rattle.node_model.specs.Ticks.{ids_with, is_late, late_reply};
 ghost use Rattle.synod_acceptor.specs.Packets.{packet_of};
 ghost use Rattle.synod_acceptor.specs.Votes.{told_vote};
 ghost use Rattle.requests.specs.Questions.{question_by};
-ghost use Rattle.requests.specs.Queues.{Ascend, boxed_in};
+ghost use Rattle.requests.specs.Queues.{Ascend, boxed_in, timely};
 ghost use Rattle.requests.specs.Replying.{reply_given};
 ghost use Rattle.requests.specs.Submits.{first_begun};
 ghost use Rattle.requests.specs.Waiting.{held_of};
@@ -95,12 +95,18 @@ fn put(replies: &mut Vec<Reply>, reply: Option<Reply>) -> Result<(), AllocError>
     Ok(())
 }
 
-/// Puts the ids of the messages that they are about into a set.
-pub(crate) fn put_ids(held: &[Box<Held>], ids: &mut BTreeSet<u64>) -> Result<(), AllocError>
-    ensures { OnOk result (ids.new.keys ≡ ids_with (boxed_in held.now) ids.old.keys) }
+/// Puts the ids of the messages into a set that those are about which did not wait too long.
+pub(crate) fn put_ids(
+    held: &[Box<Held>],
+    clock: Moment,
+    ids: &mut BTreeSet<u64>,
+) -> Result<(), AllocError>
+    ensures { OnOk result (ids.new.keys ≡ ids_with (timely clock (boxed_in held.now)) ids.old.keys) }
 {
     for place in (0..held.len()).rev() {
-        ids.insert(held[place].id().number())?;
+        if !held[place].is_late(clock) {
+            ids.insert(held[place].id().number())?;
+        }
     }
     Ok(())
 }
@@ -122,58 +128,64 @@ pub(crate) fn late(
     Ok(replies)
 }
 
-/// The questions of those to which no majority told.
+/// The questions of those that did not wait too long and to which no majority told.
 pub(crate) fn questions(
     alloc: Global,
     held: &[Box<Held>],
+    clock: Moment,
     node: NodeNo,
     incarnation: Incarnation,
     nodes: u8,
 ) -> Result<Vec<Packet>, AllocError>
-    ensures { IfOk result (λ packets. map packet_of packets.items ≡ map (question_by node incarnation) (filter (is_untold nodes) (boxed_in held.now))) }
+    ensures { IfOk result (λ packets. map packet_of packets.items ≡ map (question_by node incarnation) (filter (is_untold nodes) (timely clock (boxed_in held.now)))) }
 {
     let mut packets = Vec::new(alloc);
     for one in held {
-        if one.is_untold(nodes) {
+        if !one.is_late(clock) && one.is_untold(nodes) {
             packets.push(one.question(node, incarnation))?;
         }
     }
     Ok(packets)
 }
 
-/// The message of the first submit_sm of an id.
-pub(crate) fn first_taken(held: &[Box<Held>], id: MsgId) -> Option<&Taken>
-    ensures { option_copied result ≡ first_begun id (boxed_in held.now) }
+/// The message of the first submit_sm of an id that did not wait too long.
+pub(crate) fn first_taken(held: &[Box<Held>], clock: Moment, id: MsgId) -> Option<&Taken>
+    ensures { option_copied result ≡ first_begun id (timely clock (boxed_in held.now)) }
 {
     for one in held {
-        if let Some(taken) = one.taken(id) {
+        if !one.is_late(clock)
+            && let Some(taken) = one.taken(id)
+        {
             return Some(taken);
         }
     }
     None
 }
 
-/// The highest of a vote and of those that were told to the requests of an id.
+/// The highest of a vote and of those that were told to the requests of an id that did not wait too long.
 pub(crate) fn shown<'a>(
     held: &'a [Box<Held>],
+    clock: Moment,
     id: MsgId,
     told: Option<&'a Vote>,
 ) -> Option<&'a Vote>
-    ensures { told_vote (option_copied result) ≡ shown_to id (boxed_in held.now) (told_vote (option_copied told.entry)) }
+    ensures { told_vote (option_copied result) ≡ shown_to id (timely clock (boxed_in held.now)) (told_vote (option_copied told.entry)) }
 {
     let mut top = told;
     for one in held {
-        top = one.shown(id, top);
+        if !one.is_late(clock) {
+            top = one.shown(id, top);
+        }
     }
     top
 }
 
-/// Whether one of them is a settled cancel_sm of the message of an id, and matches it.
-pub(crate) fn cancels(held: &[Box<Held>], id: MsgId, message: &Submission) -> bool
-    ensures { result ≡ list_any (cancels id message.now) (boxed_in held.now) }
+/// Whether one of them that did not wait too long is a settled cancel_sm of the message of an id, and matches it.
+pub(crate) fn cancels(held: &[Box<Held>], clock: Moment, id: MsgId, message: &Submission) -> bool
+    ensures { result ≡ list_any (cancels id message.now) (timely clock (boxed_in held.now)) }
 {
     for one in held {
-        if one.cancels(id, message) {
+        if !one.is_late(clock) && one.cancels(id, message) {
             return true;
         }
     }

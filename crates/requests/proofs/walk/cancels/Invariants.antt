@@ -1,8 +1,8 @@
 use Rattle.std.proofs.Common.{◌≡◌, drop}
 use Rattle.std.specs.List.{list_any}
 use Rattle.node_model.specs.Starts.{cancels}
-use Rattle.requests.specs.Queues.{boxed_in}
+use Rattle.requests.specs.Queues.{boxed_in, timely}
 use Rattle.requests.proofs.walk.cancels.Given as goal
 
 abbrev pub invariant-loop-one : goal.invariant-loop-one
-invariant-loop-one l = list_any (cancels l.id l.message) (boxed_in (drop l.one-index l.held)) ≡ list_any (cancels l.id l.message) (boxed_in l.held)
+invariant-loop-one l = list_any (cancels l.id l.message) (timely l.clock (boxed_in (drop l.one-index l.held))) ≡ list_any (cancels l.id l.message) (timely l.clock (boxed_in l.held))

@@ -2,9 +2,9 @@ use Rattle.std.proofs.Common.{◌≡◌, ◌++◌, drop, map}
 use Rattle.std.specs.Prelude.{filter}
 use Rattle.node_model.specs.Requests.{is_untold}
 use Rattle.synod_acceptor.specs.Packets.{packet_of}
-use Rattle.requests.specs.Queues.{boxed_in}
+use Rattle.requests.specs.Queues.{boxed_in, timely}
 use Rattle.requests.specs.Questions.{question_by}
 use Rattle.requests.proofs.walk.questions.Given as goal
 
 abbrev pub invariant-loop-one : goal.invariant-loop-one
-invariant-loop-one l = map packet_of l.packets.items ++ map (question_by l.node l.incarnation) (filter (is_untold l.nodes) (boxed_in (drop l.one-index l.held))) ≡ map (question_by l.node l.incarnation) (filter (is_untold l.nodes) (boxed_in l.held))
+invariant-loop-one l = map packet_of l.packets.items ++ map (question_by l.node l.incarnation) (filter (is_untold l.nodes) (timely l.clock (boxed_in (drop l.one-index l.held)))) ≡ map (question_by l.node l.incarnation) (filter (is_untold l.nodes) (timely l.clock (boxed_in l.held)))
