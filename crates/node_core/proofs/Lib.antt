@@ -14,3 +14,4 @@ pub mod Opening
 pub mod Voting
 pub mod Beginning
 pub mod Stopping
+pub mod TickTurns

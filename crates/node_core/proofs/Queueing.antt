@@ -70,7 +70,7 @@ asked_at node incarnation ticket (first ∷ others) of h asked found =
         subst (λ (one : Held). IsSound node incarnation one) same (record { numbered = asked.numbered.0; told = asked.told.0 })
     by_test false is rest = rest is
 
-higher_told : (id : ℕ) (top told : Option TopVote) → IfSome top (λ it. it.id ≡ id) → IfSome told (λ it. it.id ≡ id) → IfSome (higher_top top told) (λ it. it.id ≡ id)
+pub higher_told : (id : ℕ) (top told : Option TopVote) → IfSome top (λ it. it.id ≡ id) → IfSome told (λ it. it.id ≡ id) → IfSome (higher_top top told) (λ it. it.id ≡ id)
 higher_told id top None of told = of
 higher_told id None (Some new) of told = told
 higher_told id (Some old) (Some new) of told = by_test (is_higher new old)

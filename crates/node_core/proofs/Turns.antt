@@ -7,7 +7,7 @@ use Rattle.mc_model.specs.synod.Packet.{Packet, Prepare, Slot, slot_at, slot_of}
 use Rattle.mc_model.specs.node.FirstRule.{Close, Delete, Expire, Follow, GiveUp, Lose, Rule, Take, Try, Undeliver}
 use Rattle.mc_model.specs.node.Outcome.{Unanswered, no_session_error}
 use Rattle.mc_model.specs.node.Setup.{Setup}
-use Rattle.node_model.specs.Kept.{Kept, message_at, with_message}
+use Rattle.node_model.specs.Kept.{Held, Kept, message_at, with_message}
 use Rattle.node_model.specs.Message.{Message}
 use Rattle.node_model.specs.Proposer.{Prepared, Start, started, started_at}
 use Rattle.node_model.specs.Rules.{Fitting, first_rule}
@@ -57,7 +57,7 @@ ruled_is setup k id (Some fit) = by_rule fit.rule
 
 -- ---- whose it is
 
-rest_same : (id : ℕ) (m : Filed) → IsOfSame id m (rested m)
+pub rest_same : (id : ℕ) (m : Filed) → IsOfSame id m (rested m)
 rest_same id m = record {
   acceptor = refl;
   of = λ me starts nodes of. record {
@@ -93,7 +93,7 @@ given_same id place old mid closed new chain packet rests tried at is =
 
 -- ---- what the model makes of it
 
-module _ (setup : Setup) (k : Kept) (id : ℕ) (old : Filed) (s : Standpoint) (rest : IsAtRest setup k id old s) (of : IsOf setup.node k.incarnation setup.nodes id old) where
+module _ (setup : Setup) (k : Kept) (id : ℕ) (old : Filed) (s : Standpoint) (held : List Held) (rest : IsAtRest setup k held id old s) (of : IsOf setup.node k.incarnation setup.nodes id old) where
   module _ (mid new : Filed) (chain : Chain) (packet : Option Sent) (to : Message) (at : chain.id ≡ id) (proposer : mid.proposer ≡ (rested old).proposer)
       (acceptor : mid.acceptor ≡ old.acceptor) (message : message_of id mid ≡ to) (is_started : IsStarted mid chain new packet) where
     so_started : IsStarted mid (record { id = id; decrees = chain.decrees }) new packet

@@ -6,7 +6,7 @@ use Rattle.node_model.specs.Answers.{still_waits}
 use Rattle.node_model.specs.Kept.{Held}
 use Rattle.node_model.specs.Packets.{settled_for}
 use Rattle.node_model.specs.Requests.{id_of, ticket_of, with_held}
-use Rattle.requests.specs.Queues.{IsAbove}
+use Rattle.requests.specs.Queues.{IsAbove, timely}
 use Rattle.requests.specs.Submits.{AreNumberedBy, IsNumberedBy}
 use Rattle.requests.specs.Waiting.{Waits, held_in, held_of}
 use Rattle.node_core.specs.declared.queue_change.QueueChange.{QueueChange}
@@ -19,6 +19,7 @@ requeued nodes held (changes.Replace new) = with_held held (held_of (box_value n
 requeued nodes held (changes.Remove ticket) = filter (λ h. not (ticket_of h == ticket)) held
 requeued nodes held (changes.Settle chain) =
     filter (still_waits nodes (Some chain.decrees) chain.id) (map (settled_for nodes chain.id chain.decrees) held)
+requeued nodes held (changes.Expire clock) = timely clock held
 
 -- one more has a place
 abbrev pub HasPlace : List Waits → QueueChange → Type 0
@@ -27,6 +28,7 @@ HasPlace waits (changes.Push new) = (length waits < most_waiting) × IsAbove (he
 HasPlace waits (changes.Replace new) = Unit {0}
 HasPlace waits (changes.Remove ticket) = Unit {0}
 HasPlace waits (changes.Settle chain) = Unit {0}
+HasPlace waits (changes.Expire clock) = Unit {0}
 
 -- what was told to a request is told of its message
 abbrev pub IsToldOf : Held → Type 0

@@ -49,11 +49,11 @@ pub struct Kept {
     pub(crate) alloc: Global,
     pub(crate) setup: Setup,
     incarnation: Incarnation,
-    clock: Moment,
+    pub(crate) clock: Moment,
     serial: u32,
     given: u64,
     pub(crate) queue: Queue,
-    messages: Shelf<Message>,
+    pub(crate) messages: Shelf<Message>,
 }
 
 impl Kept {
@@ -204,7 +204,7 @@ impl Kept {
     }
 
     /// What is kept is to stay as it is.
-    fn unchanged(&self) -> Next
+    pub(crate) fn unchanged(&self) -> Next
         ensures clock { result.clock ≡ self.now.clock }
         ensures serial { result.serial ≡ self.now.serial }
         ensures given { result.given ≡ self.now.given }
@@ -517,6 +517,7 @@ fn requeue(queue: &mut Queue, change: QueueChange, nodes: u8)
         QueueChange::Replace(held) => queue.replace(held),
         QueueChange::Remove(ticket) => queue.remove(ticket),
         QueueChange::Settle(chain) => queue.settle(nodes, &chain),
+        QueueChange::Expire(clock) => queue.expire(clock),
     }
 }
 

@@ -23,7 +23,9 @@ mod ruling;
 mod setup;
 mod step;
 mod telling;
+mod ticking;
 mod turn;
+mod turn_list;
 
 pub use fault::StepFault;
 pub use grant_refusal::GrantRefusal;

@@ -28,7 +28,9 @@ ghost use Rattle.rules.specs.Dues.{is_up, rule_of};
 ghost use Rattle.node_core.specs.Ticking.{IsAtRest, IsOfTurn, gives_up, ruled_as, ruled_by, turned};
 ghost use Rattle.node_core.specs.Messages.{IsConcluded, IsHeard, IsJudged, IsOf, IsPromised, IsRefused, IsStarted, IsStartedFor, IsTriedSo, changed_by, closed_at, granted_at, message_of, rested};
 ghost use Rattle.node_core.specs.Renewal.{renewed};
-ghost use Rattle.requests.specs.Waiting.{known_of};
+ghost use Rattle.requests.specs.Queues.{timely};
+ghost use Rattle.requests.specs.Waiting.{held_in, known_of};
+ghost use Rattle.node_core.specs.Queueing.{AreToldOf};
 
 use crate::attempts::Attempts;
 use crate::grant_refusal::GrantRefusal;
@@ -38,6 +40,7 @@ use delivery::Outcome;
 use fate_chain::{Author, Chain, Decree, Final, Kind};
 use mc_types::{Ballot, MsgId, NodeNo, Slot};
 use pdu_codec::Text;
+use requests::Queue;
 use rules::{Attempted, Closing, Due, Standpoint, follow};
 use std::alloc::{AllocError, Global};
 use synod_acceptor::{Acceptor, Change, Packet, Record, Report, Verdict, Vote};
@@ -259,18 +262,20 @@ impl Message {
     }
 
     /// What a tick makes of the message of this id, if it is not kept as it was, once no round of it runs. `up` has the accounts of which a
-    /// session may receive.
+    /// session may receive, `queue` the requests that wait, of which those count that did not wait too long.
     pub fn turn(
         &self,
         id: MsgId,
         at: &Standpoint,
+        queue: &Queue,
         up: &[Text<16>],
     ) -> Result<Option<Turn>, AllocError>
+        requires { AreToldOf (timely at.now.clock (held_in queue.now)) }
         ensures same { IfOk result (IsOfTurn id self.now) }
-        ensures turned { IfOk result (λ turn. (setup : Setup) (k : KeptValue) → IsAtRest setup k id self.now at.now →
+        ensures turned { IfOk result (λ turn. (setup : Setup) (k : KeptValue) → IsAtRest setup k (timely at.now.clock (held_in queue.now)) id self.now at.now →
             IsOf setup.node k.incarnation setup.nodes id self.now → turned k id turn ≡ ruled setup k id (first_rule setup k (is_up up.now) id)) }
     {
-        let Some(ruling) = self.ruling(id, at, up)? else {
+        let Some(ruling) = self.ruling(id, at, queue, up)? else {
             return Ok(None);
         };
         let mut message = self.copy()?;
@@ -292,21 +297,31 @@ impl Message {
         }
     }
 
-    /// What a tick decides on the message of this id by the first rule that fits, if one does: the node's own vote beyond what is known is
-    /// followed, or it is decided what is due behind that. `up` has the accounts of which a session may receive.
+    /// What a tick decides on the message of this id by the first rule that fits, if one does: it is taken for a submit_sm that waits, the
+    /// highest vote beyond what is known is followed that is its own or was told to a request, or it is decided what is due behind that. `up`
+    /// has the accounts of which a session may receive, `queue` the requests that wait, of which those count that did not wait too long.
     pub fn ruling(
         &self,
         id: MsgId,
         at: &Standpoint,
+        queue: &Queue,
         up: &[Text<16>],
     ) -> Result<Option<Ruling>, AllocError>
-        ensures rule { IfOk result (λ ruling. (setup : Setup) (k : KeptValue) → IsAtRest setup k id self.now at.now →
+        requires { AreToldOf (timely at.now.clock (held_in queue.now)) }
+        ensures rule { IfOk result (λ ruling. (setup : Setup) (k : KeptValue) → IsAtRest setup k (timely at.now.clock (held_in queue.now)) id self.now at.now →
             option_map ruled_as ruling ≡ option_map ruled_by (first_rule setup k (is_up up.now) id)) }
         ensures id { IfOk result (λ ruling. IfSome ruling (λ it. it.chain.id ≡ id)) }
         ensures place { IfOk result (λ ruling. IfSome ruling (λ it. IfSome it.given_up (λ place. place ≤ 17))) }
     {
+        if let Some(chain) = queue.taken(at.clock, id) {
+            let chain = chain.copy()?;
+            return Ok(Some(Ruling {
+                chain,
+                given_up: None,
+            }));
+        }
         let known = self.learner.known(id);
-        if let Some(chain) = follow(known, self.acceptor.tell(id)) {
+        if let Some(chain) = follow(known, queue.shown(at.clock, id, self.acceptor.tell(id))) {
             let chain = chain.copy()?;
             return Ok(Some(Ruling {
                 chain,
@@ -314,7 +329,7 @@ impl Message {
             }));
         }
         match known {
-            Some(chain) => self.ruling_behind(chain, at, up),
+            Some(chain) => self.ruling_behind(chain, at, queue, up),
             None => Ok(None),
         }
     }
@@ -324,15 +339,17 @@ impl Message {
         &self,
         chain: &Chain,
         at: &Standpoint,
+        queue: &Queue,
         up: &[Text<16>],
     ) -> Result<Option<Ruling>, AllocError>
-        ensures rule { IfOk result (λ ruling. (setup : Setup) (k : KeptValue) → IsAtRest setup k chain.now.id self.now at.now →
+        ensures rule { IfOk result (λ ruling. (setup : Setup) (k : KeptValue) → IsAtRest setup k (timely at.now.clock (held_in queue.now)) chain.now.id self.now at.now →
             option_map ruled_as ruling ≡ option_map ruled_by (known_rule setup k (is_up up.now) chain.now.id (Some chain.now.decrees))) }
         ensures id { IfOk result (λ ruling. IfSome ruling (λ it. it.chain.id ≡ chain.now.id)) }
         ensures place { IfOk result (λ ruling. IfSome ruling (λ it. IfSome it.given_up (λ place. place ≤ 17))) }
     {
         let place = chain.place();
-        let Some(due) = at.due(chain, self.attempts.at(place), false, up) else {
+        let cancelled = queue.cancels(at.clock, chain.id(), chain.submission());
+        let Some(due) = at.due(chain, self.attempts.at(place), cancelled, up) else {
             return Ok(None);
         };
         let given_up = given_up(&due, place);

@@ -46,6 +46,23 @@ impl Outputs {
         }
     }
 
+    /// These packets and replies. It takes no memory.
+    pub(crate) fn telling(alloc: Global, packets: Vec<Packet>, replies: Vec<Reply>) -> Outputs
+        ensures ticket { result.ticket ≡ None }
+        ensures packets { result.packets ≡ packets }
+        ensures replies { result.replies ≡ replies }
+        ensures receipts { result.receipts.items ≡ [] }
+        ensures granted { result.granted ≡ None }
+    {
+        Outputs {
+            ticket: None,
+            packets,
+            replies,
+            receipts: Vec::new(alloc),
+            granted: None,
+        }
+    }
+
     /// The chain of an attempt that is granted. It takes no memory.
     pub(crate) fn granting(alloc: Global, chain: Chain) -> Outputs
         ensures ticket { result.ticket ≡ None }

@@ -1,6 +1,7 @@
 //! What a step makes of the requests that wait.
 
 use fate_chain::Chain;
+use mc_types::Moment;
 use requests::Held;
 
 /// What a step makes of the requests that wait.
@@ -16,4 +17,6 @@ pub enum QueueChange {
     Remove(u64),
     /// Those of the message of this chain, which becomes known: what it settles is settled, and what has an answer then waits no more.
     Settle(Chain),
+    /// Those that waited too long at this clock wait no more.
+    Expire(Moment),
 }
