@@ -15,3 +15,4 @@ pub mod Voting
 pub mod Beginning
 pub mod Stopping
 pub mod TickTurns
+pub mod TickSteps

@@ -1,6 +1,7 @@
 -- What a tick makes of one message, and of several.
 use Rattle.std.specs.Prelude.{◌≡◌, ℕ, pred, Bool, true, false, List, [], ◌∷◌, ◌++◌, map, Option, Some, None, option_map, if◌then◌else◌}
 use Rattle.std.specs.Box.{box_value}
+use Rattle.std.specs.Map.{keys_of}
 use Rattle.mc_model.specs.synod.Lists.{In}
 use Rattle.mc_model.specs.synod.Packet.{Slot, slot_at}
 use Rattle.mc_model.specs.node.FirstRule.{Close, Delete, Expire, Follow, GiveUp, Lose, Rule, Take, Try, Undeliver}
@@ -8,7 +9,7 @@ use Rattle.mc_model.specs.node.Setup.{Setup}
 use Rattle.node_model.specs.Kept.{Held, Kept, message_at, with_message}
 use Rattle.node_model.specs.Proposer.{Prepared, Start}
 use Rattle.node_model.specs.Rules.{Fitting}
-use Rattle.node_model.specs.Ticks.{ruled_each, ticked}
+use Rattle.node_model.specs.Ticks.{ids_of, ruled_each, ticked}
 use Rattle.requests.specs.Submits.{AreNumberedBy}
 use Rattle.rules.specs.Standpoints.{start_of}
 use Rattle.rules.specs.declared.standpoint.Standpoint.{Standpoint}
@@ -89,3 +90,7 @@ pub record IsTurned (k : Holding) (clock : ℕ) (up : List ℕ → Bool) (ids : 
   pub saved : (slot : Slot) → records_of (entries_turned k turns) slot ≡ records_of k.messages.entries slot
   pub own : AreOf k.setup k.incarnation (entries_turned k turns)
   pub only : (id : ℕ) → In id (ids_turned turns) → In id ids
+
+-- the messages that a tick at this clock goes over are those that are kept
+abbrev pub AsksOfKept : Holding → ℕ → Type 0
+AsksOfKept k clock = ids_of (ticked (kept_of k) clock) ≡ keys_of k.messages.entries

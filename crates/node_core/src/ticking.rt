@@ -1,19 +1,67 @@
 //! What a node does at a tick.
 
-ghost use Rattle.std.specs.Prelude.{◌≡◌, IfOk};
+ghost use Rattle.std.specs.Prelude.{◌≡◌, ◌++◌, map, max, IfOk};
 ghost use Rattle.std.specs.Map.{keys_of};
+ghost use Rattle.node_model.specs.Ticks.{asked_again, on_tick, ticked};
 ghost use Rattle.rules.specs.Dues.{is_up};
-ghost use Rattle.node_core.specs.Keeping.{AreOwn};
-ghost use Rattle.node_core.specs.Ticking.{IsTurned};
+ghost use Rattle.synod_acceptor.specs.Packets.{packet_of};
+ghost use Rattle.node_core.specs.Keeping.{AreOwn, kept_of};
+ghost use Rattle.node_core.specs.Steps.{IsStep};
+ghost use Rattle.node_core.specs.Ticking.{AsksOfKept, IsTurned};
 
 use crate::kept::Kept;
+use crate::outputs::Outputs;
+use crate::queue_change::QueueChange;
+use crate::step::Step;
 use crate::turn_list::TurnList;
 use mc_types::{Moment, MsgId};
 use pdu_codec::Text;
 use rules::Standpoint;
 use std::alloc::AllocError;
+use synod_acceptor::Packet;
 
 impl Kept {
+    /// The step of a tick, if each request that waits asks of a message that is kept: the clock rises to this moment, if it is behind it;
+    /// those that waited too long are answered so and wait no more, and those are asked of again of which no majority told; all rounds end,
+    /// and for each message, by ascending ids, the first rule that fits starts one. `up` has the accounts of which a session may receive.
+    pub(crate) fn on_tick(&self, moment: Moment, up: &[Text<16>]) -> Result<Step, AllocError>
+        requires { AreOwn self.now }
+        ensures { AsksOfKept self.now (max self.now.clock moment) →
+            IfOk result (IsStep self.now (on_tick self.now.setup (kept_of self.now) moment (is_up up.now))) }
+    {
+        let clock = self.clock.max(moment);
+        let replies = self.queue.late(clock)?;
+        let turns = self.turns(clock, up)?;
+        let room = self.messages.room(self.alloc, turns.messages.len())?;
+        let packets = self.with_questions(clock, turns.packets)?;
+        let mut next = self.unchanged();
+        next.clock = clock;
+        next.drops_rounds = true;
+        next.queue = QueueChange::Expire(clock);
+        next.messages = turns.messages;
+        next.room = Some(room);
+        Ok(Step {
+            outputs: Outputs::telling(self.alloc, packets, replies),
+            change: None,
+            next,
+        })
+    }
+
+    /// The questions of the requests to which no majority told, which did not wait too long at this clock, and then these packets.
+    fn with_questions(
+        &self,
+        clock: Moment,
+        mut starts: Vec<Packet>,
+    ) -> Result<Vec<Packet>, AllocError>
+        ensures { IfOk result (λ packets. map packet_of packets.items ≡ asked_again self.now.setup (ticked (kept_of self.now) clock) ++ map packet_of starts.items) }
+    {
+        let mut packets = self
+            .queue
+            .questions(clock, self.node(), self.incarnation(), self.nodes())?;
+        packets.append(&mut starts)?;
+        Ok(packets)
+    }
+
     /// What a tick makes of all messages that are kept, by ascending ids, at this clock, once all rounds ended. `up` has the accounts of
     /// which a session may receive.
     pub(crate) fn turns(&self, clock: Moment, up: &[Text<16>]) -> Result<TurnList, AllocError>

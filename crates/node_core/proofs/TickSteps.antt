@@ -1,0 +1,113 @@
+-- The step of a tick is the model's.
+use Rattle.std.proofs.Common.{◌≡◌, ℕ, ◌≤◌, ◌-◌, max, true, Bool, List, [], length, map, None, Option, sym, ap, subst, ◌∙◌, inl, inr, arith}
+use Rattle.std.proofs.Math.Path.{fun_ext}
+use Rattle.std.specs.Prelude.{◌++◌, filter, option_map}
+use Rattle.std.specs.Map.{keys_of}
+use Rattle.mc_model.specs.synod.Packet.{Packet, Slot}
+use Rattle.mc_model.specs.node.Outputs.{Outputs}
+use Rattle.node_model.specs.Kept.{Held}
+use Rattle.node_model.specs.Outputs.{nothing}
+use Rattle.node_model.specs.Proposer.{Prepared}
+use Rattle.node_model.specs.Ticks.{asked_again, ids_of, is_late, late_reply, on_tick, ticked}
+use Rattle.requests.specs.Queues.{timely}
+use Rattle.requests.specs.Replying.{reply_given}
+use Rattle.requests.specs.Waiting.{held_in}
+use Rattle.shelf.specs.Shelved.{Serves, Shelved}
+use Rattle.synod_acceptor.specs.declared.record.Change.{Change}
+use Rattle.node_core.specs.declared.kept.Kept.{Kept as Holding}
+use Rattle.node_core.specs.declared.message.Message.{Message as Filed}
+use Rattle.node_core.specs.declared.queue_change.QueueChange.{QueueChange}
+use Rattle.node_core.specs.declared.queue_change.QueueChange.TheVariants as changes
+use Rattle.node_core.specs.Queueing.{AreAsked, HasPlace, requeued}
+use Rattle.node_core.proofs.TickTurns.{asked_timely}
+use Rattle.node_core.specs.declared.step.Put.{Put}
+use Rattle.node_core.specs.declared.step.Step.{Step}
+use Rattle.node_core.specs.declared.turn_list.TurnList.{TurnList}
+use Rattle.synod_acceptor.specs.Packets.{packet_of}
+use Rattle.node_core.specs.Keeping.{AreOf, filed_as, kept_of, records_of}
+use Rattle.node_core.specs.Messages.{changed_by}
+use Rattle.node_core.specs.Steps.{HasRoom, IsStep, entries_after, granted_of, held_then, installed, kept_then, outputs_of, receipt_of, rested_if}
+use Rattle.node_core.specs.Ticking.{AsksOfKept, IsTurned, entries_turned, kept_turned}
+
+-- what serves for so many is room for them
+pub room_serves : (shelf : Shelved Filed) (puts : List Put) (room : ℕ) → Serves shelf (length puts) room →
+    length puts ≤ max shelf.room (room - length shelf.entries)
+room_serves shelf puts room (inl enough) = omega (arith, enough)
+room_serves shelf puts room (inr more) = let had = more.0 in omega (arith, had)
+
+-- a step leaves and sends what a tick makes of the messages and of the requests that wait
+pub record IsTickStep (k : Holding) (clock : ℕ) (turns : TurnList) (step : Step) : Type 0 where
+  pub clock_is : step.next.clock ≡ clock
+  pub serial : step.next.serial ≡ k.serial
+  pub ticket : step.next.ticket ≡ k.ticket
+  pub drops : step.next.drops_rounds ≡ true
+  pub queue : step.next.queue ≡ changes.Expire clock
+  pub messages : step.next.messages.items ≡ turns.messages.items
+  pub room : HasRoom k.messages step.next
+  pub ticket_given : step.outputs.ticket ≡ None
+  pub packets : map packet_of step.outputs.packets.items ≡ asked_again k.setup (ticked (kept_of k) clock) ++ map packet_of turns.packets.items
+  pub replies : map reply_given step.outputs.replies.items ≡ map late_reply (filter (is_late clock) (held_in k.queue))
+  pub receipts : step.outputs.receipts.items ≡ []
+  pub granted : step.outputs.granted ≡ None
+  pub change : step.change ≡ None
+
+module _ (k : Holding) (moment : ℕ) (up : List ℕ → Bool) (turns : TurnList) (step : Step) (is : IsTickStep k (max k.clock moment) turns step)
+    (turned : IsTurned k (max k.clock moment) up (ids_of (ticked (kept_of k) (max k.clock moment))) turns) where
+  abbrev Clock : ℕ
+  Clock = max k.clock moment
+
+  entries_then : (installed k step.next).messages.entries ≡ entries_turned k turns
+  entries_then = λ i. entries_after (rested_if (is.drops i) k.messages.entries) (is.messages i)
+
+  saved_then : (slot : Slot) → records_of (installed k step.next).messages.entries slot ≡ records_of k.messages.entries slot
+  saved_then slot = ap (λ (es : List (ℕ × Filed)). records_of es slot) entries_then ∙ turned.saved slot
+
+  held_is : held_then k step.next ≡ timely Clock (held_in k.queue)
+  held_is = ap (λ (change : QueueChange). requeued k.setup.nodes (held_in k.queue) change) is.queue
+
+  all_kept : kept_then k step.next ≡ kept_turned k Clock turns
+  all_kept = λ i. record (kept_of k) {
+    records = fun_ext saved_then i;
+    clock = is.clock_is i;
+    serial = is.serial i;
+    ticket = is.ticket i;
+    held = held_is i;
+    messages = map filed_as (entries_then i);
+  }
+
+  abbrev given : List Packet → Outputs
+  given packets = record nothing {
+    packets = asked_again k.setup (ticked (kept_of k) Clock) ++ packets;
+    replies = map late_reply (filter (is_late Clock) (held_in k.queue));
+  }
+
+  outputs_then : outputs_of step.outputs ≡ given (map packet_of turns.packets.items)
+  outputs_then = λ i. record nothing {
+    ticket = is.ticket_given i;
+    packets = is.packets i;
+    replies = is.replies i;
+    receipts = map receipt_of (is.receipts i);
+    granted = option_map granted_of (is.granted i);
+  }
+
+  pub ticked_step : IsStep k (on_tick k.setup (kept_of k) moment up) step
+  ticked_step = record {
+    kept = all_kept ∙ sym (ap (λ (p : Prepared). p.kept) turned.made);
+    outputs = outputs_then ∙ sym (ap (λ (p : Prepared). given p.packets) turned.made);
+    saves = λ slot. saved_then slot ∙ sym (ap (λ (change : Option Change). changed_by change (records_of k.messages.entries) slot) is.change);
+    own = λ own. record {
+      each = subst (AreOf k.setup k.incarnation) (sym entries_then) turned.own;
+      asked = subst (λ (held : List Held). AreAsked k.setup.node k.incarnation step.next.ticket held) (sym held_is)
+          (subst (λ (ticket : ℕ). AreAsked k.setup.node k.incarnation ticket (timely Clock (held_in k.queue))) (sym is.ticket) (asked_timely k Clock own));
+    };
+    room = is.room;
+    place = subst (HasPlace k.queue) (sym is.queue) tt;
+  }
+
+-- at the clock of the code, if each request that waits asks of a message that is kept
+pub ticked_at : (k : Holding) (moment clock : ℕ) (up : List ℕ → Bool) (turns : TurnList) (step : Step) → clock ≡ max k.clock moment → IsTickStep k clock turns step →
+    IsTurned k clock up (keys_of k.messages.entries) turns → AsksOfKept k (max k.clock moment) → IsStep k (on_tick k.setup (kept_of k) moment up) step
+ticked_at k moment clock up turns step at is turned asks =
+    ticked_step k moment up turns step (subst (λ (c : ℕ). IsTickStep k c turns step) at is)
+    (subst (λ (ids : List ℕ). IsTurned k (max k.clock moment) up ids turns) (sym asks)
+    (subst (λ (c : ℕ). IsTurned k c up (keys_of k.messages.entries) turns) at turned))

@@ -1,0 +1,40 @@
+use Rattle.std.proofs.Common.{◌≡◌, ◌++◌, ℕ, List, length, map, max, refl, sym, subst, ap, ◌∙◌, rules}
+use Rattle.std.specs.Prelude.{filter}
+use Rattle.node_model.specs.Ticks.{asked_again, is_late, late_reply, ticked}
+use Rattle.requests.specs.Replying.{reply_given}
+use Rattle.requests.specs.Waiting.{held_in}
+use Rattle.rules.specs.Dues.{is_up}
+use Rattle.synod_acceptor.specs.Packets.{packet_of}
+use Rattle.synod_acceptor.specs.declared.packet.Packet.{Packet}
+use Rattle.node_core.specs.Keeping.{kept_of}
+use Rattle.node_core.specs.Ticking.{IsTurned}
+use Rattle.node_core.specs.declared.queue_change.QueueChange.TheVariants as changes
+use Rattle.node_core.proofs.TickSteps.{room_serves, ticked_at}
+use Rattle.node_core.proofs.kept.Kept.on_tick.Goals as goal
+
+pub returns : goal.returns
+returns c asks =
+    let k = c.args.self.now in
+    let clock : c.max-clock.result ≡ max k.clock c.args.moment = search rules in
+    let turns = c.in_ok-turns.turns in
+    let many : c.len.result ≡ length turns.messages.items = search rules in
+    let same = c.unchanged-next.ensures in
+    let packets = ap (λ v. map packet_of v.items) c.telling.ensures.packets ∙ c.in_ok-packets.ensures in
+    let replies = ap (λ v. map reply_given v.items) c.telling.ensures.replies ∙ c.in_ok-replies.ensures in
+    ticked_at k c.args.moment c.max-clock.result (is_up c.args.up.now) turns _ clock
+    (record {
+      clock_is = refl;
+      serial = same.serial;
+      ticket = same.ticket;
+      drops = refl;
+      queue = refl;
+      messages = refl;
+      room = room_serves k.messages turns.messages.items c.in_ok-room.room (rw many at c.in_ok-room.ensures.serves);
+      ticket_given = c.telling.ensures.ticket;
+      packets = packets;
+      replies = replies;
+      receipts = c.telling.ensures.receipts;
+      granted = c.telling.ensures.granted;
+      change = refl;
+    })
+    c.in_ok-turns.ensures asks
