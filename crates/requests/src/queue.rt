@@ -1,11 +1,12 @@
 //! The requests that wait.
 
-ghost use Rattle.std.specs.Prelude.{◌≡◌, ◌<◌, ◌≤◌, ◌++◌, ◌∷◌, ◌==◌, [], Some, filter, length, map, nat_le, not, option_map, IfOk, IfSome, OnOk};
+ghost use Rattle.std.specs.Prelude.{◌≡◌, All, ◌<◌, ◌≤◌, ◌++◌, ◌∷◌, ◌==◌, [], Some, filter, length, map, nat_le, not, option_map, IfOk, IfSome, OnOk};
 ghost use Rattle.std.specs.Box.{box_value};
 ghost use Rattle.std.specs.List.{list_any};
 ghost use Rattle.std.specs.Option.{option_copied};
 ghost use Rattle.std.specs.Vec.{vec_capacity, vec_len};
 ghost use Rattle.mc_model.specs.message.Chain.{taken_in};
+ghost use Rattle.mc_model.specs.message.Ids.{IsId};
 ghost use Rattle.mc_model.specs.message.Submission.{Submission as SubmissionValue};
 ghost use Rattle.mc_model.specs.node.Room.{most_waiting};
 ghost use Rattle.mc_model.specs.node.Setup.{Setup};
@@ -185,7 +186,8 @@ impl Queue {
     /// Puts the ids of the messages into a set of ids that the requests are about which did not wait too long at this clock. An `Err` is
     /// want of memory, and leaves some of them in it.
     pub fn put_ids(&self, clock: Moment, ids: &mut BTreeSet<u64>) -> Result<(), AllocError>
-        ensures { OnOk result (ids.new.keys ≡ ids_with (timely clock (held_in self.now)) ids.old.keys) }
+        ensures keys { OnOk result (ids.new.keys ≡ ids_with (timely clock (held_in self.now)) ids.old.keys) }
+        ensures named { OnOk result (All IsId ids.old.keys → All IsId ids.new.keys) }
     {
         put_ids(&self.held, clock, ids)
     }

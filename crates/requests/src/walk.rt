@@ -1,11 +1,12 @@
 //! What is done with all that wait, one after another.
 
-ghost use Rattle.std.specs.Prelude.{◌≡◌, ◌==◌, ◌++◌, Some, filter, map, not, option_map, IfOk, OnOk};
+ghost use Rattle.std.specs.Prelude.{◌≡◌, All, ◌==◌, ◌++◌, Some, filter, map, not, option_map, IfOk, OnOk};
 ghost use Rattle.std.specs.Box.{box_value};
 ghost use Rattle.std.specs.List.{list_any, position};
 ghost use Rattle.std.specs.Option.{option_copied, option_to_list};
 ghost use Rattle.std.specs.Vec.{vec_capacity};
 ghost use Rattle.mc_model.specs.message.Chain.{taken_in};
+ghost use Rattle.mc_model.specs.message.Ids.{IsId};
 ghost use Rattle.mc_model.specs.message.Submission.{Submission as SubmissionValue};
 ghost use Rattle.node_model.specs.Answers.{replies_to, still_waits};
 ghost use Rattle.node_model.specs.Packets.{settled_for};
@@ -101,7 +102,8 @@ pub(crate) fn put_ids(
     clock: Moment,
     ids: &mut BTreeSet<u64>,
 ) -> Result<(), AllocError>
-    ensures { OnOk result (ids.new.keys ≡ ids_with (timely clock (boxed_in held.now)) ids.old.keys) }
+    ensures keys { OnOk result (ids.new.keys ≡ ids_with (timely clock (boxed_in held.now)) ids.old.keys) }
+    ensures named { OnOk result (All IsId ids.old.keys → All IsId ids.new.keys) }
 {
     for place in (0..held.len()).rev() {
         if !held[place].is_late(clock) {
