@@ -2,7 +2,6 @@
 use Rattle.std.proofs.Common.{◌≡◌, ℕ, ◌≤◌, ◌-◌, max, true, Bool, List, [], length, map, None, Option, sym, ap, subst, ◌∙◌, inl, inr, arith}
 use Rattle.std.proofs.Math.Path.{fun_ext}
 use Rattle.std.specs.Prelude.{◌++◌, filter, option_map}
-use Rattle.std.specs.Map.{keys_of}
 use Rattle.mc_model.specs.synod.Packet.{Packet, Slot}
 use Rattle.mc_model.specs.node.Outputs.{Outputs}
 use Rattle.node_model.specs.Kept.{Held}
@@ -27,7 +26,7 @@ use Rattle.synod_acceptor.specs.Packets.{packet_of}
 use Rattle.node_core.specs.Keeping.{AreOf, filed_as, kept_of, records_of}
 use Rattle.node_core.specs.Messages.{changed_by}
 use Rattle.node_core.specs.Steps.{HasRoom, IsStep, entries_after, granted_of, held_then, installed, kept_then, outputs_of, receipt_of, rested_if}
-use Rattle.node_core.specs.Ticking.{AsksOfKept, IsTurned, entries_turned, kept_turned}
+use Rattle.node_core.specs.Ticking.{IsTurned, entries_turned, kept_turned}
 
 -- what serves for so many is room for them
 pub room_serves : (shelf : Shelved Filed) (puts : List Put) (room : ℕ) → Serves shelf (length puts) room →
@@ -104,10 +103,9 @@ module _ (k : Holding) (moment : ℕ) (up : List ℕ → Bool) (turns : TurnList
     place = subst (HasPlace k.queue) (sym is.queue) tt;
   }
 
--- at the clock of the code, if each request that waits asks of a message that is kept
+-- at the clock of the code
 pub ticked_at : (k : Holding) (moment clock : ℕ) (up : List ℕ → Bool) (turns : TurnList) (step : Step) → clock ≡ max k.clock moment → IsTickStep k clock turns step →
-    IsTurned k clock up (keys_of k.messages.entries) turns → AsksOfKept k (max k.clock moment) → IsStep k (on_tick k.setup (kept_of k) moment up) step
-ticked_at k moment clock up turns step at is turned asks =
+    IsTurned k clock up (ids_of (ticked (kept_of k) clock)) turns → IsStep k (on_tick k.setup (kept_of k) moment up) step
+ticked_at k moment clock up turns step at is turned =
     ticked_step k moment up turns step (subst (λ (c : ℕ). IsTickStep k c turns step) at is)
-    (subst (λ (ids : List ℕ). IsTurned k (max k.clock moment) up ids turns) (sym asks)
-    (subst (λ (c : ℕ). IsTurned k c up (keys_of k.messages.entries) turns) at turned))
+    (subst (λ (c : ℕ). IsTurned k c up (ids_of (ticked (kept_of k) c)) turns) at turned)

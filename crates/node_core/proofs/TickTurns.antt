@@ -1,7 +1,13 @@
 -- What a tick makes of several messages, one after another.
 use Rattle.std.proofs.Common.{◌≡◌, ◌⊎◌, ℕ, zero, suc, ◌<◌, Bool, List, [], ◌∷◌, ◌++◌, length, map, Option, Some, None, refl, sym, ap, subst, ◌∙◌, inl, inr, append_assoc, arith}
 use Rattle.std.proofs.lemmas.List.{append-nil, map-append}
-use Rattle.std.specs.Prelude.{not, option_map}
+use Rattle.std.specs.Prelude.{All, IfOk, Ok, Err, Result, not, option_map}
+use Rattle.std.specs.BTreeSet.{insert_key}
+use Rattle.std.specs.Ordering.{nat_cmp}
+use Rattle.std.specs.declared.cmp.Ordering.TheVariants.{Less, Greater}
+use Rattle.std.proofs.lemmas.Bool.Decides.{nat_tests}
+use Rattle.std.proofs.lemmas.List.Elements.{All-from_recursion, recursion_from_All}
+use Rattle.mc_model.specs.message.Ids.{IsId}
 use Rattle.std.specs.Box.{box_value}
 use Rattle.std.specs.List.{AllByRecursion, slice_get}
 use Rattle.std.specs.Map.{keys_of}
@@ -9,14 +15,15 @@ use Rattle.std.specs.Option.{unwrap_or}
 use Rattle.mc_model.specs.synod.Lists.{In}
 use Rattle.mc_model.specs.synod.Packet.{Packet, Slot, slot_at}
 use Rattle.mc_model.specs.node.Setup.{Setup}
-use Rattle.node_model.specs.Kept.{Kept, message_at, with_message}
+use Rattle.node_model.specs.Kept.{Held, Kept, message_at, with_message}
 use Rattle.node_model.specs.Message.{Message, unseen}
 use Rattle.node_model.specs.Proposer.{Prepared}
 use Rattle.node_model.specs.Rules.{first_rule}
-use Rattle.node_model.specs.Ticks.{and_then, is_late, ruled, ruled_each, ticked, without_round}
+use Rattle.node_model.specs.Ticks.{and_then, ids_of, ids_with, is_late, ruled, ruled_each, ticked, without_round}
 use Rattle.node_model.proofs.Places.{elsewhere}
 use Rattle.requests.specs.Queues.{timely}
-use Rattle.requests.specs.Waiting.{held_in}
+use Rattle.requests.specs.Waiting.{Waits, held_in}
+use Rattle.fate_chain.specs.declared.decree.Author.{Author}
 use Rattle.rules.specs.declared.standpoint.Standpoint.{Standpoint}
 use Rattle.shelf.specs.Shelved.{value_at, with_value}
 use Rattle.shelf.proofs.Apart.{put_apart}
@@ -31,10 +38,10 @@ use Rattle.node_core.specs.declared.turn.Turn.{Turn}
 use Rattle.node_core.specs.declared.turn_list.TurnList.{TurnList}
 use Rattle.node_core.specs.Keeping.{AreOf, AreOwn, IsTaken, acceptor_in, filed_as, kept_of, records_of}
 use Rattle.node_core.specs.Lists.{listed}
-use Rattle.node_core.specs.Messages.{IsOfSame, message_of, rested}
+use Rattle.node_core.specs.Messages.{IsOf, IsOfSame, message_of, rested}
 use Rattle.node_core.specs.Queueing.{AreAsked}
 use Rattle.node_core.specs.Steps.{entries_after, rested_entry}
-use Rattle.node_core.specs.Ticking.{IsAdded, IsAtRest, IsTurned, entries_turned, ids_turned, kept_turned, turned}
+use Rattle.node_core.specs.Ticking.{IsAdded, IsAtRest, IsOfTurn, IsTurnOf, IsTurned, entries_turned, ids_turned, kept_turned, turned}
 use Rattle.node_core.proofs.Entries.{message_looked_up, message_put, own_put, records_kept}
 use Rattle.node_core.proofs.Putting.{put_last}
 use Rattle.node_core.proofs.Queueing.{asked_kept}
@@ -251,3 +258,124 @@ pub stands_within : {A : Type 0} (xs : List A) (place : ℕ) → place < length 
 stands_within [] place within none = absurd (omega arith)
 stands_within (x ∷ xs) zero within none = absurd (cc)
 stands_within (x ∷ xs) (suc place) within none = stands_within xs place (omega arith) none
+
+-- ---- all messages that are asked of, too
+
+pub none_asked : (k : Holding) (clock : ℕ) (up : List ℕ → Bool) (turns : TurnList) → held_in k.queue ≡ [] → IsTurned k clock up (keys_of k.messages.entries) turns →
+    IsTurned k clock up (ids_of (ticked (kept_of k) clock)) turns
+none_asked k clock up turns none is =
+    subst (λ (held : List Held). IsTurned k clock up (ids_with (timely clock held) (keys_of (map without_round (map filed_as k.messages.entries)))) turns) (sym none)
+    (subst (λ (ids : List ℕ). IsTurned k clock up ids turns) (sym (same_ids k.messages.entries)) is)
+
+-- what is asked of beside what is kept
+pub asked_ids : (k : Holding) (clock : ℕ) (ids : List ℕ) → ids ≡ ids_with (timely clock (held_in k.queue)) (keys_of k.messages.entries) → ids ≡ ids_of (ticked (kept_of k) clock)
+asked_ids k clock ids is = is ∙ ap (ids_with (timely clock (held_in k.queue))) (sym (same_ids k.messages.entries))
+
+pub empty_queue : (waits : List Waits) → length waits ≡ 0 → held_in waits ≡ []
+empty_queue [] none = refl
+empty_queue (first ∷ others) none = absurd (omega arith)
+
+pub nothing_left : (ids : List ℕ) → (0 < length ids → ⊥) → ids ≡ []
+nothing_left [] none = refl
+nothing_left (first ∷ others) none = absurd (none (omega arith))
+
+keys_named : (setup : Setup) (starts : ℕ) (entries : List (ℕ × Filed)) → AreOf setup starts entries → AllByRecursion IsId (keys_of entries)
+keys_named setup starts [] own = tt
+keys_named setup starts (e ∷ es) own = (own.0.named, keys_named setup starts es own.1)
+
+pub all_named : (setup : Setup) (starts : ℕ) (entries : List (ℕ × Filed)) → AreOf setup starts entries → All IsId (keys_of entries)
+all_named setup starts entries own = All-from_recursion IsId (keys_of entries) (keys_named setup starts entries own)
+
+-- a higher key is put last
+pub put_behind : (keys : List ℕ) (key : ℕ) → AllByRecursion (λ (other : ℕ). other < key) keys → insert_key nat_cmp keys key ≡ keys ++ key ∷ []
+put_behind [] key lower = refl
+put_behind (first ∷ others) key lower =
+    let below : first < key = lower.0 in
+    let greater : nat_cmp key first ≡ Greater = grind (arith, nat_tests) in
+    rw greater (ap (λ (keys : List ℕ). first ∷ keys) (put_behind others key lower.1))
+
+pub turn_found : {E : Type 0} (k : Holding) (id : ℕ) (s : Standpoint) (up : List ℕ → Bool) (m : Filed) (result : Result (Option Turn) E) → IsTaken k id m →
+    IfOk result (IsOfTurn id m) →
+    IfOk result (λ turn. (setup : Setup) (kept : Kept) → IsAtRest setup kept (timely s.clock (held_in k.queue)) id m s →
+    IsOf setup.node kept.incarnation setup.nodes id m → turned kept id turn ≡ ruled setup kept id (first_rule setup kept up id)) →
+    IfOk result (IsTurnOf k id s up)
+turn_found k id s up m (Ok turn) taken same is = record { from = m; taken = taken; same = same; turned_is = is }
+turn_found k id s up m (Err e) taken same is = tt
+
+all_in : (P : ℕ → Type 0) (ids : List ℕ) → AllByRecursion P ids → (id : ℕ) → In id ids → P id
+all_in P [] all id none = absurd none
+all_in P (first ∷ others) all id (inl same) = subst P (sym same) all.0
+all_in P (first ∷ others) all id (inr later) = all_in P others all.1 id later
+
+-- while the lowest id that is left is taken first
+pub record IsTurning (k : Holding) (clock : ℕ) (up : List ℕ → Bool) (left : List ℕ) (turns : TurnList) : Type 0 where
+  pub done : List ℕ
+  pub split : done ++ left ≡ ids_of (ticked (kept_of k) clock)
+  pub below : (one later : ℕ) → In one done → In later left → one < later
+  pub named : (id : ℕ) → In id left → IsId id
+  pub is : IsTurned k clock up done turns
+
+pub turning_begins : (k : Holding) (clock : ℕ) (up : List ℕ → Bool) (left : List ℕ) (turns : TurnList) → left ≡ ids_of (ticked (kept_of k) clock) → All IsId left →
+    IsTurned k clock up [] turns → IsTurning k clock up left turns
+turning_begins k clock up left turns all named is = record {
+  done = [];
+  split = all;
+  below = λ one later none among. absurd none;
+  named = all_in IsId left (recursion_from_All IsId left named);
+  is = is;
+}
+
+module _ (k : Holding) (clock : ℕ) (up : List ℕ → Bool) (left : List ℕ) (turns : TurnList) (is : IsTurning k clock up left turns)
+    (id : ℕ) (rest : List ℕ) (split : left ≡ id ∷ rest) where
+  there : In id left
+  there = subst (In id) (sym split) (inl refl)
+
+  pub is_named : IsId id
+  is_named = is.named id there
+
+  pub is_next : In id is.done → ⊥
+  is_next among = let below = is.below id id among there in absurd (omega arith)
+
+  later : (other : ℕ) → In other rest → In other left
+  later other among = subst (In other) (sym split) (inr among)
+
+  done_or : (ids : List ℕ) (one : ℕ) → In one (ids ++ id ∷ []) → In one ids ⊎ (one ≡ id)
+  done_or [] one (inl same) = inr same
+  done_or [] one (inr none) = absurd none
+  done_or (first ∷ others) one (inl same) = inl (inl same)
+  done_or (first ∷ others) one (inr among) = elim (done_or others one among) [ inl before ↦ inl (inr before) | inr same ↦ inr same ]
+
+  pub turning_goes_on : (after : TurnList) → All (λ (other : ℕ). nat_cmp id other ≡ Less) rest → IsTurned k clock up (is.done ++ id ∷ []) after →
+      IsTurning k clock up rest after
+  turning_goes_on after above turned_so = record {
+    done = is.done ++ id ∷ [];
+    split = append_assoc is.done (id ∷ []) rest ∙ sym (ap (λ (ids : List ℕ). is.done ++ ids) split) ∙ is.split;
+    below = λ one other among behind. elim (done_or is.done one among) [
+      | inl before ↦ is.below one other before (later other behind)
+      | inr same ↦ let less = all_in (λ (it : ℕ). nat_cmp id it ≡ Less) rest (recursion_from_All (λ (it : ℕ). nat_cmp id it ≡ Less) rest above) other behind in
+          let lower : id < other = grind (arith, nat_tests) in subst (λ (it : ℕ). it < other) (sym same) lower
+    ];
+    named = λ other among. is.named other (later other among);
+    is = turned_so;
+  }
+
+  module _ (author : Author) (node : author.node ≡ k.setup.node) (incarnation : author.incarnation ≡ k.incarnation) (own : AreOwn k) where
+    abbrev at : Standpoint
+    at = record { author = author; clock = clock }
+
+    rule_is : (turn : Option Turn) (of : IsTurnOf k id at up turn) →
+        turned (kept_turned k clock turns) id turn ≡ ruled k.setup (kept_turned k clock turns) id (first_rule k.setup (kept_turned k clock turns) up id)
+    rule_is turn of =
+        of.turned_is k.setup (kept_turned k clock turns) (at_rest k clock up is.done turns is.is id of.from of.taken is_next at node incarnation refl own) (of.taken.own own)
+
+    pub same_then : IsTurnOf k id at up None → IsTurned k clock up (is.done ++ id ∷ []) turns
+    same_then of = turned_same k clock up is.done turns is.is id of.from of.taken is_next (rule_is None of)
+
+    pub more_then : (turn : Turn) → IsTurnOf k id at up (Some turn) → (after : TurnList) → IsAdded turns id turn after → IsTurned k clock up (is.done ++ id ∷ []) after
+    more_then turn of after added =
+        turned_more k clock up is.done turns is.is id of.from of.taken is_next turn of.same after added own (rule_is (Some turn) of)
+
+pub turning_ends : (k : Holding) (clock : ℕ) (up : List ℕ → Bool) (left : List ℕ) (turns : TurnList) → IsTurning k clock up left turns → left ≡ [] →
+    IsTurned k clock up (ids_of (ticked (kept_of k) clock)) turns
+turning_ends k clock up left turns is none =
+    subst (λ (ids : List ℕ). IsTurned k clock up ids turns) (sym (append-nil is.done) ∙ sym (ap (λ (ids : List ℕ). is.done ++ ids) none) ∙ is.split) is.is

@@ -5,7 +5,7 @@ use Rattle.mc_model.specs.message.Chain.{Chain}
 use Rattle.mc_model.specs.synod.Packet.{Packet, Slot, slot_of}
 use Rattle.mc_model.specs.message.Ids.{id_of}
 use Rattle.mc_model.specs.node.Actor.{Request}
-use Rattle.mc_model.specs.node.Input.{Arrival, Delivery, Grant, Input, Refusal, Response}
+use Rattle.mc_model.specs.node.Input.{Arrival, Delivery, Grant, Input, Refusal, Response, Tick}
 use Rattle.mc_model.specs.node.Room.{is_busy}
 use Rattle.mc_model.specs.node.Outputs.{Outputs, Receipt}
 use Rattle.mc_model.specs.node.Setup.{Setup}
@@ -19,6 +19,7 @@ use Rattle.desk.specs.declared.door.Door.{Door}
 use Rattle.desk.specs.declared.request.Request.{Request as Asked}
 use Rattle.pdu_tables.specs.StatusCodes.{status_code}
 use Rattle.pdu_tables.specs.declared.status.Status.{Status}
+use Rattle.rules.specs.Dues.{is_up}
 use Rattle.requests.specs.Replying.{reply_given}
 use Rattle.requests.specs.Waiting.{held_in}
 use Rattle.shelf.specs.Shelved.{Shelved, with_value}
@@ -61,6 +62,7 @@ input_of setup k (given.Packet packet) = Delivery (packet_of packet)
 input_of setup k (given.Request account request) = requested setup k account request
 input_of setup k (given.Grant id) = Grant (known_slot k id)
 input_of setup k (given.Answered slot outcome) = Response slot (outcome_kept outcome)
+input_of setup k (given.Tick moment up) = Tick moment (is_up up.items)
 
 -- why it is refused
 abbrev pub refused_by : Setup → Kept → Given → Option StepFault
@@ -68,6 +70,7 @@ refused_by setup k (given.Packet packet) = None
 refused_by setup k (given.Request account request) = None
 refused_by setup k (given.Grant id) = option_map (λ refusal. faults.Grant (reason_of refusal)) (grant_refusal setup k id)
 refused_by setup k (given.Answered slot outcome) = if is_open k slot then None else Some faults.NotGranted
+refused_by setup k (given.Tick moment up) = None
 
 -- a step that is not refused fails for want of memory alone
 abbrev pub IsFault : Option StepFault → StepFault → Type 0

@@ -1,16 +1,17 @@
 -- What a tick makes of one message, and of several.
 use Rattle.std.specs.Prelude.{◌≡◌, ℕ, pred, Bool, true, false, List, [], ◌∷◌, ◌++◌, map, Option, Some, None, option_map, if◌then◌else◌}
 use Rattle.std.specs.Box.{box_value}
-use Rattle.std.specs.Map.{keys_of}
 use Rattle.mc_model.specs.synod.Lists.{In}
 use Rattle.mc_model.specs.synod.Packet.{Slot, slot_at}
 use Rattle.mc_model.specs.node.FirstRule.{Close, Delete, Expire, Follow, GiveUp, Lose, Rule, Take, Try, Undeliver}
 use Rattle.mc_model.specs.node.Setup.{Setup}
 use Rattle.node_model.specs.Kept.{Held, Kept, message_at, with_message}
 use Rattle.node_model.specs.Proposer.{Prepared, Start}
-use Rattle.node_model.specs.Rules.{Fitting}
-use Rattle.node_model.specs.Ticks.{ids_of, ruled_each, ticked}
+use Rattle.node_model.specs.Rules.{Fitting, first_rule}
+use Rattle.node_model.specs.Ticks.{ruled, ruled_each, ticked}
+use Rattle.requests.specs.Queues.{timely}
 use Rattle.requests.specs.Submits.{AreNumberedBy}
+use Rattle.requests.specs.Waiting.{held_in}
 use Rattle.rules.specs.Standpoints.{start_of}
 use Rattle.rules.specs.declared.standpoint.Standpoint.{Standpoint}
 use Rattle.synod_acceptor.specs.Packets.{packet_of}
@@ -21,9 +22,9 @@ use Rattle.node_core.specs.declared.ruling.Ruling.{Ruling}
 use Rattle.node_core.specs.declared.step.Put.{Put}
 use Rattle.node_core.specs.declared.turn.Turn.{Turn}
 use Rattle.node_core.specs.declared.turn_list.TurnList.{TurnList}
-use Rattle.node_core.specs.Keeping.{AreOf, filed_as, kept_of, records_of}
+use Rattle.node_core.specs.Keeping.{AreOf, IsTaken, filed_as, kept_of, records_of}
 use Rattle.node_core.specs.Lists.{listed}
-use Rattle.node_core.specs.Messages.{IsOfSame, message_of, rested}
+use Rattle.node_core.specs.Messages.{IsOf, IsOfSame, message_of, rested}
 use Rattle.node_core.specs.Steps.{entries_after, rested_entry}
 
 -- A node at this standpoint, at which these requests wait, that keeps this of a message, of which no round runs.
@@ -91,6 +92,10 @@ pub record IsTurned (k : Holding) (clock : ℕ) (up : List ℕ → Bool) (ids : 
   pub own : AreOf k.setup k.incarnation (entries_turned k turns)
   pub only : (id : ℕ) → In id (ids_turned turns) → In id ids
 
--- the messages that a tick at this clock goes over are those that are kept
-abbrev pub AsksOfKept : Holding → ℕ → Type 0
-AsksOfKept k clock = ids_of (ticked (kept_of k) clock) ≡ keys_of k.messages.entries
+-- a tick makes this of the message of one id
+pub record IsTurnOf (k : Holding) (id : ℕ) (s : Standpoint) (up : List ℕ → Bool) (turn : Option Turn) : Type 0 where
+  pub from : Filed
+  pub taken : IsTaken k id from
+  pub same : IsOfTurn id from turn
+  pub turned_is : (setup : Setup) (kept : Kept) → IsAtRest setup kept (timely s.clock (held_in k.queue)) id from s →
+      IsOf setup.node kept.incarnation setup.nodes id from → turned kept id turn ≡ ruled setup kept id (first_rule setup kept up id)

@@ -6,7 +6,7 @@ ghost use Rattle.synod_acceptor.specs.Packets.{packet_of};
 
 use delivery::Outcome;
 use desk::Request;
-use mc_types::{MsgId, NodeNo, Slot};
+use mc_types::{Moment, MsgId, NodeNo, Slot};
 use pdu_codec::Text;
 use synod_acceptor::Packet;
 
@@ -21,6 +21,8 @@ pub enum Input {
     Grant(MsgId),
     /// What came of the attempt in a slot.
     Answered(Slot, Outcome),
+    /// Time passes: the moment, and the accounts of which a session may receive.
+    Tick(Moment, Vec<Text<16>>),
 }
 
 /// The node that sent a packet, as the packet says.

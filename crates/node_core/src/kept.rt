@@ -104,8 +104,8 @@ impl Kept {
         Ok(())
     }
 
-    /// The step that an input leads to. It changes nothing, and copies what is kept of the input's message alone. A refusal comes before
-    /// any memory is taken.
+    /// The step that an input leads to. It changes nothing, and copies what is kept of the input's message alone, or of those that a tick
+    /// does not leave as they are. A refusal comes before any memory is taken.
     pub fn step(&self, input: Input) -> Result<Step, StepFault>
         requires { AreOwn self.now }
         ensures ok { IfOk result (IsStepFor self.now input) }
@@ -122,6 +122,10 @@ impl Kept {
             }
             Input::Grant(id) => self.on_grant(id),
             Input::Answered(slot, outcome) => self.on_answered(slot, outcome),
+            Input::Tick(moment, up) => {
+                let step = self.on_tick(moment, &up)?;
+                Ok(step)
+            }
         }
     }
 

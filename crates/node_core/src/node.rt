@@ -61,9 +61,10 @@ impl<S: StableStore> Node<S> {
         }
     }
 
-    /// Prepares what the node does with an input. It changes nothing, and copies what is kept of the message of the input alone. Broken
-    /// exactly if a save failed before; else Grant exactly if an attempt is asked for that is not granted, with the first reason that
-    /// fits, and NotGranted exactly if what came of an attempt comes that is not open. Each comes before any memory is taken.
+    /// Prepares what the node does with an input. It changes nothing, and copies what is kept of the message of the input alone, or of
+    /// those that a tick does not leave as they are. Broken exactly if a save failed before; else Grant exactly if an attempt is asked for
+    /// that is not granted, with the first reason that fits, and NotGranted exactly if what came of an attempt comes that is not open. Each
+    /// comes before any memory is taken; a tick is never refused.
     pub fn prepare_step(&self, input: Input) -> Result<Pending, StepFault>
         ensures ok { IfOk result (IsAwaited self.now input) }
         ensures broken { IsErrOf result Broken ↔ (self.now.broken ≡ true) }

@@ -1,19 +1,12 @@
-use Rattle.std.proofs.Common.{◌≡◌, ◌++◌, ℕ, List, length, map, max, refl, sym, subst, ap, ◌∙◌, rules}
-use Rattle.std.specs.Prelude.{filter}
-use Rattle.node_model.specs.Ticks.{asked_again, is_late, late_reply, ticked}
+use Rattle.std.proofs.Common.{◌≡◌, length, map, max, refl, ap, ◌∙◌, rules}
 use Rattle.requests.specs.Replying.{reply_given}
-use Rattle.requests.specs.Waiting.{held_in}
 use Rattle.rules.specs.Dues.{is_up}
 use Rattle.synod_acceptor.specs.Packets.{packet_of}
-use Rattle.synod_acceptor.specs.declared.packet.Packet.{Packet}
-use Rattle.node_core.specs.Keeping.{kept_of}
-use Rattle.node_core.specs.Ticking.{IsTurned}
-use Rattle.node_core.specs.declared.queue_change.QueueChange.TheVariants as changes
 use Rattle.node_core.proofs.TickSteps.{room_serves, ticked_at}
 use Rattle.node_core.proofs.kept.Kept.on_tick.Goals as goal
 
 pub returns : goal.returns
-returns c asks =
+returns c =
     let k = c.args.self.now in
     let clock : c.max-clock.result ≡ max k.clock c.args.moment = search rules in
     let turns = c.in_ok-turns.turns in
@@ -37,4 +30,4 @@ returns c asks =
       granted = c.telling.ensures.granted;
       change = refl;
     })
-    c.in_ok-turns.ensures asks
+    c.in_ok-turns.ensures

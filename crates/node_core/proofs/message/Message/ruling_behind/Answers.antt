@@ -1,4 +1,4 @@
-use Rattle.std.proofs.Common.{◌≡◌, ◌∙◌, Bool, Some, sym, ap, subst}
+use Rattle.std.proofs.Common.{◌≡◌, ◌∙◌, Some, sym, ap, subst}
 use Rattle.std.specs.List.{list_any}
 use Rattle.mc_model.specs.message.Submission.{Submission}
 use Rattle.mc_model.specs.message.Chain.{taken_in}
@@ -7,7 +7,7 @@ use Rattle.requests.specs.Queues.{timely}
 use Rattle.requests.specs.Waiting.{held_in}
 use Rattle.rules.specs.Dues.{IsDueBehind, is_up}
 use Rattle.rules.specs.declared.attempted.Attempted.{Attempted}
-use Rattle.node_core.proofs.Ticks.{nothing_behind, ruled_behind}
+use Rattle.node_core.proofs.Ticks.{ruled_behind}
 use Rattle.node_core.proofs.message.Message.ruling_behind.Goals as goal
 
 pub returns-clause-rule : goal.returns-clause-rule

@@ -21,3 +21,12 @@ returns-in-Err-Device-clause-device g c = λ device.
           (c.self.invariant.saved works) c.in-Err-Device.ensures.device;
       started = c.save.ensures.started;
     })
+
+pub returns-clause-broken : goal.returns-clause-broken
+returns-clause-broken g c = search rules
+
+pub returns-clause-memory : goal.returns-clause-memory
+returns-clause-memory g c = search rules
+
+pub returns-clause-device : goal.returns-clause-device
+returns-clause-device g c = search rules
