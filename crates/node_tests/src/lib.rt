@@ -10,4 +10,6 @@ mod opening;
 #[cfg(test)]
 mod packets;
 #[cfg(test)]
+mod ticks;
+#[cfg(test)]
 mod values;
