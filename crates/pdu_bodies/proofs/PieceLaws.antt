@@ -1,5 +1,5 @@
 -- Bodies that have addresses are read piece after piece.
-use Rattle.std.proofs.Common.{◌≡◌, ℕ, List, ◌++◌, Result, Ok, Err, refl, sym, ap, ◌∙◌}
+use Rattle.std.proofs.Common.{◌≡◌, ℕ, List, ◌++◌, Result, Ok, ap, ◌∙◌}
 use Rattle.octet_fields.specs.Kinds.{join}
 use Rattle.octet_fields.specs.Reading.{content_at, told, nothing_at}
 use Rattle.octet_fields.specs.Texts.{IsOctets}
@@ -9,7 +9,6 @@ use Rattle.pdu_fields.specs.declared.fault.PduFault.{PduFault}
 use Rattle.pdu_fields.specs.declared.fault.PduFault.TheVariants.{Extra}
 use Rattle.pdu_fields.specs.Grammar.{Parts, Contents, AreWithin, ◌>>=◌, contents_at, front_at, text, source_parts, destination_parts, envelope_parts, handling_parts, text_parts, message_parts, cancel_parts}
 use Rattle.pdu_fields.specs.Addresses.{address_at, source_at, destination_at}
-use Rattle.pdu_fields.specs.Handling.{class_parts, times_parts, flags_parts, handling_at}
 use Rattle.pdu_bodies.specs.Pieces.{envelope_at, message_at}
 use Rattle.pdu_bodies.specs.Pieces.{cancelled_parts, cancel_at}
 
@@ -17,21 +16,6 @@ envelope-in_pieces : (octets : List ℕ) → front_at envelope_parts octets ≡ 
 unfolding address_at envelope_at
 envelope-in_pieces octets =
     bind-same (told (text ServiceType 6).fault (content_at (text ServiceType 6).kind octets)) (λ x. front_at (source_parts ++ destination_parts) x.1 >>= λ y. Ok ((x.0, y.0), y.1)) (λ x. source_at x.1 >>= λ y. destination_at y.1 >>= λ z. Ok ((x.0, join source_parts destination_parts y.0 z.0), z.1)) (λ x. front_at-join source_parts destination_parts x.1 (λ y. Ok ((x.0, y.0), y.1)))
-
-bind-ok : {A E : Type 0} (r : Result A E) → (r >>= λ x. Ok x) ≡ r
-bind-ok (Ok x) = refl
-bind-ok (Err e) = refl
-
-handling-in_pieces : (octets : List ℕ) → front_at handling_parts octets ≡ handling_at octets
-unfolding handling_at
-handling-in_pieces octets =
-    sym (bind-ok (front_at handling_parts octets))
-    ∙ front_at-join class_parts (times_parts ++ flags_parts) octets (λ x. Ok x)
-    ∙ bind-same (front_at class_parts octets)
-    (λ x. front_at (times_parts ++ flags_parts) x.1 >>= λ y. Ok (join class_parts (times_parts ++ flags_parts) x.0 y.0, y.1))
-    (λ x. front_at times_parts x.1 >>= λ y. front_at flags_parts y.1
-    >>= λ z. Ok (join class_parts (times_parts ++ flags_parts) x.0 (join times_parts flags_parts y.0 z.0), z.1))
-    (λ x. front_at-join times_parts flags_parts x.1 (λ y. Ok (join class_parts (times_parts ++ flags_parts) x.0 y.0, y.1)))
 
 -- what stands behind the envelope and the handling
 abbrev behind : Contents envelope_parts × List ℕ → Contents handling_parts × List ℕ → Result (Contents message_parts) PduFault
@@ -44,8 +28,6 @@ unfolding message_at
 message-in_pieces octets =
     contents_at-join Extra envelope_parts handling_parts text_parts octets
     ∙ ap (λ (r : Result (Contents envelope_parts × List ℕ) PduFault). r >>= λ x. front_at handling_parts x.1 >>= behind x) (envelope-in_pieces octets)
-    ∙ bind-same (envelope_at octets) (λ x. front_at handling_parts x.1 >>= behind x) (λ x. handling_at x.1 >>= behind x)
-    (λ x. ap (λ (r : Result (Contents handling_parts × List ℕ) PduFault). r >>= behind x) (handling-in_pieces x.1))
 
 pub cancel-in_pieces : (octets : List ℕ) → contents_at cancel_parts octets ≡ cancel_at octets
 unfolding address_at cancel_at

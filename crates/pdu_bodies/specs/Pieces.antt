@@ -10,7 +10,7 @@ use Rattle.pdu_bodies.specs.declared.cancel.CancelOctets.{CancelOctets}
 use Rattle.pdu_bodies.specs.declared.message.Envelope.{Envelope}
 use Rattle.pdu_bodies.specs.declared.message.MessageOctets.{MessageOctets}
 use Rattle.pdu_bodies.specs.declared.message.Parties.{Parties}
-use Rattle.pdu_fields.specs.Handling.{handling_contents, handling_at}
+use Rattle.pdu_fields.specs.Handling.{handling_contents}
 use Rattle.pdu_fields.specs.Addresses.{address_contents, source_at, destination_at}
 use Rattle.pdu_fields.specs.Grammar.{Parts, Contents, ◌>>=◌, text, source_parts, destination_parts, envelope_parts, handling_parts}
 use Rattle.pdu_fields.specs.Grammar.{text_parts, message_parts, bind_parts, cancel_parts, front_at}
@@ -48,7 +48,7 @@ envelope_at octets =
 
 unfoldable pub message_at : List ℕ → Result (Contents message_parts) PduFault
 message_at octets =
-    envelope_at octets >>= λ x. handling_at x.1 >>= λ y. front_at text_parts y.1 >>= λ z. nothing_at Extra z.1
+    envelope_at octets >>= λ x. front_at handling_parts x.1 >>= λ y. front_at text_parts y.1 >>= λ z. nothing_at Extra z.1
     >>= λ _. Ok (join envelope_parts (handling_parts ++ text_parts) x.0 (join handling_parts text_parts y.0 z.0))
 
 -- of a cancel_sm what stands in front of the addresses

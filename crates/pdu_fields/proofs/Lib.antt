@@ -1,2 +1,3 @@
 pub mod Optional
 pub mod Runs
+pub mod Handling

@@ -1,7 +1,7 @@
 //! How a message is to be handled, as it stands in octets.
 
-ghost use Rattle.pdu_fields.specs.Grammar.{IsRead};
-ghost use Rattle.pdu_fields.specs.Handling as spec;
+ghost use Rattle.pdu_fields.specs.Grammar.{IsRead, front_at, handling_parts};
+ghost use Rattle.pdu_fields.specs.Handling.{handling_contents};
 
 use crate::fault::{Field, PduFault};
 use crate::fields::{octets_at, text_at};
@@ -31,9 +31,8 @@ pub struct HandlingOctets<'a> {
 }
 
 /// How a message is to be handled, at the front of octets, and the octets behind it. It takes no memory.
-#[tactic(auto, unfolding(crate::specs::Handling::handling_at))]
 pub fn handling_at(octets: &[u8]) -> Result<(HandlingOctets<'_>, &[u8]), PduFault>
-    ensures { IsRead (λ x. (spec.handling_contents x.0, x.1.now)) result (spec.handling_at octets.now) }
+    ensures { IsRead (λ x. (handling_contents x.0, x.1.now)) result (front_at handling_parts octets.now) }
 {
     let class = [Field::EsmClass, Field::ProtocolId, Field::PriorityFlag];
     let ([esm_class, protocol_id, priority_flag], rest) = octets_at(class, octets)?;
