@@ -1,5 +1,5 @@
 -- The step of a tick is the model's.
-use Rattle.std.proofs.Common.{◌≡◌, ℕ, ◌≤◌, ◌-◌, max, true, Bool, List, [], length, map, None, Option, sym, ap, subst, ◌∙◌, inl, inr, arith}
+use Rattle.std.proofs.Common.{◌≡◌, ℕ, suc, ◌≤◌, ◌-◌, max, true, Bool, List, [], length, map, None, Option, sym, ap, subst, ◌∙◌, inl, inr, arith}
 use Rattle.std.proofs.Math.Path.{fun_ext}
 use Rattle.std.specs.Prelude.{◌++◌, filter, option_map}
 use Rattle.mc_model.specs.synod.Packet.{Packet, Slot}
@@ -9,6 +9,7 @@ use Rattle.node_model.specs.Outputs.{nothing}
 use Rattle.node_model.specs.Proposer.{Prepared}
 use Rattle.node_model.specs.Ticks.{asked_again, ids_of, is_late, late_reply, on_tick, ticked}
 use Rattle.requests.specs.Queues.{timely}
+use Rattle.pdu_tables.specs.StatusCodes.{status_code}
 use Rattle.requests.specs.Replying.{reply_given}
 use Rattle.requests.specs.Waiting.{held_in}
 use Rattle.shelf.specs.Shelved.{Serves, Shelved}
@@ -38,12 +39,13 @@ room_serves shelf puts room (inr more) = let had = more.0 in omega (arith, had)
 pub record IsTickStep (k : Holding) (clock : ℕ) (turns : TurnList) (step : Step) : Type 0 where
   pub clock_is : step.next.clock ≡ clock
   pub serial : step.next.serial ≡ k.serial
-  pub ticket : step.next.ticket ≡ k.ticket
+  pub given : step.next.given ≡ k.given
   pub drops : step.next.drops_rounds ≡ true
   pub queue : step.next.queue ≡ changes.Expire clock
   pub messages : step.next.messages.items ≡ turns.messages.items
   pub room : HasRoom k.messages step.next
-  pub ticket_given : step.outputs.ticket ≡ None
+  pub ticket : step.outputs.ticket ≡ None
+  pub refused : step.outputs.refused ≡ None
   pub packets : map packet_of step.outputs.packets.items ≡ asked_again k.setup (ticked (kept_of k) clock) ++ map packet_of turns.packets.items
   pub replies : map reply_given step.outputs.replies.items ≡ map late_reply (filter (is_late clock) (held_in k.queue))
   pub receipts : step.outputs.receipts.items ≡ []
@@ -69,7 +71,7 @@ module _ (k : Holding) (moment : ℕ) (up : List ℕ → Bool) (turns : TurnList
     records = fun_ext saved_then i;
     clock = is.clock_is i;
     serial = is.serial i;
-    ticket = is.ticket i;
+    ticket = suc (is.given i);
     held = held_is i;
     messages = map filed_as (entries_then i);
   }
@@ -82,7 +84,8 @@ module _ (k : Holding) (moment : ℕ) (up : List ℕ → Bool) (turns : TurnList
 
   outputs_then : outputs_of step.outputs ≡ given (map packet_of turns.packets.items)
   outputs_then = λ i. record nothing {
-    ticket = is.ticket_given i;
+    ticket = is.ticket i;
+    refused = option_map status_code (is.refused i);
     packets = is.packets i;
     replies = is.replies i;
     receipts = map receipt_of (is.receipts i);
@@ -96,8 +99,9 @@ module _ (k : Holding) (moment : ℕ) (up : List ℕ → Bool) (turns : TurnList
     saves = λ slot. saved_then slot ∙ sym (ap (λ (change : Option Change). changed_by change (records_of k.messages.entries) slot) is.change);
     own = λ own. record {
       each = subst (AreOf k.setup k.incarnation) (sym entries_then) turned.own;
-      asked = subst (λ (held : List Held). AreAsked k.setup.node k.incarnation step.next.ticket held) (sym held_is)
-          (subst (λ (ticket : ℕ). AreAsked k.setup.node k.incarnation ticket (timely Clock (held_in k.queue))) (sym is.ticket) (asked_timely k Clock own));
+      asked = subst (λ (held : List Held). AreAsked k.setup.node k.incarnation (suc step.next.given) held) (sym held_is)
+          (subst (λ (ticket : ℕ). AreAsked k.setup.node k.incarnation ticket (timely Clock (held_in k.queue))) (sym (ap suc is.given)) (asked_timely k Clock own));
+      serial = subst (λ (n : ℕ). 1 ≤ n) (sym is.serial) own.serial;
     };
     room = is.room;
     place = subst (HasPlace k.queue) (sym is.queue) tt;

@@ -147,8 +147,8 @@ none_turned k clock up turns own messages packets =
 
 -- ---- the requests that wait then
 
-pub asked_timely : (k : Holding) (clock : ℕ) → AreOwn k → AreAsked k.setup.node k.incarnation k.ticket (timely clock (held_in k.queue))
-asked_timely k clock own = asked_kept k.setup.node k.incarnation k.ticket (λ h. not (is_late clock h)) (held_in k.queue) own.asked
+pub asked_timely : (k : Holding) (clock : ℕ) → AreOwn k → AreAsked k.setup.node k.incarnation (suc k.given) (timely clock (held_in k.queue))
+asked_timely k clock own = asked_kept k.setup.node k.incarnation (suc k.given) (λ h. not (is_late clock h)) (held_in k.queue) own.asked
 
 -- ---- one more message
 

@@ -49,6 +49,7 @@ impl Outputs {
     /// These packets and replies. It takes no memory.
     pub(crate) fn telling(alloc: Global, packets: Vec<Packet>, replies: Vec<Reply>) -> Outputs
         ensures ticket { result.ticket ≡ None }
+        ensures refused { result.refused ≡ None }
         ensures packets { result.packets ≡ packets }
         ensures replies { result.replies ≡ replies }
         ensures receipts { result.receipts.items ≡ [] }
@@ -56,6 +57,7 @@ impl Outputs {
     {
         Outputs {
             ticket: None,
+            refused: None,
             packets,
             replies,
             receipts: Vec::new(alloc),

@@ -18,12 +18,13 @@ returns c =
     (record {
       clock_is = refl;
       serial = same.serial;
-      ticket = same.ticket;
+      given = same.given;
       drops = refl;
       queue = refl;
       messages = refl;
       room = room_serves k.messages turns.messages.items c.in_ok-room.room (rw many at c.in_ok-room.ensures.serves);
-      ticket_given = c.telling.ensures.ticket;
+      ticket = c.telling.ensures.ticket;
+      refused = c.telling.ensures.refused;
       packets = packets;
       replies = replies;
       receipts = c.telling.ensures.receipts;
