@@ -2,7 +2,7 @@
 
 use crate::values::node;
 use desk::Request;
-use mc_types::TypeFault;
+use mc_types::{Moment, TypeFault};
 use node_core::{Input, Node, Outputs, Setup, open_node};
 use pdu_codec::{Body, Text, decode};
 use pdu_tables::Status;
@@ -66,6 +66,7 @@ enum Said {
     Shown,
     Removed,
     Unknown,
+    TooLate,
     Other,
 }
 
@@ -75,6 +76,7 @@ fn word_of(reply: &Reply) -> Said {
         Answer::Shown(_) => Said::Shown,
         Answer::Removed(_) => Said::Removed,
         Answer::Unknown => Said::Unknown,
+        Answer::TooLate => Said::TooLate,
         _ => Said::Other,
     }
 }
@@ -171,5 +173,25 @@ fn a_node_is_one_of_its_cluster(rt: HostRuntime) -> Result<(), Fail> {
         Setup::make(node(1)?, 1, 100000, 172800).err(),
         Some(TypeFault::OutOfRange)
     );
+    Ok(())
+}
+
+// A tick so many seconds after the start of 2000.
+fn tick(alloc: Global, seconds: u32) -> Result<Input, Fail> {
+    Ok(Input::Tick(Moment::make(946684800 + seconds)?, Vec::new(alloc)))
+}
+
+#[test]
+fn a_request_is_asked_of_again_and_answered_after_30_seconds(rt: HostRuntime) -> Result<(), Fail> {
+    let mut node = alone(rt.alloc())?;
+    let outputs = stepped(&mut node, request(rt.alloc(), QUERY, true)?)?;
+    assert_eq!(rt; outputs.ticket, Some(1));
+    let outputs = stepped(&mut node, tick(rt.alloc(), 29)?)?;
+    assert_eq!(rt; outputs.replies.len(), 0);
+    assert_eq!(rt; outputs.packets.len(), 1);
+    assert!(rt; matches!(outputs.packets.first(), Some(Packet::Ask { .. })));
+    let outputs = stepped(&mut node, tick(rt.alloc(), 30)?)?;
+    assert_eq!(rt; outputs.packets.len(), 0);
+    assert_eq!(rt; outputs.replies.first().map(word_of), Some(Said::TooLate));
     Ok(())
 }
