@@ -177,8 +177,8 @@ fn a_node_is_one_of_its_cluster(rt: HostRuntime) -> Result<(), Fail> {
 }
 
 // A tick so many seconds after the start of 2000.
-fn tick(alloc: Global, seconds: u32) -> Result<Input, Fail> {
-    Ok(Input::Tick(Moment::make(946684800 + seconds)?, Vec::new(alloc)))
+fn tick(alloc: Global, seconds: u16) -> Result<Input, Fail> {
+    Ok(Input::Tick(Moment::make(946684800 + seconds as u32)?, Vec::new(alloc)))
 }
 
 #[test]
