@@ -75,7 +75,7 @@ is_covered None (Some told) place reached has = absurd reached
 is_covered (Some chain) (Some told) place reached has = omega (arith, reached, has)
 
 -- what the node knows is not shorter than what was chosen before the request came
-covered : (before w : World) → (name : Name) (id : ℕ) → Fresh before name id w → w.nodes ≡ before.nodes → Holds w → (node : ℕ) (chain : List Decree) → Chosen before id chain → (known : Option (List Decree)) → IsSettled w.nodes (w.actors node).received name known → Covers known (pred (length chain))
+pub covered : (before w : World) → (name : Name) (id : ℕ) → Fresh before name id w → w.nodes ≡ before.nodes → Holds w → (node : ℕ) (chain : List Decree) → Chosen before id chain → (known : Option (List Decree)) → IsSettled w.nodes (w.actors node).received name known → Covers known (pred (length chain))
 covered before w name id fresh same h node chain chosen known settled =
     let b = both w.nodes (λ acceptor. In (cast acceptor (slot_of id chain) (vote_at chosen.ballot chain)) before.votes) (HasTold (w.actors node).received name) (subst (λ (n : ℕ). Majority n (λ acceptor. In (cast acceptor (slot_of id chain) (vote_at chosen.ballot chain)) before.votes)) (sym same) chosen.chosen) settled.majority in
     is_covered known b.other.told (pred (length chain)) (settled.reached b.node b.other.told b.other.heard) (fresh.tells b.node b.other.told (h.keeps.received node _ b.other.heard) (pred (length chain)) (vote_at chosen.ballot chain) b.one)
@@ -91,7 +91,7 @@ pub record IsSeen (nodes node : ℕ) (a : Actor) (w : Waiting) (chain : List Dec
   pub known : Knows nodes a.received (id_in w.request) chain
   pub settled : IsSettled nodes a.received (name_of node a w) (Some chain)
 
-shown_settled : (nodes node : ℕ) (a : Actor) (w : Waiting) (request : Request) (chain : List Decree) → FitsRequest nodes node a w request (Shown chain) → IsSeen nodes node a w chain
+pub shown_settled : (nodes node : ℕ) (a : Actor) (w : Waiting) (request : Request) (chain : List Decree) → FitsRequest nodes node a w request (Shown chain) → IsSeen nodes node a w chain
 shown_settled nodes node a w (Query id account source) chain fits = record { known = fits.known; settled = fits.settled }
 shown_settled nodes node a w (Submit id message) chain fits = absurd fits
 shown_settled nodes node a w (Cancel id account source destination) chain fits = absurd fits

@@ -70,14 +70,15 @@ fates_same w h id one other first second is_one is_other ends_one ends_other lon
     let both : Some first ≡ Some second = sym ends_one ∙ ap final_in (sym same) ∙ ends_other in
     cc
 
+pub chosen_fates_same : (w : World) → Holds w → (id : ℕ) (one other : List Decree) (first second : Final) → Chosen w id one → Chosen w id other → final_in one ≡ Some first → final_in other ≡ Some second → first ≡ second
+chosen_fates_same w h id one other first second is_one is_other ends_one ends_other = elim (cases_lt (length one) (length other)) [
+  | inl shorter ↦ fates_same w h id one other first second is_one is_other ends_one ends_other (omega (arith, shorter))
+  | inr longer ↦ sym (fates_same w h id other one second first is_other is_one ends_other ends_one longer)
+]
+
 pub one_fate : (w : World) → Holds w → (one other : Deed) (id : ℕ) (first second : Final) → In one w.past → In other w.past → States one id first → States other id second → first ≡ second
 one_fate w h one other id first second in_one in_other s t =
-    let is_one = h.told.chosen one id s.chain in_one s.tells in
-    let is_other = h.told.chosen other id t.chain in_other t.tells in
-    elim (cases_lt (length s.chain) (length t.chain)) [
-      | inl shorter ↦ fates_same w h id s.chain t.chain first second is_one is_other s.state t.state (omega (arith, shorter))
-      | inr longer ↦ sym (fates_same w h id t.chain s.chain second first is_other is_one t.state s.state longer)
-    ]
+    chosen_fates_same w h id s.chain t.chain first second (h.told.chosen one id s.chain in_one s.tells) (h.told.chosen other id t.chain in_other t.tells) s.state t.state
 
 -- ---- deeds in their order
 

@@ -29,7 +29,8 @@ use Rattle.node_model.specs.Ticks.{question}
 use Rattle.node_laws.specs.Stands.{IsHeld}
 use Rattle.node_laws.proofs.Held.{kept_as, waits_among}
 use Rattle.node_laws.proofs.Learning.{majority_decides}
-use Rattle.node_laws.proofs.Orders.{Ascend, acts_fall, ascend_filter, filter_in, filter_passes, in_mapped, in_reverse, mapped_in, reverse_in}
+use Rattle.node_laws.proofs.Orders.{Ascend, acts_fall, ascend_filter, in_mapped, in_reverse, mapped_in, reverse_in}
+use Rattle.node_model.proofs.Filters.{filter_in, filter_passes}
 use Rattle.node_laws.proofs.Runs.{did_more, packets_more, reached_more, receipts_more, replies_more, run_more, saved_more}
 
 abbrev pub ask_act : Held → Act

@@ -31,7 +31,8 @@ use Rattle.node_laws.specs.Steps.{IsAtWork, StepsAs}
 use Rattle.node_laws.proofs.AsideSteps.{none_due, none_due_once}
 use Rattle.node_laws.proofs.Deciding.{IsCalm, known_for, quiet_of}
 use Rattle.node_laws.proofs.Hearing.{received}
-use Rattle.node_laws.proofs.Orders.{filter_passes, in_mapped}
+use Rattle.node_laws.proofs.Orders.{in_mapped}
+use Rattle.node_model.proofs.Filters.{filter_passes}
 use Rattle.node_laws.proofs.Replied.{replied_agrees, replies_due, replies_lead, replies_of, replies_out, replies_packets, replies_receipts, replies_run}
 use Rattle.node_laws.proofs.Replied.{reply_acts, waits_on}
 use Rattle.node_laws.proofs.Runs.{packets_more, reached_actor, reached_more, receipts_more, replies_more, run_more, saved_more}

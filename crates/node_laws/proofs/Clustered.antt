@@ -124,3 +124,15 @@ module _ (cluster : Cluster) where
       let before = clustered inputs may.4 in
       let step = whole_steps (setup_of cluster next.node) may.0 ((kept_reached cluster inputs).kept next.node) (alone_at next.node (acts_in before.steps)) (before.stands next.node) next.input may.1 may.2 in
       goes_on inputs before next step may.3
+
+  -- with one input more it takes one step more
+  pub record OneMore (next : NodeInput) (inputs : List NodeInput) (may : MayHappen cluster (next ∷ inputs)) : Type 0 where
+    pub acts : List Act
+    pub steps : (clustered (next ∷ inputs) may).steps ≡ record { node = next.node; input = next.input; acts = acts } ∷ (clustered inputs may.4).steps
+
+  pub one_more : (next : NodeInput) (inputs : List NodeInput) (may : MayHappen cluster (next ∷ inputs)) → OneMore next inputs may
+  unfolding clustered goes_on
+  one_more next inputs may =
+      let before = clustered inputs may.4 in
+      let step = whole_steps (setup_of cluster next.node) may.0 ((kept_reached cluster inputs).kept next.node) (alone_at next.node (acts_in before.steps)) (before.stands next.node) next.input may.1 may.2 in
+      record { acts = step.acts; steps = refl }

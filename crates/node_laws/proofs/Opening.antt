@@ -8,6 +8,8 @@ use Rattle.std.specs.BTreeMap.{is_at}
 use Rattle.std.specs.Option.{unwrap_or}
 use Rattle.std.specs.List.Sorted.{IsStrictlySortedBy}
 use Rattle.std.proofs.lemmas.Bool.{true≢false}
+use Rattle.std.proofs.lemmas.Bool.Decides.{nat_tests}
+use Rattle.std.proofs.lemmas.List.Kept.{IsStrictlySortedBy-filter}
 use Rattle.mc_model.specs.message.Decree.{Decree}
 use Rattle.mc_model.specs.message.Ids.{IsIncarnation}
 use Rattle.mc_model.specs.synod.Acceptor.{Records, SlotRecord, blank}
@@ -22,10 +24,15 @@ use Rattle.mc_model.specs.node.Phases.{DueToAsk, DueToPrepare, DueToPropose, Due
 use Rattle.mc_model.specs.node.Rounds.{IsRunning}
 use Rattle.mc_model.specs.node.Setup.{Setup}
 use Rattle.mc_parts.proofs.Learning.{none_learned}
-use Rattle.node_model.specs.Message.{Message, unseen}
+use Rattle.mc_model.specs.synod.Lists.{In}
+use Rattle.node_model.specs.Message.{Message, most_places, unseen}
 use Rattle.node_model.specs.Kept.{Kept}
+use Rattle.node_model.specs.Recorded.{has_record, named_places, recorded_in}
 use Rattle.node_model.specs.Outputs.{leaves}
 use Rattle.node_model.specs.Stepped.{opened_new, opened_over, restarted, stepped}
+use Rattle.node_model.proofs.Filters.{filter_in}
+use Rattle.node_model.proofs.Keys.{same_key}
+use Rattle.node_model.proofs.Recorded.{below_found}
 use Rattle.node_laws.specs.Stands.{IsMessage, IsPlaced, IsQuiet, Stands}
 use Rattle.node_laws.specs.Steps.{StepsAs}
 use Rattle.node_laws.proofs.AsideSteps.{none_due, none_due_once}
@@ -91,14 +98,33 @@ all_unseen (first ∷ others) id = by_test (is_at (nat_cmp id) first) (all_unsee
     by_test true rest = refl
     by_test false rest = rest
 
-listed_again : (id : ℕ) (es : List (ℕ × Message)) → IsSome (lookup (is_at (nat_cmp id)) es) → IsSome (lookup (is_at (nat_cmp id)) (map entry (keys_of es)))
-listed_again id [] some = some
-listed_again id (e ∷ es) some = by_test (is_at (nat_cmp id) e.0) (listed_again id es) some
+key_in : (id : ℕ) (es : List (ℕ × Message)) → IsSome (lookup (is_at (nat_cmp id)) es) → In id (keys_of es)
+key_in id [] some = absurd (true≢false (sym some))
+key_in id (e ∷ es) some = by_test (is_at (nat_cmp id) e.0) refl (key_in id es) some
   where
-    by_test : (test : Bool) → (IsSome (lookup (is_at (nat_cmp id)) es) → IsSome (lookup (is_at (nat_cmp id)) (map entry (keys_of es)))) →
-        IsSome (cond test (Some e.1) (lookup (is_at (nat_cmp id)) es)) → IsSome (cond test (Some unseen) (lookup (is_at (nat_cmp id)) (map entry (keys_of es))))
-    by_test true rest some = refl
-    by_test false rest some = rest some
+    by_test : (test : Bool) → is_at (nat_cmp id) e.0 ≡ test → (IsSome (lookup (is_at (nat_cmp id)) es) → In id (keys_of es)) →
+        IsSome (cond test (Some e.1) (lookup (is_at (nat_cmp id)) es)) → In id (keys_of (e ∷ es))
+    by_test true at rest some = inl (same_key id e.0 at)
+    by_test false apart rest some = inr (rest some)
+
+entry_listed : (ids : List ℕ) (id : ℕ) → In id ids → IsSome (lookup (is_at (nat_cmp id)) (map entry ids))
+entry_listed [] id none = absurd none
+entry_listed (first ∷ others) id among = by_test (is_at (nat_cmp id) first) refl (entry_listed others id) among
+  where
+    by_test : (test : Bool) → is_at (nat_cmp id) first ≡ test → (In id others → IsSome (lookup (is_at (nat_cmp id)) (map entry others))) →
+        In id (first ∷ others) → IsSome (cond test (Some unseen) (lookup (is_at (nat_cmp id)) (map entry others)))
+    by_test true at rest among = refl
+    by_test false apart rest (inl same) = absurd (true≢false (sym (grind (arith, nat_tests))))
+    by_test false apart rest (inr later) = rest later
+
+-- a message that has a vote is among those of which there is a record
+vote_listed : (k : Kept) (slot : Slot) (vote : Vote) → (k.records slot).vote ≡ Some vote → slot.place < most_places →
+    IsSome (lookup (is_at (nat_cmp slot.id)) k.messages) →
+    IsSome (lookup (is_at (nat_cmp slot.id)) (map entry (recorded_in k.records (keys_of k.messages))))
+vote_listed k slot vote voted within some =
+    entry_listed (recorded_in k.records (keys_of k.messages)) slot.id
+    (filter_in (λ id. has_record k.records id named_places) (keys_of k.messages) slot.id (key_in slot.id k.messages some)
+    (below_found k.records slot.id named_places slot.place (omega (arith, within)) (λ none. absurd (let no_vote = sym voted ∙ ap (λ (r : SlotRecord). r.vote) none in cc))))
 
 keys_are : (ids : List ℕ) → keys_of (map entry ids) ≡ ids
 keys_are [] = refl
@@ -217,10 +243,11 @@ restart_steps setup k s lost stands least most left = subst (StepsAs setup s (Re
   stands =
       subst (λ (incarnation : ℕ). Stands setup (restarted setup k lost) (node_over s.records (suc (incarnation + lost)) setup.first_serial))
       stands.agrees.incarnation
-      (stands_opened setup k.records s.records (keys_of k.messages) (suc (k.incarnation + lost)) setup.first_serial
+      (stands_opened setup k.records s.records (recorded_in k.records (keys_of k.messages)) (suc (k.incarnation + lost)) setup.first_serial
       (record { least = omega arith; most = let same = stands.agrees.incarnation in omega (arith, same, left) })
-      stands.agrees.records stands.agrees.ascends
-      (λ slot vote voted. listed_again slot.id k.messages (stands.agrees.listed slot vote voted)) stands.agrees.placed);
+      stands.agrees.records
+      (IsStrictlySortedBy-filter nat_cmp (λ id. has_record k.records id named_places) (keys_of k.messages) stands.agrees.ascends)
+      (λ slot vote voted. vote_listed k slot vote voted (stands.agrees.placed slot vote voted).1 (stands.agrees.listed slot vote voted)) stands.agrees.placed);
   outputs = refl;
 })
 

@@ -33,7 +33,8 @@ use Rattle.node_laws.proofs.Answered.{AnswerIs, answer_is, known_is}
 use Rattle.node_laws.proofs.Deciding.{answered_in, known_for, to_answer}
 use Rattle.node_laws.proofs.Cancelling.{match_decides}
 use Rattle.node_laws.proofs.Held.{IsKeptAs, kept_as, waits_among}
-use Rattle.node_laws.proofs.Orders.{Ascend, ascend_filter, ascend_from, fall_join, filter_in, in_append, in_mapped, increasing_from}
+use Rattle.node_laws.proofs.Orders.{Ascend, ascend_filter, ascend_from, fall_join, in_append, in_mapped, increasing_from}
+use Rattle.node_model.proofs.Filters.{filter_in}
 use Rattle.node_laws.proofs.Runs.{packets_more, reached_more, receipts_more, replies_more, run_more}
 use Rattle.node_laws.proofs.Waiting.{IsIdleKind, KeepsGround, StaysFree, agrees_waits, waits}
 

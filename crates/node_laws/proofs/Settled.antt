@@ -25,7 +25,8 @@ use Rattle.node_laws.specs.Stands.{Agrees, IsHeld}
 use Rattle.node_laws.specs.Steps.{IsAtWork}
 use Rattle.node_laws.proofs.Deciding.{known_for, settled_in, to_settle}
 use Rattle.node_laws.proofs.Held.{IsKeptAs, kept_as, waits_among}
-use Rattle.node_laws.proofs.Orders.{Ascend, acts_fall, ascend_filter, ascend_from, filter_in, filter_passes, in_mapped, in_reverse, mapped_in, reverse_in}
+use Rattle.node_laws.proofs.Orders.{Ascend, acts_fall, ascend_filter, ascend_from, in_mapped, in_reverse, mapped_in, reverse_in}
+use Rattle.node_model.proofs.Filters.{filter_in, filter_passes}
 use Rattle.node_laws.proofs.Runs.{did_more, packets_more, reached_more, receipts_more, replies_more, run_more, saved_more}
 use Rattle.node_laws.proofs.Waiting.{StaysFree, agrees_waits, waits}
 

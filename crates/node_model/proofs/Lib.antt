@@ -3,3 +3,7 @@ pub mod Records
 pub mod Told
 pub mod Heard
 pub mod Places
+pub mod Filters
+pub mod Recorded
+pub mod Keys
+pub mod Stops

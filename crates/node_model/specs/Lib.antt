@@ -15,4 +15,5 @@ pub mod Outputs
 pub mod Packets
 pub mod Ticks
 pub mod Attempts
+pub mod Recorded
 pub mod Stepped

@@ -8,6 +8,7 @@ use Rattle.mc_model.specs.node.Input.{Arrival, Crash, Delivery, Grant, Input, Re
 use Rattle.mc_model.specs.node.Setup.{Setup}
 use Rattle.node_model.specs.Message.{unseen}
 use Rattle.node_model.specs.Kept.{Kept, saved}
+use Rattle.node_model.specs.Recorded.{recorded_in}
 use Rattle.node_model.specs.Acceptor.{prepare_judged, propose_judged}
 use Rattle.node_model.specs.Outputs.{Stepped, leaves, nothing}
 use Rattle.node_model.specs.Packets.{is_member, on_packet}
@@ -33,7 +34,7 @@ opened_new setup = opened_over (λ slot. blank) [] 1 setup.first_serial
 
 -- all but its records is lost
 abbrev pub restarted : Setup → Kept → ℕ → Kept
-restarted setup k lost = opened_over k.records (keys_of k.messages) (suc (k.incarnation + lost)) setup.first_serial
+restarted setup k lost = opened_over k.records (recorded_in k.records (keys_of k.messages)) (suc (k.incarnation + lost)) setup.first_serial
 
 -- what a packet leaves, if the node stops once it has saved
 abbrev pub saved_by : Setup → Kept → Packet → Kept

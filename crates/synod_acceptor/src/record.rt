@@ -1,8 +1,9 @@
 //! The records of an acceptor.
 
-ghost use Rattle.std.specs.Prelude.{◌≡◌, ◌<◌, ◌⊎◌, ◌↔◌, None, IfOk, IsTrue};
-ghost use Rattle.mc_model.specs.synod.Acceptor.{after_vote};
+ghost use Rattle.std.specs.Prelude.{◌≡◌, ◌≢◌, ◌<◌, ◌⊎◌, ◌↔◌, None, IfOk, IsTrue};
+ghost use Rattle.mc_model.specs.synod.Acceptor.{after_vote, blank};
 ghost use Rattle.node_model.specs.Message.{most_places};
+ghost use Rattle.node_model.specs.Recorded.{named_places};
 ghost use Rattle.synod_acceptor.specs.Votes.{record_of, slot_in, slot_recorded, vote_of};
 
 use crate::vote::{Report, Vote};
@@ -29,6 +30,15 @@ impl Record {
         ensures place { ((record_of self.now).vote ≡ None) ⊎ (result.place < most_places) }
     {
         self.report.slot()
+    }
+
+    /// What a proof takes of it: something is promised in it, and its slot names a place. The call does nothing.
+    pub fn promises(&self)
+        ensures promised { record_of self.now ≢ blank }
+        ensures place { (slot_recorded self.now).place < named_places }
+    {
+        self.promised.number();
+        self.slot();
     }
 
     /// Whether it is the record that this vote leaves.
