@@ -2,14 +2,16 @@
 use Rattle.std.proofs.Common.{◌≡◌, ◌≤◌, suc, refl, sym, ap, subst, ◌∙◌, ℕ, List, [], ◌∷◌, map, Option, Some, None}
 use Rattle.std.proofs.lemmas.Bool.{true≢false}
 use Rattle.std.specs.Option.{option_map}
+use Rattle.std.specs.Map.{keys_of}
 use Rattle.mc_model.specs.synod.Packet.{Slot}
 use Rattle.mc_model.specs.synod.Acceptor.{Records}
 use Rattle.mc_model.specs.node.Setup.{Setup}
 use Rattle.node_model.specs.Message.{Message}
+use Rattle.node_model.specs.Recorded.{AreRecorded}
 use Rattle.fate_chain.specs.declared.decree.Author.{Author}
 use Rattle.requests.specs.Waiting.{held_in}
 use Rattle.shelf.specs.Shelved.{value_at}
-use Rattle.shelf.proofs.Visited.{value_visited, visited}
+use Rattle.shelf.proofs.Visited.{same_keys, value_visited, visited}
 use Rattle.synod_acceptor.specs.Records.{record_at}
 use Rattle.node_core.specs.declared.kept.Kept.{Kept as Holding}
 use Rattle.node_core.specs.declared.message.Message.{Message as Filed}
@@ -61,6 +63,7 @@ module _ (me : Author) where
     held = held ∙ is.held;
     kept = λ slot. ap (λ (es : List (ℕ × Filed)). records_of es slot) entries ∙ records_still old.messages.entries slot ∙ is.kept slot;
     fresh = subst AreUnseen (sym entries) (unseen_still old.messages.entries is.fresh);
+    listed = subst (λ (ids : List ℕ). AreRecorded records ids) (sym (ap keys_of entries ∙ same_keys (renewed me) old.messages.entries)) is.listed;
     own = record {
       each = subst (λ (es : List (ℕ × Filed)). AreOf new.setup new.incarnation es) (sym entries)
           (subst (λ (starts : ℕ). AreOf new.setup starts (all_renewed old.messages.entries)) (sym incarnation)

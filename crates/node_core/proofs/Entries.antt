@@ -2,7 +2,7 @@
 use Rattle.std.proofs.Common.{◌≡◌, ℕ, Bool, true, false, cond, List, [], ◌∷◌, map, Option, Some, refl, sym, ap, subst, ◌∙◌, inl, inr, arith}
 use Rattle.std.specs.Prelude.{◌==◌, option_map, if◌then◌else◌}
 use Rattle.std.specs.Map.{lookup}
-use Rattle.std.specs.Ordering.{is_eq, nat_cmp, match_ordering}
+use Rattle.std.specs.Ordering.{nat_cmp, match_ordering}
 use Rattle.std.specs.declared.cmp.Ordering.{Ordering}
 use Rattle.std.specs.declared.cmp.Ordering.TheVariants.{Less, Equal, Greater}
 use Rattle.std.specs.BTreeMap.{insert_entry, is_at}
@@ -16,19 +16,12 @@ use Rattle.node_model.proofs.Records.{same_record}
 use Rattle.node_model.proofs.Places.{here, elsewhere}
 use Rattle.shelf.specs.Shelved.{value_at, with_value}
 use Rattle.synod_acceptor.specs.Records.{record_at}
+use Rattle.node_model.proofs.Keys.{same_key}
 use Rattle.node_core.specs.declared.message.Message.{Message as Filed}
 use Rattle.node_core.specs.Keeping.{AreOf, acceptor_in, filed_as, records_of}
 use Rattle.node_core.specs.Messages.{IsOf, message_of}
 
 -- ---- what is kept of an id
-
-pub same_key : (id key : ℕ) → is_at (nat_cmp id) key ≡ true → id ≡ key
-same_key id key is = at_order (nat_cmp id key) refl is
-  where
-    at_order : (o : Ordering) → nat_cmp id key ≡ o → is_eq o ≡ true → id ≡ key
-    at_order Less order is = absurd (true≢false (sym is))
-    at_order Equal order is = grind (arith, nat_tests)
-    at_order Greater order is = absurd (true≢false (sym is))
 
 pub message_looked_up : (entries : List (ℕ × Filed)) (id : ℕ) →
     lookup (is_at (nat_cmp id)) (map filed_as entries) ≡ option_map (message_of id) (value_at entries id)

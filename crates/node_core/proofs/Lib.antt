@@ -10,9 +10,11 @@ pub mod Turns
 pub mod Tells
 pub mod Knowing
 pub mod Arrivals
+pub mod Listing
 pub mod Opening
 pub mod Voting
 pub mod Beginning
 pub mod Stopping
 pub mod TickTurns
 pub mod TickSteps
+pub mod Restarts

@@ -1,5 +1,5 @@
 -- What a node keeps that opens over the records of its store.
-use Rattle.std.proofs.Common.{◌≡◌, ◌≤◌, suc, ℕ, Bool, true, false, cond, List, [], ◌∷◌, ◌++◌, map, Option, Some, None, refl, sym, ap, subst, ◌∙◌, inl, inr, arith}
+use Rattle.std.proofs.Common.{◌≡◌, ◌≢◌, ◌<◌, ◌≤◌, suc, ℕ, Bool, true, false, cond, List, [], ◌∷◌, ◌++◌, map, Option, Some, None, refl, sym, ap, subst, ◌∙◌, inl, inr, arith}
 use Rattle.std.specs.Prelude.{if◌then◌else◌}
 use Rattle.std.specs.Option.{unwrap_or}
 use Rattle.std.proofs.Math.Path.{fun_ext}
@@ -11,16 +11,16 @@ use Rattle.std.specs.BTreeMap.{is_at}
 use Rattle.std.proofs.lemmas.Bool.{cases_Bool, true≢false}
 use Rattle.std.proofs.lemmas.Bool.Decides.{nat_tests}
 use Rattle.std.proofs.lemmas.List.{map-append}
-use Rattle.mc_model.specs.synod.Lists.{In}
 use Rattle.mc_model.specs.synod.Packet.{Slot, same_slot, slot_at}
 use Rattle.mc_model.specs.synod.Acceptor.{Records, SlotRecord, blank, with_record}
 use Rattle.mc_model.specs.node.Actor.{opening_clock}
 use Rattle.mc_model.specs.node.Setup.{Setup}
 use Rattle.mc_parts.proofs.Membership.{slots_same}
 use Rattle.node_model.specs.Message.{unseen}
+use Rattle.node_model.specs.Recorded.{AreRecorded, named_places}
 use Rattle.node_model.specs.Stepped.{opened_over}
 use Rattle.requests.specs.Waiting.{held_in}
-use Rattle.shelf.specs.Shelved.{value_at, with_value}
+use Rattle.shelf.specs.Shelved.{with_value}
 use Rattle.synod_acceptor.proofs.Slots.{is_same}
 use Rattle.synod_acceptor.specs.Records.{entries_of, entry_of, held_at, or_blank, record_at}
 use Rattle.synod_acceptor.specs.Votes.{record_of, slot_recorded}
@@ -29,13 +29,14 @@ use Rattle.node_core.specs.declared.kept.Kept.{Kept as Holding}
 use Rattle.node_core.specs.declared.life.Life.{Life}
 use Rattle.node_core.specs.declared.message.Message.{Message as Filed}
 use Rattle.node_core.specs.declared.step.Next.{Next}
-use Rattle.node_core.specs.Keeping.{AreOf, AreOwn, AreUnseen, IsFiled, IsOpen, IsTaken, acceptor_in, filed_as, records_of}
+use Rattle.node_core.specs.Keeping.{AreOf, AreOwn, AreUnseen, IsFiled, IsOpen, IsTaken, filed_as, records_of}
 use Rattle.node_core.specs.Messages.{IsOf, message_of}
 use Rattle.node_core.specs.Nodes.{HasOpened, Standing}
 use Rattle.node_core.specs.Steps.{IsInstalled, IsNext}
 use Rattle.node_core.proofs.Answering.{next_entries}
+use Rattle.node_core.proofs.Listing.{listed_of, listed_put, none_listed}
 use Rattle.node_core.proofs.Queueing.{asked_none, asked_still, held_same}
-use Rattle.node_core.proofs.Entries.{own_put, records_put, same_key}
+use Rattle.node_core.proofs.Entries.{own_put, records_put}
 
 -- ---- nothing was heard
 
@@ -60,23 +61,23 @@ unseen_put (e ∷ es) id m is fresh = at_order (nat_cmp id e.0) refl (unseen_put
 
 -- ---- one record more
 
-pub filed : (old new : Holding) (kept : Record) (id : ℕ) (taken m : Filed) (next : Next) → id ≡ (slot_recorded kept).id → IsTaken old id taken →
+pub filed : (old new : Holding) (kept : Record) (id : ℕ) (taken m : Filed) (next : Next) → id ≡ (slot_recorded kept).id → (record_of kept ≢ blank) → (slot_recorded kept).place < named_places →
+    IsTaken old id taken →
     ((slot : Slot) → record_at m.acceptor slot ≡ with_record (record_at taken.acceptor) (slot_recorded kept) (record_of kept) slot) →
     ((id : ℕ) → message_of id m ≡ message_of id taken) →
     (IsOf old.setup.node old.incarnation old.setup.nodes id taken → IsOf old.setup.node old.incarnation old.setup.nodes id m) →
     IsNext old id m next → IsInstalled old next new → IsFiled old kept new
-filed old new kept id taken m next about is_taken records same of is_next is = let entries = is.entries ∙ next_entries old id m next is_next in record {
+filed old new kept id taken m next about promised within is_taken records same of is_next is = let entries = is.entries ∙ next_entries old id m next is_next in record {
   setup = is.setup;
   incarnation = is.incarnation;
   clock = is.clock ∙ is_next.clock;
   serial = is.serial ∙ is_next.serial;
   given = is.given ∙ is_next.given;
   held = is.queue ∙ held_same old next is_next.queue;
-  records = λ slot.
-      ap (λ (es : List (ℕ × Filed)). records_of es slot) entries
-      ∙ records_put old.messages.entries id m (slot_recorded kept) (record_of kept) (sym about)
-      (λ place. records (slot_at id place) ∙ ap (λ (r : SlotRecord). if same_slot (slot_at id place) (slot_recorded kept) then record_of kept else r) (is_taken.records place))
-      slot;
+  records = stored entries;
+  listed = λ listed.
+      subst (λ (es : List (ℕ × Filed)). AreRecorded (records_of new.messages.entries) (keys_of es)) (sym entries)
+      (listed_put (records_of old.messages.entries) (records_of new.messages.entries) old.messages.entries (slot_recorded kept) (record_of kept) id m about promised within (stored entries) listed);
   own = λ own. record {
     each = subst (λ (es : List (ℕ × Filed)). AreOf new.setup new.incarnation es) (sym entries)
         (subst (λ (s : Setup). AreOf s new.incarnation (with_value old.messages.entries id m)) (sym is.setup)
@@ -87,6 +88,14 @@ filed old new kept id taken m next about is_taken records same of is_next is = l
   };
   fresh = λ fresh. subst AreUnseen (sym entries) (unseen_put old.messages.entries id m (same id ∙ is_taken.message ∙ unseen_at old.messages.entries id fresh) fresh);
 }
+  where
+    stored : new.messages.entries ≡ with_value old.messages.entries id m →
+        (slot : Slot) → records_of new.messages.entries slot ≡ with_record (records_of old.messages.entries) (slot_recorded kept) (record_of kept) slot
+    stored entries slot =
+        ap (λ (es : List (ℕ × Filed)). records_of es slot) entries
+        ∙ records_put old.messages.entries id m (slot_recorded kept) (record_of kept) (sym about)
+        (λ place. records (slot_at id place) ∙ ap (λ (r : SlotRecord). if same_slot (slot_at id place) (slot_recorded kept) then record_of kept else r) (is_taken.records place))
+        slot
 
 -- ---- records over others
 
@@ -149,6 +158,7 @@ pub record IsFiling (with : Setup) (starts : ℕ) (left all : List Record) (k : 
   pub held : held_in k.queue ≡ []
   pub records : (slot : Slot) → over (entries_of left) (records_of k.messages.entries) slot ≡ record_at (entries_of all) slot
   pub fresh : AreUnseen k.messages.entries
+  pub listed : AreRecorded (records_of k.messages.entries) (keys_of k.messages.entries)
   pub own : AreOwn k
 
 pub filing_begins : (with : Setup) (starts : ℕ) (all : List Record) (k : Holding) → 1 ≤ with.first_serial → k.setup ≡ with → k.incarnation ≡ starts →
@@ -162,6 +172,7 @@ filing_begins with starts all k least setup incarnation clock serial given held 
   held = held;
   records = λ slot. over_blank (entries_of all) (records_of k.messages.entries) slot (ap (λ (es : List (ℕ × Filed)). records_of es slot) none);
   fresh = subst AreUnseen (sym none) tt;
+  listed = subst (λ (es : List (ℕ × Filed)). AreRecorded (records_of es) (keys_of es)) (sym none) none_listed;
   own = record {
     each = subst (λ (es : List (ℕ × Filed)). AreOf k.setup k.incarnation es) (sym none) tt;
     asked = asked_none k.setup.node k.incarnation (suc k.given) (held_in k.queue) held;
@@ -180,6 +191,7 @@ filing_goes_on with starts left front all last old new split is_filed filing = r
   held = is_filed.held ∙ filing.held;
   records = λ slot. over_filed left front last old new slot split is_filed ∙ filing.records slot;
   fresh = is_filed.fresh filing.fresh;
+  listed = is_filed.listed filing.listed;
   own = is_filed.own filing.own;
 }
 
@@ -192,10 +204,14 @@ filing_ends with starts left all k none filing = record {
   serial = filing.serial;
   given = filing.given;
   held = filing.held;
-  kept = λ slot. sym (ap (λ (rs : List Record). over (entries_of rs) (records_of k.messages.entries) slot) none) ∙ filing.records slot;
+  kept = kept;
   fresh = filing.fresh;
+  listed = listed_of (records_of k.messages.entries) (record_at (entries_of all)) (keys_of k.messages.entries) kept filing.listed;
   own = filing.own;
 }
+  where
+    kept : (slot : Slot) → records_of k.messages.entries slot ≡ record_at (entries_of all) slot
+    kept slot = sym (ap (λ (rs : List Record). over (entries_of rs) (records_of k.messages.entries) slot) none) ∙ filing.records slot
 
 -- ---- a node that opens
 
@@ -210,19 +226,13 @@ open_over with starts one other k is same = record {
   held = is.held;
   kept = λ slot. is.kept slot ∙ same slot;
   fresh = is.fresh;
+  listed = listed_of one other (keys_of k.messages.entries) same is.listed;
   own = is.own;
 }
 
 messages_are : (entries : List (ℕ × Filed)) → AreUnseen entries → map filed_as entries ≡ map (λ id. (id, unseen)) (keys_of entries)
 messages_are [] fresh = refl
 messages_are (e ∷ es) fresh = λ i. (e.0, fresh.0 i) ∷ messages_are es fresh.1 i
-
-listed_in : (entries : List (ℕ × Filed)) (id : ℕ) → (value_at entries id ≡ None → ⊥) → In id (keys_of entries)
-listed_in [] id some = absurd (some refl)
-listed_in (e ∷ es) id some = elim (cases_Bool (is_at (nat_cmp id) e.0)) [
-  | inl same ↦ inl (same_key id e.0 same)
-  | inr differs ↦ inr (listed_in es id (λ none. some (ap (λ (test : Bool). cond test (Some e.1) (value_at es id)) differs ∙ none)))
-]
 
 pub opened : (with : Setup) (records : Records) (starts : ℕ) {S : Type 0} (node : Standing S) (life : Life) → IsOpen with starts records node.kept →
     node.broken ≡ false → life.node ≡ with.node → life.incarnation ≡ starts → HasOpened with records starts node life
@@ -237,7 +247,7 @@ opened with records starts node life is works of_node of_start = record {
     held = is.held i;
     messages = messages_are node.kept.messages.entries is.fresh i;
   };
-  listed = λ slot differs. listed_in node.kept.messages.entries slot.id (λ none. differs (sym (is.kept slot) ∙ ap (λ (found : Option Filed). record_at (acceptor_in found) slot) none));
+  listed = is.listed;
   setup = is.setup;
   works = works;
   of_node = of_node;

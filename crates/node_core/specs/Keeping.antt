@@ -1,11 +1,13 @@
 -- What a node of the code keeps, as the node's model says it.
 use Rattle.std.specs.Prelude.{◌≡◌, ◌≤◌, ℕ, suc, true, List, [], ◌∷◌, map, Option, Some, None}
+use Rattle.std.specs.Map.{keys_of}
 use Rattle.mc_model.specs.synod.Packet.{Slot, slot_at}
 use Rattle.mc_model.specs.synod.Acceptor.{Records, SlotRecord, with_record}
 use Rattle.mc_model.specs.node.Actor.{opening_clock}
 use Rattle.mc_model.specs.node.Setup.{Setup}
 use Rattle.node_model.specs.Message.{Message, unseen}
 use Rattle.node_model.specs.Kept.{Kept, message_at}
+use Rattle.node_model.specs.Recorded.{AreRecorded}
 use Rattle.requests.specs.Waiting.{held_in}
 use Rattle.shelf.specs.Shelved.{value_at}
 use Rattle.synod_acceptor.specs.Records.{record_at}
@@ -77,6 +79,7 @@ pub record IsOpen (with : Setup) (starts : ℕ) (records : Records) (k : Holding
   pub held : held_in k.queue ≡ []
   pub kept : (slot : Slot) → records_of k.messages.entries slot ≡ records slot
   pub fresh : AreUnseen k.messages.entries
+  pub listed : AreRecorded records (keys_of k.messages.entries)
   pub own : AreOwn k
 
 -- one more record was taken in
@@ -89,4 +92,6 @@ pub record IsFiled (old : Holding) (kept : Record) (new : Holding) : Type 0 wher
   pub held : held_in new.queue ≡ held_in old.queue
   pub records : (slot : Slot) → records_of new.messages.entries slot ≡ with_record (records_of old.messages.entries) (slot_recorded kept) (record_of kept) slot
   pub fresh : AreUnseen old.messages.entries → AreUnseen new.messages.entries
+  pub listed : AreRecorded (records_of old.messages.entries) (keys_of old.messages.entries) →
+      AreRecorded (records_of new.messages.entries) (keys_of new.messages.entries)
   pub own : AreOwn old → AreOwn new

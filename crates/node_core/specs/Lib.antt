@@ -13,3 +13,4 @@ pub mod Telling
 pub mod Arriving
 pub mod Renewal
 pub mod Ticking
+pub mod Restarts

@@ -1,9 +1,8 @@
 -- A node of the code, and its steps.
 use Rattle.std.specs.Prelude.{◌≡◌, ◌⊎◌, ℕ, ◌+◌, Bool, true, false, ◌||◌, List, Option, Some, None, if◌then◌else◌}
-use Rattle.mc_model.specs.synod.Lists.{In}
-use Rattle.mc_model.specs.synod.Packet.{Slot}
-use Rattle.mc_model.specs.synod.Acceptor.{Records, blank}
+use Rattle.mc_model.specs.synod.Acceptor.{Records}
 use Rattle.mc_model.specs.node.Setup.{Setup}
+use Rattle.node_model.specs.Recorded.{AreRecorded}
 use Rattle.node_model.specs.Stepped.{opened_over, stepped}
 use Rattle.stable_store.specs.Stored.{AreSame}
 use Rattle.stable_store.specs.declared.fault.StoreFault.{StoreFault}
@@ -53,11 +52,11 @@ pub record IsStored (broken : Bool) (stored : Records) (k : Kept) : Type 0 where
   pub saved : broken ≡ false → AreSame stored (records_of k.messages.entries)
   pub own : AreOwn k
 
--- It opened in this incarnation with these records and nothing else. Each message of which there is a record is among its messages.
+-- It opened in this incarnation with these records and nothing else; its messages are those of which there is a record.
 pub record HasOpened {S : Type 0} (with : Setup) (records : Records) (starts : ℕ) (node : Standing S) (life : Life) : Type 0 where
   pub ids : List ℕ
   pub kept : kept_of node.kept ≡ opened_over records ids starts with.first_serial
-  pub listed : (slot : Slot) → (records slot ≡ blank → ⊥) → In slot.id ids
+  pub listed : AreRecorded records ids
   pub setup : node.kept.setup ≡ with
   pub works : node.broken ≡ false
   pub of_node : life.node ≡ with.node

@@ -1,12 +1,9 @@
 -- A step of the code, as a step of the node's model.
-use Rattle.std.specs.Prelude.{◌≡◌, ℕ, suc, ◌≤◌, ◌-◌, max, Bool, false, List, [], ◌∷◌, length, map, option_map, Option, Some, None, Result, Ok, Err, if◌then◌else◌}
+use Rattle.std.specs.Prelude.{◌≡◌, ℕ, suc, ◌≤◌, ◌-◌, max, Bool, false, List, [], ◌∷◌, length, map, option_map, Option, Some, None, if◌then◌else◌}
 use Rattle.std.specs.Box.{box_value}
 use Rattle.mc_model.specs.message.Chain.{Chain}
 use Rattle.mc_model.specs.synod.Packet.{Packet, Slot, slot_of}
-use Rattle.mc_model.specs.message.Ids.{id_of}
-use Rattle.mc_model.specs.node.Actor.{Request}
-use Rattle.mc_model.specs.node.Input.{Arrival, Delivery, Grant, Input, Refusal, Response, Tick}
-use Rattle.mc_model.specs.node.Room.{is_busy}
+use Rattle.mc_model.specs.node.Input.{Delivery, Grant, Input, Response, Tick}
 use Rattle.mc_model.specs.node.Outputs.{Outputs, Receipt}
 use Rattle.mc_model.specs.node.Setup.{Setup}
 use Rattle.node_model.specs.Attempts.{grant_refusal}
@@ -14,11 +11,8 @@ use Rattle.node_model.specs.Kept.{Held, Kept}
 use Rattle.node_model.specs.Outputs.{Stepped, nothing}
 use Rattle.node_model.specs.Stepped.{stepped}
 use Rattle.delivery.specs.Kept.{outcome_kept}
-use Rattle.desk.specs.Admissions.{admitted}
-use Rattle.desk.specs.declared.door.Door.{Door}
-use Rattle.desk.specs.declared.request.Request.{Request as Asked}
+use Rattle.desk.specs.Arrivals.{requested}
 use Rattle.pdu_tables.specs.StatusCodes.{status_code}
-use Rattle.pdu_tables.specs.declared.status.Status.{Status}
 use Rattle.rules.specs.Dues.{is_up}
 use Rattle.requests.specs.Replying.{reply_given}
 use Rattle.requests.specs.Waiting.{held_in}
@@ -40,21 +34,6 @@ use Rattle.node_core.specs.Attempting.{is_open, known_slot, reason_of}
 use Rattle.node_core.specs.Keeping.{AreOf, AreOwn, kept_of, records_of}
 use Rattle.node_core.specs.Messages.{changed_by, rested}
 use Rattle.node_core.specs.Queueing.{AreAsked, HasPlace, requeued}
-
--- what is looked at when a request comes, and the id that a submit_sm gets
-abbrev pub door_at : Setup → Kept → Door
-door_at setup k =
-    record { clock = k.clock; validity = setup.default_validity; serial = k.serial; busy = is_busy (length k.held) k.ticket }
-
-abbrev pub next_id : Setup → Kept → ℕ
-next_id setup k = id_of setup.node k.incarnation k.serial
-
-abbrev pub judged_as : Result Request Status → Input
-judged_as (Ok request) = Arrival request
-judged_as (Err status) = Refusal (status_code status)
-
-abbrev pub requested : Setup → Kept → List ℕ → Asked → Input
-requested setup k account request = judged_as (admitted (door_at setup k) (next_id setup k) account request)
 
 -- What comes to the code, to a node that keeps this. A grant is asked for of the attempt in which the known chain ends.
 abbrev pub input_of : Setup → Kept → Given → Input

@@ -19,6 +19,7 @@ ghost use Rattle.synod_acceptor.specs.Records.{entries_of, record_at};
 ghost use Rattle.synod_acceptor.specs.Votes.{report_of, slot_in, slot_reported, told_vote, vote_of};
 ghost use Rattle.node_core.specs.Keeping.{AreOwn, IsFiled, IsOpen, IsTaken, kept_of};
 ghost use Rattle.node_core.specs.Lists.{listed};
+ghost use Rattle.node_core.specs.Restarts.{ListsRecorded};
 ghost use Rattle.node_core.specs.Queueing.{HasPlace, requeued};
 ghost use Rattle.node_core.specs.declared.queue_change.QueueChange.TheVariants.{Same};
 ghost use Rattle.requests.specs.Waiting.{held_in};
@@ -92,10 +93,19 @@ impl Kept {
         self.messages.for_each(&Renewal { me });
     }
 
+    /// What a proof takes of its messages: each of which there is a record is among them. The call does nothing.
+    pub fn lists(&self)
+        ensures { ListsRecorded (kept_of self.now) }
+    {
+        self.messages.at(0);
+    }
+
     /// Takes in a record of its store.
     fn file(&mut self, stored: Record) -> Result<(), AllocError>
         ensures { OnOk result (IsFiled self.old stored self.new) }
     {
+        // What the proof takes of the record; the call does nothing.
+        stored.promises();
         let id = stored.slot().id;
         let mut message = self.taken(id)?;
         message.file(stored)?;

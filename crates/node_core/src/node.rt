@@ -3,8 +3,9 @@
 ghost use Rattle.std.specs.Prelude.{◌≡◌, ◌↔◌, ◌⊎◌, true, false, IfOk, IfErr, IsErrOf, OnErr, OnOk, ◌+◌};
 ghost use Rattle.node_core.specs.declared.fault.StepFault.TheVariants.{Broken, Device, Memory};
 ghost use Rattle.stable_store.specs.Stored.{AreSame};
-ghost use Rattle.node_core.specs.Keeping.{records_of};
+ghost use Rattle.node_core.specs.Keeping.{kept_of, records_of};
 ghost use Rattle.node_core.specs.Messages.{changed_by};
+ghost use Rattle.node_core.specs.Restarts.{ListsRecorded};
 ghost use Rattle.node_core.specs.Steps.{IsFault};
 ghost use Rattle.node_core.specs.Nodes.{HasOpened, HasStopped, HasTaken, IsAwaited, IsLeft, IsLifeOf, IsStored, IsUnmoved, breaks, fault_in, seen};
 
@@ -89,6 +90,7 @@ impl<S: StableStore> Node<S> {
         ensures broken { IsErrOf result Broken ↔ (self.old.broken ≡ true) }
         ensures memory { IsErrOf result Memory → IsUnmoved (seen S.records S.started self.old) (seen S.records S.started self.new) }
         ensures device { IsErrOf result Device → HasStopped (seen S.records S.started self.old) pending.input (seen S.records S.started self.new) }
+        ensures started { S.started self.new.store ≡ S.started self.old.store }
     {
         self.judge()?;
         let Step {
@@ -115,6 +117,7 @@ impl<S: StableStore> Node<S> {
     pub fn reopen(&mut self, life: Life) -> Result<Life, (StoreFault, Life)>
         requires { IsLifeOf self.old life }
         ensures ok { IfOk result (HasOpened self.old.kept.setup (S.records self.old.store) (S.started self.old.store + 1) self.new) }
+        ensures started { OnOk result (S.started self.new.store ≡ S.started self.old.store + 1) }
         ensures err { IfErr result (λ failed. IsLeft (seen S.records S.started self.old) failed.0 (seen S.records S.started self.new)) }
         ensures life { IfErr result (λ failed. failed.1 ≡ life) }
     {
@@ -141,6 +144,15 @@ impl<S: StableStore> Node<S> {
             return Err(StepFault::Broken);
         }
         Ok(())
+    }
+
+    /// What a proof takes of its messages: each of which there is a record is among them, and unless a save failed, the records that it keeps are
+    /// those of its store. The call does nothing.
+    pub fn lists(&self)
+        ensures lists { ListsRecorded (kept_of self.now.kept) }
+        ensures saved { self.now.broken ≡ false → AreSame (S.records self.now.store) (kept_of self.now.kept).records }
+    {
+        self.kept.lists();
     }
 
     /// The store, once the node is done with.

@@ -22,6 +22,7 @@ pub fn open_node<S: StableStore>(
     setup: Setup,
 ) -> Result<(Node<S>, Life), (StoreFault, S)>
     ensures ok { IfOk result (λ opened. HasOpened setup (S.records store) (S.started store + 1) opened.0 opened.1) }
+    ensures raised { IfOk result (λ opened. S.started opened.0.store ≡ S.started store + 1) }
     ensures records { IfErr result (λ failed. AreSame (S.records failed.1) (S.records store)) }
     ensures started { IfErr result (λ failed. IsRaised failed.0 (S.started store) (S.started failed.1)) }
 {

@@ -9,7 +9,8 @@ ghost use Rattle.requests.specs.Submits.{IsNumberedBy};
 ghost use Rattle.requests.specs.Waiting.{IsSince, request_of};
 ghost use Rattle.node_core.specs.Arriving.{HasSerial};
 ghost use Rattle.node_core.specs.Keeping.{AreOwn, kept_of};
-ghost use Rattle.node_core.specs.Steps.{IsStep, door_at, next_id, requested};
+ghost use Rattle.desk.specs.Arrivals.{door_at, next_id, requested};
+ghost use Rattle.node_core.specs.Steps.{IsStep};
 
 use crate::kept::Kept;
 use crate::step::Step;

@@ -1,0 +1,105 @@
+-- A node that opens again keeps what the model's does after a restart, and after a crash.
+use Rattle.std.proofs.Common.{◌≡◌, ℕ, suc, ◌+◌, Bool, true, false, refl, sym, ap, subst, ◌∙◌, inl, inr}
+use Rattle.std.specs.Prelude.{if◌then◌else◌}
+use Rattle.std.proofs.Math.Path.{fun_ext}
+use Rattle.std.specs.Map.{keys_of}
+use Rattle.mc_model.specs.synod.Packet.{Ask, Packet, Prepare, Promise, Propose, Refused, Slot, Tell, Voted}
+use Rattle.mc_model.specs.synod.Acceptor.{Records, SlotRecord}
+use Rattle.mc_model.specs.node.Input.{Crash, Restart}
+use Rattle.mc_model.specs.node.Setup.{Setup}
+use Rattle.node_model.specs.Kept.{Kept, message_at, saved}
+use Rattle.node_model.specs.Outputs.{Stepped, leaves}
+use Rattle.node_model.specs.Packets.{is_member}
+use Rattle.node_model.specs.Recorded.{recorded_in}
+use Rattle.node_model.specs.Stepped.{opened_over, restarted, saved_by, sender_of, stepped, stopped}
+use Rattle.node_model.proofs.Recorded.{are_recorded, recorded_once}
+use Rattle.node_model.proofs.Stops.{saved_so}
+use Rattle.shelf.proofs.Entries.{still_ascends}
+use Rattle.stable_store.specs.Stored.{AreSame}
+use Rattle.synod_acceptor.specs.Packets.{packet_of}
+use Rattle.synod_acceptor.specs.declared.packet.Packet.{Packet as Sent}
+use Rattle.node_core.specs.declared.input.Input.TheVariants as given
+use Rattle.node_core.specs.declared.life.Life.{Life}
+use Rattle.node_core.specs.Keeping.{kept_of, records_of}
+use Rattle.node_core.specs.Nodes.{HasOpened, HasStopped, Seen, Standing}
+use Rattle.node_core.specs.Restarts.{ListsRecorded, next_life}
+use Rattle.node_core.proofs.Listing.{key_put, listed_of, was_recorded}
+
+-- ---- a restart
+
+restart_is : (with : Setup) (k : Kept) (lost : ℕ) → restarted with k lost ≡ (stepped with k (Restart lost)).kept
+restart_is with k lost = by_up k.up
+  where
+    by_up : (up : Bool) → restarted with k lost ≡ (if◌then◌else◌ {A = Stepped} up (leaves (restarted with k lost)) (leaves (restarted with k lost))).kept
+    by_up true = refl
+    by_up false = refl
+
+pub as_restarted : {S : Type 0} (with : Setup) (k : Kept) (stored : Records) (lost : ℕ) (node : Standing S) (life : Life) → ListsRecorded k →
+    AreSame stored k.records → HasOpened with stored (next_life k lost) node life → kept_of node.kept ≡ (stepped with k (Restart lost)).kept
+as_restarted with k stored lost node life lists same opened =
+    let records : stored ≡ k.records = fun_ext same.each in
+    let ids : opened.ids ≡ recorded_in k.records (keys_of k.messages) =
+    recorded_once k.records opened.ids (recorded_in k.records (keys_of k.messages))
+    (listed_of stored k.records opened.ids same.each opened.listed)
+    (are_recorded k.records (keys_of k.messages) lists.ascend lists.all) in
+    opened.kept ∙ (λ i. opened_over (records i) (ids i) (next_life k lost) with.first_serial) ∙ restart_is with k lost
+
+-- ---- a stop
+
+-- what a stop leaves is of the same incarnation, and lists its messages
+record StillLists (k after : Kept) : Type 0 where
+  pub life : after.incarnation ≡ k.incarnation
+  pub lists : ListsRecorded after
+
+unchanged : (k : Kept) → ListsRecorded k → StillLists k (record k { up = false })
+unchanged k lists = record { life = refl; lists = record { ascend = lists.ascend; all = lists.all } }
+
+saved_lists : (k : Kept) (slot : Slot) (r : SlotRecord) → ListsRecorded k → StillLists k (record (saved k slot r) { up = false })
+saved_lists k slot r lists = record {
+  life = refl;
+  lists = record {
+    ascend = still_ascends k.messages slot.id (message_at k slot.id) lists.ascend;
+    all = λ id is. key_put k.messages slot.id (message_at k slot.id) id (elim (was_recorded k.records (saved k slot r).records slot r id (λ other. refl) is) [
+      | inl same ↦ inl same
+      | inr before ↦ inr (lists.all id before)
+    ]);
+  };
+}
+
+stop_lists : (setup : Setup) (k : Kept) (packet : Packet) (after : Bool) → ListsRecorded k → StillLists k (stopped setup k packet after)
+stop_lists setup k packet false lists = unchanged k lists
+stop_lists setup k packet true lists = by_member (is_member setup (sender_of packet)) (by_packet packet)
+  where
+    by_packet : (p : Packet) → StillLists k (record (saved_by setup k p) { up = false })
+    by_packet (Prepare sender slot ballot) = saved_lists k slot _ lists
+    by_packet (Propose sender slot vote) = saved_lists k slot _ lists
+    by_packet (Promise sender slot ballot report) = unchanged k lists
+    by_packet (Voted sender slot vote) = unchanged k lists
+    by_packet (Refused sender slot ballot promised) = unchanged k lists
+    by_packet (Ask sender id name) = unchanged k lists
+    by_packet (Tell sender name told) = unchanged k lists
+
+    by_member : (member : Bool) → StillLists k (record (saved_by setup k packet) { up = false }) →
+        StillLists k (if member then record (saved_by setup k packet) { up = false } else record k { up = false })
+    by_member true still = still
+    by_member false still = unchanged k lists
+
+crash_is : (setup : Setup) (k : Kept) (packet : Packet) (after : Bool) → k.up ≡ true → stopped setup k packet after ≡ (stepped setup k (Crash packet after)).kept
+crash_is setup k packet after up = sym (ap (λ (test : Bool). (if◌then◌else◌ {A = Stepped} test (leaves (stopped setup k packet after)) (leaves k)).kept) up)
+
+pub as_crashed : {S : Type 0} (old mid : Seen) (packet : Sent) (lost : ℕ) (node : Standing S) (life : Life) → ListsRecorded (kept_of old.kept) →
+    AreSame old.stored (records_of old.kept.messages.entries) → HasStopped old (given.Packet packet) mid →
+    HasOpened old.kept.setup mid.stored (next_life (kept_of old.kept) lost) node life →
+    (after : Bool) × (kept_of node.kept ≡ (stepped old.kept.setup (stepped old.kept.setup (kept_of old.kept) (Crash (packet_of packet) after)).kept (Restart lost)).kept)
+as_crashed {S} old mid packet lost node life lists stored has_stopped opened = elim has_stopped.stored [
+  | inl before ↦ (false, opens false (record { each = λ slot. before.each slot ∙ stored.each slot }))
+  | inr behind ↦ (true, opens true (record { each = λ slot. behind.each slot ∙ ap (λ (rs : Records). rs slot) (saved_so old.kept.setup (kept_of old.kept) (packet_of packet)) }))
+]
+  where
+    opens : (after : Bool) → AreSame mid.stored (stopped old.kept.setup (kept_of old.kept) (packet_of packet) after).records →
+        kept_of node.kept ≡ (stepped old.kept.setup (stopped old.kept.setup (kept_of old.kept) (packet_of packet) after) (Restart lost)).kept
+    opens after same =
+        let k = stopped old.kept.setup (kept_of old.kept) (packet_of packet) after in
+        let still = stop_lists old.kept.setup (kept_of old.kept) (packet_of packet) after lists in
+        as_restarted old.kept.setup k mid.stored lost node life still.lists same
+        (subst (λ (n : ℕ). HasOpened old.kept.setup mid.stored (suc (n + lost)) node life) (sym still.life) opened)

@@ -1,0 +1,48 @@
+-- A node that opens again, as the model's that starts anew.
+use Rattle.std.specs.Prelude.{◌≡◌, ℕ, suc, ◌+◌, Bool}
+use Rattle.std.specs.Map.{keys_of}
+use Rattle.std.specs.Ordering.{nat_cmp}
+use Rattle.std.specs.List.Sorted.{IsStrictlySortedBy}
+use Rattle.mc_model.specs.synod.Lists.{In}
+use Rattle.mc_model.specs.synod.Acceptor.{Records}
+use Rattle.mc_model.specs.node.Input.{Crash, Restart}
+use Rattle.mc_model.specs.node.Setup.{Setup}
+use Rattle.node_model.specs.Kept.{Kept}
+use Rattle.node_model.specs.Recorded.{IsRecorded}
+use Rattle.node_model.specs.Stepped.{stepped}
+use Rattle.stable_store.specs.Stored.{AreSame}
+use Rattle.synod_acceptor.specs.Packets.{packet_of}
+use Rattle.synod_acceptor.specs.declared.packet.Packet.{Packet}
+use Rattle.node_core.specs.declared.input.Input.TheVariants as given
+use Rattle.node_core.specs.declared.life.Life.{Life}
+use Rattle.node_core.specs.Keeping.{kept_of, records_of}
+use Rattle.node_core.specs.Nodes.{HasOpened, HasStopped, Seen, Standing}
+
+-- each message of which there is a record is among those that are kept, by ascending ids
+pub record ListsRecorded (k : Kept) : Type 0 where
+  pub ascend : IsStrictlySortedBy nat_cmp (keys_of k.messages)
+  pub all : (id : ℕ) → IsRecorded k.records id → In id (keys_of k.messages)
+
+-- the incarnation after the one of what is kept, if so many are lost between
+abbrev pub next_life : Kept → ℕ → ℕ
+next_life k lost = suc (k.incarnation + lost)
+
+-- what a node keeps that opens over these records is what is kept after a restart
+abbrev pub OpensAsRestarted : Type 0 → Type 0
+OpensAsRestarted S =
+    (with : Setup) (k : Kept) (stored : Records) (lost : ℕ) (node : Standing S) (life : Life)
+    → ListsRecorded k
+    → AreSame stored k.records
+    → HasOpened with stored (next_life k lost) node life
+    → kept_of node.kept ≡ (stepped with k (Restart lost)).kept
+
+-- A node stopped in the save of a packet, and opened again: it keeps what is kept after a crash, before or behind the save, and a restart.
+abbrev pub OpensAsCrashed : Type 0 → Type 0
+OpensAsCrashed S =
+    (old stopped : Seen) (packet : Packet) (lost : ℕ) (node : Standing S) (life : Life)
+    → ListsRecorded (kept_of old.kept)
+    → AreSame old.stored (records_of old.kept.messages.entries)
+    → HasStopped old (given.Packet packet) stopped
+    → HasOpened old.kept.setup stopped.stored (next_life (kept_of old.kept) lost) node life
+    → (after : Bool)
+    × (kept_of node.kept ≡ (stepped old.kept.setup (stepped old.kept.setup (kept_of old.kept) (Crash (packet_of packet) after)).kept (Restart lost)).kept)

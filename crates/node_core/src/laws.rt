@@ -1,0 +1,16 @@
+//! Laws of a node that opens again: nothing to call, but to cite.
+
+ghost use Rattle.node_core.specs.Restarts.{OpensAsCrashed, OpensAsRestarted};
+
+use stable_store::StableStore;
+
+/// A node that opens over the records of what was kept, in a later incarnation, keeps what the model's node does after a restart.
+pub fn opens_as_restarted<S: StableStore>()
+    ensures { OpensAsRestarted S }
+{}
+
+/// A node that was stopped in the save of a packet's step and opens again keeps what the model's does after a crash at that packet, which
+/// comes before the save or behind it, and a restart.
+pub fn opens_as_crashed<S: StableStore>()
+    ensures { OpensAsCrashed S }
+{}
