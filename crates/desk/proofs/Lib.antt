@@ -1,4 +1,1 @@
-pub mod Expiry
-pub mod Keys
 pub mod Judged
-pub mod Tickets

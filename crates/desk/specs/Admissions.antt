@@ -12,7 +12,7 @@ use Rattle.desk.specs.declared.door.Admitted.TheVariants as admissions
 use Rattle.desk.specs.declared.door.Door.{Door}
 use Rattle.desk.specs.declared.request.Request.{Request as Asked}
 use Rattle.desk.specs.declared.request.Request.TheVariants as asked
-use Rattle.desk.specs.Desk.{Desk, is_busy, submission_of, submit_judged}
+use Rattle.desk.specs.Desk.{submission_of, submit_judged}
 use Rattle.desk.specs.Times.{Times}
 
 -- the id that a request names, if another request may wait
@@ -62,7 +62,3 @@ MayBegin door (admissions.Cancel id account source destination) = Unit {0}
 pub record MayWait (door : Door) (one : Admitted) : Type 0 where
   pub free : door.busy ≡ false
   pub begins : MayBegin door one
-
--- of a desk at a moment
-abbrev pub door_of : Desk → ℕ → Door
-door_of desk now = record { clock = now; validity = desk.validity; serial = desk.serial; busy = is_busy desk }

@@ -1,14 +1,11 @@
--- What the tests of the desk decide, in the words of the rules of a node; that a message without a route is refused; and of
--- which request a ticket is.
+-- What the tests of the table decide, in the words of the rules of a node; and that a message without a route is refused.
 use Rattle.std.specs.Prelude.{◌≡◌, ◌↔◌, ℕ, Bool, false, IsTrue, List, Err}
 use Rattle.mc_model.specs.message.Submission.{Submission}
-use Rattle.mc_model.specs.synod.Lists.{In}
 use Rattle.mc_model.specs.node.Proposal.{IsMatch, IsOwner}
 use Rattle.pdu_tables.specs.declared.status.Status.TheVariants as statuses
 use Rattle.pdu_bodies.specs.declared.pdu.Cancel.{Cancel}
 use Rattle.pdu_bodies.specs.declared.pdu.Message.{Message}
-use Rattle.desk.specs.declared.request.Reply.{Reply}
-use Rattle.desk.specs.Desk.{Desk, IsDesk, is_meant, is_sent_by, submit_judged}
+use Rattle.desk.specs.Desk.{is_meant, is_sent_by, submit_judged}
 
 -- the test by which a message is shown is whether its owner asks
 abbrev pub AreOwners : Type 0
@@ -25,9 +22,3 @@ abbrev pub UnroutedAreRefused : Type 0
 UnroutedAreRefused =
     (now validity serial : ℕ) (busy : Bool) (message : Message) →
     submit_judged false now validity serial busy message ≡ Err statuses.InvalidDestinationAddress
-
--- of two requests that wait under one ticket each is the other
-abbrev pub HaveOwnTickets : Type 0
-HaveOwnTickets =
-    (desk : Desk) (one other : Reply) →
-    IsDesk desk → In one desk.waiting → In other desk.waiting → one.ticket ≡ other.ticket → one ≡ other

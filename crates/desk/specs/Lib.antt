@@ -1,7 +1,7 @@
 pub mod Table
 pub mod Fates
-pub mod Due
 pub mod Times
 pub mod Desk
 pub mod Admissions
+pub mod Arrivals
 pub mod Laws

@@ -153,7 +153,7 @@ impl Door {
     }
 
     /// The times of a submit_sm that has a route, or the status with which it is refused at once.
-    pub(crate) fn judge(&self, message: &Message) -> Result<Times, Status>
+    fn judge(&self, message: &Message) -> Result<Times, Status>
         ensures judged { result ≡ submit_judged true self.now.clock self.now.validity self.now.serial self.now.busy message.now }
         ensures times { IfOk result (λ times. AreToCome self.now.clock times) }
         ensures room { OnOk result ((self.now.serial ≤ 99999) × (self.now.busy ≡ false)) }
@@ -202,7 +202,7 @@ fn fields_refusal(message: &Message) -> Option<Status>
 }
 
 /// What is taken of a submit_sm of an account that goes to another.
-pub(crate) fn submission(
+fn submission(
     account: &Text<16>,
     target: Text<16>,
     times: Times,

@@ -1,7 +1,7 @@
 //! Laws of what is decided here: nothing to call, but to cite.
 
 ghost use Rattle.desk.specs.Fates.{ExpireWherePermitted, IdleMayBeDeleted};
-ghost use Rattle.desk.specs.Laws.{AreMatches, AreOwners, HaveOwnTickets, UnroutedAreRefused};
+ghost use Rattle.desk.specs.Laws.{AreMatches, AreOwners, UnroutedAreRefused};
 
 /// A cancel_sm deletes a message, and a tick lets one expire, exactly where the rule of chains permits it.
 pub fn fates_are_permitted()
@@ -19,9 +19,4 @@ pub fn owners_are_those_of_the_rules()
 /// A submit_sm without a route is refused as one without a destination, whatever else is wrong with it.
 pub fn unrouted_are_refused()
     ensures { UnroutedAreRefused }
-{}
-
-/// No two requests that wait at a desk have one ticket.
-pub fn tickets_are_distinct()
-    ensures { HaveOwnTickets }
 {}

@@ -1,21 +1,13 @@
-//! What requests are answered, over a table of chains.
+//! What is refused of a request at once, what of it waits, and what a query_sm shows.
 #![tactic(auto)]
 
-mod cancel;
-mod desk;
 mod door;
-mod fates;
 mod laws;
-mod query;
 mod request;
-mod submit;
-mod table;
+mod showing;
 mod times;
 
-pub use desk::Desk;
 pub use door::{Admitted, Door};
-pub use laws::{
-    fates_are_permitted, owners_are_those_of_the_rules, tickets_are_distinct, unrouted_are_refused,
-};
-pub use request::{Answer, Begun, Reply, Request};
-pub use table::Chains;
+pub use laws::{fates_are_permitted, owners_are_those_of_the_rules, unrouted_are_refused};
+pub use request::{Answer, Request};
+pub use showing::shown;

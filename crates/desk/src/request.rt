@@ -1,8 +1,8 @@
 //! Requests and what they are answered.
 
-use mc_types::{Moment, MsgId};
+use mc_types::Moment;
 use pdu_codec::{Cancel, Message, Query, Text};
-use pdu_tables::{State, Status};
+use pdu_tables::State;
 
 /// A request of an account.
 #[derive(Debug, Drop)]
@@ -13,15 +13,6 @@ pub enum Request {
     Ask(Query),
     /// A cancel_sm.
     Cancel(Cancel),
-}
-
-/// What becomes of a request in the step in which it comes.
-#[derive(Clone, Copy, Debug, PartialEq, Eq)]
-pub enum Begun {
-    /// It is answered at once with this status.
-    Refused(Status),
-    /// It waits under this ticket.
-    Waits(u64),
 }
 
 /// The answer to a request that waited.
@@ -41,12 +32,4 @@ pub enum Answer {
     NotMatched,
     /// There is no message of this id.
     Unknown,
-}
-
-/// What a request that waits is told at the next settle: its ticket, the id of the message that it is about, and the answer.
-#[derive(Clone, Copy, Debug, PartialEq, Eq)]
-pub struct Reply {
-    pub ticket: u64,
-    pub id: MsgId,
-    pub answer: Answer,
 }
