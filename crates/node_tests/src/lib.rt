@@ -2,6 +2,8 @@
 #![tactic(auto)]
 
 #[cfg(test)]
+mod asked;
+#[cfg(test)]
 mod asking;
 #[cfg(test)]
 mod attempts;
@@ -13,3 +15,5 @@ mod packets;
 mod ticks;
 #[cfg(test)]
 mod values;
+#[cfg(test)]
+mod walks;

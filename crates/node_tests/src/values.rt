@@ -1,107 +1,152 @@
-//! Values that the tests are given.
+//! What comes to a node in the tests.
 
-use fate_chain::Chain;
-use mc_types::{Ballot, Incarnation, NodeNo, Slot};
-use node_core::{Input, Node, Outputs, Setup, open_node};
-use stable_store::StableStore;
+use crate::asked::{Asked, request};
+use delivery::Outcome;
+use fate_chain::{Author, Chain, Decree, Kind};
+use mc_types::{Ballot, Incarnation, Moment, MsgId, NodeNo, Slot};
+use node_core::Input;
+use pdu_codec::Text;
 use std::alloc::Global;
 use std::test::Fail;
-use synod_acceptor::{Name, Packet, Vote};
+use synod_acceptor::{Name, Packet, Report, Vote};
 
 // The chain of one Taken on message 1000100001: from 144 to 155, with the text Hi.
 const TAKEN: &[u8] =
     b"\x01\x00\x00\x00\x00\x3b\x9c\x50\xa1\x00\x01\x01\x01\x00\x01\x38\x6d\x43\x80\x04sme1\x04sme1\x00\x01\x01\x03144\x01\x01\x03155\x00\x00\x00\x01\x00\x38\x6d\x43\x80\x38\x71\x38\x00\x02Hi\x00\x00";
 
+// The moment at which that message expires.
+pub const EXPIRY: u32 = 946944000;
+
+// What comes to a node. Each packet is on that message, and from the node that it names first.
+#[derive(Clone, Copy)]
+pub enum Comes {
+    // At a ballot.
+    Prepare(u8, u64),
+    Propose(u8, u64),
+    Promise(u8, u64),
+    // Of the first ballot, for the promise at the second.
+    Refused(u8, u64, u64),
+    Ask(u8),
+    Tell(u8),
+    // A vote for that chain.
+    Voted(u8),
+    // A vote for that chain with its first attempt, by a node in an incarnation.
+    VotedAttempt(u8, u8, u16),
+    // The attempt is asked for, and its message was delivered.
+    Grant,
+    Delivered,
+    // The moment, and the accounts of which a session may receive.
+    Tick(u32, &'static str),
+    Request(Asked),
+}
+
 pub fn node(number: u8) -> Result<NodeNo, Fail> {
     Ok(NodeNo::make(number)?)
 }
 
-// A vote for that chain.
-pub fn vote(alloc: Global, ballot: u64) -> Result<Vote, Fail> {
+// The slot of that message at a place.
+fn slot(place: u8) -> Result<Slot, Fail> {
+    let id = MsgId::read(b"1000100001")?;
+    Ok(Slot { id, place })
+}
+
+pub fn input(alloc: Global, comes: Comes) -> Result<Input, Fail> {
+    match comes {
+        Comes::Grant => Ok(Input::Grant(slot(1)?.id)),
+        Comes::Delivered => Ok(Input::Answered(slot(1)?, Outcome::Delivered)),
+        Comes::Tick(seconds, accounts) => tick(alloc, seconds, accounts),
+        Comes::Request(asked) => request(alloc, asked),
+        packet => Ok(Input::Packet(packet_of(alloc, packet)?)),
+    }
+}
+
+fn packet_of(alloc: Global, comes: Comes) -> Result<Packet, Fail> {
+    match comes {
+        Comes::Prepare(from, ballot) => Ok(Packet::Prepare {
+            from: node(from)?,
+            slot: slot(0)?,
+            ballot: Ballot::of_number(ballot)?,
+        }),
+        Comes::Propose(from, ballot) => Ok(Packet::Propose {
+            from: node(from)?,
+            vote: vote(alloc, ballot)?,
+        }),
+        Comes::Promise(from, ballot) => Ok(Packet::Promise {
+            from: node(from)?,
+            ballot: Ballot::of_number(ballot)?,
+            report: Report::Nothing(slot(0)?),
+        }),
+        Comes::Refused(from, ballot, promised) => Ok(Packet::Refused {
+            from: node(from)?,
+            slot: slot(0)?,
+            ballot: Ballot::of_number(ballot)?,
+            promised: Ballot::of_number(promised)?,
+        }),
+        Comes::Ask(from) => Ok(Packet::Ask {
+            from: node(from)?,
+            id: slot(0)?.id,
+            name: name(from, 7)?,
+        }),
+        Comes::Tell(from) => Ok(Packet::Tell {
+            from: node(from)?,
+            name: name(2, 1)?,
+            told: None,
+        }),
+        Comes::Voted(from) => Ok(Packet::Voted {
+            from: node(from)?,
+            vote: vote(alloc, 262161)?,
+        }),
+        Comes::VotedAttempt(from, by, incarnation) => Ok(Packet::Voted {
+            from: node(from)?,
+            vote: attempted(alloc, by, incarnation)?,
+        }),
+        _ => Err("a packet".into()),
+    }
+}
+
+fn name(number: u8, ticket: u64) -> Result<Name, Fail> {
+    Ok(Name {
+        node: node(number)?,
+        incarnation: Incarnation::make(1)?,
+        ticket,
+    })
+}
+
+fn vote(alloc: Global, ballot: u64) -> Result<Vote, Fail> {
     Ok(Vote {
         ballot: Ballot::of_number(ballot)?,
         chain: Chain::read(alloc, TAKEN)?,
     })
 }
 
-// The slot of that chain.
-pub fn slot(alloc: Global) -> Result<Slot, Fail> {
-    Ok(vote(alloc, 262161)?.slot())
+fn attempted(alloc: Global, by: u8, incarnation: u16) -> Result<Vote, Fail> {
+    let author = Author {
+        node: node(by)?,
+        incarnation: Incarnation::make(incarnation)?,
+    };
+    let ballot = Ballot::of_number(262161)?;
+    let taken = Chain::read(alloc, TAKEN)?;
+    let chain = taken.extended(Decree {
+        author,
+        moment: Moment::least(),
+        kind: Kind::Attempt(1),
+    });
+    drop(taken);
+    Ok(Vote {
+        ballot,
+        chain: chain?,
+    })
 }
 
-// That of the second node of three.
-pub fn setup() -> Result<Setup, Fail> {
-    Ok(Setup::make(node(2)?, 3, 1, 172800)?)
-}
-
-// The second node of three.
-pub fn opened<S: StableStore + Drop>(alloc: Global, store: S) -> Result<Node<S>, Fail> {
-    match open_node(alloc, store, setup()?) {
-        Ok((node, _life)) => Ok(node),
-        Err(_) => Err("it opens".into()),
+fn tick(alloc: Global, seconds: u32, accounts: &str) -> Result<Input, Fail> {
+    let moment = Moment::make(seconds)?;
+    let mut up = Vec::new(alloc);
+    for account in accounts.split_whitespace() {
+        up.push(text(alloc, account.as_bytes())?)?;
     }
+    Ok(Input::Tick(moment, up))
 }
 
-pub fn prepare(alloc: Global, from: u8, ballot: u64) -> Result<Input, Fail> {
-    Ok(Input::Packet(Packet::Prepare {
-        from: node(from)?,
-        slot: slot(alloc)?,
-        ballot: Ballot::of_number(ballot)?,
-    }))
-}
-
-pub fn propose(alloc: Global, from: u8, ballot: u64) -> Result<Input, Fail> {
-    Ok(Input::Packet(Packet::Propose {
-        from: node(from)?,
-        vote: vote(alloc, ballot)?,
-    }))
-}
-
-pub fn ask(alloc: Global, from: u8) -> Result<Input, Fail> {
-    Ok(Input::Packet(Packet::Ask {
-        from: node(from)?,
-        id: slot(alloc)?.id,
-        name: Name {
-            node: node(from)?,
-            incarnation: Incarnation::make(1)?,
-            ticket: 7,
-        },
-    }))
-}
-
-// What was answered.
-#[derive(Clone, Copy, Debug, PartialEq, Eq)]
-pub enum Answer {
-    Promised,
-    Refused(u64),
-    Voted(u64),
-    Told(u64),
-    ToldNothing,
-    Nothing,
-    Other,
-}
-
-// The only packet that goes out.
-pub fn answer_in(outputs: &Outputs) -> Answer {
-    match outputs.packets.first() {
-        Some(Packet::Promise { .. }) => Answer::Promised,
-        Some(Packet::Refused { promised, .. }) => Answer::Refused(promised.number()),
-        Some(Packet::Voted { vote, .. }) => Answer::Voted(vote.ballot.number()),
-        Some(
-            Packet::Tell {
-                told: Some(vote),
-                ..
-            },
-        ) => Answer::Told(vote.ballot.number()),
-        Some(Packet::Tell { .. }) => Answer::ToldNothing,
-        Some(_) => Answer::Other,
-        None => Answer::Nothing,
-    }
-}
-
-// What the node answers to an input, once it is committed.
-pub fn answer_to<S: StableStore>(node: &mut Node<S>, input: Input) -> Result<Answer, Fail> {
-    let pending = node.prepare_step(input)?;
-    let outputs = node.commit(pending)?;
-    Ok(answer_in(&outputs))
+pub fn text(alloc: Global, octets: &[u8]) -> Result<Text<16>, Fail> {
+    Ok(Text::make(alloc, octets)?.ok_or("a text")?)
 }

@@ -18,6 +18,7 @@ fn good_lines_are_read(rt: HostRuntime) -> Result<(), Fail> {
     );
     assert_eq!(rt; read_line(alloc, b"settle")?, Some(Line::Settle));
     assert_eq!(rt; read_line(alloc, b"settle 1 1 1")?, Some(Line::Settle));
+    assert_eq!(rt; read_line(alloc, b"restart 1")?, Some(Line::Restart));
     let octets = Vec::from_slice(alloc, &[0xab, 0xcd, 0x09])?;
     assert_eq!(rt;
         read_line(alloc, b"pdu 1 99 aBCd09")?,
@@ -81,6 +82,12 @@ fn bad_lines_say_nothing(rt: HostRuntime) -> Result<(), Fail> {
         "settle1",
         "settle\r",
         "Settle",
+        "restart",
+        "restart 2",
+        "restart 1 ",
+        "restart  1",
+        "restart 11",
+        "restart 1 1",
         "drop",
     ];
     for line in lines {

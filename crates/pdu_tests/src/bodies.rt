@@ -2,8 +2,14 @@
 
 use pdu_codec::{Address, Bind, BindAnswer, Body, Pdu, ShortMessage, Text, Tlvs, decode, encode};
 use std::alloc::Global;
+use std::fmt::Debug;
 use std::process::Abort;
 use std::test::Fail;
+
+/// The value is the one that is wanted. This call is cheaper to prove than an `assert_eq!`.
+pub fn assert_same<T: Debug + PartialEq>(rt: &impl Abort, found: &T, wanted: &T) {
+    assert_eq!(rt; *found, *wanted);
+}
 
 /// These octets stand in the field.
 pub fn assert_field(rt: &impl Abort, field: &str, found: &[u8], wanted: &[u8]) {

@@ -1,6 +1,6 @@
 //! Frames out of streams that are cut into pieces. What is expected is the PDUs of which a stream was made.
 
-use crate::bodies::assert_field;
+use crate::bodies::{assert_field, assert_same};
 use crate::full_vectors::ENQUIRE_LINK;
 use crate::vectors::*;
 use pdu_codec::{Body, PduFault, decode};
@@ -38,9 +38,9 @@ fn feed_whole(
 
 /// These frames were found, and no others.
 fn assert_frames(rt: &impl Abort, found: &[Vec<u8>], wanted: &[&[u8]], cut: usize) {
-    assert_eq!(rt; found.len(), wanted.len(), "{cut}");
+    assert_same(rt, &(found.len(), cut), &(wanted.len(), cut));
     for (frame, octets) in found.iter().zip(wanted) {
-        assert_eq!(rt; frame.as_slice(), *octets, "{cut}");
+        assert_same(rt, &(frame.as_slice(), cut), &(*octets, cut));
     }
 }
 
@@ -58,7 +58,7 @@ fn a_stream_is_cut_at_every_place(rt: HostRuntime) -> Result<(), Fail> {
             &[&BIND_TRANSCEIVER, &SUBMIT_WITH_RECEIPT],
             place,
         );
-        assert_eq!(rt; framer.wanted(), 4);
+        assert_same(&rt, &framer.wanted(), &4);
     }
     Ok(())
 }
@@ -96,14 +96,14 @@ fn a_piece_has_several_frames(rt: HostRuntime) -> Result<(), Fail> {
         &[&BIND_TRANSCEIVER, &SUBMIT_WITH_RECEIPT, &QUERY],
         0,
     );
-    assert_eq!(rt; framer.wanted(), 17);
+    assert_same(&rt, &framer.wanted(), &17);
     Ok(())
 }
 
 /// So many octets of the piece are taken, and so many are wanted then.
 fn assert_fed(rt: &impl Abort, framer: &mut Framer, piece: &[u8], taken: usize, wanted: usize) {
-    assert_eq!(rt; framer.feed(piece), Ok(taken));
-    assert_eq!(rt; framer.wanted(), wanted);
+    assert_same(rt, &framer.feed(piece), &Ok(taken));
+    assert_same(rt, &framer.wanted(), &wanted);
 }
 
 /// `take` answers this, and leaves these octets in the vector.
@@ -114,7 +114,7 @@ fn assert_taken(
     answer: Result<bool, PduFault>,
     octets: &[u8],
 ) {
-    assert_eq!(rt; framer.take(frame), answer);
+    assert_same(rt, &framer.take(frame), &answer);
     assert_field(rt, "the frame", frame, octets);
 }
 
@@ -125,7 +125,7 @@ fn a_frame_is_fed_and_taken(rt: HostRuntime) -> Result<(), Fail> {
     let mut rest = Vec::from_slice(rt.alloc(), &QUERY[4..])?;
     rest.extend_from_slice(&CANCEL)?;
     let mut framer = Framer::make(rt.alloc())?;
-    assert_eq!(rt; framer.wanted(), 4);
+    assert_same(&rt, &framer.wanted(), &4);
     assert_fed(&rt, &mut framer, &QUERY[..3], 3, 1);
     assert_fed(&rt, &mut framer, b"", 0, 1);
     assert_fed(&rt, &mut framer, &QUERY[3..4], 1, 29);
@@ -149,6 +149,17 @@ fn each_frame_takes_the_place_of_the_last(rt: HostRuntime) -> Result<(), Fail> {
     Ok(())
 }
 
+/// The status and the sequence_number of the enquire_link that the octets are.
+fn enquire_link(alloc: Global, octets: &[u8]) -> Result<Option<[u32; 2]>, Fail> {
+    let pdu = decode(alloc, octets)?;
+    let numbers = match &pdu.body {
+        Body::EnquireLink => Some([pdu.status, pdu.sequence]),
+        _ => None,
+    };
+    drop(pdu);
+    Ok(numbers)
+}
+
 /// A header alone (SMPP 3.4, section 4.11.1): its first four octets say that it has 16.
 #[test]
 fn an_enquire_link_is_cut_at_every_place(rt: HostRuntime) -> Result<(), Fail> {
@@ -161,10 +172,9 @@ fn an_enquire_link_is_cut_at_every_place(rt: HostRuntime) -> Result<(), Fail> {
         assert_taken(&rt, &mut framer, &mut frame, Ok(false), b"");
         assert_fed(&rt, &mut framer, second, 16 - place, 0);
         assert_taken(&rt, &mut framer, &mut frame, Ok(true), ENQUIRE_LINK);
-        let pdu = decode(rt.alloc(), &frame)?;
-        assert_eq!(rt; (pdu.status, pdu.sequence), (0x28, 0x29), "{place}");
-        assert_eq!(rt; pdu.body, Body::EnquireLink, "{place}");
-        assert_eq!(rt; framer.wanted(), 4, "{place}");
+        let numbers = enquire_link(rt.alloc(), &frame)?;
+        assert_same(&rt, &(numbers, place), &(Some([0x28, 0x29]), place));
+        assert_same(&rt, &framer.wanted(), &4);
     }
     Ok(())
 }
@@ -172,9 +182,9 @@ fn an_enquire_link_is_cut_at_every_place(rt: HostRuntime) -> Result<(), Fail> {
 /// `feed` and `take` tell a wrong length, and what was taken before stays in the vector.
 fn assert_wrong(rt: &impl Abort, framer: &mut Framer, frame: &mut Vec<u8>, octets: &[u8]) {
     assert_taken(rt, framer, frame, Err(PduFault::Length), octets);
-    assert_eq!(rt; framer.feed(octets), Err(PduFault::Length));
-    assert_eq!(rt; framer.feed(b""), Err(PduFault::Length));
-    assert_eq!(rt; framer.wanted(), 0);
+    assert_same(rt, &framer.feed(octets), &Err(PduFault::Length));
+    assert_same(rt, &framer.feed(b""), &Err(PduFault::Length));
+    assert_same(rt, &framer.wanted(), &0);
 }
 
 #[test]
@@ -209,26 +219,34 @@ fn comes_of(alloc: Global, length: u32) -> Result<Result<bool, PduFault>, Fail> 
 
 #[test]
 fn lengths_have_limits(rt: HostRuntime) -> Result<(), Fail> {
-    assert_eq!(rt; comes_of(rt.alloc(), 16)?, Ok(true));
-    assert_eq!(rt; comes_of(rt.alloc(), 8192)?, Ok(true));
+    assert_same(&rt, &comes_of(rt.alloc(), 16)?, &Ok(true));
+    assert_same(&rt, &comes_of(rt.alloc(), 8192)?, &Ok(true));
     for length in [4, 15, 8193, 65_552] {
         let fault = comes_of(rt.alloc(), length)?;
-        assert_eq!(rt; fault, Err(PduFault::Length), "{length}");
+        assert_same(&rt, &(fault, length), &(Err(PduFault::Length), length));
     }
     let zero = Framer::make(rt.alloc())?.feed(b"\0\0\0\0\0\0\0\x10");
-    assert_eq!(rt; zero, Ok(4));
+    assert_same(&rt, &zero, &Ok(4));
+    Ok(())
+}
+
+fn assert_shown(rt: &impl Abort, framer: &mut Framer) -> Result<(), Fail> {
+    assert_same(
+        rt,
+        &framer.feed(&BIND_TRANSCEIVER)?,
+        &BIND_TRANSCEIVER.len(),
+    );
+    let frame = framer.frame()?.ok_or("the frame is whole")?;
+    assert_same(rt, &frame, &BIND_TRANSCEIVER.as_slice());
+    framer.let_go();
+    assert_same(rt, &framer.frame(), &Ok(None));
     Ok(())
 }
 
 #[test]
 fn a_frame_is_shown_where_it_lies(rt: HostRuntime) -> Result<(), Fail> {
     let mut framer = Framer::make(rt.alloc())?;
-    assert_eq!(rt; framer.feed(&BIND_TRANSCEIVER)?, BIND_TRANSCEIVER.len());
-    let Some(frame) = framer.frame()? else {
-        return Err(Fail::from("the frame is whole"));
-    };
-    assert_eq!(rt; frame, BIND_TRANSCEIVER.as_slice());
-    framer.let_go();
-    assert_eq!(rt; framer.frame(), Ok(None));
-    Ok(())
+    let asserted = assert_shown(&rt, &mut framer);
+    drop(framer);
+    asserted
 }

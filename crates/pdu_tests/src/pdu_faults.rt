@@ -17,25 +17,42 @@ fn fault_of(alloc: Global, octets: &[u8], after: &[u8]) -> Result<Option<PduFaul
     Ok(decode(alloc, &framed).err())
 }
 
+/// The fault of the octets and a zero after them.
+fn fault_with_zero(alloc: Global, octets: &[u8]) -> Result<Option<PduFault>, Fail> {
+    let mut longer = Vec::from_slice(alloc, octets)?;
+    longer.push(0)?;
+    Ok(decode(alloc, &longer).err())
+}
+
+/// The fault of the octets and so many zeros after them, once command_length says how many they are.
+fn fault_with_zeros(alloc: Global, octets: &[u8], count: usize) -> Result<Option<PduFault>, Fail> {
+    let zeros = vec![in alloc; 0u8; count]?;
+    let fault = fault_of(alloc, octets, &zeros);
+    drop(zeros);
+    fault
+}
+
 #[test]
 fn lengths(rt: HostRuntime) -> Result<(), Fail> {
     let short = fault_of(rt.alloc(), &QUERY[..15], b"")?;
-    assert_eq!(rt; short, Some(PduFault::Length));
+    assert_same(&rt, &short, &Some(PduFault::Length));
     // One octet fewer than command_length says, and one more.
     let less = decode(rt.alloc(), &QUERY[..32]).err();
-    assert_eq!(rt; less, Some(PduFault::Length));
-    let mut octets = Vec::from_slice(rt.alloc(), &QUERY)?;
-    octets.push(0)?;
-    let more = decode(rt.alloc(), &octets).err();
-    assert_eq!(rt; more, Some(PduFault::Length));
+    let more = fault_with_zero(rt.alloc(), &QUERY)?;
+    assert_same(
+        &rt,
+        &[less, more],
+        &[Some(PduFault::Length), Some(PduFault::Length)],
+    );
     // 8,192 octets may be a PDU, and 8,193 are none, whatever their command.
     let unknown = b"\0\0\0\0\0\0\xff\xff\0\0\0\0\0\0\0\x01";
-    let most = vec![in rt.alloc(); 0u8; 8176]?;
-    let served = fault_of(rt.alloc(), unknown, &most)?;
-    assert_eq!(rt; served, Some(PduFault::Command));
-    let most = vec![in rt.alloc(); 0u8; 8177]?;
-    let long = fault_of(rt.alloc(), unknown, &most)?;
-    assert_eq!(rt; long, Some(PduFault::Length));
+    let served = fault_with_zeros(rt.alloc(), unknown, 8176)?;
+    let long = fault_with_zeros(rt.alloc(), unknown, 8177)?;
+    assert_same(
+        &rt,
+        &[served, long],
+        &[Some(PduFault::Command), Some(PduFault::Length)],
+    );
     Ok(())
 }
 
@@ -54,26 +71,30 @@ fn commands(rt: HostRuntime) -> Result<(), Fail> {
 #[test]
 fn faults(rt: HostRuntime) -> Result<(), Fail> {
     let cut = fault_of(rt.alloc(), &QUERY[..32], &[])?;
-    assert_eq!(rt; cut, Some(PduFault::Cut(Field::SourceAddr)));
+    assert_same(&rt, &cut, &Some(PduFault::Cut(Field::SourceAddr)));
     let long = fault_of(rt.alloc(), &BIND_TRANSCEIVER[..16], b"sixteen octets..")?;
-    assert_eq!(rt; long, Some(PduFault::LongText(Field::SystemId)));
+    assert_same(&rt, &long, &Some(PduFault::LongText(Field::SystemId)));
     let length = fault_of(rt.alloc(), &SUBMIT[..38], &[0xff, 0x48, 0x69])?;
-    assert_eq!(rt; length, Some(PduFault::TextLength));
+    assert_same(&rt, &length, &Some(PduFault::TextLength));
     let tlvs = fault_of(rt.alloc(), &BIND_ANSWER[..27], &[])?;
-    assert_eq!(rt; tlvs, Some(PduFault::Tlvs));
+    assert_same(&rt, &tlvs, &Some(PduFault::Tlvs));
     let extra = fault_of(rt.alloc(), &SUBMIT_ANSWER, &[0])?;
-    assert_eq!(rt; extra, Some(PduFault::Extra));
+    assert_same(&rt, &extra, &Some(PduFault::Extra));
     Ok(())
 }
 
 #[test]
 fn faults_of_cancels(rt: HostRuntime) -> Result<(), Fail> {
     let extra = fault_of(rt.alloc(), &CANCEL, &[0])?;
-    assert_eq!(rt; extra, Some(PduFault::Extra));
+    assert_same(&rt, &extra, &Some(PduFault::Extra));
     let long = fault_of(rt.alloc(), &CANCEL[..36], b"twenty-one characters\0")?;
-    assert_eq!(rt; long, Some(PduFault::LongText(Field::DestinationAddr)));
+    assert_same(
+        &rt,
+        &long,
+        &Some(PduFault::LongText(Field::DestinationAddr)),
+    );
     let answer = fault_of(rt.alloc(), &CANCEL_OK, &[0])?;
-    assert_eq!(rt; answer, Some(PduFault::Extra));
+    assert_same(&rt, &answer, &Some(PduFault::Extra));
     Ok(())
 }
 
@@ -140,7 +161,7 @@ fn longest(alloc: Global) -> Result<Message, Fail> {
 #[test]
 fn a_submit_of_7364_octets_is_read_and_written(rt: HostRuntime) -> Result<(), Fail> {
     let octets = longest_submit(rt.alloc())?;
-    assert_eq!(rt; octets.len(), 7364);
+    assert_same(&rt, &octets.len(), &7364);
     let body = Body::SubmitSm(longest(rt.alloc())?);
     assert_is(&rt, rt.alloc(), &octets, [0, 1], body);
     Ok(())
@@ -151,15 +172,19 @@ fn optional_parameters_have_7000_octets_at_most(rt: HostRuntime) -> Result<(), F
     let mut tlvs = Vec::from_slice(rt.alloc(), b"\x04\x24\x1b\x55")?;
     tlvs.extend_from_slice(&counting::<6997>())?;
     let fault = fault_of(rt.alloc(), &SUBMIT, &tlvs)?;
-    assert_eq!(rt; fault, Some(PduFault::Tlvs));
+    assert_same(&rt, &fault, &Some(PduFault::Tlvs));
     Ok(())
 }
 
 #[test]
 fn faults_are_told(rt: HostRuntime) -> Result<(), Fail> {
     let told = PduFault::Cut(Field::DestinationAddr).to_string(rt.alloc())?;
-    assert_eq!(rt; told.as_str(), "the PDU ends before destination_addr does");
+    assert_same(
+        &rt,
+        &told.as_str(),
+        &"the PDU ends before destination_addr does",
+    );
     let told = PduFault::TextLength.to_string(rt.alloc())?;
-    assert_eq!(rt; told.as_str(), "sm_length is above 254");
+    assert_same(&rt, &told.as_str(), &"sm_length is above 254");
     Ok(())
 }

@@ -135,7 +135,9 @@ fn a_pdu_is_written_behind_what_is_there(rt: HostRuntime) -> Result<(), Fail> {
         sequence: 4,
         body: Body::CancelSmResp,
     };
-    assert!(rt; encode(&pdu, &mut octets).is_ok());
+    let written = encode(&pdu, &mut octets);
+    drop(pdu);
+    assert!(rt; written.is_ok());
     let whole = b"before\0\0\0\x10\x80\0\0\x08\0\0\0\x11\0\0\0\x04";
     assert_field(&rt, "the whole", &octets, whole);
     Ok(())

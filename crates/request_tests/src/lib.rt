@@ -6,4 +6,8 @@ mod answers;
 #[cfg(test)]
 mod queues;
 #[cfg(test)]
+mod turns;
+#[cfg(test)]
 mod values;
+#[cfg(test)]
+mod waits;

@@ -3,7 +3,7 @@
 use fate_chain::{Author, Chain, Decree, ErrorCode, Final, Kind, Submission};
 use mc_types::{Ballot, Incarnation, Moment, MsgId, NodeNo};
 use pdu_codec::{Address, ShortMessage, Text, Tlvs};
-use requests::{Answer, Held, Queue, Reply, Request, Taken};
+use requests::{Answer, Held, Request, Taken};
 use std::alloc::Global;
 use std::test::Fail;
 use synod_acceptor::Vote;
@@ -41,8 +41,14 @@ fn address(alloc: Global, digits: &[u8]) -> Result<Address, Fail> {
     })
 }
 
+fn short_text(alloc: Global, octets: &[u8]) -> Result<ShortMessage, Fail> {
+    Ok(ShortMessage::make(alloc, octets)?.ok_or("a text")?)
+}
+
 // A message of sme1 to itself, from 144 to 155, of three days.
 pub fn message(alloc: Global) -> Result<Submission, Fail> {
+    let schedule = Moment::make(BEGINNING)?;
+    let expiry = Moment::make(BEGINNING + 259200)?;
     Ok(Submission {
         submitter: text(alloc, b"sme1")?,
         target: text(alloc, b"sme1")?,
@@ -54,9 +60,9 @@ pub fn message(alloc: Global) -> Result<Submission, Fail> {
         priority_flag: 0,
         registered_delivery: 1,
         data_coding: 0,
-        schedule: Moment::make(BEGINNING)?,
-        expiry: Moment::make(BEGINNING + 259200)?,
-        text: ShortMessage::make(alloc, b"Hi")?.ok_or("a text")?,
+        schedule,
+        expiry,
+        text: short_text(alloc, b"Hi")?,
         passed: Tlvs::empty(alloc),
     })
 }
@@ -66,66 +72,63 @@ pub fn taken(alloc: Global) -> Result<Chain, Fail> {
     Ok(Chain::begin(alloc, id()?, after(0)?, message(alloc)?)?)
 }
 
-fn behind(chain: &Chain, kind: Kind) -> Result<Chain, Fail> {
-    Ok(chain.extended(Decree {
-        author: Author {
-            node: node(1)?,
-            incarnation: first()?,
-        },
-        moment: after(1)?,
+// With a decree of the first node behind it.
+fn behind(taken: &Chain, moment: Moment, kind: Kind) -> Result<Chain, Fail> {
+    let author = Author {
+        node: NodeNo::of(1),
+        incarnation: Incarnation::of(1),
+    };
+    Ok(taken.extended(Decree {
+        author,
+        moment,
         kind,
     })?)
 }
 
 // With a first attempt.
 pub fn tried(alloc: Global) -> Result<Chain, Fail> {
-    behind(&taken(alloc)?, Kind::Attempt(1))
+    let moment = after(1)?;
+    let taken = taken(alloc)?;
+    let tried = behind(&taken, moment, Kind::Attempt(1));
+    drop(taken);
+    tried
 }
 
 // Deleted before any attempt.
 pub fn deleted(alloc: Global) -> Result<Chain, Fail> {
     let error = ErrorCode::make(0).ok_or("an error")?;
-    behind(&taken(alloc)?, Kind::Fate(Final::Deleted, error))
-}
-
-// A vote for a chain, at the ballot of round 1 of node 1.
-pub fn vote(chain: Chain) -> Result<Vote, Fail> {
-    Ok(Vote {
-        ballot: Ballot::of_number(262161)?,
-        chain,
-    })
+    let moment = after(1)?;
+    let taken = taken(alloc)?;
+    let deleted = behind(&taken, moment, Kind::Fate(Final::Deleted, error));
+    drop(taken);
+    deleted
 }
 
 pub fn query(alloc: Global, account: &[u8]) -> Result<Held, Fail> {
+    let (id, since) = (id()?, after(0)?);
     let request = Request::Query {
-        id: id()?,
+        id,
         account: text(alloc, account)?,
         source: text(alloc, b"144")?,
     };
-    Ok(Held::begin(1, after(0)?, request))
+    Ok(Held::begin(1, since, request))
 }
 
 pub fn cancel(alloc: Global, destination: &[u8]) -> Result<Held, Fail> {
+    let (id, since) = (id()?, after(0)?);
     let request = Request::Cancel {
-        id: id()?,
+        id,
         account: text(alloc, b"sme1")?,
         source: text(alloc, b"144")?,
         destination: text(alloc, destination)?,
     };
-    Ok(Held::begin(1, after(0)?, request))
+    Ok(Held::begin(1, since, request))
 }
 
 pub fn submit(alloc: Global) -> Result<Held, Fail> {
     let since = after(0)?;
     let taken = Taken::make(alloc, id()?, since, message(alloc)?)?;
     Ok(Held::begin(1, since, Request::Submit(taken)))
-}
-
-// A queue in which this request waits alone.
-pub fn alone(alloc: Global, held: Held) -> Result<Queue, Fail> {
-    let mut queue = Queue::make(alloc)?;
-    queue.push(Box::new(alloc, held)?);
-    Ok(queue)
 }
 
 // What is known of the message.
@@ -146,36 +149,17 @@ pub fn chain(alloc: Global, known: Known) -> Result<Option<Chain>, Fail> {
     }
 }
 
+// A vote for its chain, at the ballot of round 1 of node 1.
 pub fn vote_for(alloc: Global, known: Known) -> Result<Option<Vote>, Fail> {
+    let ballot = Ballot::of_number(262161)?;
     match chain(alloc, known)? {
-        Some(chain) => Ok(Some(vote(chain)?)),
+        Some(chain) => Ok(Some(Vote { ballot, chain })),
         None => Ok(None),
     }
 }
 
-// A node tells of a vote for this chain.
-pub fn tell(alloc: Global, held: &mut Held, from: u8, known: Known) -> Result<(), Fail> {
-    let told = vote_for(alloc, known)?;
-    held.hear(node(from)?, told.as_ref())?;
-    Ok(())
-}
-
-// What a request is answered in a cluster of three nodes.
-pub fn answer(alloc: Global, held: &Held, known: Known) -> Result<(&'static str, u8), Fail> {
-    let chain = chain(alloc, known)?;
-    Ok(said(&held.answer(3, chain.as_ref())?))
-}
-
-// Whether a request is settled by this chain, which settles it.
-pub fn settle(alloc: Global, held: &mut Held, known: Known) -> Result<bool, Fail> {
-    let chain = chain(alloc, known)?;
-    let settles = held.settles(3, chain.as_ref());
-    held.settle(3, chain.as_ref());
-    Ok(settles)
-}
-
 // The name of an answer, and the place of its chain.
-fn said(answer: &Option<Answer>) -> (&'static str, u8) {
+pub fn said(answer: Option<&Answer>) -> (&'static str, u8) {
     match answer {
         None => ("waits", 0),
         Some(Answer::Accepted) => ("accepted", 0),
@@ -189,37 +173,11 @@ fn said(answer: &Option<Answer>) -> (&'static str, u8) {
     }
 }
 
-// What the only reply says, which is to ticket 1.
-fn only(mut replies: Vec<Reply>) -> Result<(&'static str, u8), Fail> {
-    let Some(reply) = replies.pop() else {
-        return Ok(("waits", 0));
-    };
-    let Reply {
-        ticket,
-        id: about,
-        answer,
-    } = reply;
-    if !replies.is_empty() || ticket != 1 || about != id()? {
-        return Err("one reply to ticket 1".into());
-    }
-    Ok(said(&Some(answer)))
-}
-
-// What the only request of a queue is told once this chain is known, and how many wait then.
-pub fn conclude(queue: &mut Queue, known: &Chain) -> Result<(&'static str, usize), Fail> {
-    let (said, _place) = only(queue.replies(3, known)?)?;
-    queue.settle(3, known);
-    Ok((said, queue.len()))
-}
-
-// What it is told at so many seconds, and how many wait then.
-pub fn expire(queue: &mut Queue, seconds: u16) -> Result<(&'static str, usize), Fail> {
-    let (said, _place) = only(queue.late(after(seconds)?)?)?;
-    queue.expire(after(seconds)?);
-    Ok((said, queue.len()))
-}
-
-// How many questions the first of three nodes asks for it.
-pub fn questions(queue: &Queue) -> Result<usize, Fail> {
-    Ok(queue.questions(after(29)?, node(1)?, first()?, 3)?.len())
+// A node tells of a vote for this chain.
+pub fn tell(alloc: Global, held: &mut Held, from: u8, known: Known) -> Result<(), Fail> {
+    let from = node(from)?;
+    let told = vote_for(alloc, known)?;
+    let heard = held.hear(from, told.as_ref());
+    drop(told);
+    Ok(heard?)
 }
