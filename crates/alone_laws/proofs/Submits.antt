@@ -43,7 +43,7 @@ module _ (k : Kept) (id : ℕ) (life : IsIncarnation k.incarnation) (serial : Is
         omega (arith, serial_is, ltb-true (serial_of id) k.serial parts.1)
   ]
 
-  none_if_not_given : (chain : List Decree) → IsTakenIfAny k id chain → chain ≡ []
+  pub none_if_not_given : (chain : List Decree) → IsTakenIfAny k id chain → chain ≡ []
   none_if_not_given [] taken = refl
   none_if_not_given (newest ∷ older) taken = absurd (not_given taken.given)
 

@@ -11,7 +11,7 @@ use Rattle.std.proofs.lemmas.Option.{cond_some, some_pair_parts}
 use Rattle.std.proofs.lemmas.Str.Parse.{digit_at}
 use Rattle.hex.specs.Hex.{decode_of}
 use Rattle.mc_model.specs.message.Ids.{IsMoment}
-use Rattle.script_lines.specs.Said.{Said, Skipped, Nodes, Octets, Tick, Settle, IsWording, IsSession, Spells, spaced, ◌>>=◌, behind, has_leading_zero, number_of, word_len, number_at, nodes_said, octets_parts, octets_said, tick_said, are_ones, settle_said, is_skipped, words_said, said_of}
+use Rattle.script_lines.specs.Said.{Said, Skipped, Nodes, Octets, Tick, Settle, Restart, IsWording, IsSession, Spells, spaced, ◌>>=◌, behind, has_leading_zero, number_of, word_len, number_at, nodes_said, octets_parts, octets_said, tick_said, are_ones, settle_said, restart_said, is_skipped, words_said, said_of}
 use Rattle.script_lines.proofs.WordLemmas.{own, Numeral, Numeral-from_test, test-from_Numeral}
 
 -- ---- a step that gave a value
@@ -267,12 +267,27 @@ settle_again (node ∷ nodes) all =
     let rest = settle_again nodes (All-tail (λ n. n ≡ 1) node nodes all) in
     simp (first, decimal_one) rest
 
+-- ---- a restart
+
+restart_takes : (text : List ℕ) (said : Said) → restart_said text ≡ Some said → IsWording said (codes "restart" ++ text)
+unfolding restart_said
+restart_takes text said e =
+    let a = bind_some (behind (codes " 1") text) (λ words. cond (length words == 0) (Some Restart) None) said e in
+    let is = cond_some (length a.0 == 0) Restart said a.2 in
+    let words = one_word text a.0 [] (behind_takes (codes " 1") text a.0 a.1) (empty_if a.0 is.0) in
+    subst (λ s. IsWording s (codes "restart" ++ text)) is.1 (ap (λ xs. codes "restart" ++ xs) words)
+
+restart_again : restart_said (spaced (decimal 1 ∷ [])) ≡ Some Restart
+unfolding restart_said behind
+restart_again = rw decimal_one refl
+
 -- ---- whole lines
 
 words_takes : (line : List ℕ) (said : Said) → words_said line ≡ Some said → IsWording said line
 unfolding words_said settle_said
 words_takes line said e =
-    let settle = cond (starts_with nat_eq line (codes "settle")) (settle_said (drop 6 line)) None in
+    let restart = cond (starts_with nat_eq line (codes "restart")) (restart_said (drop 7 line)) None in
+    let settle = cond (starts_with nat_eq line (codes "settle")) (settle_said (drop 6 line)) restart in
     let tick = cond (starts_with nat_eq line (codes "tick")) (tick_said (drop 4 line)) settle in
     let pdu = cond (starts_with nat_eq line (codes "pdu")) (octets_said (drop 3 line)) tick in
     elim (chosen (starts_with nat_eq line (codes "nodes")) (nodes_said (drop 5 line)) pdu (Some said) e) [
@@ -281,12 +296,15 @@ words_takes line said e =
         | inl octets ↦ subst (IsWording said) (sym (begins (codes "pdu") line octets.0)) (octets_take (drop 3 line) said octets.1)
         | inr later ↦ elim (chosen (starts_with nat_eq line (codes "tick")) (tick_said (drop 4 line)) settle (Some said) later.1) [
           | inl moment ↦ subst (IsWording said) (sym (begins (codes "tick") line moment.0)) (tick_takes (drop 4 line) said moment.1)
-          | inr end ↦ elim (chosen (starts_with nat_eq line (codes "settle")) (settle_said (drop 6 line)) None (Some said) end.1) [
+          | inr end ↦ elim (chosen (starts_with nat_eq line (codes "settle")) (settle_said (drop 6 line)) restart (Some said) end.1) [
             | inl settles ↦
                 let is = cond_some (are_ones (drop 6 line)) Settle said settles.1 in
                 let nodes = settle_takes (drop 6 line) is.0 in
                 subst (λ s. IsWording s line) is.1 (nodes.0, nodes.1, begins (codes "settle") line settles.0 ∙ ap (λ xs. codes "settle" ++ xs) nodes.2)
-            | inr none ↦ absurd (let clash = none.1 in cc)
+            | inr last ↦ elim (chosen (starts_with nat_eq line (codes "restart")) (restart_said (drop 7 line)) None (Some said) last.1) [
+              | inl restarts ↦ subst (IsWording said) (sym (begins (codes "restart") line restarts.0)) (restart_takes (drop 7 line) said restarts.1)
+              | inr none ↦ absurd (let clash = none.1 in cc)
+            ]
           ]
         ]
       ]
@@ -341,6 +359,10 @@ settle_line : (text : List ℕ) → are_ones text ≡ true → said_short (codes
 unfolding words_said settle_said
 settle_line text ones = rw ones refl
 
+restart_line : (text : List ℕ) → said_short (codes "restart" ++ text) ≡ restart_said text
+unfolding words_said
+restart_line text = refl
+
 wording_again : (line : List ℕ) (said : Said) → IsWording said line → said_short line ≡ Some said
 wording_again line Skipped w = rw (skipped_again line w) refl
 wording_again line (Nodes serial) w =
@@ -353,6 +375,7 @@ wording_again line (Octets session octets) w =
 wording_again line (Tick moment) w =
     ap said_short w.1 ∙ tick_line (spaced (decimal 1 ∷ decimal moment ∷ [])) ∙ tick_again moment w.0
 wording_again line Settle w = ap said_short w.2 ∙ settle_line (spaced (map decimal w.0)) (settle_again w.0 w.1)
+wording_again line Restart w = ap said_short w ∙ restart_line (spaced (decimal 1 ∷ [])) ∙ restart_again
 
 pub spelled_so : (line : List ℕ) (said : Said) → (said_of line ≡ Some said) ↔ Spells said line
 spelled_so line said = (said_takes line said, λ spells. said_of-short line spells.short ∙ wording_again line said spells.wording)

@@ -22,6 +22,8 @@ pub data Said : Type 0 where
   Tick : ℕ → Said
   -- what was asked is answered
   Settle : Said
+  -- the node starts anew
+  Restart : Said
 
 -- what a line of the code says
 abbrev pub said_by : Line → Said
@@ -30,6 +32,7 @@ said_by (lines.Nodes serial) = Nodes serial
 said_by (lines.Octets session octets) = Octets session octets.items
 said_by (lines.Tick moment) = Tick moment
 said_by lines.Settle = Settle
+said_by lines.Restart = Restart
 
 -- a space before each word
 abbrev pub spaced : List (List ℕ) → List ℕ
@@ -58,6 +61,7 @@ IsWording (Octets session octets) line =
     × (line ≡ codes "pdu" ++ spaced (decimal 1 ∷ decimal session ∷ digits ∷ [])))
 IsWording (Tick moment) line = IsMoment moment × (line ≡ codes "tick" ++ spaced (decimal 1 ∷ decimal moment ∷ []))
 IsWording Settle line = (nodes : List ℕ) × All (λ node. node ≡ 1) nodes × (line ≡ codes "settle" ++ spaced (map decimal nodes))
+IsWording Restart line = line ≡ codes "restart" ++ spaced (decimal 1 ∷ [])
 
 -- a line of at most 20,000 octets says this
 pub record Spells (said : Said) (line : List ℕ) : Type 0 where
@@ -141,6 +145,12 @@ are_ones (octet ∷ digit ∷ text) = octet == 32 && digit == 49 && are_ones tex
 unfoldable pub settle_said : List ℕ → Option Said
 settle_said text = if are_ones text then Some Settle else None
 
+-- what is behind `restart`
+unfoldable pub restart_said : List ℕ → Option Said
+restart_said text = do
+  words ← behind (codes " 1") text
+  if length words == 0 then Some Restart else None
+
 -- what the line says, where it is neither empty nor a comment
 unfoldable pub words_said : List ℕ → Option Said
 words_said line =
@@ -148,6 +158,7 @@ words_said line =
     else if starts_with nat_eq line (codes "pdu") then octets_said (drop 3 line)
     else if starts_with nat_eq line (codes "tick") then tick_said (drop 4 line)
     else if starts_with nat_eq line (codes "settle") then settle_said (drop 6 line)
+    else if starts_with nat_eq line (codes "restart") then restart_said (drop 7 line)
     else None
 
 -- it is empty, or begins with `#`
@@ -169,4 +180,5 @@ SaysOctets (Some Skipped) = ⊥
 SaysOctets (Some (Nodes serial)) = ⊥
 SaysOctets (Some (Tick moment)) = ⊥
 SaysOctets (Some Settle) = ⊥
+SaysOctets (Some Restart) = ⊥
 SaysOctets None = ⊥

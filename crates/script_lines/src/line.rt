@@ -5,7 +5,7 @@ ghost use Rattle.std.specs.Option.{option_map, option_copied};
 ghost use Rattle.std.specs.List.{list_all};
 ghost use Rattle.std.specs.Char.{is_ascii_digit, is_ascii_hexdigit};
 ghost use Rattle.hex.specs.Hex.{decode_of};
-ghost use Rattle.script_lines.specs.Said.{Said, Spells, SaysOctets, said_by, said_of, words_said, nodes_said, octets_said, tick_said, settle_said};
+ghost use Rattle.script_lines.specs.Said.{Said, Spells, SaysOctets, said_by, said_of, words_said, nodes_said, octets_said, tick_said, settle_said, restart_said};
 ghost use Rattle.script_lines.specs.Said as spec;
 
 use crate::octets::place_of;
@@ -40,6 +40,8 @@ pub enum Line {
     Tick(u32),
     /// `settle`, which may name the node 1.
     Settle,
+    /// `restart 1`: the node starts anew.
+    Restart,
 }
 
 /// What a line says, its line feed taken off; a bad line says nothing. An `Err` is want of memory, which octets need.
@@ -63,17 +65,20 @@ fn words_of(alloc: Global, line: &[u8]) -> Result<Option<Line>, AllocError>
     ensures said { IfOk result (λ read. option_map said_by read ≡ words_said line.now) }
     ensures memory { OnErr result (SaysOctets (words_said line.now)) }
 {
-    if let Some(words) = line.strip_prefix(b"nodes") {
+    if let Some(words) = behind(b"nodes", line) {
         return Ok(nodes_of(words));
     }
-    if let Some(words) = line.strip_prefix(b"pdu") {
+    if let Some(words) = behind(b"pdu", line) {
         return octets_of(alloc, words);
     }
-    if let Some(words) = line.strip_prefix(b"tick") {
+    if let Some(words) = behind(b"tick", line) {
         return Ok(tick_of(words));
     }
-    if let Some(words) = line.strip_prefix(b"settle") {
+    if let Some(words) = behind(b"settle", line) {
         return Ok(settle_of(words));
+    }
+    if let Some(words) = behind(b"restart", line) {
+        return Ok(restart_of(words));
     }
     Ok(None)
 }
@@ -154,6 +159,18 @@ fn settle_of(words: &[u8]) -> Option<Line>
         rest = behind(b" 1", rest)?;
     }
     Some(Line::Settle)
+}
+
+/// What stands behind `restart`: the node alone.
+#[tactic(auto, unfolding(crate::specs::Said::restart_said))]
+fn restart_of(words: &[u8]) -> Option<Line>
+    ensures { option_map said_by result ≡ restart_said words.now }
+{
+    let rest = behind(b" 1", words)?;
+    if !rest.is_empty() {
+        return None;
+    }
+    Some(Line::Restart)
 }
 
 /// What is behind the front, where the text begins with it.

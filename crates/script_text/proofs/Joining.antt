@@ -1,6 +1,7 @@
 -- Lines that join are those that a script is computed from, and the node goes by what was done at it.
-use Rattle.std.proofs.Common.{◌≡◌, ℕ, suc, Bool, true, false, cond, List, [], ◌∷◌, ◌++◌, Option, Some, None, Result, Ok, Err, refl, sym, ◌∙◌, ap, subst}
-use Rattle.script_lines.specs.Said.{Said, Skipped, Nodes, Octets, Tick, Settle, said_of}
+use Rattle.std.specs.Prelude.{nat_lt}
+use Rattle.std.proofs.Common.{◌≡◌, ℕ, zero, suc, Bool, true, false, cond, List, [], ◌∷◌, ◌++◌, Option, Some, None, Result, Ok, Err, refl, sym, ◌∙◌, ap, subst}
+use Rattle.script_lines.specs.Said.{Said, Skipped, Nodes, Octets, Tick, Settle, Restart, said_of}
 use Rattle.sessions.specs.Session.{Session}
 use Rattle.sessions.specs.States.{is_gone}
 use Rattle.sessions.specs.Steps.{Done, on_fault, on_pdu, on_wrong_length}
@@ -14,75 +15,73 @@ use Rattle.pdu_codec.specs.Pdu.{read_pdu}
 use Rattle.pdu_fields.specs.declared.fault.PduFault.{PduFault}
 use Rattle.pdu_bodies.specs.declared.pdu.Pdu.{Pdu}
 use Rattle.pdu_frames.specs.Frames.{Cut, cut, begins_wrong}
-use Rattle.desk.specs.declared.request.Begun.{Begun}
-use Rattle.desk.specs.declared.request.Begun.TheVariants.{Refused, Waits}
+use Rattle.mc_model.specs.synod.Packet.{Packet}
+use Rattle.mc_model.specs.node.Input.{Delivery, Input, Restart as StartsAnew}
+use Rattle.mc_model.specs.node.Setup.{Setup}
+use Rattle.node_model.specs.Kept.{Kept}
+use Rattle.node_model.specs.Stepped.{stepped as node_stepped}
 use Rattle.desk.specs.declared.request.Request.{Request}
 use Rattle.script_text.specs.Settings.{Settings}
-use Rattle.script_text.specs.Node.{Node, Step, Arrives, after_step, begins_at, with_begun}
+use Rattle.script_text.specs.Node.{Node, awaiting, request_at, step_at, tick_at, with_step}
 use Rattle.script_text.specs.Prints.{Print}
-use Rattle.script_text.specs.Runner.{Runner, Acted, Served, Streamed, behind, begun_at, on_begun, on_request, on_reaction, on_done, on_read, on_frame, on_rest, on_frames, on_cut, on_octets, on_tick, on_settle, kept, session_in, held_in, without, holding, request_of}
+use Rattle.script_text.specs.Runner.{Runner, Acted, Served, Streamed, behind, on_request, on_reaction, on_done, on_read, on_frame, on_rest, on_frames, on_cut, on_octets, on_tick, on_settle, on_delivery, on_restart, declined, last_incarnation, no_incarnation, restarted, settles, first_or, followed_by, most_deliveries, rests, kept, session_in, held_in, without, holding, request_of}
 use Rattle.script_text.specs.Script.{Stage, Stepped, Joins, LineStep, after, bad_from, prints_from, step_by, step_of, stepped}
-use Rattle.script_text.specs.Laws.{after_steps}
+use Rattle.script_text.specs.Laws.{GoesBy, kept_by}
 
 -- ---- joined lines, and those computed
 
-pub printed : (settings : Settings) (first : Stage) (lines : List (List ℕ)) (steps : List Step) (prints : List Print) (last : Stage) (number : ℕ) → Joins settings first lines steps prints last → (prints ≡ prints_from settings first lines) × (bad_from settings first number lines ≡ None)
+pub printed : (settings : Settings) (first : Stage) (lines : List (List ℕ)) (inputs : List Input) (prints : List Print) (last : Stage) (number : ℕ) → Joins settings first lines inputs prints last → (prints ≡ prints_from settings first lines) × (bad_from settings first number lines ≡ None)
 unfolding Joins prints_from bad_from
-printed settings first [] steps prints last number joins = (joins.1, refl)
-printed settings first (line ∷ lines) steps prints last number joins =
+printed settings first [] inputs prints last number joins = (joins.1, refl)
+printed settings first (line ∷ lines) inputs prints last number joins =
     let (done, later, others, is, did, said, rest) = joins in
     let behind = printed settings done.stage lines later others last (suc number) rest in (
       said ∙ ap (λ (more : List Print). done.prints ++ more) behind.0 ∙ sym (ap (after [] (λ (d : Stepped). d.prints ++ prints_from settings d.stage lines)) is),
       ap (after (Some number) (λ (d : Stepped). bad_from settings d.stage (suc number) lines)) is ∙ behind.1,
     )
 
-pub joined : (settings : Settings) (first : Stage) (lines : List (List ℕ)) (number : ℕ) → bad_from settings first number lines ≡ None → (steps : List Step) × (last : Stage) × Joins settings first lines steps (prints_from settings first lines) last
+pub joined : (settings : Settings) (first : Stage) (lines : List (List ℕ)) (number : ℕ) → bad_from settings first number lines ≡ None → (inputs : List Input) × (last : Stage) × Joins settings first lines inputs (prints_from settings first lines) last
 unfolding Joins prints_from bad_from
 joined settings first [] number good = ([], first, (refl, refl, refl))
 joined settings first (line ∷ lines) number good = at_step (λ stage. joined settings stage lines (suc number)) (step_of settings first line) refl good
   where
-    at_step : ((stage : Stage) → bad_from settings stage (suc number) lines ≡ None → (steps : List Step) × (last : Stage) × Joins settings stage lines steps (prints_from settings stage lines) last) → (step : Option Stepped) → step_of settings first line ≡ step → after (Some number) (λ (d : Stepped). bad_from settings d.stage (suc number) lines) step ≡ None → (steps : List Step) × (last : Stage) × Joins settings first (line ∷ lines) steps (after [] (λ (d : Stepped). d.prints ++ prints_from settings d.stage lines) step) last
+    at_step : ((stage : Stage) → bad_from settings stage (suc number) lines ≡ None → (inputs : List Input) × (last : Stage) × Joins settings stage lines inputs (prints_from settings stage lines) last) → (step : Option Stepped) → step_of settings first line ≡ step → after (Some number) (λ (d : Stepped). bad_from settings d.stage (suc number) lines) step ≡ None → (inputs : List Input) × (last : Stage) × Joins settings first (line ∷ lines) inputs (after [] (λ (d : Stepped). d.prints ++ prints_from settings d.stage lines) step) last
     at_step behind None is good = absurd cc
     at_step behind (Some done) is good =
         let (later, last, rest) = behind done.stage good in
-        (done.steps ++ later, last, (done, later, prints_from settings done.stage lines, is, refl, refl, rest))
+        (done.inputs ++ later, last, (done, later, prints_from settings done.stage lines, is, refl, refl, rest))
 
--- ---- the node goes by its steps
+-- ---- the node goes by its inputs
 
--- a node after steps, as a result of what did them
-abbrev Goes : Node → List Step → Node → Type 0
-Goes first steps last = last ≡ after_steps first steps
+inputs_behind : (setup : Setup) (k : Kept) (inputs later : List Input) → kept_by setup k (inputs ++ later) ≡ kept_by setup (kept_by setup k inputs) later
+unfolding kept_by
+inputs_behind setup k [] later = refl
+inputs_behind setup k (input ∷ inputs) later = inputs_behind setup (node_stepped setup k input).kept inputs later
 
-steps_behind : (node : Node) (steps later : List Step) → after_steps node (steps ++ later) ≡ after_steps (after_steps node steps) later
-unfolding after_steps
-steps_behind node [] later = refl
-steps_behind node (step ∷ steps) later = steps_behind (after_step node step) steps later
+goes_behind : (first middle last : Node) (inputs later : List Input) → GoesBy first inputs middle → GoesBy middle later last → GoesBy first (inputs ++ later) last
+goes_behind first middle last inputs later one other = record {
+  setup = other.setup ∙ one.setup;
+  kept = other.kept
+      ∙ ap (λ (s : Setup). kept_by s middle.kept later) one.setup
+      ∙ ap (λ (k : Kept). kept_by first.setup k later) one.kept
+      ∙ sym (inputs_behind first.setup first.kept inputs later);
+}
 
-goes_behind : (first middle last : Node) (steps later : List Step) → Goes first steps middle → Goes middle later last → Goes first (steps ++ later) last
-goes_behind first middle last steps later one other = other ∙ ap (λ (n : Node). after_steps n later) one ∙ sym (steps_behind first steps later)
+goes_nowhere : (node : Node) → GoesBy node [] node
+unfolding kept_by
+goes_nowhere node = record { setup = refl; kept = refl }
 
-goes_nowhere : (node : Node) → Goes node [] node
-unfolding after_steps
-goes_nowhere node = refl
-
-goes_once : (node : Node) (step : Step) → Goes node (step ∷ []) (after_step node step)
-unfolding after_steps
-goes_once node step = refl
+goes_once : (node : Node) (input : Input) → GoesBy node (input ∷ []) (with_step node (step_at node input))
+unfolding kept_by
+goes_once node input = record { setup = refl; kept = refl }
 
 abbrev ServedGoes : Node → Served → Type 0
-ServedGoes node served = Goes node served.steps served.node
-
-begun_goes : (number : ℕ) (node : Node) (session : Session) (requested : Requested) (sequence : ℕ) (account : List ℕ) (request : Request) → ServedGoes node (begun_at number node session requested sequence (Arrives account request) (begins_at node account request))
-begun_goes number node session requested sequence account request = at_begun (begins_at node account request).begun
-  where
-    at_begun : (begun : Begun) → ServedGoes node (on_begun number (with_begun node (begins_at node account request)) session requested sequence (Arrives account request) begun)
-    at_begun (Refused status) = goes_once node (Arrives account request)
-    at_begun (Waits ticket) = goes_once node (Arrives account request)
+ServedGoes node served = GoesBy node served.inputs served.node
 
 request_goes : (number : ℕ) (node : Node) (session : Session) (requested : Requested) (sequence : ℕ) (account : Option (List ℕ)) (request : Option Request) → ServedGoes node (on_request number node session requested sequence account request)
 request_goes number node session requested sequence None request = goes_nowhere node
 request_goes number node session requested sequence (Some account) None = goes_nowhere node
-request_goes number node session requested sequence (Some account) (Some request) = begun_goes number node session requested sequence account request
+request_goes number node session requested sequence (Some account) (Some request) = goes_once node (request_at node account request)
 
 reaction_goes : (settings : Settings) (number : ℕ) (node : Node) (sequence : ℕ) (request : Option Request) (session : Session) (reaction : Reaction) → ServedGoes node (on_reaction settings number node sequence request session reaction)
 reaction_goes settings number node sequence request session (reactions.Ask requested) = request_goes number node session requested sequence session.account request
@@ -102,7 +101,7 @@ frame_goes settings number node session octets = read_goes settings number node 
 rest_goes : (settings : Settings) (number : ℕ) (node : Node) (session : Session) (rest : List ℕ) → ServedGoes node (on_rest settings number node session rest).served
 rest_goes settings number node session rest = at_test (begins_wrong rest)
   where
-    at_test : (wrong : Bool) → ServedGoes node (cond {A = Streamed} wrong (record { served = on_done settings number node 0 None (on_wrong_length session); held = [] }) (record { served = record { node = node; session = session; steps = []; prints = [] }; held = rest })).served
+    at_test : (wrong : Bool) → ServedGoes node (cond {A = Streamed} wrong (record { served = on_done settings number node 0 None (on_wrong_length session); held = [] }) (record { served = record { node = node; session = session; inputs = []; prints = [] }; held = rest })).served
     at_test true = done_goes settings number node 0 None (on_wrong_length session)
     at_test false = goes_nowhere node
 
@@ -119,10 +118,10 @@ frames_go settings number node session (frame ∷ frames) rest = at_test (is_gon
 
     at_test : (gone : Bool) → ServedGoes served.node later.served → ServedGoes node (cond {A = Streamed} gone (record { served = on_frame settings number node session frame; held = [] }) (behind (on_frame settings number node session frame) (on_frames settings number (on_frame settings number node session frame).node (on_frame settings number node session frame).session frames rest))).served
     at_test true others = frame_goes settings number node session frame
-    at_test false others = goes_behind node served.node later.served.node served.steps later.served.steps (frame_goes settings number node session frame) others
+    at_test false others = goes_behind node served.node later.served.node served.inputs later.served.inputs (frame_goes settings number node session frame) others
 
 abbrev pub ActedGoes : Runner → Acted → Type 0
-ActedGoes runner acted = Goes runner.node acted.steps acted.next.node
+ActedGoes runner acted = GoesBy runner.node acted.inputs acted.next.node
 
 kept_node : (others : Runner) (number : ℕ) (streamed : Streamed) → (kept others number streamed).node ≡ streamed.served.node
 kept_node others number streamed = at_test (is_gone streamed.served.session.state)
@@ -134,55 +133,74 @@ kept_node others number streamed = at_test (is_gone streamed.served.session.stat
 pub octets_go : (settings : Settings) (runner : Runner) (number : ℕ) (octets : List ℕ) → ActedGoes runner (on_octets settings runner number octets)
 unfolding on_octets
 octets_go settings runner number octets =
-    kept_node (without runner number) number (on_cut settings number runner.node (session_in runner.sessions number) stream)
-    ∙ frames_go settings number runner.node (session_in runner.sessions number) stream.frames stream.rest
+    let streamed = on_cut settings number runner.node (session_in runner.sessions number) stream in
+    subst (λ (n : Node). GoesBy runner.node streamed.served.inputs n) (sym (kept_node (without runner number) number streamed))
+    (frames_go settings number runner.node (session_in runner.sessions number) stream.frames stream.rest)
   where
     stream : Cut
     stream = cut (held_in runner.streams number ++ octets)
 
-pub settle_goes : (runner : Runner) → ActedGoes runner (on_settle runner)
-unfolding on_settle after_steps
-settle_goes runner = refl
-
 pub tick_goes : (runner : Runner) (moment : ℕ) → ActedGoes runner (on_tick runner moment)
-unfolding after_steps
-tick_goes runner moment = refl
+tick_goes runner moment = goes_once runner.node (tick_at moment)
 
--- a stage goes to another by steps
-abbrev StageGoes : Runner → List Step → Stage → Type 0
-StageGoes first steps stage = (last : Runner) × (stage ≡ Some last) × Goes first.node steps last.node
+restart_goes : (runner : Runner) → ActedGoes runner (on_restart runner)
+restart_goes runner = by_test (nat_lt runner.node.kept.incarnation last_incarnation)
+  where
+    by_test : (test : Bool) → ActedGoes runner (cond {A = Acted} test (restarted runner) (declined runner no_incarnation))
+    by_test true = goes_once runner.node (StartsAnew 0)
+    by_test false = goes_nowhere runner.node
 
-goes_so : (runner : Runner) (one other : Stepped) → Some one ≡ Some other → StageGoes runner one.steps one.stage → StageGoes runner other.steps other.stage
-goes_so runner one other is goes = let same : one ≡ other = cc in subst (λ (d : Stepped). StageGoes runner d.steps d.stage) same goes
+delivery_goes : (runner : Runner) (packet : Packet) (others : List Packet) → ActedGoes runner (on_delivery runner packet others)
+delivery_goes runner packet others = let goes = goes_once (awaiting runner.node others) (Delivery packet) in record { setup = goes.setup; kept = goes.kept }
 
-acted_goes : (runner : Runner) (acted : Acted) (done : Stepped) → ActedGoes runner acted → stepped acted ≡ Some done → StageGoes runner done.steps done.stage
+pub settles_goes : (more : ℕ) (runner : Runner) → ActedGoes runner (settles more runner)
+unfolding settles
+settles_goes zero runner = goes_nowhere runner.node
+settles_goes (suc more) runner = at_first runner.node.packets (settles_goes more)
+  where
+    at_first : (packets : List Packet) → ((next : Runner) → ActedGoes next (settles more next)) → ActedGoes runner (first_or (rests runner) (λ packet others. followed_by (on_delivery runner packet others) (settles more (on_delivery runner packet others).next)) packets)
+    at_first [] later = goes_nowhere runner.node
+    at_first (packet ∷ others) later =
+        let first = on_delivery runner packet others in
+        let last = settles more first.next in
+        goes_behind runner.node first.next.node last.next.node first.inputs last.inputs (delivery_goes runner packet others) (later first.next)
+
+-- a stage goes to another by inputs
+abbrev StageGoes : Runner → List Input → Stage → Type 0
+StageGoes first inputs stage = (last : Runner) × (stage ≡ Some last) × GoesBy first.node inputs last.node
+
+goes_so : (runner : Runner) (one other : Stepped) → Some one ≡ Some other → StageGoes runner one.inputs one.stage → StageGoes runner other.inputs other.stage
+goes_so runner one other is goes = let same : one ≡ other = cc in subst (λ (d : Stepped). StageGoes runner d.inputs d.stage) same goes
+
+acted_goes : (runner : Runner) (acted : Acted) (done : Stepped) → ActedGoes runner acted → stepped acted ≡ Some done → StageGoes runner done.inputs done.stage
 acted_goes runner acted done goes is = goes_so runner _ done is (acted.next, refl, goes)
 
-line_goes : (settings : Settings) (runner : Runner) (line : List ℕ) (done : Stepped) → LineStep settings (Some runner) line done → StageGoes runner done.steps done.stage
+line_goes : (settings : Settings) (runner : Runner) (line : List ℕ) (done : Stepped) → LineStep settings (Some runner) line done → StageGoes runner done.inputs done.stage
 unfolding step_of
 line_goes settings runner line done is = by_said (said_of line) is
   where
-    by_said : (said : Option Said) → step_by settings (Some runner) said ≡ Some done → StageGoes runner done.steps done.stage
+    by_said : (said : Option Said) → step_by settings (Some runner) said ≡ Some done → StageGoes runner done.inputs done.stage
     by_said None is = absurd cc
     by_said (Some Skipped) is = goes_so runner _ done is (runner, refl, goes_nowhere runner.node)
     by_said (Some (Nodes serial)) is = absurd cc
     by_said (Some (Octets session octets)) is = acted_goes runner (on_octets settings runner session octets) done (octets_go settings runner session octets) is
     by_said (Some (Tick moment)) is = acted_goes runner (on_tick runner moment) done (tick_goes runner moment) is
-    by_said (Some Settle) is = acted_goes runner (on_settle runner) done (settle_goes runner) is
+    by_said (Some Restart) is = acted_goes runner (on_restart runner) done (restart_goes runner) is
+    by_said (Some Settle) is = acted_goes runner (on_settle runner) done (settles_goes most_deliveries runner) is
 
-lines_go : (settings : Settings) (first : Stage) (runner : Runner) (lines : List (List ℕ)) (steps : List Step) (prints : List Print) (last : Stage) → first ≡ Some runner → Joins settings first lines steps prints last → StageGoes runner steps last
+lines_go : (settings : Settings) (first : Stage) (runner : Runner) (lines : List (List ℕ)) (inputs : List Input) (prints : List Print) (last : Stage) → first ≡ Some runner → Joins settings first lines inputs prints last → StageGoes runner inputs last
 unfolding Joins
-lines_go settings first runner [] steps prints last begins joins =
+lines_go settings first runner [] inputs prints last begins joins =
     let (none, nothing, same) = joins in
-    (runner, same ∙ begins, subst (λ (s : List Step). Goes runner.node s runner.node) (sym none) (goes_nowhere runner.node))
-lines_go settings first runner (line ∷ lines) steps prints last begins joins =
+    (runner, same ∙ begins, subst (λ (s : List Input). GoesBy runner.node s runner.node) (sym none) (goes_nowhere runner.node))
+lines_go settings first runner (line ∷ lines) inputs prints last begins joins =
     let (done, later, others, is, did, said, rest) = joins in
     let (middle, at_middle, one) = line_goes settings runner line done (subst (λ (s : Stage). LineStep settings s line done) begins is) in
     let (end, at_end, other) = lines_go settings done.stage middle lines later others last at_middle rest in
-    (end, at_end, subst (λ (s : List Step). Goes runner.node s end.node) (sym did) (goes_behind runner.node middle.node end.node done.steps later one other))
+    (end, at_end, subst (λ (s : List Input). GoesBy runner.node s end.node) (sym did) (goes_behind runner.node middle.node end.node done.inputs later one other))
 
-pub goes : (settings : Settings) (first last : Runner) (lines : List (List ℕ)) (steps : List Step) (prints : List Print) → Joins settings (Some first) lines steps prints (Some last) → last.node ≡ after_steps first.node steps
-goes settings first last lines steps prints joins =
-    let (end, at_end, by) = lines_go settings (Some first) first lines steps prints (Some last) refl joins in
+pub goes : (settings : Settings) (first last : Runner) (lines : List (List ℕ)) (inputs : List Input) (prints : List Print) → Joins settings (Some first) lines inputs prints (Some last) → GoesBy first.node inputs last.node
+goes settings first last lines inputs prints joins =
+    let (end, at_end, by) = lines_go settings (Some first) first lines inputs prints (Some last) refl joins in
     let same : end ≡ last = cc in
-    subst (λ (r : Runner). r.node ≡ after_steps first.node steps) same by
+    subst (λ (r : Runner). GoesBy first.node inputs r.node) same by

@@ -1,12 +1,2 @@
 pub mod Joining
-pub mod Chains
-pub mod Fates
-pub mod Telling
-pub mod Printing
-pub mod Reacting
-pub mod Coming
-pub mod Calming
-pub mod NoLength
-pub mod Entries
-pub mod Keeping
 pub mod Example

@@ -1,10 +1,10 @@
--- What happens at one node by the lines of a script, if no line is bad and each PDU has the length that it says.
+-- What happens at one node by the lines of a script, if no line is bad, each PDU has the length that it says, and the node does not start anew.
 use Rattle.std.specs.Prelude.{ℕ, List, [], ◌∷◌, ◌++◌, map, Option, Some, None, option_map, if◌then◌else◌}
 use Rattle.std.specs.Ordering.{nat_cmp}
 use Rattle.std.specs.BTreeMap.{insert_entry}
 use Rattle.pdu_frames.specs.Frames.{Cut, cut, begins_wrong}
 use Rattle.script_lines.specs.Lines.{lines_of}
-use Rattle.script_lines.specs.Said.{Said, Skipped, Nodes, Octets, Tick, Settle, said_of}
+use Rattle.script_lines.specs.Said.{Said, Skipped, Nodes, Octets, Tick, Settle, Restart, said_of}
 use Rattle.script_text.specs.Runner.{held_in}
 
 pub data Event : Type 0 where
@@ -33,6 +33,7 @@ heard_by streams (Some (Nodes serial)) = None
 heard_by streams (Some (Octets number octets)) = heard_of streams number (cut (held_in streams number ++ octets))
 heard_by streams (Some (Tick moment)) = Some (record { events = Ticks moment ∷ []; streams = streams })
 heard_by streams (Some Settle) = Some (record { events = Settles ∷ []; streams = streams })
+heard_by streams (Some Restart) = None
 
 abbrev pub and_then : Option Heard → (Heard → Option (List Event)) → Option (List Event)
 and_then None later = None

@@ -2,6 +2,10 @@
 use Rattle.std.specs.Prelude.{◌≡◌, ◌≢◌, ◌⊎◌, ℕ, List, [], ◌∷◌, ◌++◌, Option, Some, None}
 use Rattle.std.specs.Fmt.{decimal}
 use Rattle.mc_model.specs.synod.Lists.{In}
+use Rattle.mc_model.specs.node.Input.{Input}
+use Rattle.mc_model.specs.node.Setup.{Setup}
+use Rattle.node_model.specs.Kept.{Kept}
+use Rattle.node_model.specs.Stepped.{stepped}
 use Rattle.pdu_tables.specs.StateCodes.{state_code}
 use Rattle.pdu_tables.specs.StatusCodes.{status_code}
 use Rattle.pdu_tables.specs.declared.state.State.TheVariants as states
@@ -10,8 +14,8 @@ use Rattle.pdu_bodies.specs.declared.pdu.Body.TheVariants.{QuerySmResp, CancelSm
 use Rattle.pdu_bodies.specs.declared.pdu.Pdu.{Pdu}
 use Rattle.pdu_bodies.specs.declared.pdu.QueryAnswer.{QueryAnswer}
 use Rattle.script_text.specs.Settings.{Settings}
-use Rattle.script_text.specs.Node.{Node, Step, after_step}
-use Rattle.script_text.specs.Prints.{Print, AtOnce, Late, Gone}
+use Rattle.script_text.specs.Node.{Node}
+use Rattle.script_text.specs.Prints.{Print, AtOnce, Late, Gone, Unsettled, Declined}
 use Rattle.script_text.specs.Runner.{Runner}
 use Rattle.script_text.specs.Script.{Stage, Joins, bad_from, bad_line, prints_from, prints_of, text_of}
 use Rattle.script_text.specs.OneNode.{one_node_text}
@@ -23,8 +27,8 @@ use Rattle.script_text.specs.Example.{first_script, first_text}
 -- Lines that join print what the lines are computed to print, and none of them is bad.
 abbrev pub JoinedLinesArePrinted : Type 0
 JoinedLinesArePrinted =
-    (settings : Settings) (first : Stage) (lines : List (List ℕ)) (steps : List Step) (prints : List Print) (last : Stage) (number : ℕ)
-    → Joins settings first lines steps prints last
+    (settings : Settings) (first : Stage) (lines : List (List ℕ)) (inputs : List Input) (prints : List Print) (last : Stage) (number : ℕ)
+    → Joins settings first lines inputs prints last
     → (prints ≡ prints_from settings first lines) × (bad_from settings first number lines ≡ None)
 
 -- Lines join if none of them is bad.
@@ -32,19 +36,23 @@ abbrev pub GoodLinesJoin : Type 0
 GoodLinesJoin =
     (settings : Settings) (first : Stage) (lines : List (List ℕ)) (number : ℕ)
     → bad_from settings first number lines ≡ None
-    → (steps : List Step) × (last : Stage) × Joins settings first lines steps (prints_from settings first lines) last
+    → (inputs : List Input) × (last : Stage) × Joins settings first lines inputs (prints_from settings first lines) last
 
--- the node after steps, the oldest first
-unfoldable pub after_steps : Node → List Step → Node
-after_steps node [] = node
-after_steps node (step ∷ steps) = after_steps (after_step node step) steps
+-- what a node keeps after inputs, the oldest first
+unfoldable pub kept_by : Setup → Kept → List Input → Kept
+kept_by setup k [] = k
+kept_by setup k (input ∷ inputs) = kept_by setup (stepped setup k input).kept inputs
 
--- The node after lines is that of before them, after what was done at it.
-abbrev pub NodeGoesByItsSteps : Type 0
-NodeGoesByItsSteps =
-    (settings : Settings) (first last : Runner) (lines : List (List ℕ)) (steps : List Step) (prints : List Print)
-    → Joins settings (Some first) lines steps prints (Some last)
-    → last.node ≡ after_steps first.node steps
+pub record GoesBy (first : Node) (inputs : List Input) (last : Node) : Type 0 where
+  pub setup : last.setup ≡ first.setup
+  pub kept : last.kept ≡ kept_by first.setup first.kept inputs
+
+-- What the node keeps after lines is what it kept before them, after what came to it.
+abbrev pub NodeGoesByItsInputs : Type 0
+NodeGoesByItsInputs =
+    (settings : Settings) (first last : Runner) (lines : List (List ℕ)) (inputs : List Input) (prints : List Print)
+    → Joins settings (Some first) lines inputs prints (Some last)
+    → GoesBy first.node inputs last.node
 
 -- ---- calm scripts
 
@@ -58,6 +66,8 @@ abbrev pub pdu_in : Print → Option Pdu
 pdu_in (AtOnce session pdu) = Some pdu
 pdu_in (Late session id pdu) = Some pdu
 pdu_in (Gone session) = None
+pdu_in Unsettled = None
+pdu_in (Declined number) = None
 
 -- A query_sm_resp with ESME_ROK tells that the message of a message_id has this message_state.
 pub record TellsState (print : Print) (message_id : List ℕ) (state : ℕ) : Type 0 where

@@ -1,54 +1,48 @@
--- The node of a script: it keeps one table of chains, judges a request when it comes, and answers it at the next settle.
-use Rattle.std.specs.Prelude.{ℕ, max, List, []}
-use Rattle.desk.specs.Desk.{Desk, Begins, author_at, begins}
-use Rattle.desk.specs.Fates.{with_expired}
-use Rattle.desk.specs.Table.{Table}
+-- The node of a script: what it keeps by the node's model, and the packets that it sent to itself and that are still to come.
+use Rattle.std.specs.Prelude.{ℕ, Bool, false, List, [], ◌++◌}
+use Rattle.mc_model.specs.synod.Packet.{Packet}
+use Rattle.mc_model.specs.node.Input.{Input, Tick}
+use Rattle.mc_model.specs.node.Setup.{Setup}
+use Rattle.node_model.specs.Kept.{Kept}
+use Rattle.node_model.specs.Outputs.{Stepped}
+use Rattle.node_model.specs.Stepped.{opened_new, stepped}
+use Rattle.desk.specs.Arrivals.{requested}
 use Rattle.desk.specs.declared.request.Request.{Request}
 
 pub record Node : Type 0 where
-  pub desk : Desk
-  pub table : Table
-  pub clock : ℕ
+  pub setup : Setup
+  pub kept : Kept
+  -- the oldest first
+  pub packets : List Packet
 
--- node 1 in its first incarnation, at which nothing was asked yet: its clock shows the least moment, and its first message has
--- this serial
+-- Node 1 of one: for how many seconds a message is kept that asks for no time, and the serial of its first message.
+abbrev pub alone : ℕ → ℕ → Setup
+alone validity serial = record { node = 1; nodes = 1; first_serial = serial; default_validity = validity }
+
+-- it opens with a new store
 abbrev pub opened : ℕ → ℕ → Node
-opened validity serial = record {
-  desk = record { node = 1; incarnation = 1; validity = validity; serial = serial; given = 0; waiting = [] };
-  table = [];
-  clock = 946684800;
-}
+opened validity serial = record { setup = alone validity serial; kept = opened_new (alone validity serial); packets = [] }
 
--- what is done at a node
-pub data Step : Type 0 where
-  -- a request of an account comes
-  Arrives : List ℕ → Request → Step
-  -- a moment has come
-  Ticks : ℕ → Step
-  -- all that was asked is answered
-  Settles : Step
+-- ---- a step
 
--- a request of an account, judged at the clock
-abbrev pub begins_at : Node → List ℕ → Request → Begins
-begins_at node account request = begins account node.clock request node.desk node.table
+abbrev pub step_at : Node → Input → Stepped
+step_at node input = stepped node.setup node.kept input
 
-abbrev pub with_begun : Node → Begins → Node
-with_begun node begins = record node { desk = begins.desk; table = begins.table }
+-- what it sends comes behind what it has sent before
+abbrev pub with_step : Node → Stepped → Node
+with_step node step = record node { kept = step.kept; packets = node.packets ++ step.outputs.packets }
 
--- the clock shows this, and each message that is due then has expired
-abbrev pub with_clock : Node → ℕ → Node
-with_clock node clock = record node { clock = clock; table = with_expired (author_at node.desk) clock node.table }
+-- these packets are still to come
+abbrev pub awaiting : Node → List Packet → Node
+awaiting node packets = record node { packets = packets }
 
--- a moment has come: the clock never falls
-abbrev pub ticked : Node → ℕ → Node
-ticked node moment = with_clock node (max node.clock moment)
+-- a request of an account
+abbrev pub request_at : Node → List ℕ → Request → Input
+request_at node account request = requested node.setup node.kept account request
 
--- all that was asked is answered
-abbrev pub settled : Node → Node
-settled node = record node { desk = record node.desk { waiting = [] } }
+-- no session takes a message yet
+abbrev pub nobody_up : List ℕ → Bool
+nobody_up account = false
 
--- the node after a step
-abbrev pub after_step : Node → Step → Node
-after_step node (Arrives account request) = with_begun node (begins_at node account request)
-after_step node (Ticks moment) = ticked node moment
-after_step node Settles = settled node
+abbrev pub tick_at : ℕ → Input
+tick_at moment = Tick moment nobody_up

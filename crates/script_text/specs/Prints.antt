@@ -13,6 +13,10 @@ pub data Print : Type 0 where
   Late : ℕ → ℕ → Pdu → Print
   -- this session is gone
   Gone : ℕ → Print
+  -- a settle has delivered as many packets as it may
+  Unsettled : Print
+  -- what the line asks for is refused, with this number
+  Declined : ℕ → Print
 
 -- the line of octets that go out on a session
 abbrev pub octets_line : ℕ → List ℕ → List ℕ
@@ -26,10 +30,18 @@ pdu_line session pdu = octets_line session (octets_of pdu)
 abbrev pub gone_line : ℕ → List ℕ
 gone_line session = codes "gone 1 " ++ decimal session ++ 10 ∷ []
 
+abbrev pub unsettled_line : List ℕ
+unsettled_line = codes "unsettled" ++ 10 ∷ []
+
+abbrev pub declined_line : ℕ → List ℕ
+declined_line number = codes "refused " ++ decimal number ++ 10 ∷ []
+
 abbrev pub line_of : Print → List ℕ
 line_of (AtOnce session pdu) = pdu_line session pdu
 line_of (Late session id pdu) = pdu_line session pdu
 line_of (Gone session) = gone_line session
+line_of Unsettled = unsettled_line
+line_of (Declined number) = declined_line number
 
 -- the text of what is printed
 abbrev pub text_of_prints : List Print → List ℕ

@@ -1,8 +1,12 @@
 -- What the lines of a script do today, by one node and the sessions with its ESMEs.
-use Rattle.std.specs.Prelude.{ℕ, ◌==◌, List, [], ◌∷◌, ◌++◌, find, Option, Some, None, Result, Ok, Err, if◌then◌else◌}
+use Rattle.std.specs.Prelude.{ℕ, zero, suc, nat_lt, ◌==◌, List, [], ◌∷◌, ◌++◌, find, map, Option, Some, None, Result, Ok, Err, if◌then◌else◌}
 use Rattle.std.specs.Ordering.{nat_cmp}
 use Rattle.std.specs.Map.{lookup, remove_entry, set_value}
 use Rattle.std.specs.BTreeMap.{is_at, insert_entry}
+use Rattle.mc_model.specs.synod.Packet.{Packet}
+use Rattle.mc_model.specs.node.Input.{Delivery, Input, Restart}
+use Rattle.mc_model.specs.node.Outputs.{Reply}
+use Rattle.node_model.specs.Outputs.{Stepped}
 use Rattle.accounts.specs.Routes.{target_of}
 use Rattle.pdu_tables.specs.CommandCodes.{command_of}
 use Rattle.pdu_codec.specs.Grammar.{word_at}
@@ -21,16 +25,12 @@ use Rattle.sessions.specs.declared.reaction.Reaction.{Reaction}
 use Rattle.sessions.specs.declared.reaction.Reaction.TheVariants.{Respond, Leave, Ask}
 use Rattle.sessions.specs.declared.request.OpenRequest.{OpenRequest}
 use Rattle.sessions.specs.declared.requested.Requested.{Requested}
-use Rattle.desk.specs.Desk.{Begins}
-use Rattle.desk.specs.declared.request.Begun.{Begun}
-use Rattle.desk.specs.declared.request.Begun.TheVariants.{Refused, Waits}
-use Rattle.desk.specs.declared.request.Reply.{Reply}
 use Rattle.desk.specs.declared.request.Request.{Request}
 use Rattle.desk.specs.declared.request.Request.TheVariants.{Submit, Ask as AskOf, Cancel}
 use Rattle.script_text.specs.Settings.{Settings}
-use Rattle.script_text.specs.Node.{Node, Step, Arrives, Ticks, Settles, begins_at, with_begun, ticked, settled}
-use Rattle.script_text.specs.Responses.{answer_pdu, refusal_pdu}
-use Rattle.script_text.specs.Prints.{Print, AtOnce, Late, Gone}
+use Rattle.script_text.specs.Node.{Node, awaiting, request_at, step_at, tick_at, with_step}
+use Rattle.script_text.specs.Responses.{refused_with, reply_pdu}
+use Rattle.script_text.specs.Prints.{Print, AtOnce, Late, Gone, Unsettled, Declined}
 
 -- The node; the sessions that are connected, by their numbers; and of each the octets of the PDU that has not come whole.
 pub record Runner : Type 0 where
@@ -40,16 +40,16 @@ pub record Runner : Type 0 where
 
 -- ---- a PDU on a session
 
--- What serving a session leaves: the node, the session, what was done at the node, and what was printed, the oldest first.
+-- What serving a session leaves: the node, the session, what came to the node, and what was printed, the oldest first.
 pub record Served : Type 0 where
   pub node : Node
   pub session : Session
-  pub steps : List Step
+  pub inputs : List Input
   pub prints : List Print
 
 -- the node is not asked, and this is printed
 abbrev pub unasked : Node → Session → List Print → Served
-unasked node session prints = record { node = node; session = session; steps = []; prints = prints }
+unasked node session prints = record { node = node; session = session; inputs = []; prints = prints }
 
 -- the request for the node that a body is, if it is one: a submit_sm has the account that the routes give, if they give one
 abbrev pub request_of : Settings → Body → Option Request
@@ -58,31 +58,34 @@ request_of settings (bodies.QuerySm query) = Some (AskOf query)
 request_of settings (bodies.CancelSm cancel) = Some (Cancel cancel)
 request_of settings other = None
 
--- what the node answers at once goes out, and a request that waits takes its place in the window
-abbrev pub on_begun : ℕ → Node → Session → Requested → ℕ → Step → Begun → Served
-on_begun number node session requested sequence step (Refused status) = record {
-  node = node;
-  session = session;
-  steps = step ∷ [];
-  prints = AtOnce number (refusal_pdu requested sequence status) ∷ [];
-}
-on_begun number node session requested sequence step (Waits ticket) = record {
-  node = node;
-  session = on_wait session (record { ticket = ticket; requested = requested; sequence = sequence });
-  steps = step ∷ [];
-  prints = [];
+-- a request that waits takes its place in the window
+abbrev pub in_window : Session → Requested → ℕ → Option ℕ → Session
+in_window session requested sequence None = session
+in_window session requested sequence (Some ticket) = on_wait session (record { ticket = ticket; requested = requested; sequence = sequence })
+
+-- and the command_status of one that does not goes out
+abbrev pub refusal_prints : ℕ → Requested → ℕ → Option ℕ → List Print
+refusal_prints number requested sequence None = []
+refusal_prints number requested sequence (Some status) = AtOnce number (refused_with requested sequence status) ∷ []
+
+abbrev pub begun_by : ℕ → Node → Session → Requested → ℕ → Input → Stepped → Served
+begun_by number node session requested sequence input step = record {
+  node = with_step node step;
+  session = in_window session requested sequence step.outputs.ticket;
+  inputs = input ∷ [];
+  prints = refusal_prints number requested sequence step.outputs.refused;
 }
 
-abbrev pub begun_at : ℕ → Node → Session → Requested → ℕ → Step → Begins → Served
-begun_at number node session requested sequence step begins =
-    on_begun number (with_begun node begins) session requested sequence step begins.begun
+-- what comes to the node by a request: nothing that waited is answered in the same step
+abbrev pub on_input : ℕ → Node → Session → Requested → ℕ → Input → Served
+on_input number node session requested sequence input = begun_by number node session requested sequence input (step_at node input)
 
 -- a request of the account goes to the node, if there is an account and a request
 abbrev pub on_request : ℕ → Node → Session → Requested → ℕ → Option (List ℕ) → Option Request → Served
 on_request number node session requested sequence None request = unasked node session []
 on_request number node session requested sequence (Some account) None = unasked node session []
 on_request number node session requested sequence (Some account) (Some request) =
-    begun_at number node session requested sequence (Arrives account request) (begins_at node account request)
+    on_input number node session requested sequence (request_at node account request)
 
 -- what of a reaction goes out; an answer of the ESME answers nothing yet
 abbrev pub reaction_prints : Settings → ℕ → Reaction → List Print
@@ -128,7 +131,7 @@ behind first last = record {
   served = record {
     node = last.served.node;
     session = last.served.session;
-    steps = first.steps ++ last.served.steps;
+    inputs = first.inputs ++ last.served.inputs;
     prints = first.prints ++ last.served.prints;
   };
   held = last.held;
@@ -147,10 +150,10 @@ on_cut settings number node session stream = on_frames settings number node sess
 
 -- ---- what a line does
 
--- what a line leaves: the runner, what was done at the node, and what was printed
+-- what a line leaves: the runner, what came to the node, and what was printed
 pub record Acted : Type 0 where
   pub next : Runner
-  pub steps : List Step
+  pub inputs : List Input
   pub prints : List Print
 
 abbrev pub session_or_opened : Option Session → Session
@@ -192,7 +195,7 @@ kept others number streamed =
 abbrev pub acted : Runner → ℕ → Streamed → Acted
 acted others number streamed = record {
   next = kept others number streamed;
-  steps = streamed.served.steps;
+  inputs = streamed.served.inputs;
   prints = streamed.served.prints;
 }
 
@@ -201,11 +204,7 @@ unfoldable pub on_octets : Settings → Runner → ℕ → List ℕ → Acted
 on_octets settings runner number octets =
     acted (without runner number) number (on_cut settings number runner.node (session_in runner.sessions number) (cut (held_in runner.streams number ++ octets)))
 
--- a moment has come
-abbrev pub on_tick : Runner → ℕ → Acted
-on_tick runner moment = record { next = record runner { node = ticked runner.node moment }; steps = Ticks moment ∷ []; prints = [] }
-
--- ---- settling
+-- ---- replies
 
 -- a request that waits, and the session that holds it
 pub record Owned : Type 0 where
@@ -232,7 +231,7 @@ replied connected ticket (Some owned) = replied_at connected owned.number ticket
 
 abbrev pub reply_prints : Reply → Option Owned → List Print
 reply_prints reply None = []
-reply_prints reply (Some owned) = Late owned.number reply.id (answer_pdu owned.request.requested owned.request.sequence reply.id reply.answer) ∷ []
+reply_prints reply (Some owned) = Late owned.number reply.id (reply_pdu owned.request.requested owned.request.sequence reply.id reply.answer) ∷ []
 
 -- the sessions after replies, and what is printed
 pub record Told : Type 0 where
@@ -248,13 +247,81 @@ told connected [] = record { sessions = connected; prints = [] }
 told connected (reply ∷ replies) =
     in_front (reply_prints reply (owner_of connected reply.ticket)) (told (replied connected reply.ticket (owner_of connected reply.ticket)) replies)
 
-abbrev pub settled_to : Runner → Told → Acted
-settled_to runner told = record {
-  next = record runner { node = settled runner.node; sessions = told.sessions };
-  steps = Settles ∷ [];
+abbrev pub answered : Runner → Node → Input → Told → Acted
+answered runner node input told = record {
+  next = record runner { node = node; sessions = told.sessions };
+  inputs = input ∷ [];
   prints = told.prints;
 }
 
--- all that was asked is answered, in the order in which it was asked
-unfoldable pub on_settle : Runner → Acted
-on_settle runner = settled_to runner (told runner.sessions runner.node.desk.waiting)
+-- a step of the node, whose replies go out
+abbrev pub answered_by : Runner → Node → Input → Stepped → Acted
+answered_by runner node input step = answered runner (with_step node step) input (told runner.sessions step.outputs.replies)
+
+-- a moment has come
+abbrev pub on_tick : Runner → ℕ → Acted
+on_tick runner moment = answered_by runner runner.node (tick_at moment) (step_at runner.node (tick_at moment))
+
+-- ---- a restart
+
+-- a node has so many incarnations, and once the last has begun, a restart is refused with this number (own)
+abbrev pub last_incarnation : ℕ
+last_incarnation = 9999
+
+abbrev pub no_incarnation : ℕ
+no_incarnation = 6
+
+abbrev pub gone_prints : List (ℕ × Session) → List Print
+gone_prints connected = map (λ entry. Gone entry.0) connected
+
+-- no session is connected any more, and what the node keeps outlives its stop
+abbrev pub restarted : Runner → Acted
+restarted runner = record {
+  next = record { node = with_step runner.node (step_at runner.node (Restart 0)); sessions = []; streams = [] };
+  inputs = Restart 0 ∷ [];
+  prints = gone_prints runner.sessions;
+}
+
+abbrev pub declined : Runner → ℕ → Acted
+declined runner number = record { next = runner; inputs = []; prints = Declined number ∷ [] }
+
+-- the node starts anew, in the next incarnation
+abbrev pub on_restart : Runner → Acted
+on_restart runner = if nat_lt runner.node.kept.incarnation last_incarnation then restarted runner else declined runner no_incarnation
+
+-- ---- settling
+
+-- a packet comes to the node, and these are still to come
+abbrev pub on_delivery : Runner → Packet → List Packet → Acted
+on_delivery runner packet others =
+    answered_by runner (awaiting runner.node others) (Delivery packet) (step_at (awaiting runner.node others) (Delivery packet))
+
+-- how many packets a settle delivers at most (own)
+abbrev pub most_deliveries : ℕ
+most_deliveries = 100000
+
+-- no packet is left
+abbrev pub rests : Runner → Acted
+rests runner = record { next = runner; inputs = []; prints = [] }
+
+abbrev pub unsettled : Runner → Acted
+unsettled runner = record { next = runner; inputs = []; prints = Unsettled ∷ [] }
+
+-- what was done first, and then this
+abbrev pub followed_by : Acted → Acted → Acted
+followed_by first last = record { next = last.next; inputs = first.inputs ++ last.inputs; prints = first.prints ++ last.prints }
+
+abbrev pub first_or : {A : Type 0} → A → (Packet → List Packet → A) → List Packet → A
+first_or none some [] = none
+first_or none some (packet ∷ others) = some packet others
+
+-- The packets come one by one, in the order of sending, also those that are sent meanwhile; so many come at most.
+unfoldable pub settles : ℕ → Runner → Acted
+settles zero runner = unsettled runner
+settles (suc more) runner =
+    first_or (rests runner)
+    (λ packet others. followed_by (on_delivery runner packet others) (settles more (on_delivery runner packet others).next))
+    runner.node.packets
+
+abbrev pub on_settle : Runner → Acted
+on_settle runner = settles most_deliveries runner

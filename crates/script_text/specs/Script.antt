@@ -1,12 +1,12 @@
 -- The text of a script.
 use Rattle.std.specs.Prelude.{◌≡◌, ℕ, suc, List, [], ◌∷◌, ◌++◌, Option, Some, None}
 use Rattle.script_lines.specs.Lines.{lines_of}
-use Rattle.script_lines.specs.Said.{Said, Skipped, Nodes, Octets, Tick, Settle, said_of}
+use Rattle.script_lines.specs.Said.{Said, Skipped, Nodes, Octets, Tick, Settle, Restart, said_of}
 use Rattle.script_text.specs.Settings.{Settings, script_settings}
-use Rattle.script_text.specs.Node.{Step}
+use Rattle.mc_model.specs.node.Input.{Input}
 use Rattle.script_text.specs.Node as node
 use Rattle.script_text.specs.Prints.{Print, text_of_prints}
-use Rattle.script_text.specs.Runner.{Runner, Acted, on_octets, on_tick, on_settle}
+use Rattle.script_text.specs.Runner.{Runner, Acted, on_octets, on_restart, on_settle, on_tick}
 
 -- what is there before the first line that says something: no session is connected
 abbrev pub opened : Settings → ℕ → Runner
@@ -16,17 +16,17 @@ opened settings serial = record { node = node.opened settings.validity serial; s
 abbrev pub Stage : Type 0
 Stage = Option Runner
 
--- the stage after a line, what was done at the node, and what the line printed
+-- the stage after a line, what came to the node, and what the line printed
 pub record Stepped : Type 0 where
   pub stage : Stage
-  pub steps : List Step
+  pub inputs : List Input
   pub prints : List Print
 
 abbrev pub stepped : Acted → Option Stepped
-stepped acted = Some (record { stage = Some acted.next; steps = acted.steps; prints = acted.prints })
+stepped acted = Some (record { stage = Some acted.next; inputs = acted.inputs; prints = acted.prints })
 
 abbrev pub silent : Stage → Option Stepped
-silent stage = Some (record { stage = stage; steps = []; prints = [] })
+silent stage = Some (record { stage = stage; inputs = []; prints = [] })
 
 -- What a line does; none if it is bad. The first line that says something opens the runner, and no other does.
 abbrev pub step_by : Settings → Stage → Option Said → Option Stepped
@@ -36,27 +36,29 @@ step_by settings None (Some (Nodes serial)) = silent (Some (opened settings seri
 step_by settings None (Some (Octets session octets)) = None
 step_by settings None (Some (Tick moment)) = None
 step_by settings None (Some Settle) = None
+step_by settings None (Some Restart) = None
 step_by settings (Some runner) (Some (Nodes serial)) = None
 step_by settings (Some runner) (Some (Octets session octets)) = stepped (on_octets settings runner session octets)
 step_by settings (Some runner) (Some (Tick moment)) = stepped (on_tick runner moment)
 step_by settings (Some runner) (Some Settle) = stepped (on_settle runner)
+step_by settings (Some runner) (Some Restart) = stepped (on_restart runner)
 
 unfoldable pub step_of : Settings → Stage → List ℕ → Option Stepped
 step_of settings stage line = step_by settings stage (said_of line)
 
 -- ---- a script, as lines that join
 
--- A line leads from one stage to another: these steps are done at the node, and this is printed.
+-- A line leads from one stage to another: this comes to the node, and this is printed.
 abbrev pub LineStep : Settings → Stage → List ℕ → Stepped → Type 0
 LineStep settings stage line done = step_of settings stage line ≡ Some done
 
 -- Lines lead from one stage to another, each from where the one before it led.
-unfoldable pub Joins : Settings → Stage → List (List ℕ) → List Step → List Print → Stage → Type 0
-Joins settings stage [] steps prints last = (steps ≡ []) × (prints ≡ []) × (last ≡ stage)
-Joins settings stage (line ∷ lines) steps prints last =
-    (done : Stepped) × (later : List Step) × (others : List Print)
+unfoldable pub Joins : Settings → Stage → List (List ℕ) → List Input → List Print → Stage → Type 0
+Joins settings stage [] inputs prints last = (inputs ≡ []) × (prints ≡ []) × (last ≡ stage)
+Joins settings stage (line ∷ lines) inputs prints last =
+    (done : Stepped) × (later : List Input) × (others : List Print)
     × LineStep settings stage line done
-    × (steps ≡ done.steps ++ later)
+    × (inputs ≡ done.inputs ++ later)
     × (prints ≡ done.prints ++ others)
     × Joins settings done.stage lines later others last
 

@@ -50,11 +50,17 @@ IsAsked (Some account) (bodies.QuerySm query) = Unit {0}
 IsAsked (Some account) (bodies.CancelSm cancel) = Unit {0}
 IsAsked account other = ⊥
 
-stays_alike : (account : Option (List ℕ)) (version : ℕ) (waiting : List OpenRequest) (out : Option Outgoing) → AreAlike account waiting (record { next = like account version waiting; reaction = out_of out }) (record { next = session_of account; reaction = out_of out })
-stays_alike None version waiting out = record { version = version; next = session_of None; out = out; ours_is = refl; theirs_is = refl; bound = λ is. refl; silent = λ is. refl }
-stays_alike (Some name) version waiting out = record { version = version; next = session_of (Some name); out = out; ours_is = refl; theirs_is = refl; bound = λ is. is; silent = λ is. refl }
+stays_alike : (account : Option (List ℕ)) (version : ℕ) (waiting : List OpenRequest) (out : Option Outgoing) →
+    AreAlike account waiting (record { next = like account version waiting; reaction = out_of out })
+    (record { next = session_of account; reaction = out_of out })
+stays_alike None version waiting out =
+    record { version = version; next = session_of None; out = out; ours_is = refl; theirs_is = refl; bound = λ is. refl; silent = λ is. refl }
+stays_alike (Some name) version waiting out =
+    record { version = version; next = session_of (Some name); out = out; ours_is = refl; theirs_is = refl; bound = λ is. is; silent = λ is. refl }
 
-binds_alike : (refusal : Option Status) (version : ℕ) (waiting : List OpenRequest) (sequence : ℕ) (bind : Bind) → AreAlike None waiting (binds_unless refusal (like None version waiting) sequence roles.Transceiver bind) (binds_unless refusal (session_of None) sequence roles.Transceiver bind)
+binds_alike : (refusal : Option Status) (version : ℕ) (waiting : List OpenRequest) (sequence : ℕ) (bind : Bind) →
+    AreAlike None waiting (binds_unless refusal (like None version waiting) sequence roles.Transceiver bind)
+    (binds_unless refusal (session_of None) sequence roles.Transceiver bind)
 binds_alike None version waiting sequence bind = record {
   version = bind.interface_version;
   next = (binds_unless None (session_of None) sequence roles.Transceiver bind).next;
@@ -67,18 +73,26 @@ binds_alike None version waiting sequence bind = record {
 binds_alike (Some status) version waiting sequence bind = stays_alike None version waiting (Some _)
 
 -- a bind in another role that may come is refused
-refused_alike : (quiet : Bool) (role : Role) (refusal : Option Status) (version : ℕ) (waiting : List OpenRequest) (sequence : ℕ) (bind : Bind) → may_happen quiet (bind_stir None refusal) ≡ true → AreAlike None waiting (binds_unless refusal (like None version waiting) sequence role bind) (binds_unless refusal (session_of None) sequence role bind)
+refused_alike : (quiet : Bool) (role : Role) (refusal : Option Status) (version : ℕ) (waiting : List OpenRequest) (sequence : ℕ) (bind : Bind) →
+    may_happen quiet (bind_stir None refusal) ≡ true →
+    AreAlike None waiting (binds_unless refusal (like None version waiting) sequence role bind) (binds_unless refusal (session_of None) sequence role bind)
 refused_alike quiet role None version waiting sequence bind may = absurd cc
 refused_alike quiet role (Some status) version waiting sequence bind may = stays_alike None version waiting (Some _)
 
-body_alike : (accounts : List Account) (quiet : Bool) (account : Option (List ℕ)) (version : ℕ) (waiting : List OpenRequest) (pdu : Pdu) (body : Body) → may_happen quiet (body_stir accounts account body) ≡ true → AreAlike account waiting (on_pdu accounts (like account version waiting) (record pdu { body = body })) (on_pdu accounts (session_of account) (record pdu { body = body })) ⊎ IsAsked account body
-body_alike accounts quiet None version waiting pdu (bodies.BindReceiver bind) may = inl (refused_alike quiet roles.Receiver (bind_refusal (account_of accounts bind.system_id) roles.Receiver bind) version waiting pdu.sequence bind may)
+body_alike : (accounts : List Account) (quiet : Bool) (account : Option (List ℕ)) (version : ℕ) (waiting : List OpenRequest) (pdu : Pdu) (body : Body) →
+    may_happen quiet (body_stir accounts account body) ≡ true →
+    AreAlike account waiting (on_pdu accounts (like account version waiting) (record pdu { body = body }))
+    (on_pdu accounts (session_of account) (record pdu { body = body })) ⊎ IsAsked account body
+body_alike accounts quiet None version waiting pdu (bodies.BindReceiver bind) may =
+    inl (refused_alike quiet roles.Receiver (bind_refusal (account_of accounts bind.system_id) roles.Receiver bind) version waiting pdu.sequence bind may)
 body_alike accounts quiet (Some name) version waiting pdu (bodies.BindReceiver bind) may = inl (stays_alike (Some name) version waiting (Some _))
-body_alike accounts quiet None version waiting pdu (bodies.BindTransmitter bind) may = inl (refused_alike quiet roles.Transmitter (bind_refusal (account_of accounts bind.system_id) roles.Transmitter bind) version waiting pdu.sequence bind may)
+body_alike accounts quiet None version waiting pdu (bodies.BindTransmitter bind) may =
+    inl (refused_alike quiet roles.Transmitter (bind_refusal (account_of accounts bind.system_id) roles.Transmitter bind) version waiting pdu.sequence bind may)
 body_alike accounts quiet (Some name) version waiting pdu (bodies.BindTransmitter bind) may = inl (stays_alike (Some name) version waiting (Some _))
 body_alike accounts quiet None version waiting pdu bodies.Unbind may = inl (stays_alike None version waiting (Some _))
 body_alike accounts quiet (Some name) version waiting pdu bodies.Unbind may = absurd cc
-body_alike accounts quiet None version waiting pdu (bodies.BindTransceiver bind) may = inl (binds_alike (bind_refusal (account_of accounts bind.system_id) roles.Transceiver bind) version waiting pdu.sequence bind)
+body_alike accounts quiet None version waiting pdu (bodies.BindTransceiver bind) may =
+    inl (binds_alike (bind_refusal (account_of accounts bind.system_id) roles.Transceiver bind) version waiting pdu.sequence bind)
 body_alike accounts quiet (Some name) version waiting pdu (bodies.BindTransceiver bind) may = inl (stays_alike (Some name) version waiting (Some _))
 body_alike accounts quiet None version waiting pdu (bodies.SubmitSm message) may = inl (stays_alike None version waiting (Some _))
 body_alike accounts quiet (Some name) version waiting pdu (bodies.SubmitSm message) may = inr tt
@@ -104,24 +118,34 @@ body_alike accounts quiet account version waiting pdu bodies.UnbindResp may = in
 body_alike accounts quiet account version waiting pdu bodies.EnquireLinkResp may = inl (stays_alike account version waiting None)
 
 -- a PDU that may come: the sessions answer alike, or the node is asked
-pub pdu_alike : (accounts : List Account) (quiet : Bool) (account : Option (List ℕ)) (version : ℕ) (waiting : List OpenRequest) (pdu : Pdu) → may_happen quiet (body_stir accounts account pdu.body) ≡ true → AreAlike account waiting (on_pdu accounts (like account version waiting) pdu) (on_pdu accounts (session_of account) pdu) ⊎ IsAsked account pdu.body
+pub pdu_alike : (accounts : List Account) (quiet : Bool) (account : Option (List ℕ)) (version : ℕ) (waiting : List OpenRequest) (pdu : Pdu) →
+    may_happen quiet (body_stir accounts account pdu.body) ≡ true →
+    AreAlike account waiting (on_pdu accounts (like account version waiting) pdu) (on_pdu accounts (session_of account) pdu) ⊎ IsAsked account pdu.body
 pdu_alike accounts quiet account version waiting pdu may = body_alike accounts quiet account version waiting pdu pdu.body may
 
-out_alike : (account : Option (List ℕ)) (version : ℕ) (waiting : List OpenRequest) (sequence : ℕ) (response : Option Response) → AreAlike account waiting (record { next = like account version waiting; reaction = responds sequence response }) (record { next = session_of account; reaction = responds sequence response })
+out_alike : (account : Option (List ℕ)) (version : ℕ) (waiting : List OpenRequest) (sequence : ℕ) (response : Option Response) →
+    AreAlike account waiting (record { next = like account version waiting; reaction = responds sequence response })
+    (record { next = session_of account; reaction = responds sequence response })
 out_alike account version waiting sequence None = stays_alike account version waiting None
 out_alike account version waiting sequence (Some response) = stays_alike account version waiting (Some _)
 
-fault_stays : (account : Option (List ℕ)) (version : ℕ) (waiting : List OpenRequest) (fault : PduFault) (requested : Option Requested) (sequence : ℕ) → AreAlike account waiting (record { next = like account version waiting; reaction = cond (is_gone (like account version waiting).state) reactions.Nothing (responds sequence (told_of fault requested)) }) (record { next = session_of account; reaction = cond (is_gone (session_of account).state) reactions.Nothing (responds sequence (told_of fault requested)) })
+fault_stays : (account : Option (List ℕ)) (version : ℕ) (waiting : List OpenRequest) (fault : PduFault) (requested : Option Requested) (sequence : ℕ) →
+    AreAlike account waiting
+    (record { next = like account version waiting; reaction = cond (is_gone (like account version waiting).state) reactions.Nothing (responds sequence (told_of fault requested)) })
+    (record { next = session_of account; reaction = cond (is_gone (session_of account).state) reactions.Nothing (responds sequence (told_of fault requested)) })
 fault_stays None version waiting fault requested sequence = out_alike None version waiting sequence (told_of fault requested)
 fault_stays (Some name) version waiting fault requested sequence = out_alike (Some name) version waiting sequence (told_of fault requested)
 
 -- octets that are no PDU, but of no wrong length
-pub fault_alike : (account : Option (List ℕ)) (version : ℕ) (waiting : List OpenRequest) (fault : PduFault) (requested : Option Requested) (sequence : ℕ) → (fault ≡ faults.Length → ⊥) → AreAlike account waiting (on_fault (like account version waiting) fault requested sequence) (on_fault (session_of account) fault requested sequence)
+pub fault_alike : (account : Option (List ℕ)) (version : ℕ) (waiting : List OpenRequest) (fault : PduFault) (requested : Option Requested) (sequence : ℕ) →
+    (fault ≡ faults.Length → ⊥) →
+    AreAlike account waiting (on_fault (like account version waiting) fault requested sequence) (on_fault (session_of account) fault requested sequence)
 fault_alike account version waiting faults.Length requested sequence other = absurd (other refl)
 fault_alike account version waiting faults.Command requested sequence other = fault_stays account version waiting faults.Command requested sequence
 fault_alike account version waiting (faults.Cut field) requested sequence other = fault_stays account version waiting (faults.Cut field) requested sequence
 fault_alike account version waiting faults.Extra requested sequence other = fault_stays account version waiting faults.Extra requested sequence
-fault_alike account version waiting (faults.LongText field) requested sequence other = fault_stays account version waiting (faults.LongText field) requested sequence
+fault_alike account version waiting (faults.LongText field) requested sequence other =
+    fault_stays account version waiting (faults.LongText field) requested sequence
 fault_alike account version waiting faults.TextLength requested sequence other = fault_stays account version waiting faults.TextLength requested sequence
 fault_alike account version waiting faults.Tlvs requested sequence other = fault_stays account version waiting faults.Tlvs requested sequence
 fault_alike account version waiting faults.Memory requested sequence other = fault_stays account version waiting faults.Memory requested sequence

@@ -1,0 +1,241 @@
+-- Line after line of a calm script, the runner goes as the one node does, and prints what it prints.
+use Rattle.std.proofs.Common.{◌≡◌, ℕ, suc, ◌<◌, ◌≤◌, ◌-◌, ◌^◌, max, Bool, true, false, cond, List, [], ◌∷◌, ◌++◌, length, map, Option, Some, None, refl, sym, ◌∙◌, ap, subst, arith}
+use Rattle.std.specs.Option.{option_map}
+use Rattle.std.specs.Ordering.{nat_cmp}
+use Rattle.std.specs.BTreeMap.{insert_entry}
+use Rattle.std.proofs.lemmas.Bool.{and_parts}
+use Rattle.alone_laws.proofs.Opening.{new_rests}
+use Rattle.pdu_frames.specs.Frames.{Cut, begins_wrong, cut}
+use Rattle.script_lines.specs.Lines.{lines_of}
+use Rattle.script_lines.specs.Said.{Said, Skipped, Nodes, Octets, Tick, Settle, Restart, said_of}
+use Rattle.script_lines.proofs.SaidLemmas.{spelled_so}
+use Rattle.script_text.specs.Settings.{Settings, script_settings}
+use Rattle.script_text.specs.Prints.{Print, text_of_prints}
+use Rattle.script_text.specs.Runner.{Runner, Streamed, held_in, kept, on_cut, on_octets, on_settle, on_tick, session_in, without}
+use Rattle.script_text.specs.Events.{Event, Heard, Comes, Ticks, Settles, Play, and_then, events_from, heard_by, play_from, play_of_lines}
+use Rattle.script_text.specs.OneNode.{OneNode, at_clock, happen, happens, one_node, one_node_text, played, prints_if}
+use Rattle.script_text.specs.Calm.{IsCalm, are_calm}
+use Rattle.script_text.specs.Script.{Stage, Stepped, after, bad_from, bad_line, opened, prints_from, step_by, step_of, text_of}
+use Rattle.calm_laws.proofs.Calming.{Went, cut_whole, frames_go}
+use Rattle.calm_laws.proofs.Ending.{settle_leaves}
+use Rattle.calm_laws.proofs.Growing.{events_grow}
+use Rattle.calm_laws.proofs.Running.{Runs, kept_is, octets_leave, served}
+use Rattle.calm_laws.proofs.Standing.{rested}
+use Rattle.calm_laws.proofs.Ticking.{tick_leaves}
+
+-- ---- lines
+
+-- what is printed, and which line is bad
+abbrev Prints : Settings → OneNode → List Event → List Print → Option ℕ → Type 0
+Prints settings one events prints bad = (prints ≡ (happen settings one events).prints) × (bad ≡ None)
+
+-- the same of a line, by what it does, and the lines behind it
+abbrev LinePrints : Settings → OneNode → List Event → List (List ℕ) → ℕ → Option Stepped → Type 0
+LinePrints settings one events lines number step =
+    Prints settings one events (after [] (λ (done : Stepped). done.prints ++ prints_from settings done.stage lines) step)
+    (after (Some number) (λ (done : Stepped). bad_from settings done.stage (suc number) lines) step)
+
+-- few messages are there in the end
+abbrev IsSmall : Settings → OneNode → List Event → Type 0
+IsSmall settings one events = length (happen settings one events).next.table ≤ 10000
+
+LinesCalm : Settings → ℕ → List (List ℕ) → Type 0
+LinesCalm settings first lines =
+    (streams : List (ℕ × List ℕ)) (quiet : Bool) (one : OneNode) (runner : Runner) (events : List Event) (number : ℕ) →
+    Runs settings first (length events) quiet one streams runner → events_from streams lines ≡ Some events →
+    are_calm settings one quiet events ≡ true → IsSmall settings one events →
+    Prints settings one events (prints_from settings (Some runner) lines) (bad_from settings (Some runner) number lines)
+
+tail_of : (P : List Event → Type 0) (first : List Event) (later : Option (List Event)) (events : List Event) →
+    ((tail : List Event) → later ≡ Some tail → P (first ++ tail)) →
+    option_map (λ others. first ++ others) later ≡ Some events → P events
+tail_of P first None events each is = absurd cc
+tail_of P first (Some tail) events each is =
+    let same : first ++ tail ≡ events = cc in
+    subst P same (each tail refl)
+
+module _ (settings : Settings) (first : ℕ) (lines : List (List ℕ)) (behind : LinesCalm settings first lines) (streams : List (ℕ × List ℕ)) (quiet : Bool)
+    (one : OneNode)
+    (runner : Runner) (line : ℕ) where
+  -- a line that says this
+  abbrev SaidCalm : Option Said → List Event → Type 0
+  SaidCalm said events =
+      Runs settings first (length events) quiet one streams runner → are_calm settings one quiet events ≡ true → IsSmall settings one events →
+      LinePrints settings one events lines line (step_by settings (Some runner) said)
+
+  -- ---- octets
+
+  module _ (number : ℕ) (octets : List ℕ) where
+    abbrev stream : Cut
+    stream = cut (held_in streams number ++ octets)
+
+    abbrev all_events : List Event → List Event
+    all_events tail = map (Comes number) stream.frames ++ tail
+
+    module _ (tail : List Event) (runs : Runs settings first (length (all_events tail)) quiet one streams runner) where
+      abbrev streamed : Streamed
+      streamed = on_cut settings number runner.node (session_in runner.sessions number) stream
+
+      -- what this leaves and prints
+      abbrev StreamPrints : List Print → Runner → Type 0
+      StreamPrints prints next =
+          Prints settings one (all_events tail) (prints ++ prints_from settings (Some next) lines) (bad_from settings (Some next) (suc line) lines)
+
+      went : begins_wrong stream.rest ≡ false → are_calm settings one quiet (all_events tail) ≡ true →
+          Went settings first number one runs.holds streamed tail (all_events tail) stream.rest
+      went right calm =
+          let mine = runs.sessions.each number in
+          frames_go settings first number stream.rest tail right quiet one runs.holds runner.node (session_in runner.sessions number) mine.0 stream.frames
+          (cut_whole (held_in streams number ++ octets)) runs.agree runs.still calm mine.1
+
+      went_prints : Went settings first number one runs.holds streamed tail (all_events tail) stream.rest →
+          events_from (insert_entry nat_cmp streams number stream.rest) lines ≡ Some tail →
+          IsSmall settings one (all_events tail) → StreamPrints streamed.served.prints (kept (without runner number) number streamed)
+      unfolding LinesCalm
+      went_prints gone tail_is small =
+          let next = served settings first (length (all_events tail)) quiet one streams runner number streamed tail (all_events tail) stream.rest runs gone in
+          let leaves = octets_leave settings first (length (all_events tail)) quiet one streams runner number streamed tail
+          (all_events tail) stream.rest runs gone in
+          let few = subst (λ (left : OneNode). length left.table ≤ 10000) gone.ends small in
+          let later = behind (insert_entry nat_cmp streams number stream.rest) gone.quiet gone.next next tail (suc line) leaves tail_is gone.calm few in
+          subst (StreamPrints streamed.served.prints)
+          (sym (kept_is settings first (length (all_events tail)) quiet one streams runner number streamed tail (all_events tail) stream.rest runs gone))
+          (ap (λ (prints : List Print). streamed.served.prints ++ prints) later.0 ∙ sym gone.prints, later.1)
+
+    octets_calm : (tail : List Event) → begins_wrong stream.rest ≡ false → events_from (insert_entry nat_cmp streams number stream.rest) lines ≡ Some tail →
+        SaidCalm (Some (Octets number octets)) (all_events tail)
+    unfolding on_octets
+    octets_calm tail right tail_is runs calm small =
+        let same : stream ≡ cut (held_in runner.streams number ++ octets) = ap (λ (held : List ℕ). cut (held ++ octets)) (sym (runs.held number)) in
+        subst
+        (λ (c : Cut).
+        let done = on_cut settings number runner.node (session_in runner.sessions number) c in
+        StreamPrints tail runs done.served.prints (kept (without runner number) number done))
+        same
+        (went_prints tail runs (went tail runs right calm) tail_is small)
+
+    abbrev heard : Heard
+    heard = record { events = map (Comes number) stream.frames; streams = insert_entry nat_cmp streams number stream.rest }
+
+    octets_said : (events : List Event) (wrong : Bool) → begins_wrong stream.rest ≡ wrong →
+        and_then (cond wrong None (Some heard)) (λ so. events_from so.streams lines) ≡ Some events → SaidCalm (Some (Octets number octets)) events
+    octets_said events true right is = absurd cc
+    octets_said events false right is =
+        tail_of (SaidCalm (Some (Octets number octets))) (map (Comes number) stream.frames) (events_from heard.streams lines) events
+        (λ tail tail_is. octets_calm tail right tail_is) is
+
+  -- ---- a tick
+
+  tick_calm : (moment : ℕ) (tail : List Event) → events_from streams lines ≡ Some tail → SaidCalm (Some (Tick moment)) (Ticks moment ∷ tail)
+  unfolding LinesCalm are_calm happen happens
+  tick_calm moment tail tail_is runs calm small =
+      let next = at_clock one (max one.clock moment) in
+      let parts = and_parts quiet (are_calm settings next false tail) calm in
+      let (leaves, prints) = tick_leaves settings first (length tail) one streams runner moment
+      (subst (λ (q : Bool). Runs settings first (suc (length tail)) q one streams runner) parts.0 runs) in
+      let later = behind streams false next (on_tick runner moment).next tail (suc line) leaves tail_is parts.1 small in
+      (ap (λ (printed : List Print). printed ++ prints_from settings (Some (on_tick runner moment).next) lines) prints ∙ later.0, later.1)
+
+  -- ---- a settle
+
+  settle_calm : (tail : List Event) → events_from streams lines ≡ Some tail → SaidCalm (Some Settle) (Settles ∷ tail)
+  unfolding LinesCalm are_calm happen happens
+  settle_calm tail tail_is runs calm small =
+      let next = record one { owed = [] } in
+      let grown = events_grow settings next tail in
+      let (leaves, prints) = settle_leaves settings first (length tail) quiet one streams runner (omega (arith, grown, small)) runs in
+      let later = behind streams true next (on_settle runner).next tail (suc line) leaves tail_is
+      (and_parts true (are_calm settings next true tail) calm).1 small in (
+        ap (λ (printed : List Print). printed ++ prints_from settings (Some (on_settle runner).next) lines) prints
+            ∙ ap (λ (others : List Print). one.owed ++ others) later.0,
+        later.1,
+      )
+
+  -- ---- any line
+
+  said_calm : (events : List Event) (said : Option Said) → and_then (heard_by streams said) (λ so. events_from so.streams lines) ≡ Some events →
+      SaidCalm said events
+  unfolding LinesCalm
+  said_calm events None is = absurd cc
+  said_calm events (Some (Nodes serial)) is = absurd cc
+  said_calm events (Some Restart) is = absurd cc
+  said_calm events (Some Skipped) is =
+      tail_of (SaidCalm (Some Skipped)) [] (events_from streams lines) events
+      (λ tail tail_is runs calm small. behind streams quiet one runner tail (suc line) runs tail_is calm small) is
+  said_calm events (Some (Tick moment)) is =
+      tail_of (SaidCalm (Some (Tick moment))) (Ticks moment ∷ []) (events_from streams lines) events (tick_calm moment) is
+  said_calm events (Some Settle) is = tail_of (SaidCalm (Some Settle)) (Settles ∷ []) (events_from streams lines) events settle_calm is
+  said_calm events (Some (Octets number octets)) is = octets_said number octets events (begins_wrong (stream number octets).rest) refl is
+
+lines_calm : (settings : Settings) (first : ℕ) (lines : List (List ℕ)) → LinesCalm settings first lines
+unfolding LinesCalm prints_from bad_from step_of events_from happen
+lines_calm settings first [] streams quiet one runner events number runs is calm small =
+    let none : [] ≡ events = cc in
+    subst (λ (e : List Event). Prints settings one e [] None) none (refl, refl)
+lines_calm settings first (line ∷ lines) streams quiet one runner events number runs is calm small =
+    said_calm settings first lines (lines_calm settings first lines) streams quiet one runner number events (said_of line) is runs calm small
+
+-- ---- a script
+
+-- what a play prints
+abbrev PlayPrints : Play → List Print → Option ℕ → Type 0
+PlayPrints play prints bad = (prints ≡ (played play).prints) × (bad ≡ None)
+
+-- from this stage on, if the first of the lines has this number
+abbrev StagePrints : Play → Stage → ℕ → List (List ℕ) → Type 0
+StagePrints play stage number lines = PlayPrints play (prints_from script_settings stage lines) (bad_from script_settings stage number lines)
+
+opened_runs : (serial : ℕ) (events : List Event) → 1 ≤ serial → length events < 2 ^ 64 - 1 →
+    Runs script_settings serial (length events) true (one_node serial) [] (opened script_settings serial)
+opened_runs serial events least few = record {
+  holds = None;
+  agree =
+      rested script_settings serial (length events) 1 (one_node serial) (opened script_settings serial).node.kept []
+      (record { chains_are = refl; none = tt; least = least })
+      (omega (arith, few)) (new_rests serial script_settings.validity) refl;
+  still = (refl, refl);
+  held = λ number. refl;
+  sessions = record { each = λ number. (0, refl); entries = tt; distinct = tt };
+}
+
+-- what is asked of the play of a calm script
+record IsCalmPlay (play : Play) : Type 0 where
+  calm : are_calm script_settings (one_node play.serial) true play.events ≡ true
+  small : length (played play).next.table ≤ 10000
+  few : length play.events < 2 ^ 64 - 1
+
+module _ (lines : List (List ℕ)) (play : Play) (number : ℕ) (calm : IsCalmPlay play) where
+  nodes_calm : (serial : ℕ) (found : Option (List Event)) → 1 ≤ serial → events_from [] lines ≡ found →
+      option_map (λ events. record { serial = serial; events = events }) found ≡ Some play →
+      StagePrints play (Some (opened script_settings serial)) (suc number) lines
+  unfolding LinesCalm
+  nodes_calm serial None least found is = absurd cc
+  nodes_calm serial (Some events) least found is =
+      let same : record { serial = serial; events = events } ≡ play = cc in
+      let so : IsCalmPlay (record { serial = serial; events = events }) = subst IsCalmPlay (sym same) calm in
+      subst (λ (p : Play). StagePrints p (Some (opened script_settings serial)) (suc number) lines) same
+      (lines_calm script_settings serial lines [] true (one_node serial) (opened script_settings serial) events (suc number)
+      (opened_runs serial events least so.few) found so.calm so.small)
+
+  -- the first line says this, or the lines behind it are those of the script
+  first_said : (line : List ℕ) (said : Option Said) → said_of line ≡ said → (play_of_lines lines ≡ Some play → StagePrints play None (suc number) lines) →
+      play_from said lines (play_of_lines lines) ≡ Some play →
+      PlayPrints play (after [] (λ (done : Stepped). done.prints ++ prints_from script_settings done.stage lines) (step_by script_settings None said))
+      (after (Some number) (λ (done : Stepped). bad_from script_settings done.stage (suc number) lines) (step_by script_settings None said))
+  first_said line None said later is = absurd cc
+  first_said line (Some Skipped) said later is = later is
+  first_said line (Some (Nodes serial)) said later is = nodes_calm serial (events_from [] lines) ((spelled_so line (Nodes serial)).0 said).wording.0 refl is
+  first_said line (Some (Octets session octets)) said later is = absurd cc
+  first_said line (Some (Tick moment)) said later is = absurd cc
+  first_said line (Some Settle) said later is = absurd cc
+  first_said line (Some Restart) said later is = absurd cc
+
+first_calm : (lines : List (List ℕ)) (play : Play) (number : ℕ) → IsCalmPlay play → play_of_lines lines ≡ Some play → StagePrints play None number lines
+unfolding play_of_lines prints_from bad_from step_of
+first_calm [] play number calm is = absurd cc
+first_calm (line ∷ lines) play number calm is = first_said lines play number calm line (said_of line) refl (first_calm lines play (suc number) calm) is
+
+pub calm_text : (script : List ℕ) → IsCalm script → (bad_line script ≡ None) × (text_of script ≡ one_node_text script)
+calm_text script is =
+    let (prints, bad) = first_calm (lines_of script) is.play 1 (record { calm = is.calm; small = is.messages; few = is.tickets }) is.played_by in
+    (bad, ap text_of_prints prints ∙ sym (ap (λ (play : Option Play). text_of_prints (prints_if play)) is.played_by))

@@ -1,0 +1,135 @@
+-- The node of a runner, which is at rest or settles, and the one node.
+use Rattle.std.proofs.Common.{◌≡◌, ℕ, suc, ◌+◌, ◌<◌, ◌≤◌, ◌^◌, Bool, true, false, cond, List, [], ◌∷◌, Option, Some, None, refl, subst, arith}
+use Rattle.std.specs.Prelude.{◌==◌}
+use Rattle.mc_model.specs.synod.Packet.{Packet}
+use Rattle.mc_model.specs.node.Outputs.{Receipt, Reply}
+use Rattle.mc_model.specs.node.Setup.{Setup}
+use Rattle.node_model.specs.Kept.{Kept}
+use Rattle.node_model.specs.Outputs.{Stepped}
+use Rattle.alone_laws.specs.Alone.{alone}
+use Rattle.alone_laws.specs.Resting.{IsResting}
+use Rattle.alone_laws.specs.Settling.{Settling, SettlesOn, begins_with, delivered, most_deliveries}
+use Rattle.alone_laws.specs.Tables.{Table, TableNode}
+use Rattle.alone_laws.proofs.Leading.{nothing_more, settling}
+use Rattle.sessions.specs.declared.request.OpenRequest.{OpenRequest}
+use Rattle.script_text.specs.Settings.{Settings}
+use Rattle.script_text.specs.Node.{Node}
+use Rattle.script_text.specs.Prints.{Print}
+use Rattle.script_text.specs.Runner.{Owned, reply_prints}
+use Rattle.script_text.specs.OneNode.{OneNode}
+use Rattle.calm_laws.proofs.Tables.{IsTableOf, table_of}
+
+-- ---- a node that settles
+
+-- By deliveries of these packets it comes to rest on a table, and this is what it replies meanwhile.
+pub record SettlesTo (setup : Setup) (k : Kept) (packets : List Packet) (t : TableNode) (replies : List Reply) : Type 0 where
+  pub deliveries : ℕ
+  pub few : deliveries ≤ most_deliveries t
+  pub left : (delivered setup deliveries (settling k packets [] [])).packets ≡ []
+  pub resting : IsResting (delivered setup deliveries (settling k packets [] [])).kept t
+  pub replies_are : (delivered setup deliveries (settling k packets [] [])).replies ≡ replies
+
+-- it does so after a step
+pub settles_so : (setup : Setup) (step : Stepped) (t : TableNode) (replies : List Reply) (receipts : List Receipt) →
+    SettlesOn setup step t replies receipts → SettlesTo setup step.kept step.outputs.packets t replies
+settles_so setup step t replies receipts on =
+    let same : begins_with step ≡ settling step.kept step.outputs.packets [] [] =
+    λ i. settling step.kept step.outputs.packets (on.replies_later i) (on.receipts_later i) in
+    record {
+      deliveries = on.deliveries;
+      few = on.few;
+      left = subst (λ (s : Settling). (delivered setup on.deliveries s).packets ≡ []) same on.left;
+      resting = subst (λ (s : Settling). IsResting (delivered setup on.deliveries s).kept t) same on.resting;
+      replies_are = subst (λ (s : Settling). (delivered setup on.deliveries s).replies ≡ replies) same on.replies_are;
+    }
+
+pub rests : (setup : Setup) (k : Kept) (t : TableNode) → IsResting k t → SettlesTo setup k [] t []
+rests setup k t resting = record { deliveries = 0; few = omega arith; left = refl; resting = resting; replies_are = refl }
+
+-- a node that awaits no packet is at rest
+pub rests_now : (setup : Setup) (k : Kept) (t : TableNode) (replies : List Reply) → SettlesTo setup k [] t replies → IsResting k t
+rests_now setup k t replies settles =
+    subst (λ (s : Settling). IsResting s.kept t) (nothing_more setup (settling k [] [] []) refl settles.deliveries) settles.resting
+
+-- ---- the runner's node, and the one node
+
+-- what a session holds of the request that waits, if one does
+abbrev pub requests_at : Option Owned → ℕ → List OpenRequest
+requests_at None number = []
+requests_at (Some owned) number = cond (owned.number == number) (owned.request ∷ []) []
+
+-- the one node owes what the reply will print that comes before the node rests
+abbrev pub Owes : List Reply → Option Owned → List Print → Type 0
+Owes replies None owed = (replies ≡ []) × (owed ≡ [])
+Owes replies (Some owned) owed = (reply : Reply) × (replies ≡ reply ∷ []) × (reply.ticket ≡ owned.request.ticket) × (owed ≡ reply_prints reply (Some owned))
+
+-- The node settles on the table of the one node, and there are tickets for so many events more.
+pub record Agree (settings : Settings) (first left : ℕ) (one : OneNode) (owned : Option Owned) (node : Node) : Type 0 where
+  pub ticket : ℕ
+  pub table : Table
+  pub replies : List Reply
+  pub is_table : IsTableOf one.serial one.table table
+  pub room : ticket + left < 2 ^ 64
+  pub setup : node.setup ≡ alone first settings.validity
+  pub settles : SettlesTo node.setup node.kept node.packets (table_of one.clock one.serial ticket table) replies
+  pub owes : Owes replies owned one.owed
+
+-- if it is quiet nothing waits
+abbrev pub IsQuiet : Bool → Option Owned → Node → Type 0
+IsQuiet true owned node = (owned ≡ None) × (node.packets ≡ [])
+IsQuiet false owned node = Unit {0}
+
+pub fewer : (settings : Settings) (first left : ℕ) (one : OneNode) (owned : Option Owned) (node : Node) →
+    Agree settings first (suc left) one owned node → Agree settings first left one owned node
+fewer settings first left one owned node agree = record {
+  ticket = agree.ticket;
+  table = agree.table;
+  replies = agree.replies;
+  is_table = agree.is_table;
+  room = let room = agree.room in omega (arith, room);
+  setup = agree.setup;
+  settles = agree.settles;
+  owes = agree.owes;
+}
+
+-- a node at rest
+abbrev pub node_of : Settings → ℕ → Kept → Node
+node_of settings first k = record { setup = alone first settings.validity; kept = k; packets = [] }
+
+pub rested : (settings : Settings) (first left ticket : ℕ) (one : OneNode) (k : Kept) (table : Table) → IsTableOf one.serial one.table table →
+    ticket + left < 2 ^ 64 →
+    IsResting k (table_of one.clock one.serial ticket table) → one.owed ≡ [] → Agree settings first left one None (node_of settings first k)
+rested settings first left ticket one k table is_table room resting owed = record {
+  ticket = ticket;
+  table = table;
+  replies = [];
+  is_table = is_table;
+  room = room;
+  setup = refl;
+  settles = rests (alone first settings.validity) k (table_of one.clock one.serial ticket table) resting;
+  owes = (refl, owed);
+}
+
+-- what the nodes have while it is quiet
+pub record AreQuiet (settings : Settings) (first left : ℕ) (one : OneNode) (node : Node) : Type 0 where
+  pub ticket : ℕ
+  pub table : Table
+  pub node_is : node ≡ node_of settings first node.kept
+  pub is_table : IsTableOf one.serial one.table table
+  pub room : ticket + left < 2 ^ 64
+  pub resting : IsResting node.kept (table_of one.clock one.serial ticket table)
+  pub owed : one.owed ≡ []
+
+pub quiet_now : (settings : Settings) (first left : ℕ) (one : OneNode) (owned : Option Owned) (node : Node) →
+    Agree settings first left one owned node → IsQuiet true owned node → AreQuiet settings first left one node
+quiet_now settings first left one owned node agree quiet = record {
+  ticket = agree.ticket;
+  table = agree.table;
+  node_is = λ i. record { setup = agree.setup i; kept = node.kept; packets = quiet.1 i };
+  is_table = agree.is_table;
+  room = agree.room;
+  resting =
+      rests_now node.setup node.kept (table_of one.clock one.serial agree.ticket agree.table) agree.replies
+      (subst (λ (packets : List Packet). SettlesTo node.setup node.kept packets (table_of one.clock one.serial agree.ticket agree.table) agree.replies) quiet.1 agree.settles);
+  owed = (subst (λ (o : Option Owned). Owes agree.replies o one.owed) quiet.0 agree.owes).1;
+}

@@ -1,0 +1,12 @@
+pub mod WellMade
+pub mod Lasting
+pub mod Answering
+pub mod Stepping
+pub mod Since
+pub mod Decided
+pub mod Replying
+pub mod Asking
+pub mod Sound
+pub mod Telling
+pub mod Serving
+pub mod Printing

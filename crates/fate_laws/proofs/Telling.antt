@@ -1,0 +1,253 @@
+-- What prints tell of the fates of messages.
+use Rattle.std.proofs.Common.{◌≡◌, ℕ, ◌<◌, ◌^◌, List, Option, Some, None, inl, inr, refl, sym, ◌∙◌, ap, subst, arith}
+use Rattle.std.specs.Fmt.{decimal}
+use Rattle.std.proofs.lemmas.Fmt.{decimal_injective}
+use Rattle.mc_model.specs.message.Chain.{final_in}
+use Rattle.mc_model.specs.message.Decree.{Decree, Final, Deleted}
+use Rattle.mc_model.specs.node.Replies.{Accepted, Answer, Kept as Keeps, NotMatched, NotOwner, Removed, Shown, TooLate, Unknown}
+use Rattle.mc_model.specs.cluster.World.{World}
+use Rattle.accounts.specs.declared.role.Role.TheVariants as roles
+use Rattle.pdu_tables.specs.StateCodes.{state_code}
+use Rattle.pdu_tables.specs.StatusCodes.{status_code}
+use Rattle.pdu_tables.specs.declared.state.State.TheVariants as states
+use Rattle.pdu_tables.specs.declared.status.Status.TheVariants as statuses
+use Rattle.pdu_bodies.specs.declared.pdu.Body.{Body}
+use Rattle.pdu_bodies.specs.declared.pdu.Body.TheVariants.{QuerySmResp, CancelSmResp}
+use Rattle.pdu_bodies.specs.declared.pdu.Pdu.{Pdu}
+use Rattle.pdu_bodies.specs.declared.pdu.QueryAnswer.{QueryAnswer}
+use Rattle.sessions.specs.Responses.{pdu_of, refusal_body, response_pdu}
+use Rattle.sessions.specs.declared.requested.Requested.{Requested}
+use Rattle.sessions.specs.declared.requested.Requested.TheVariants as requests
+use Rattle.sessions.specs.declared.response.Response.{Response}
+use Rattle.sessions.specs.declared.response.Response.TheVariants.{Nack, Refused, Bound, Unbound, Linked}
+use Rattle.sessions.specs.declared.response.Outgoing.{Outgoing}
+use Rattle.fate_chain.specs.States.{state_of}
+use Rattle.script_text.specs.Responses.{refused_with, reply_pdu}
+use Rattle.script_text.specs.Prints.{Print, AtOnce, Declined, Gone, Late, Unsettled}
+use Rattle.script_text.specs.Laws.{StatesFate, TellsDeletion, TellsState}
+use Rattle.fate_laws.proofs.Replying.{Grows, IsFitAnswer}
+use Rattle.fate_laws.proofs.Decided.{IsDecided}
+
+-- ---- PDUs that tell no state
+
+-- a body that is not a query_sm_resp with an answer
+abbrev TellsNone : Body → Type 0
+TellsNone body = (answer : QueryAnswer) → body ≡ QuerySmResp (Some answer) → ⊥
+
+refusal_tells_none : (requested : Requested) → TellsNone (refusal_body requested)
+refusal_tells_none requests.BindReceiver answer is = cc
+refusal_tells_none requests.BindTransmitter answer is = cc
+refusal_tells_none requests.BindTransceiver answer is = cc
+refusal_tells_none requests.SubmitSm answer is = cc
+refusal_tells_none requests.DeliverSm answer is = cc
+refusal_tells_none requests.QuerySm answer is = cc
+refusal_tells_none requests.CancelSm answer is = cc
+refusal_tells_none requests.Unbind answer is = cc
+refusal_tells_none requests.EnquireLink answer is = cc
+
+response_tells_none : (system_id : List ℕ) (sequence : ℕ) (response : Response) → TellsNone (response_pdu system_id sequence response).body
+response_tells_none system_id sequence (Nack status) answer is = cc
+response_tells_none system_id sequence (Refused requested status) answer is = refusal_tells_none requested answer is
+response_tells_none system_id sequence (Bound roles.Transmitter version) answer is = cc
+response_tells_none system_id sequence (Bound roles.Receiver version) answer is = cc
+response_tells_none system_id sequence (Bound roles.Transceiver version) answer is = cc
+response_tells_none system_id sequence Unbound answer is = cc
+response_tells_none system_id sequence Linked answer is = cc
+
+-- ---- prints that tell nothing of a fate
+
+pub record IsMute (print : Print) : Type 0 where
+  pub state : (message_id : List ℕ) (state : ℕ) → TellsState print message_id state → ⊥
+  pub deletion : (message_id : List ℕ) → TellsDeletion print message_id → ⊥
+
+at_once_is_mute : (session : ℕ) (pdu : Pdu) → TellsNone pdu.body → IsMute (AtOnce session pdu)
+at_once_is_mute session pdu none = record {
+  state = λ message_id state tells.
+      let same : pdu ≡ tells.pdu = some_is pdu tells.pdu tells.printed in
+      none tells.answer (ap (λ (p : Pdu). p.body) same ∙ tells.body);
+  deletion = λ message_id tells. at_once_not_late session pdu tells.session tells.id tells.pdu tells.printed;
+}
+  where
+    some_is : (one other : Pdu) → Some one ≡ Some other → one ≡ other
+    some_is one other is = cc
+
+    at_once_not_late : (session : ℕ) (pdu : Pdu) (number id : ℕ) (other : Pdu) → AtOnce session pdu ≡ Late number id other → ⊥
+    at_once_not_late session pdu number id other is = cc
+
+pub refusal_is_mute : (session : ℕ) (requested : Requested) (sequence status : ℕ) → IsMute (AtOnce session (refused_with requested sequence status))
+refusal_is_mute session requested sequence status = at_once_is_mute session (refused_with requested sequence status) (refusal_tells_none requested)
+
+pub response_is_mute : (session : ℕ) (system_id : List ℕ) (outgoing : Outgoing) → IsMute (AtOnce session (pdu_of system_id outgoing))
+response_is_mute session system_id outgoing =
+    at_once_is_mute session (pdu_of system_id outgoing) (response_tells_none system_id outgoing.sequence outgoing.response)
+
+pub gone_is_mute : (session : ℕ) → IsMute (Gone session)
+gone_is_mute session = record {
+  state = λ message_id state tells. none_is_some tells.pdu tells.printed;
+  deletion = λ message_id tells. gone_not_late tells.session tells.id tells.pdu tells.printed;
+}
+  where
+    none_is_some : (pdu : Pdu) → None ≡ Some pdu → ⊥
+    none_is_some pdu is = cc
+
+    gone_not_late : (number id : ℕ) (other : Pdu) → Gone session ≡ Late number id other → ⊥
+    gone_not_late number id other is = cc
+
+pub unsettled_is_mute : IsMute Unsettled
+unsettled_is_mute = record {
+  state = λ message_id state tells. none_is_some tells.pdu tells.printed;
+  deletion = λ message_id tells. unsettled_not_late tells.session tells.id tells.pdu tells.printed;
+}
+  where
+    none_is_some : (pdu : Pdu) → None ≡ Some pdu → ⊥
+    none_is_some pdu is = cc
+
+    unsettled_not_late : (number id : ℕ) (other : Pdu) → Unsettled ≡ Late number id other → ⊥
+    unsettled_not_late number id other is = cc
+
+pub declined_is_mute : (refusal : ℕ) → IsMute (Declined refusal)
+declined_is_mute refusal = record {
+  state = λ message_id state tells. none_is_some tells.pdu tells.printed;
+  deletion = λ message_id tells. declined_not_late tells.session tells.id tells.pdu tells.printed;
+}
+  where
+    none_is_some : (pdu : Pdu) → None ≡ Some pdu → ⊥
+    none_is_some pdu is = cc
+
+    declined_not_late : (number id : ℕ) (other : Pdu) → Declined refusal ≡ Late number id other → ⊥
+    declined_not_late number id other is = cc
+
+-- ---- replies
+
+-- an answer shows a chain in this state
+pub record Shows (answer : Answer) (code : ℕ) : Type 0 where
+  pub chain : List Decree
+  pub answer_is : answer ≡ Shown chain
+  pub code_is : state_code (state_of (final_in chain)) ≡ code
+
+-- it is ESME_ROK to a cancel_sm
+pub record Removes (answer : Answer) : Type 0 where
+  pub chain : List Decree
+  pub answer_is : answer ≡ Removed chain
+
+-- what a print of an answer for a message of an id tells
+pub record IsTold (id : ℕ) (answer : Answer) (print : Print) : Type 0 where
+  pub state : (message_id : List ℕ) (state : ℕ) → TellsState print message_id state → (decimal id ≡ message_id) × Shows answer state
+  pub deletion : (message_id : List ℕ) → TellsDeletion print message_id → (decimal id ≡ message_id) × Removes answer
+
+late_pdu : (session number id other : ℕ) (one two : Pdu) → Late session id one ≡ Late number other two → (id ≡ other) × (one ≡ two)
+late_pdu session number id other one two is = (cc, cc)
+
+-- a PDU that answers a request tells of its message what the answer is
+pdu_shows : (requested : Requested) (sequence id : ℕ) (answer : Answer) (told : QueryAnswer) →
+    (reply_pdu requested sequence id answer).body ≡ QuerySmResp (Some told) →
+    (decimal id ≡ told.message_id) × Shows answer told.message_state
+pdu_shows requested sequence id Accepted told is = absurd cc
+pdu_shows requested sequence id (Shown chain) told is =
+    let same = told_is _ told is in
+    (ap (λ (a : QueryAnswer). a.message_id) same, record { chain = chain; answer_is = refl; code_is = ap (λ (a : QueryAnswer). a.message_state) same })
+  where
+    told_is : (one other : QueryAnswer) → QuerySmResp (Some one) ≡ QuerySmResp (Some other) → one ≡ other
+    told_is one other is = cc
+pdu_shows requested sequence id (Removed chain) told is = absurd cc
+pdu_shows requested sequence id NotOwner told is = absurd (refusal_tells_none requested told is)
+pdu_shows requested sequence id (Keeps chain) told is = absurd (refusal_tells_none requested told is)
+pdu_shows requested sequence id (NotMatched chain) told is = absurd (refusal_tells_none requested told is)
+pdu_shows requested sequence id Unknown told is = absurd (refusal_tells_none requested told is)
+pdu_shows requested sequence id TooLate told is = absurd (refusal_tells_none requested told is)
+
+pdu_deletes : (requested : Requested) (sequence id : ℕ) (answer : Answer) → (reply_pdu requested sequence id answer).status ≡ status_code statuses.Ok →
+    (reply_pdu requested sequence id answer).body ≡ CancelSmResp → Removes answer
+pdu_deletes requested sequence id Accepted status is = absurd cc
+pdu_deletes requested sequence id (Shown chain) status is = absurd cc
+pdu_deletes requested sequence id (Removed chain) status is = record { chain = chain; answer_is = refl }
+pdu_deletes requested sequence id NotOwner status is = absurd (omega (arith, status))
+pdu_deletes requested sequence id (Keeps chain) status is = absurd (omega (arith, status))
+pdu_deletes requested sequence id (NotMatched chain) status is = absurd (omega (arith, status))
+pdu_deletes requested sequence id Unknown status is = absurd (omega (arith, status))
+pdu_deletes requested sequence id TooLate status is = absurd (omega (arith, status))
+
+pub reply_is_told : (session : ℕ) (requested : Requested) (sequence id : ℕ) (answer : Answer) →
+    IsTold id answer (Late session id (reply_pdu requested sequence id answer))
+reply_is_told session requested sequence id answer = record {
+  state = λ message_id state tells.
+      let same : reply_pdu requested sequence id answer ≡ tells.pdu = some_is _ tells.pdu tells.printed in
+      let shows = pdu_shows requested sequence id answer tells.answer (ap (λ (p : Pdu). p.body) same ∙ tells.body) in
+      (shows.0 ∙ tells.message, subst (Shows answer) tells.state_is shows.1);
+  deletion = λ message_id tells.
+      let same = late_pdu session tells.session id tells.id _ tells.pdu tells.printed in (
+        ap decimal same.0 ∙ tells.message,
+        pdu_deletes requested sequence id answer (ap (λ (p : Pdu). p.status) same.1 ∙ tells.status) (ap (λ (p : Pdu). p.body) same.1 ∙ tells.body),
+      );
+}
+  where
+    some_is : (one other : Pdu) → Some one ≡ Some other → one ≡ other
+    some_is one other is = cc
+
+-- ---- fates told
+
+-- a print tells fates that are decided
+pub record KnowsFate (w : World) (message_id : List ℕ) (state : ℕ) : Type 0 where
+  pub id : ℕ
+  pub final : Final
+  pub small : id < 2 ^ 64
+  pub message : decimal id ≡ message_id
+  pub decided : IsDecided 1 w id final
+  pub state_is : state ≡ state_code (state_of (Some final))
+
+abbrev pub TellsFates : World → Print → Type 0
+TellsFates w print = (message_id : List ℕ) (state : ℕ) → StatesFate print message_id state → KnowsFate w message_id state
+
+-- a print tells no other state of a message than DELETED
+abbrev pub TellsDeleted : List ℕ → Print → Type 0
+TellsDeleted message_id print = (state : ℕ) → TellsState print message_id state → state ≡ state_code states.Deleted
+
+pub mute_tells_fates : (w : World) (print : Print) → IsMute print → TellsFates w print
+mute_tells_fates w print mute message_id state (inl tells) = absurd (mute.state message_id state tells.0)
+mute_tells_fates w print mute message_id state (inr tells) = absurd (mute.deletion message_id tells.0)
+
+pub mute_tells_deleted : (message_id : List ℕ) (print : Print) → IsMute print → TellsDeleted message_id print
+mute_tells_deleted message_id print mute state tells = absurd (mute.state message_id state tells)
+
+pub fates_told_later : (first last : World) (print : Print) → Grows 1 first last → TellsFates first print → TellsFates last print
+fates_told_later first last print grows tells message_id state fate =
+    let it = tells message_id state fate in
+    record { id = it.id; final = it.final; small = it.small; message = it.message; decided = grows it.id it.final it.decided; state_is = it.state_is }
+
+-- ---- what a reply tells that fits
+
+pub reply_tells_fates : (w : World) (id : ℕ) (answer : Answer) (print : Print) → id < 2 ^ 64 → IsTold id answer print → IsFitAnswer 1 w id answer →
+    TellsFates w print
+reply_tells_fates w id answer print small told fits message_id state (inl tells) =
+    let (message, shows) = told.state message_id state tells.0 in
+    by_final message shows (final_in shows.chain) refl
+  where
+    by_final : decimal id ≡ message_id → (shows : Shows answer state) → (final : Option Final) → final_in shows.chain ≡ final →
+        KnowsFate w message_id state
+    by_final message shows None is = absurd (tells.1 (sym shows.code_is ∙ ap (λ (f : Option Final). state_code (state_of f)) is))
+    by_final message shows (Some final) is = record {
+      id = id;
+      final = final;
+      small = small;
+      message = message;
+      decided = fits.fated shows.chain final shows.answer_is is;
+      state_is = sym shows.code_is ∙ ap (λ (f : Option Final). state_code (state_of f)) is;
+    }
+reply_tells_fates w id answer print small told fits message_id state (inr tells) =
+    let (message, removes) = told.deletion message_id tells.0 in
+    record {
+      id = id;
+      final = Deleted;
+      small = small;
+      message = message;
+      decided = fits.removed removes.chain removes.answer_is;
+      state_is = tells.1;
+    }
+
+pub reply_tells_deleted : (w : World) (id about : ℕ) (answer : Answer) (print : Print) → id < 2 ^ 64 → about < 2 ^ 64 → IsDecided 1 w id Deleted →
+    IsTold about answer print → IsFitAnswer 1 w about answer → TellsDeleted (decimal id) print
+reply_tells_deleted w id about answer print small other_small deleted told fits state tells =
+    let (message, shows) = told.state (decimal id) state tells in
+    let here : about ≡ id = decimal_injective about id other_small small message in
+    let ends = fits.shown shows.chain Deleted shows.answer_is (subst (λ (i : ℕ). IsDecided 1 w i Deleted) (sym here) deleted) in
+    sym shows.code_is ∙ ap (λ (f : Option Final). state_code (state_of f)) ends

@@ -1,5 +1,0 @@
-use Rattle.script_text.proofs.Keeping.{calm_text}
-use Rattle.script_text.proofs.laws.calm_text_is_of_one_node.Goals as goal
-
-pub returns : goal.returns
-returns c = calm_text
