@@ -5,4 +5,6 @@ pub mod Owners
 pub mod Running
 pub mod Serving
 pub mod Settling
+pub mod Stepping
 pub mod Steps
+pub mod Lives

@@ -1,72 +1,161 @@
--- Answering what waits, one after another.
-use Rattle.std.proofs.Common.{◌≡◌, ℕ, List, [], ◌∷◌, ◌++◌, Option, Some, None, refl, sym, ◌∙◌, ap, append_assoc}
+-- Replies go out one after another, and packets come one after another.
+use Rattle.std.proofs.Common.{◌≡◌, ℕ, zero, suc, List, [], ◌∷◌, ◌++◌, map, Option, Some, None, Result, Ok, Err, refl, sym, ◌∙◌, ap, append_assoc}
 use Rattle.std.proofs.lemmas.Grind.{flat_map-append}
 use Rattle.std.proofs.lemmas.List.{append-nil}
-use Rattle.desk.specs.declared.request.Reply.{Reply}
-use Rattle.pdu_bodies.specs.declared.pdu.Pdu.{Pdu}
+use Rattle.std.specs.Global.{Vec}
+use Rattle.std.specs.Prelude.{OnOk}
+use Rattle.std.specs.declared.alloc.AllocError.{AllocError}
+use Rattle.pdu_codec.specs.Pdu.{octets_of}
+use Rattle.mc_model.specs.synod.Packet.{Packet}
+use Rattle.mc_model.specs.node.Input.{Delivery, Input}
+use Rattle.mc_model.specs.node.Outputs.{Reply}
+use Rattle.node_model.specs.Outputs.{Stepped}
+use Rattle.requests.specs.Replying.{answer_given, reply_given}
+use Rattle.requests.specs.declared.answer.Reply.{Reply as Sent}
 use Rattle.sessions.specs.Session.{Session}
-use Rattle.script_text.specs.Node.{Node}
-use Rattle.script_text.specs.Prints.{Late, line_of, pdu_line, text_of_prints}
-use Rattle.script_text.specs.Runner.{Owned, Runner, Told, in_front, on_settle, owner_of, replied, reply_prints, told}
-use Rattle.script_runner.specs.Centre.{IsDone, IsReply}
+use Rattle.script_text.specs.Node.{Node, awaiting, step_at}
+use Rattle.script_text.specs.Prints.{Print, line_of, octets_line, text_of_prints, unsettled_line}
+use Rattle.script_text.specs.Responses.{reply_pdu}
+use Rattle.script_text.specs.Runner.{Acted, Owned, Runner, Told, answered_by, followed_by, in_front, on_delivery, owner_of, replied, reply_prints, rests, settles, told, unsettled}
+use Rattle.script_runner.specs.Centre.{AreTold, IsDone}
+use Rattle.script_runner.specs.Steps.{HasCome, HasReplied}
 
--- What was written, and the replies to what still waits, are the replies to all.
-pub record Settles (first now : Runner) (before text : List ℕ) : Type 0 where
-  pub written : text ++ text_of_prints (told now.sessions now.node.desk.waiting).prints ≡ before ++ text_of_prints (told first.sessions first.node.desk.waiting).prints
-  pub sessions : (told now.sessions now.node.desk.waiting).sessions ≡ (told first.sessions first.node.desk.waiting).sessions
-  pub node : now.node ≡ record first.node { desk = record first.node.desk { waiting = now.node.desk.waiting } }
-  pub streams : now.streams ≡ first.streams
+-- what was written, these prints and the prints behind them, in another order of joining
+in_turn : (text : List ℕ) (first others : List Print) → (text ++ text_of_prints first) ++ text_of_prints others ≡ text ++ text_of_prints (first ++ others)
+in_turn text first others = append_assoc text (text_of_prints first) (text_of_prints others) ∙ ap (λ t. text ++ t) (sym (flat_map-append line_of first others))
 
-pub settling : (first : Runner) (before : List ℕ) → Settles first first before before
-settling first before = record { written = refl; sessions = refl; node = refl; streams = refl }
+-- ---- replies
 
-first_told : (connected : List (ℕ × Session)) (waiting replies : List Reply) (reply : Reply) → waiting ≡ reply ∷ replies
-    → told connected waiting ≡ in_front (reply_prints reply (owner_of connected reply.ticket)) (told (replied connected reply.ticket (owner_of connected reply.ticket)) replies)
+-- What was written, and what is still to be told, is all that was to be told; and it leaves the same sessions.
+pub record AreLeft (all rest : Told) (before text : List ℕ) : Type 0 where
+  pub sessions : rest.sessions ≡ all.sessions
+  pub written : text ++ text_of_prints rest.prints ≡ before ++ text_of_prints all.prints
+
+pub all_left : (all : Told) (before : List ℕ) → AreLeft all all before before
+all_left all before = record { sessions = refl; written = refl }
+
+first_told : (connected : List (ℕ × Session)) (all replies : List Reply) (reply : Reply) → all ≡ reply ∷ replies
+    → told connected all ≡ in_front (reply_prints reply (owner_of connected reply.ticket)) (told (replied connected reply.ticket (owner_of connected reply.ticket)) replies)
 unfolding told
-first_told connected waiting replies reply is = rw is refl
+first_told connected all replies reply is = rw is refl
 
--- One more is replied to.
-pub one_settled : (first now : Runner) (left : Node) (sessions : List (ℕ × Session)) (reply : Reply) (owner : Option Owned) (before text after : List ℕ)
-    → Settles first now before text → IsReply now.node (Some reply) left → owner ≡ owner_of now.sessions reply.ticket → sessions ≡ replied now.sessions reply.ticket (owner_of now.sessions reply.ticket)
-    → after ≡ text ++ text_of_prints (reply_prints reply owner)
-    → Settles first (record { node = left; sessions = sessions; streams = now.streams }) before after
-one_settled first now left sessions reply owner before text after so is found took wrote =
-    let first_one = first_told now.sessions now.node.desk.waiting left.desk.waiting reply is.0 in
-    rw (took, wrote, found)
-    (let next : Settles first (record { node = left; sessions = replied now.sessions reply.ticket (owner_of now.sessions reply.ticket); streams = now.streams }) before (text ++ text_of_prints (reply_prints reply (owner_of now.sessions reply.ticket))) = record {
-      written = append_assoc text (text_of_prints (reply_prints reply (owner_of now.sessions reply.ticket))) _
-          ∙ ap (λ t. text ++ t) (sym (flat_map-append line_of (reply_prints reply (owner_of now.sessions reply.ticket)) _))
-          ∙ ap (λ (t : Told). text ++ text_of_prints t.prints) (sym first_one) ∙ so.written;
-      sessions = ap (λ (t : Told). t.sessions) (sym first_one) ∙ so.sessions;
-      node = is.1 ∙ ap (λ (n : Node). record n { desk = record n.desk { waiting = left.desk.waiting } }) so.node;
-      streams = so.streams;
+-- One more is told.
+pub one_told : (all : Told) (connected left : List (ℕ × Session)) (reply : Sent) (waiting others : List Sent) (before text after : List ℕ)
+    → AreLeft all (told connected (map reply_given waiting)) before text → waiting ≡ reply ∷ others
+    → left ≡ replied connected reply.ticket (owner_of connected reply.ticket)
+    → after ≡ text ++ text_of_prints (reply_prints (reply_given reply) (owner_of connected reply.ticket))
+    → AreLeft all (told left (map reply_given others)) before after
+one_told all connected left reply waiting others before text after so is took wrote =
+    let first = first_told connected (map reply_given waiting) (map reply_given others) (reply_given reply) (ap (map reply_given) is) in
+    let prints = reply_prints (reply_given reply) (owner_of connected reply.ticket) in
+    rw (took, wrote)
+    (let next : AreLeft all (told (replied connected reply.ticket (owner_of connected reply.ticket)) (map reply_given others)) before (text ++ text_of_prints prints) = record {
+      sessions = ap (λ (t : Told). t.sessions) (sym first) ∙ so.sessions;
+      written = in_turn text prints _ ∙ ap (λ (t : Told). text ++ text_of_prints t.prints) (sym first) ∙ so.written;
     } in next)
 
 -- the line of a reply, as the text of what is printed
-pub one_told : (number id : ℕ) (pdu : Pdu) (text after : List ℕ) → after ≡ text ++ pdu_line number pdu → after ≡ text ++ text_of_prints (Late number id pdu ∷ [])
-one_told number id pdu text after wrote = wrote ∙ ap (λ t. text ++ t) (sym (append-nil (pdu_line number pdu)))
+pub late_line : (r : Result (Unit {0}) AllocError) (connected : List (ℕ × Session)) (reply : Sent) (owner : Owned) (octets text after : List ℕ)
+    → Some owner ≡ owner_of connected reply.ticket → octets ≡ octets_of (reply_pdu owner.request.requested owner.request.sequence reply.id (answer_given reply.answer))
+    → OnOk r (after ≡ text ++ octets_line owner.number octets)
+    → OnOk r (after ≡ text ++ text_of_prints (reply_prints (reply_given reply) (owner_of connected reply.ticket)))
+late_line (Err fault) connected reply owner octets text after found are wrote = tt
+late_line (Ok done) connected reply owner octets text after found are wrote =
+    wrote ∙ ap (λ (os : List ℕ). text ++ octets_line owner.number os) are ∙ ap (λ t. text ++ t) (sym (append-nil _))
+    ∙ ap (λ (o : Option Owned). text ++ text_of_prints (reply_prints (reply_given reply) o)) found
 
 -- One whose session is gone is dropped.
-pub none_settled : (first now : Runner) (left : Node) (sessions : List (ℕ × Session)) (reply : Reply) (before text : List ℕ)
-    → Settles first now before text → IsReply now.node (Some reply) left → None ≡ owner_of now.sessions reply.ticket → sessions ≡ replied now.sessions reply.ticket (owner_of now.sessions reply.ticket)
-    → Settles first (record { node = left; sessions = sessions; streams = now.streams }) before text
-none_settled first now left sessions reply before text so is found took =
-    one_settled first now left sessions reply None before text text so is found took (sym (append-nil text))
+pub no_line : (connected : List (ℕ × Session)) (reply : Sent) (text : List ℕ) → None ≡ owner_of connected reply.ticket
+    → text ≡ text ++ text_of_prints (reply_prints (reply_given reply) (owner_of connected reply.ticket))
+no_line connected reply text none =
+    sym (append-nil text) ∙ ap (λ (o : Option Owned). text ++ text_of_prints (reply_prints (reply_given reply) o)) none
 
-told_none : (connected : List (ℕ × Session)) (waiting : List Reply) → waiting ≡ [] → told connected waiting ≡ record { sessions = connected; prints = [] }
+told_nothing : (connected : List (ℕ × Session)) (waiting : List Reply) → waiting ≡ [] → told connected waiting ≡ record { sessions = connected; prints = [] }
 unfolding told
-told_none connected waiting none = rw none refl
+told_nothing connected waiting none = rw none refl
 
--- nothing waits any longer
-pub all_settled : (first now : Runner) (left : Node) (before text : List ℕ) → Settles first now before text → IsReply now.node None left
-    → IsDone (on_settle first) (record { node = left; sessions = now.sessions; streams = now.streams }) before text
-unfolding on_settle
-all_settled first now left before text so is =
-    let none = told_none now.sessions now.node.desk.waiting is.0 in
+pub all_told : (all : Told) (connected : List (ℕ × Session)) (waiting : List Sent) (before text : List ℕ)
+    → AreLeft all (told connected (map reply_given waiting)) before text → waiting ≡ [] → AreTold all connected before text
+all_told all connected waiting before text so none =
+    let nothing = told_nothing connected (map reply_given waiting) (ap (map reply_given) none) in
     record {
-      next =
-          let node = is.1 ∙ so.node ∙ ap (λ (w : List Reply). let n : Node = record first.node { desk = record first.node.desk { waiting = w } } in n) is.0 in
-          let sessions = ap (λ (t : Told). t.sessions) (sym none) ∙ so.sessions in
-          λ i. record { node = node i; sessions = sessions i; streams = so.streams i };
-      text = sym (append-nil text) ∙ ap (λ (t : Told). text ++ text_of_prints t.prints) (sym none) ∙ so.written;
+      sessions = ap (λ (t : Told). t.sessions) (sym nothing) ∙ so.sessions;
+      text = sym (append-nil text) ∙ ap (λ (t : Told). text ++ text_of_prints t.prints) (sym nothing) ∙ so.written;
     }
+
+-- A step was taken, and its replies went out.
+pub step_done : (runner left : Runner) (node : Node) (input : Input) (step : Stepped) (replies : Vec Sent) (before after : List ℕ)
+    → HasReplied step node replies left.node → AreTold (told runner.sessions (map reply_given replies.items)) left.sessions before after → left.streams ≡ runner.streams
+    → IsDone (answered_by runner node input step) left before after
+step_done runner left node input step replies before after stepped went_out streams =
+    let same = ap (told runner.sessions) stepped.given in
+    let sessions = went_out.sessions ∙ ap (λ (t : Told). t.sessions) same in
+    record {
+      next = λ i. record { node = stepped.node i; sessions = sessions i; streams = streams i };
+      text = went_out.text ∙ ap (λ (t : Told). before ++ text_of_prints t.prints) same;
+    }
+
+-- ---- packets
+
+-- What was written, and what is still to be done, is all that was to be done; and it leaves the same runner.
+pub record IsLeft (all rest : Acted) (before text : List ℕ) : Type 0 where
+  pub next : rest.next ≡ all.next
+  pub written : text ++ text_of_prints rest.prints ≡ before ++ text_of_prints all.prints
+
+pub packets_left : (most left : ℕ) (runner : Runner) (before : List ℕ) → left ≡ most → IsLeft (settles most runner) (settles left runner) before before
+packets_left most left runner before same = rw same (record { next = refl; written = refl })
+
+first_settled : (left more : ℕ) (runner : Runner) (packet : Packet) (others : List Packet) → left ≡ suc more → runner.node.packets ≡ packet ∷ others
+    → settles left runner ≡ followed_by (on_delivery runner packet others) (settles more (on_delivery runner packet others).next)
+unfolding settles
+first_settled left more runner packet others is waited = rw (is, waited) refl
+
+-- One more is delivered.
+pub one_settled : (all : Acted) (left more : ℕ) (runner next : Runner) (replies : Vec Sent) (before text after : List ℕ)
+    → IsLeft all (settles left runner) before text → left ≡ suc more → HasCome runner.node replies next.node
+    → AreTold (told runner.sessions (map reply_given replies.items)) next.sessions text after → next.streams ≡ runner.streams
+    → IsLeft all (settles more next) before after
+one_settled all left more runner next replies before text after so is came went_out streams =
+    let first = first_settled left more runner came.packet came.others is came.waited in
+    let node = awaiting runner.node came.others in
+    let delivered = on_delivery runner came.packet came.others in
+    let done : IsDone delivered next text after =
+    step_done runner next node (Delivery came.packet) (step_at node (Delivery came.packet)) replies text after came.replied went_out streams in
+    rw (done.next, done.text)
+    (let later : IsLeft all (settles more delivered.next) before (text ++ text_of_prints delivered.prints) = record {
+      next = ap (λ (a : Acted). a.next) (sym first) ∙ so.next;
+      written = in_turn text delivered.prints (settles more delivered.next).prints ∙ ap (λ (a : Acted). text ++ text_of_prints a.prints) (sym first) ∙ so.written;
+    } in later)
+
+none_settled : (left more : ℕ) (runner : Runner) → left ≡ suc more → runner.node.packets ≡ [] → settles left runner ≡ rests runner
+unfolding settles
+none_settled left more runner is none = rw (is, none) refl
+
+-- No packet is left.
+pub all_settled : (all : Acted) (left more : ℕ) (runner next : Runner) (before text : List ℕ)
+    → IsLeft all (settles left runner) before text → left ≡ suc more → runner.node.packets ≡ [] → next ≡ runner → IsDone all next before text
+all_settled all left more runner next before text so is none same =
+    let rest = none_settled left more runner is none in
+    record {
+      next = same ∙ ap (λ (a : Acted). a.next) (sym rest) ∙ so.next;
+      text = sym (append-nil text) ∙ ap (λ (a : Acted). text ++ text_of_prints a.prints) (sym rest) ∙ so.written;
+    }
+
+no_more : (left : ℕ) (runner : Runner) → left ≡ zero → settles left runner ≡ unsettled runner
+unfolding settles
+no_more left runner none = rw none refl
+
+-- As many were delivered as may be.
+not_settled : (all : Acted) (left : ℕ) (runner : Runner) (before text after : List ℕ)
+    → IsLeft all (settles left runner) before text → left ≡ zero → after ≡ text ++ unsettled_line → IsDone all runner before after
+not_settled all left runner before text after so none wrote =
+    let rest = no_more left runner none in
+    record {
+      next = ap (λ (a : Acted). a.next) (sym rest) ∙ so.next;
+      text = wrote ∙ ap (λ t. text ++ t) (sym (append-nil unsettled_line)) ∙ ap (λ (a : Acted). text ++ text_of_prints a.prints) (sym rest) ∙ so.written;
+    }
+
+pub not_settled_if : (r : Result (Unit {0}) AllocError) (all : Acted) (left : ℕ) (runner : Runner) (before text after : List ℕ)
+    → IsLeft all (settles left runner) before text → left ≡ zero → OnOk r (after ≡ text ++ unsettled_line) → OnOk r (IsDone all runner before after)
+not_settled_if (Err fault) all left runner before text after so none wrote = tt
+not_settled_if (Ok done) all left runner before text after so none wrote = not_settled all left runner before text after so none wrote

@@ -1,6 +1,6 @@
 -- What a line does, by what it says.
 use Rattle.std.proofs.Common.{◌≡◌, ◌↔◌, ℕ, List, Option, Some, ap}
-use Rattle.script_lines.specs.Said.{Said, Skipped, Nodes, Octets, Tick, Settle, Spells, said_of}
+use Rattle.script_lines.specs.Said.{Said, Skipped, Nodes, Octets, Tick, Settle, Restart, Spells, said_of}
 use Rattle.script_text.specs.Settings.{script_settings}
 use Rattle.script_text.specs.Script.{Stage, step_by, step_of}
 use Rattle.script_runner.specs.Outcome.{NumberFits}
@@ -19,3 +19,4 @@ number_fits spelled line (Nodes serial) e = let spells = (spelled line (Nodes se
 number_fits spelled line (Octets session octets) e = tt
 number_fits spelled line (Tick moment) e = ((spelled line (Tick moment)).0 e).wording.0
 number_fits spelled line Settle e = tt
+number_fits spelled line Restart e = tt

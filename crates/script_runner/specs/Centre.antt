@@ -1,22 +1,20 @@
 -- What the steps of the code leave, in the words of the text of a script.
-use Rattle.std.specs.Prelude.{◌≡◌, ℕ, false, List, [], ◌∷◌, ◌++◌, Option, Some, None, if◌then◌else◌}
+use Rattle.std.specs.Prelude.{◌≡◌, ℕ, false, List, ◌++◌, Option, if◌then◌else◌}
 use Rattle.std.specs.Option.{option_map}
-use Rattle.desk.specs.Desk.{Begins}
-use Rattle.desk.specs.declared.request.Begun.{Begun}
-use Rattle.desk.specs.declared.request.Reply.{Reply}
 use Rattle.sessions.specs.Session.{Session}
 use Rattle.sessions.specs.States.{is_gone}
 use Rattle.sessions.specs.Steps.{Done}
 use Rattle.script_text.specs.Settings.{Settings}
-use Rattle.script_text.specs.Node.{Node, with_begun}
+use Rattle.script_text.specs.Node.{Node}
 use Rattle.script_text.specs.Prints.{text_of_prints}
-use Rattle.script_text.specs.Runner.{Runner, Acted, Owned, Served, Streamed, holding, reaction_prints}
+use Rattle.script_text.specs.Runner.{Runner, Acted, Owned, Served, Streamed, Told, holding, reaction_prints}
 use Rattle.script_runner.specs.declared.centre.Centre.{Centre}
 use Rattle.script_runner.specs.declared.connected.Owner.{Owner}
+use Rattle.script_runner.specs.Steps.{node_of}
 
 -- the runner that a centre is
 abbrev pub runner_of : Centre → Runner
-runner_of centre = record { node = centre.node; sessions = centre.connected; streams = centre.streams }
+runner_of centre = record { node = node_of centre.node; sessions = centre.connected; streams = centre.streams }
 
 -- what is there between lines: nothing yet, or the runner that a centre is
 abbrev pub stage_of : Option Centre → Option Runner
@@ -24,17 +22,6 @@ stage_of stage = option_map runner_of stage
 
 abbrev pub owned_by : Owner → Owned
 owned_by owner = record { number = owner.number; request = owner.request }
-
--- A request was begun so at the node.
-pub record IsBegun (begins : Begins) (before : Node) (told : Begun) (after : Node) : Type 0 where
-  pub begun : told ≡ begins.begun
-  pub node : after ≡ with_begun before begins
-
--- What waited longest is replied to, and waits no longer; or nothing waited, and nothing changed.
-abbrev pub IsReply : Node → Option Reply → Node → Type 0
-IsReply before None after = (before.desk.waiting ≡ []) × (after ≡ before)
-IsReply before (Some reply) after =
-    (before.desk.waiting ≡ reply ∷ after.desk.waiting) × (after ≡ record before { desk = record before.desk { waiting = after.desk.waiting } })
 
 -- A session was served so, and its lines were added.
 pub record IsServed (served : Served) (left : Node) (remains : Session) (before after : List ℕ) : Type 0 where
@@ -60,3 +47,8 @@ with_kept runner number session held = if is_gone session.state then runner else
 pub record IsDone (acted : Acted) (left : Runner) (before after : List ℕ) : Type 0 where
   pub next : left ≡ acted.next
   pub text : after ≡ before ++ text_of_prints acted.prints
+
+-- Replies went out: they left these sessions, and added the text of what was printed.
+pub record AreTold (told : Told) (left : List (ℕ × Session)) (before after : List ℕ) : Type 0 where
+  pub sessions : left ≡ told.sessions
+  pub text : after ≡ before ++ text_of_prints told.prints

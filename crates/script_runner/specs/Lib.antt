@@ -1,2 +1,4 @@
+pub mod Steps
 pub mod Centre
 pub mod Outcome
+pub mod Lives

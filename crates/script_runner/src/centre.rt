@@ -1,11 +1,11 @@
 //! The centre: one node, and the sessions with its ESMEs.
 
-ghost use Rattle.std.specs.Prelude.{◌≡◌, ◌≤◌, OnOk};
+ghost use Rattle.std.specs.Prelude.{◌≡◌, ◌≤◌, IfOk, OnOk};
 ghost use Rattle.script_text.specs.Settings.{settings_of};
 
 use crate::connected::Connected;
-use crate::node::TableNode;
-use crate::output::write_reply;
+use crate::node::ScriptNode;
+use crate::output::{write_all_gone, write_declined, write_replies, write_unsettled};
 use crate::serve::serve;
 use crate::streams::Streams;
 use config::Config;
@@ -14,30 +14,36 @@ use pdu_frames::Framer;
 use sessions::Session;
 use std::alloc::{AllocError, Global};
 
+/// How many packets a settle delivers at most.
+const MOST_DELIVERIES: u32 = 100_000;
+/// The number with which a restart is refused once the last incarnation has begun.
+const NO_INCARNATION: u8 = 6;
+
 /// The node, the sessions that are connected, and of each the octets of the PDU that has not come whole.
 #[derive(Drop)]
 pub struct Centre {
-    node: TableNode,
+    node: ScriptNode,
     connected: Connected,
     streams: Streams,
 }
 
 impl Centre {
     ghost use Rattle.script_runner.specs.Centre.{IsDone, runner_of, with_kept};
-    ghost use Rattle.script_text.specs.Runner.{on_octets, on_settle, on_tick};
+    ghost use Rattle.script_text.specs.Runner.{on_octets, on_restart, on_settle, on_tick, settles};
     ghost use Rattle.script_text.specs.Script.{opened};
 
-    /// A node that was asked nothing yet, and no session. The first message has this serial.
-    pub fn start(alloc: Global, config: &Config, serial: u32) -> Centre
+    /// A node that was asked nothing yet, and no session. The first message has this serial. An `Err` is want of memory.
+    pub fn start(alloc: Global, config: &Config, serial: u32) -> Result<Centre, AllocError>
         requires least { 1 ≤ serial }
         requires most { serial ≤ 99999 }
-        ensures { runner_of result ≡ opened (settings_of config.now) serial }
+        ensures { IfOk result (λ centre. runner_of centre ≡ opened (settings_of config.now) serial) }
     {
-        Centre {
-            node: TableNode::open(alloc, config.default_validity, serial),
+        let node = ScriptNode::open(alloc, config.default_validity, serial)?;
+        Ok(Centre {
+            node,
             connected: Connected::none(alloc),
             streams: Streams::none(alloc),
-        }
+        })
     }
 
     /// The next octets of a session's stream came: adds the lines of what goes out for each PDU that is whole now. After an
@@ -80,23 +86,65 @@ impl Centre {
         self.streams.put_back(number, framer)
     }
 
-    /// A moment has come. Nothing goes out. After an `Err`, which is want of memory, nothing is said of the centre.
-    pub fn tick(&mut self, alloc: Global, moment: Moment) -> Result<(), AllocError>
-        ensures { OnOk result (runner_of self.new ≡ (on_tick (runner_of self.old) moment).next) }
+    /// A moment has come: adds the lines of what requests are answered that waited too long. After an `Err`, which is want of memory,
+    /// nothing is said of the centre.
+    pub fn tick(
+        &mut self,
+        alloc: Global,
+        moment: Moment,
+        text: &mut Vec<u8>,
+    ) -> Result<(), AllocError>
+        ensures { OnOk result (IsDone (on_tick (runner_of self.old) moment) (runner_of self.new) text.old.items text.new.items) }
     {
-        self.node.tick(alloc, moment)
+        let replies = self.node.tick(moment)?;
+        write_replies(alloc, text, &mut self.connected, replies)
     }
 
-    /// All that was asked is answered, in the order in which it was asked: adds the lines of the answers. After an
-    /// `Err`, which is want of memory, nothing is said of the centre.
+    /// The node starts anew: adds the line of each session that it is gone, and keeps none. If there is no next incarnation, it adds a line
+    /// that tells so, and keeps all. An `Err` is want of memory.
+    pub fn restart(self, alloc: Global, text: &mut Vec<u8>) -> Result<Centre, AllocError>
+        ensures { IfOk result (λ centre. IsDone (on_restart (runner_of self)) (runner_of centre) text.old.items text.new.items) }
+    {
+        let Centre {
+            node,
+            connected,
+            streams,
+        } = self;
+        let (node, done) = node.restart()?;
+        if !done {
+            write_declined(text, NO_INCARNATION)?;
+            return Ok(Centre {
+                node,
+                connected,
+                streams,
+            });
+        }
+        write_all_gone(text, &connected)?;
+        Ok(Centre {
+            node,
+            connected: Connected::none(alloc),
+            streams: Streams::none(alloc),
+        })
+    }
+
+    /// The packets of the node come to it, one by one, also those that it sends meanwhile: adds the lines of the replies. After 100,000 it
+    /// adds a line that tells so. After an `Err`, which is want of memory, nothing is said of the centre.
     pub fn settle(&mut self, alloc: Global, text: &mut Vec<u8>) -> Result<(), AllocError>
         ensures { OnOk result (IsDone (on_settle (runner_of self.old)) (runner_of self.new) text.old.items text.new.items) }
     {
-        while let Some(reply) = self.node.settle() {
-            if let Some(owner) = self.connected.take_request(reply.ticket) {
-                write_reply(alloc, text, owner, reply)?;
-            }
+        self.deliver(alloc, MOST_DELIVERIES, text)
+    }
+
+    /// The same with so many packets at most.
+    fn deliver(&mut self, alloc: Global, most: u32, text: &mut Vec<u8>) -> Result<(), AllocError>
+        ensures { OnOk result (IsDone (settles most (runner_of self.old)) (runner_of self.new) text.old.items text.new.items) }
+    {
+        for _delivered in 0..most {
+            let Some(replies) = self.node.deliver_next()? else {
+                return Ok(());
+            };
+            write_replies(alloc, text, &mut self.connected, replies)?;
         }
-        Ok(())
+        write_unsettled(text)
     }
 }

@@ -56,6 +56,13 @@ impl Connected {
         }
     }
 
+    /// The sessions, by their numbers.
+    pub fn sessions(&self) -> &BTreeMap<u8, Session>
+        ensures { result.now.entries ≡ self.now }
+    {
+        &self.sessions
+    }
+
     /// Keeps the session of a number.
     pub fn put_back(&mut self, number: u8, session: Session) -> Result<(), AllocError>
         ensures { OnOk result (self.new ≡ insert_entry nat_cmp self.old number session) }

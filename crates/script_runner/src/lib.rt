@@ -2,9 +2,9 @@
 #![tactic(auto)]
 
 mod centre;
-mod clock;
 mod connected;
 mod fault;
+mod live_node;
 mod node;
 mod output;
 mod program;

@@ -1,16 +1,18 @@
 //! The lines that are written.
 
-ghost use Rattle.std.specs.Prelude.{◌≡◌, ◌++◌, OnOk};
+ghost use Rattle.std.specs.Prelude.{◌≡◌, ◌++◌, map, OnOk};
 ghost use Rattle.sessions.specs.Responses.{pdu_of};
-ghost use Rattle.script_text.specs.Prints.{octets_line, pdu_line, gone_line};
-ghost use Rattle.script_text.specs.Responses.{answer_pdu};
+ghost use Rattle.script_text.specs.Prints.{declined_line, gone_line, octets_line, pdu_line, text_of_prints, unsettled_line};
+ghost use Rattle.script_text.specs.Runner.{gone_prints, owner_of, replied, reply_prints, told};
+ghost use Rattle.requests.specs.Replying.{reply_given};
+ghost use Rattle.script_runner.specs.Centre.{AreTold};
 ghost use Rattle.hex.specs.Hex.{encode_lower};
 
-use crate::connected::Owner;
-use crate::response::answer_octets;
-use desk::Reply;
+use crate::connected::Connected;
+use crate::response::reply_octets;
 use itoa::Buffer;
 use pdu_codec::Text;
+use requests::Reply;
 use sessions::Outgoing;
 use std::alloc::{AllocError, Global};
 
@@ -31,16 +33,36 @@ pub fn write_outgoing(
     write_octets(text, session, &octets)
 }
 
-/// Adds the line of the reply to a request that waited.
-pub fn write_reply(
+/// Adds the lines of replies to requests that waited, one after another.
+pub fn write_replies(
     alloc: Global,
     text: &mut Vec<u8>,
-    owner: Owner,
+    connected: &mut Connected,
+    replies: Vec<Reply>,
+) -> Result<(), AllocError>
+    ensures { OnOk result (AreTold (told connected.old (map reply_given replies.items)) connected.new text.old.items text.new.items) }
+{
+    for reply in replies {
+        write_reply(alloc, text, connected, reply)?;
+    }
+    Ok(())
+}
+
+/// Adds the line of the reply to a request that waited, on the session that holds its ticket. If that session is gone, it adds nothing.
+fn write_reply(
+    alloc: Global,
+    text: &mut Vec<u8>,
+    connected: &mut Connected,
     reply: Reply,
 ) -> Result<(), AllocError>
-    ensures { OnOk result (text.new.items ≡ text.old.items ++ pdu_line owner.number (answer_pdu owner.request.requested owner.request.sequence reply.id reply.answer)) }
+    ensures sessions { OnOk result (connected.new ≡ replied connected.old reply.ticket (owner_of connected.old reply.ticket)) }
+    ensures text { OnOk result (text.new.items ≡ text.old.items ++ text_of_prints (reply_prints (reply_given reply) (owner_of connected.old reply.ticket))) }
 {
-    let octets = answer_octets(alloc, owner.request, reply)?;
+    let Some(owner) = connected.take_request(reply.ticket) else {
+        drop(reply);
+        return Ok(());
+    };
+    let octets = reply_octets(alloc, owner.request, reply)?;
     write_octets(text, owner.number, &octets)
 }
 
@@ -76,5 +98,32 @@ pub fn write_gone(text: &mut Vec<u8>, session: u8) -> Result<(), AllocError>
     text.extend_from_slice(b"gone 1 ")?;
     text.extend_from_slice(Buffer::new().format(session).as_bytes())?;
     text.push(b'\n')?;
+    Ok(())
+}
+
+/// Adds the line that tells that a settle has delivered as many packets as it may.
+pub fn write_unsettled(text: &mut Vec<u8>) -> Result<(), AllocError>
+    ensures { OnOk result (text.new.items ≡ text.old.items ++ unsettled_line) }
+{
+    text.extend_from_slice(b"unsettled\n")
+}
+
+/// Adds the line that tells that what a line asks for is refused, by the number of the refusal.
+pub fn write_declined(text: &mut Vec<u8>, number: u8) -> Result<(), AllocError>
+    ensures { OnOk result (text.new.items ≡ text.old.items ++ declined_line number) }
+{
+    text.extend_from_slice(b"refused ")?;
+    text.extend_from_slice(Buffer::new().format(number).as_bytes())?;
+    text.push(b'\n')?;
+    Ok(())
+}
+
+/// Adds the line of each of these sessions that it is gone.
+pub fn write_all_gone(text: &mut Vec<u8>, connected: &Connected) -> Result<(), AllocError>
+    ensures { OnOk result (text.new.items ≡ text.old.items ++ text_of_prints (gone_prints connected.now)) }
+{
+    for (number, _) in connected.sessions() {
+        write_gone(text, *number)?;
+    }
     Ok(())
 }

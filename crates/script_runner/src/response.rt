@@ -2,32 +2,60 @@
 
 ghost use Rattle.std.specs.Prelude.{◌≡◌, IfOk};
 ghost use Rattle.pdu_codec.specs.Pdu.{octets_of};
-ghost use Rattle.script_text.specs.Responses.{answer_pdu, final_date_of, refusal_pdu};
+ghost use Rattle.script_text.specs.Responses.{answer_pdu, final_date_of, refusal_pdu, reply_pdu};
+ghost use Rattle.requests.specs.Replying.{answer_given};
 
-use desk::{Answer, Reply};
+use desk::{Answer, shown};
 use mc_types::{Moment, MsgId};
 use pdu_codec::{Body, Pdu, QueryAnswer, Text};
 use pdu_tables::{State, Status};
+use requests::{Answer as Given, Reply};
 use sessions::{OpenRequest, encoded, pdu_with};
 use smpp_time::{times_fit_their_field, write_time};
 use std::alloc::{AllocError, Global};
 
-/// The octets of the answer to a request that waited. An `Err` is want of memory.
-pub fn answer_octets(
+/// The octets of the reply to a request that waited. An `Err` is want of memory.
+pub fn reply_octets(
     alloc: Global,
     request: OpenRequest,
     reply: Reply,
 ) -> Result<Vec<u8>, AllocError>
-    ensures { IfOk result (λ octets. octets.items ≡ octets_of (answer_pdu request.requested request.sequence reply.id reply.answer)) }
+    ensures { IfOk result (λ octets. octets.items ≡ octets_of (reply_pdu request.requested request.sequence reply.id (answer_given reply.answer))) }
 {
-    encoded(alloc, pdu_of_answer(alloc, request, reply)?)
+    let id = reply.id;
+    match &reply.answer {
+        Given::Accepted => answer_octets(alloc, request, id, Answer::Accepted),
+        Given::Shown(chain) => answer_octets(alloc, request, id, shown(chain)),
+        Given::Removed(_) => answer_octets(alloc, request, id, Answer::Removed),
+        Given::Kept(_) => answer_octets(alloc, request, id, Answer::Kept),
+        Given::NotOwner => answer_octets(alloc, request, id, Answer::NotOwner),
+        Given::NotMatched(_) => answer_octets(alloc, request, id, Answer::NotMatched),
+        Given::Unknown => answer_octets(alloc, request, id, Answer::Unknown),
+        Given::TooLate => encoded(alloc, refusal(request, Status::SystemError)),
+    }
 }
 
-/// What a request is answered that waited.
-fn pdu_of_answer(alloc: Global, request: OpenRequest, reply: Reply) -> Result<Pdu, AllocError>
-    ensures { IfOk result (λ pdu. pdu ≡ answer_pdu request.requested request.sequence reply.id reply.answer) }
+/// The octets of what a request is told of the message of an id.
+fn answer_octets(
+    alloc: Global,
+    request: OpenRequest,
+    id: MsgId,
+    answer: Answer,
+) -> Result<Vec<u8>, AllocError>
+    ensures { IfOk result (λ octets. octets.items ≡ octets_of (answer_pdu request.requested request.sequence id answer)) }
 {
-    let Reply { id, answer, .. } = reply;
+    encoded(alloc, pdu_of_answer(alloc, request, id, answer)?)
+}
+
+/// What a request is told of the message of an id.
+fn pdu_of_answer(
+    alloc: Global,
+    request: OpenRequest,
+    id: MsgId,
+    answer: Answer,
+) -> Result<Pdu, AllocError>
+    ensures { IfOk result (λ pdu. pdu ≡ answer_pdu request.requested request.sequence id answer) }
+{
     match answer {
         Answer::Accepted => {
             let text = text_of_id(alloc, id)?;

@@ -117,7 +117,7 @@ fn act(
 {
     match said {
         Line::Skipped => Ok(true),
-        Line::Nodes(serial) => Ok(start(alloc, config, stage, serial)),
+        Line::Nodes(serial) => start(alloc, config, stage, serial),
         Line::Octets(session, octets) => match stage {
             None => Ok(false),
             Some(centre) => {
@@ -128,7 +128,7 @@ fn act(
         Line::Tick(seconds) => match stage {
             None => Ok(false),
             Some(centre) => {
-                centre.tick(alloc, Moment::make(seconds).unwrap())?;
+                centre.tick(alloc, Moment::make(seconds).unwrap(), text)?;
                 Ok(true)
             }
         },
@@ -139,21 +139,33 @@ fn act(
                 Ok(true)
             }
         },
+        Line::Restart => match stage.take() {
+            None => Ok(false),
+            Some(centre) => {
+                *stage = Some(centre.restart(alloc, text)?);
+                Ok(true)
+            }
+        },
     }
 }
 
-/// Starts the centre, unless one is there.
-fn start(alloc: Global, config: &Config, stage: &mut Option<Centre>, serial: u32) -> bool
+/// Starts the centre, unless one is there, and answers whether it did. An `Err` is want of memory.
+fn start(
+    alloc: Global,
+    config: &Config,
+    stage: &mut Option<Centre>,
+    serial: u32,
+) -> Result<bool, AllocError>
     requires settings { settings_of config.now ≡ script_settings }
     requires least { 1 ≤ serial }
     requires most { serial ≤ 99999 }
-    ensures { IsStarted (stage_of stage.old) result (stage_of stage.new) serial }
+    ensures { IfOk result (λ good. IsStarted (stage_of stage.old) good (stage_of stage.new) serial) }
 {
     if stage.is_some() {
-        return false;
+        return Ok(false);
     }
-    *stage = Some(Centre::start(alloc, config, serial));
-    true
+    *stage = Some(Centre::start(alloc, config, serial)?);
+    Ok(true)
 }
 
 /// The configuration of a script. An `Err` is want of memory.

@@ -1,23 +1,26 @@
 //! Serving a session: what its octets do at the node, and what goes out.
 
-ghost use Rattle.std.specs.Prelude.{◌≡◌, ◌++◌, None, IfOk, OnOk, IsErr};
+ghost use Rattle.std.specs.Prelude.{◌≡◌, ◌++◌, None, option_map, IfOk, OnOk, IsErr};
 ghost use Rattle.pdu_frames.specs.Frames.{cut};
 ghost use Rattle.accounts.specs.Routes.{target_of};
 ghost use Rattle.pdu_tables.specs.CommandCodes.{command_of};
+ghost use Rattle.pdu_tables.specs.StatusCodes.{status_code};
 ghost use Rattle.sessions.specs.Responses.{requested_by};
 ghost use Rattle.sessions.specs.Steps.{on_fault, on_pdu, on_wrong_length};
 ghost use Rattle.script_text.specs.Settings.{settings_of};
 ghost use Rattle.script_text.specs.Prints.{text_of_prints};
-ghost use Rattle.script_text.specs.Runner.{on_cut, on_done, on_frame, on_request, reaction_prints, request_of};
+ghost use Rattle.script_text.specs.Runner.{in_window, on_cut, on_done, on_frame, on_request, reaction_prints, refusal_prints, request_of};
 ghost use Rattle.script_runner.specs.Centre.{IsLeft, IsServed, IsStreamed};
+ghost use Rattle.script_runner.specs.Steps.{node_of};
 
-use crate::node::TableNode;
+use crate::node::ScriptNode;
 use crate::output::{write_gone, write_outgoing};
 use accounts::Routes;
 use config::Config;
-use desk::{Begun, Request};
+use desk::Request;
 use pdu_codec::{Body, Header, Pdu, PduFault, Text, decode, read_header};
 use pdu_frames::Framer;
+use pdu_tables::Status;
 use sessions::{OpenRequest, Outgoing, Reaction, Requested, Response, Session};
 use std::alloc::{AllocError, Global};
 
@@ -27,13 +30,13 @@ pub fn serve(
     alloc: Global,
     config: &Config,
     number: u8,
-    node: &mut TableNode,
+    node: &mut ScriptNode,
     session: &mut Session,
     framer: &mut Framer,
     octets: &[u8],
     text: &mut Vec<u8>,
 ) -> Result<(), AllocError>
-    ensures { OnOk result (IsStreamed (on_cut (settings_of config.now) number node.old session.old (cut (framer.old ++ octets.now))) node.new session.new framer.new text.old.items text.new.items) }
+    ensures { OnOk result (IsStreamed (on_cut (settings_of config.now) number (node_of node.old) session.old (cut (framer.old ++ octets.now))) (node_of node.new) session.new framer.new text.old.items text.new.items) }
 {
     let mut rest = octets;
     loop {
@@ -73,12 +76,12 @@ fn serve_frame(
     alloc: Global,
     config: &Config,
     number: u8,
-    node: &mut TableNode,
+    node: &mut ScriptNode,
     session: &mut Session,
     octets: &[u8],
     text: &mut Vec<u8>,
 ) -> Result<(), AllocError>
-    ensures { OnOk result (IsServed (on_frame (settings_of config.now) number node.old session.old octets.now) node.new session.new text.old.items text.new.items) }
+    ensures { OnOk result (IsServed (on_frame (settings_of config.now) number (node_of node.old) session.old octets.now) (node_of node.new) session.new text.old.items text.new.items) }
 {
     let Some(header) = read_header(octets) else {
         return wrong_length(alloc, config, number, session, text);
@@ -114,12 +117,12 @@ fn serve_pdu(
     alloc: Global,
     config: &Config,
     number: u8,
-    node: &mut TableNode,
+    node: &mut ScriptNode,
     session: &mut Session,
     pdu: Pdu,
     text: &mut Vec<u8>,
 ) -> Result<(), AllocError>
-    ensures { OnOk result (IsServed (on_done (settings_of config.now) number node.old pdu.sequence (request_of (settings_of config.now) pdu.body) (on_pdu config.now.accounts session.old pdu)) node.new session.new text.old.items text.new.items) }
+    ensures { OnOk result (IsServed (on_done (settings_of config.now) number (node_of node.old) pdu.sequence (request_of (settings_of config.now) pdu.body) (on_pdu config.now.accounts session.old pdu)) (node_of node.new) session.new text.old.items text.new.items) }
 {
     let sequence = pdu.sequence;
     let Ok(reaction) = session.on_pdu(&config.accounts, &pdu) else {
@@ -139,19 +142,19 @@ fn serve_pdu(
     }
 }
 
-/// A request goes to the node: what it answers at once goes out, and what waits takes its place in the window.
+/// A request goes to the node: what waits takes its place in the window, and what does not is refused.
 fn ask(
     alloc: Global,
     config: &Config,
     number: u8,
-    node: &mut TableNode,
+    node: &mut ScriptNode,
     session: &mut Session,
     requested: Requested,
     sequence: u32,
     body: Body,
     text: &mut Vec<u8>,
 ) -> Result<(), AllocError>
-    ensures { OnOk result (IsServed (on_request number node.old session.old requested sequence session.old.account (request_of (settings_of config.now) body)) node.new session.new text.old.items text.new.items) }
+    ensures { OnOk result (IsServed (on_request number (node_of node.old) session.old requested sequence session.old.account (request_of (settings_of config.now) body)) (node_of node.new) session.new text.old.items text.new.items) }
 {
     let Some(account) = session.account() else {
         drop(body);
@@ -160,27 +163,56 @@ fn ask(
     let Some(request) = request_in(config, body)? else {
         return Ok(());
     };
-    match node.begin(alloc, account, request)? {
-        Begun::Refused(status) => {
-            let response = Response::Refused(requested, status);
-            write_outgoing(
-                alloc,
-                text,
-                number,
-                &config.system_id,
-                Outgoing { sequence, response },
-            )
-        }
-        Begun::Waits(ticket) => {
-            let open = OpenRequest {
-                ticket,
-                requested,
-                sequence,
-            };
-            let _ = session.on_wait(open);
-            Ok(())
-        }
+    let answers = node.request(account, request)?;
+    take_place(session, requested, sequence, answers.ticket);
+    write_refusal(
+        alloc,
+        config,
+        number,
+        requested,
+        sequence,
+        answers.refused,
+        text,
+    )
+}
+
+/// A request that waits takes its place in the window of its session.
+fn take_place(session: &mut Session, requested: Requested, sequence: u32, ticket: Option<u64>)
+    ensures { session.new ≡ in_window session.old requested sequence ticket }
+{
+    if let Some(ticket) = ticket {
+        let open = OpenRequest {
+            ticket,
+            requested,
+            sequence,
+        };
+        let _ = session.on_wait(open);
     }
+}
+
+/// Adds the line of the response that refuses a request, if it is refused.
+fn write_refusal(
+    alloc: Global,
+    config: &Config,
+    number: u8,
+    requested: Requested,
+    sequence: u32,
+    refused: Option<Status>,
+    text: &mut Vec<u8>,
+) -> Result<(), AllocError>
+    ensures { OnOk result (text.new.items ≡ text.old.items ++ text_of_prints (refusal_prints number requested sequence (option_map status_code refused))) }
+{
+    let Some(status) = refused else {
+        return Ok(());
+    };
+    let response = Response::Refused(requested, status);
+    write_outgoing(
+        alloc,
+        text,
+        number,
+        &config.system_id,
+        Outgoing { sequence, response },
+    )
 }
 
 /// The request for the node that a body is, if it is one. An `Err` is want of memory.

@@ -104,7 +104,10 @@ fn many_messages_expire(rt: HostRuntime) -> Result<(), Fail> {
     let submits = times(alloc, &joined(alloc, &[&ten, b"settle\n"])?, 50)?;
     let query =
         b"pdu 1 1 000000210000000300000000000000033130303031303035303000010131343400\nsettle\n";
-    let script = joined(alloc, &[BIND, &submits, b"tick 1 946944000\n", query])?;
+    let script = joined(
+        alloc,
+        &[BIND, &submits, b"tick 1 946944000\nsettle\n", query],
+    )?;
     let mut output = Vec::new(alloc);
     assert_eq!(rt;
         run_script(alloc, &mut script.as_slice(), &mut output),
