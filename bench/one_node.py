@@ -1,11 +1,12 @@
 #!/usr/bin/env python3
-"""Prints the processor time and the peak memory of `centre script` on scripts of 1,000, 10,000 and 100,000 lines.
+"""Prints what one line more costs `centre script`, and what memory it takes, with 1,000, 10,000 and 90,000 messages.
 
-Of ten lines one is a settle, one a cancel and four are queries; the other four are submits, up to the 10,000 that one
-script may have accepted in a calm run, and queries after that. Each script has ten ticks, evenly apart. A tick is 60,000
-seconds after the one before, so that messages expire, which are valid for 259,200 seconds. The best of five runs counts. GNU time
-(Debian's `time`) measures the memory, in a run of its own, since the peak of a process that Python starts begins at Python's own; it
-tells the time to hundredths of a second alone, so that comes from the kernel. Give the built program as the argument:
+A script binds a session and submits so many messages, with a settle behind each. To it come, each in a script of its own: 9,000 more
+submits with their settles, 9,000 queries with their settles, of messages all over, 100 ticks at the least moment, at which nothing is due,
+and a restart. What these cost is the processor time that the longer script takes more, the best of five runs of both; it is
+printed as it is, so that a difference below 0 shows how noisy the machine was. GNU time (Debian's
+`time`) measures the memory, in a run of its own, since the peak of a process that Python starts begins at Python's own. Give the built
+program as the argument:
 
     python3 bench/one_node.py crates/centre/out/centre
 """
@@ -17,41 +18,22 @@ import tempfile
 BIND = "0000001e000000090000000000000001736d653100707731000034000000"
 SUBMIT = "0000002900000004000000000000000200010131343400010131353500000000000000000000024869"
 RUNS = 5
-TICKS = 10
 START = 946_684_800
-TICK = 60_000
-
-
-def text_of_id(serial):
-    return f"10001{serial:05d}".encode().hex()
+MORE = 9_000
+TICKS = 100
 
 
 def query(serial):
-    return f"00000021000000030000000000000003{text_of_id(serial)}00010131343400"
+    message_id = f"10001{serial:05d}".encode().hex()
+    return f"00000021000000030000000000000003{message_id}00010131343400"
 
 
-def cancel(serial):
-    return f"0000002500000008000000000000000400{text_of_id(serial)}00010131343400000000"
+def settled(pdus):
+    return [line for pdu in pdus for line in (f"pdu 1 1 {pdu}", "settle")]
 
 
-def script(lines):
-    out = ["nodes 1", f"pdu 1 1 {BIND}"]
-    submits = ticks = 0
-    while len(out) < lines:
-        serial = len(out) // 3 % max(submits, 1) + 1
-        if len(out) >= (ticks + 1) * lines // (TICKS + 1) and ticks < TICKS:
-            ticks += 1
-            out.append(f"tick 1 {START + ticks * TICK}")
-        elif len(out) % 10 == 0:
-            out.append("settle")
-        elif len(out) % 10 == 9:
-            out.append(f"pdu 1 1 {cancel(serial)}")
-        elif len(out) % 2 == 0 and submits < 10_000:
-            submits += 1
-            out.append(f"pdu 1 1 {SUBMIT}")
-        else:
-            out.append(f"pdu 1 1 {query(serial)}")
-    return "\n".join(out) + "\n"
+def messages(count):
+    return ["nodes 1", f"pdu 1 1 {BIND}"] + settled([SUBMIT] * count)
 
 
 def processor_time(program, source, sink):
@@ -71,26 +53,32 @@ def peak_memory(program, source, sink):
     return int(run.stderr.split()[-1])
 
 
-def run(program, text):
-    """The best time of some runs in seconds, the peak memory in KiB, and the lines that the program writes."""
-    with tempfile.TemporaryFile() as source, tempfile.TemporaryFile() as sink, open(os.devnull, "wb") as nowhere:
-        source.write(text.encode())
+def run(program, lines):
+    """The best time of some runs in seconds, and the peak memory in KiB."""
+    with tempfile.TemporaryFile() as source, open(os.devnull, "wb") as nowhere:
+        source.write(("\n".join(lines) + "\n").encode())
         source.flush()
-        kib = peak_memory(program, source, sink)
-        seconds = min(processor_time(program, source, nowhere) for _ in range(RUNS))
-        sink.seek(0)
-        return seconds, kib, sum(1 for _ in sink)
+        kib = peak_memory(program, source, nowhere)
+        return min(processor_time(program, source, nowhere) for _ in range(RUNS)), kib
 
 
 def main():
     program = os.path.abspath(sys.argv[1])
-    before = None
-    for lines in (1_000, 10_000, 100_000):
-        text = script(lines)
-        seconds, kib, answers = run(program, text)
-        ratio = f", {seconds / before:.1f} times the time at a tenth" if before else ""
-        print(f"{lines} lines: {lines / seconds:.0f} lines a second, {answers} answers, {kib / 1024:.1f} MiB{ratio}")
-        before = seconds
+    for count in (1_000, 10_000, 90_000):
+        base = messages(count)
+        seconds, kib = run(program, base)
+
+        def more(lines):
+            return run(program, base + lines)[0] - seconds
+
+        submit = more(settled([SUBMIT] * MORE)) / MORE
+        asked = more(settled([query(1 + place * count // MORE) for place in range(MORE)])) / MORE
+        tick = more([f"tick 1 {START}"] * TICKS) / TICKS
+        restart = more(["restart 1"])
+        print(
+            f"{count} messages: {1e6 * seconds / count:.1f} µs and {kib / count:.2f} KiB a message;"
+            f" one more {1e6 * submit:.1f} µs, a query {1e6 * asked:.1f} µs, an idle tick {1e3 * tick:.2f} ms, a restart {1e3 * restart:.0f} ms"
+        )
 
 
 if __name__ == "__main__":
