@@ -3,7 +3,6 @@
 use crate::values::{Known, after, cancel, query, submit};
 use crate::waits::{Wait, alone, otherwise};
 use requests::Queue;
-use std::collections::BTreeSet;
 use std::test::Fail;
 
 #[test]
@@ -80,20 +79,22 @@ fn the_highest_vote_is_shown(rt: HostRuntime) -> Result<(), Fail> {
     Ok(())
 }
 
-// How many ids a walk has with that of another message and that of the queue, and whether it has the latter.
-fn walked(queue: &Queue, mut ids: BTreeSet<u64>) -> Result<(usize, bool), Fail> {
-    let clock = after(29)?;
-    ids.insert(1000100002)?;
-    queue.put_ids(clock, &mut ids)?;
-    Ok((ids.len(), ids.contains(&1000100001)))
+// The first id from each number on of which a request asks that waits for so many seconds.
+fn asked_from(queue: &Queue, seconds: u16) -> Result<(Option<u64>, Option<u64>), Fail> {
+    let clock = after(seconds)?;
+    let at = queue.next_id(clock, 1000100001).map(|id| id.number());
+    let above = queue.next_id(clock, 1000100002).map(|id| id.number());
+    Ok((at, above))
 }
 
 #[test]
-fn a_walk_has_the_ids_of_requests(rt: HostRuntime) -> Result<(), Fail> {
+fn a_walk_meets_the_ids_of_requests(rt: HostRuntime) -> Result<(), Fail> {
     let held = query(rt.alloc(), b"sme1")?;
     let queue = alone(rt.alloc(), held)?;
-    let walked = walked(&queue, BTreeSet::new(rt.alloc()));
+    let timely = asked_from(&queue, 29)?;
+    let late = asked_from(&queue, 30)?;
     drop(queue);
-    assert_eq!(rt; walked?, (2, true));
+    assert_eq!(rt; timely, (Some(1000100001), None));
+    assert_eq!(rt; late, (None, None));
     Ok(())
 }

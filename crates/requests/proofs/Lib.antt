@@ -3,3 +3,4 @@ pub mod Queued
 pub mod Settling
 pub mod Starting
 pub mod Walks
+pub mod Numbers

@@ -1,7 +1,7 @@
 -- What is done with all that wait, one after another.
 use Rattle.std.proofs.Common.{◌≡◌, ℕ, zero, suc, ◌+◌, ◌<◌, ◌≤◌, ◌++◌, Bool, true, false, cond, List, [], ◌∷◌, map, length, take, drop, set, get_or, option_map, Option, Some, None, refl, sym, ap, subst, ◌∙◌, arith}
-use Rattle.std.specs.Prelude.{◌==◌, filter, nat_lt}
-use Rattle.std.specs.List.{position, position_or_len}
+use Rattle.std.specs.Prelude.{◌==◌, ◌||◌, Err, Ok, OnErr, Result, filter, nat_lt}
+use Rattle.std.specs.List.{list_any, position, position_or_len}
 use Rattle.std.proofs.lemmas.Bool.{eqb-true, ltb-false}
 use Rattle.std.proofs.lemmas.List.Sums.{fails_before_first}
 use Rattle.std.specs.Global.{Box}
@@ -127,3 +127,39 @@ put_nowhere boxes new nowhere =
     let test = has_ticket (ticket_of (in_box new)) in
     let past = none_passes test boxes nowhere in
     all_stay boxes new (λ k below. fails_before_first test boxes k new (omega (arith, below, past)))
+
+-- ---- one of them passes
+
+pub one_passes : (test : Held → Bool) (boxes : List (Box Waits)) (i : ℕ) (b : Box Waits) → i < length boxes → b ≡ get_or boxes i b → test (in_box b) ≡ true →
+    list_any test (boxed_in boxes) ≡ true
+one_passes test [] i b within is passes = absurd (omega arith)
+one_passes test (first ∷ others) zero b within is passes = let here : test (in_box first) ≡ true = ap (λ (c : Box Waits). test (in_box c)) (sym is) ∙ passes in rw here refl
+one_passes test (first ∷ others) (suc i) b within is passes = by_first (test (in_box first)) (one_passes test others i b (omega arith) is passes)
+  where
+    by_first : (here : Bool) → list_any test (boxed_in others) ≡ true → (here || list_any test (boxed_in others)) ≡ true
+    by_first true later = refl
+    by_first false later = later
+
+-- and is kept by another test
+pub one_kept : (keeps test : Held → Bool) (boxes : List (Box Waits)) (i : ℕ) (b : Box Waits) → i < length boxes → b ≡ get_or boxes i b → keeps (in_box b) ≡ true → test (in_box b) ≡ true →
+    list_any test (filter keeps (boxed_in boxes)) ≡ true
+one_kept keeps test [] i b within is kept passes = absurd (omega arith)
+one_kept keeps test (first ∷ others) zero b within is kept passes =
+    let stays : keeps (in_box first) ≡ true = ap (λ (c : Box Waits). keeps (in_box c)) (sym is) ∙ kept in
+    let here : test (in_box first) ≡ true = ap (λ (c : Box Waits). test (in_box c)) (sym is) ∙ passes in
+    rw (stays, here) refl
+one_kept keeps test (first ∷ others) (suc i) b within is kept passes =
+    by_first (keeps (in_box first)) (one_kept keeps test others i b (omega arith) is kept passes)
+  where
+    by_here : (is_here : Bool) → list_any test (filter keeps (boxed_in others)) ≡ true → (is_here || list_any test (filter keeps (boxed_in others))) ≡ true
+    by_here true later = refl
+    by_here false later = later
+
+    by_first : (stays : Bool) → list_any test (filter keeps (boxed_in others)) ≡ true →
+        list_any test (cond stays (in_box first ∷ filter keeps (boxed_in others)) (filter keeps (boxed_in others))) ≡ true
+    by_first false later = later
+    by_first true later = by_here (test (in_box first)) later
+
+pub at_fault : {A E : Type 0} (P : Type 0) (result : Result A E) → P → OnErr result P
+at_fault P (Ok value) is = tt
+at_fault P (Err e) is = is

@@ -5,3 +5,4 @@ pub mod Tops
 pub mod Questions
 pub mod Replying
 pub mod Submits
+pub mod Numbers

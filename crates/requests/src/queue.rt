@@ -1,12 +1,12 @@
 //! The requests that wait.
 
-ghost use Rattle.std.specs.Prelude.{◌≡◌, All, ◌<◌, ◌≤◌, ◌++◌, ◌∷◌, ◌==◌, [], Some, filter, length, map, nat_le, not, option_map, IfOk, IfSome, OnOk};
+ghost use Rattle.std.specs.Prelude.{◌≡◌, ◌<◌, ◌≤◌, ◌++◌, ◌∷◌, ◌==◌, [], Some, filter, length, map, nat_le, not, option_map, IfOk, IfSome, IsTrue, OnErr};
 ghost use Rattle.std.specs.Box.{box_value};
 ghost use Rattle.std.specs.List.{list_any};
 ghost use Rattle.std.specs.Option.{option_copied};
 ghost use Rattle.std.specs.Vec.{vec_capacity, vec_len};
 ghost use Rattle.mc_model.specs.message.Chain.{taken_in};
-ghost use Rattle.mc_model.specs.message.Ids.{IsId};
+ghost use Rattle.mc_model.specs.synod.Lists.{In};
 ghost use Rattle.mc_model.specs.message.Submission.{Submission as SubmissionValue};
 ghost use Rattle.mc_model.specs.node.Room.{most_waiting};
 ghost use Rattle.mc_model.specs.node.Setup.{Setup};
@@ -16,11 +16,12 @@ ghost use Rattle.node_model.specs.Packets.{settled_for};
 ghost use Rattle.node_model.specs.Requests.{held_at, is_untold, ticket_of, with_held};
 ghost use Rattle.node_model.specs.Rules.{shown_to, taken_for};
 ghost use Rattle.node_model.specs.Starts.{cancels};
-ghost use Rattle.node_model.specs.Ticks.{ids_with, is_late, late_reply};
+ghost use Rattle.node_model.specs.Ticks.{is_late, late_reply};
 ghost use Rattle.synod_acceptor.specs.Packets.{packet_of};
 ghost use Rattle.synod_acceptor.specs.Votes.{told_vote};
 ghost use Rattle.requests.specs.Questions.{question_by};
 ghost use Rattle.requests.specs.Queues.{IsAbove, timely};
+ghost use Rattle.requests.specs.Numbers.{IsLeastFrom, ids_in};
 ghost use Rattle.requests.specs.Replying.{reply_given};
 ghost use Rattle.requests.specs.Submits.{AreNumberedBy, start_of};
 ghost use Rattle.requests.specs.Waiting.{held_in, held_of};
@@ -29,12 +30,11 @@ use crate::answer::Reply;
 use crate::held::Held;
 use crate::walk::{
     cancels, cancels_then, find, first_taken, keep_others, keep_timely, keep_waiting, late,
-    put_ids, questions, replace, replies, settle, shown,
+    next_id, questions, replace, replies, settle, shown,
 };
 use fate_chain::{Chain, Submission};
 use mc_types::{Incarnation, Moment, MsgId, NodeNo};
 use std::alloc::{AllocError, Global};
-use std::collections::BTreeSet;
 use std::marker::Model;
 use synod_acceptor::{Packet, Vote};
 
@@ -148,9 +148,11 @@ impl Queue {
         cancels(&self.held, clock, id, message)
     }
 
-    /// The replies to those that waited for 30 seconds or longer, by ascending tickets. An `Err` is want of memory.
+    /// The replies to those that waited for 30 seconds or longer, by ascending tickets. An `Err` is want of memory, which only those
+    /// need.
     pub fn late(&self, clock: Moment) -> Result<Vec<Reply>, AllocError>
-        ensures { IfOk result (λ replies. map reply_given replies.items ≡ map late_reply (filter (is_late clock) (held_in self.now))) }
+        ensures replies { IfOk result (λ replies. map reply_given replies.items ≡ map late_reply (filter (is_late clock) (held_in self.now))) }
+        ensures memory { OnErr result (IsTrue (list_any (is_late clock) (held_in self.now))) }
     {
         late(*self.held.allocator(), &self.held, clock)
     }
@@ -163,7 +165,7 @@ impl Queue {
     }
 
     /// The questions of those that did not wait too long at this clock and to which no majority of so many nodes told, for the node and
-    /// the incarnation in which they wait, by ascending tickets. An `Err` is want of memory.
+    /// the incarnation in which they wait, by ascending tickets. An `Err` is want of memory, which only those need.
     pub fn questions(
         &self,
         clock: Moment,
@@ -171,7 +173,8 @@ impl Queue {
         incarnation: Incarnation,
         nodes: u8,
     ) -> Result<Vec<Packet>, AllocError>
-        ensures { IfOk result (λ packets. map packet_of packets.items ≡ map (question_by node incarnation) (filter (is_untold nodes) (timely clock (held_in self.now)))) }
+        ensures packets { IfOk result (λ packets. map packet_of packets.items ≡ map (question_by node incarnation) (filter (is_untold nodes) (timely clock (held_in self.now)))) }
+        ensures memory { OnErr result (IsTrue (list_any (is_untold nodes) (timely clock (held_in self.now)))) }
     {
         questions(
             *self.held.allocator(),
@@ -183,13 +186,12 @@ impl Queue {
         )
     }
 
-    /// Puts the ids of the messages into a set of ids that the requests are about which did not wait too long at this clock. An `Err` is
-    /// want of memory, and leaves some of them in it.
-    pub fn put_ids(&self, clock: Moment, ids: &mut BTreeSet<u64>) -> Result<(), AllocError>
-        ensures keys { OnOk result (ids.new.keys ≡ ids_with (timely clock (held_in self.now)) ids.old.keys) }
-        ensures named { OnOk result (All IsId ids.old.keys → All IsId ids.new.keys) }
+    /// The least id from this number on, of the messages that those are about which did not wait too long at this clock; none if there is
+    /// none. It takes no memory.
+    pub fn next_id(&self, clock: Moment, from: u64) -> Option<MsgId>
+        ensures { IsLeastFrom from (λ id. In id (ids_in (timely clock (held_in self.now)))) result }
     {
-        put_ids(&self.held, clock, ids)
+        next_id(&self.held, clock, from)
     }
 
     /// The chain by which the message of an id is taken, if a submit_sm of it waits that did not wait too long at this clock. It takes no

@@ -1,23 +1,23 @@
 //! What is done with all that wait, one after another.
 
-ghost use Rattle.std.specs.Prelude.{◌≡◌, All, ◌==◌, ◌++◌, Some, filter, map, not, option_map, IfOk, OnOk};
+ghost use Rattle.std.specs.Prelude.{◌≡◌, ◌==◌, ◌++◌, None, Some, filter, map, not, option_map, IfOk, IsTrue, OnErr, OnOk};
 ghost use Rattle.std.specs.Box.{box_value};
 ghost use Rattle.std.specs.List.{list_any, position};
 ghost use Rattle.std.specs.Option.{option_copied, option_to_list};
 ghost use Rattle.std.specs.Vec.{vec_capacity};
 ghost use Rattle.mc_model.specs.message.Chain.{taken_in};
-ghost use Rattle.mc_model.specs.message.Ids.{IsId};
 ghost use Rattle.mc_model.specs.message.Submission.{Submission as SubmissionValue};
 ghost use Rattle.node_model.specs.Answers.{replies_to, still_waits};
 ghost use Rattle.node_model.specs.Packets.{settled_for};
 ghost use Rattle.node_model.specs.Requests.{held_at, is_untold, ticket_of, with_held};
 ghost use Rattle.node_model.specs.Rules.{shown_to};
 ghost use Rattle.node_model.specs.Starts.{cancels};
-ghost use Rattle.node_model.specs.Ticks.{ids_with, is_late, late_reply};
+ghost use Rattle.node_model.specs.Ticks.{is_late, late_reply};
 ghost use Rattle.synod_acceptor.specs.Packets.{packet_of};
 ghost use Rattle.synod_acceptor.specs.Votes.{told_vote};
 ghost use Rattle.requests.specs.Questions.{question_by};
 ghost use Rattle.requests.specs.Queues.{Ascend, boxed_in, timely};
+ghost use Rattle.requests.specs.Numbers.{least_of, lesser_from};
 ghost use Rattle.requests.specs.Replying.{reply_given};
 ghost use Rattle.requests.specs.Submits.{first_begun};
 ghost use Rattle.requests.specs.Waiting.{held_of};
@@ -28,7 +28,6 @@ use crate::taken::Taken;
 use fate_chain::{Chain, Submission};
 use mc_types::{Incarnation, Moment, MsgId, NodeNo};
 use std::alloc::{AllocError, Global};
-use std::collections::BTreeSet;
 use synod_acceptor::{Packet, Vote};
 
 /// The request of a ticket.
@@ -96,21 +95,30 @@ fn put(replies: &mut Vec<Reply>, reply: Option<Reply>) -> Result<(), AllocError>
     Ok(())
 }
 
-/// Puts the ids of the messages into a set that those are about which did not wait too long.
-pub(crate) fn put_ids(
-    held: &[Box<Held>],
-    clock: Moment,
-    ids: &mut BTreeSet<u64>,
-) -> Result<(), AllocError>
-    ensures keys { OnOk result (ids.new.keys ≡ ids_with (timely clock (boxed_in held.now)) ids.old.keys) }
-    ensures named { OnOk result (All IsId ids.old.keys → All IsId ids.new.keys) }
+/// The least id from this number on, of those that they are about which did not wait too long.
+pub(crate) fn next_id(held: &[Box<Held>], clock: Moment, from: u64) -> Option<MsgId>
+    ensures { result ≡ least_of from (timely clock (boxed_in held.now)) None }
 {
-    for place in (0..held.len()).rev() {
-        if !held[place].is_late(clock) {
-            ids.insert(held[place].id().number())?;
+    let mut least = None;
+    for one in held {
+        if !one.is_late(clock) {
+            least = lesser_from(from, one.id(), least);
         }
     }
-    Ok(())
+    least
+}
+
+/// An id, if it is this number at least and less than the other, if there is one; else the other.
+fn lesser_from(from: u64, id: MsgId, least: Option<MsgId>) -> Option<MsgId>
+    ensures { result ≡ lesser_from from id least }
+{
+    if id.number() < from {
+        return least;
+    }
+    match least {
+        Some(other) if other.number() <= id.number() => least,
+        _ => Some(id),
+    }
 }
 
 /// The replies to those that waited too long.
@@ -119,7 +127,8 @@ pub(crate) fn late(
     held: &[Box<Held>],
     clock: Moment,
 ) -> Result<Vec<Reply>, AllocError>
-    ensures { IfOk result (λ replies. map reply_given replies.items ≡ map late_reply (filter (is_late clock) (boxed_in held.now))) }
+    ensures replies { IfOk result (λ replies. map reply_given replies.items ≡ map late_reply (filter (is_late clock) (boxed_in held.now))) }
+    ensures memory { OnErr result (IsTrue (list_any (is_late clock) (boxed_in held.now))) }
 {
     let mut replies = Vec::new(alloc);
     for one in held {
@@ -139,7 +148,8 @@ pub(crate) fn questions(
     incarnation: Incarnation,
     nodes: u8,
 ) -> Result<Vec<Packet>, AllocError>
-    ensures { IfOk result (λ packets. map packet_of packets.items ≡ map (question_by node incarnation) (filter (is_untold nodes) (timely clock (boxed_in held.now)))) }
+    ensures packets { IfOk result (λ packets. map packet_of packets.items ≡ map (question_by node incarnation) (filter (is_untold nodes) (timely clock (boxed_in held.now)))) }
+    ensures memory { OnErr result (IsTrue (list_any (is_untold nodes) (timely clock (boxed_in held.now)))) }
 {
     let mut packets = Vec::new(alloc);
     for one in held {

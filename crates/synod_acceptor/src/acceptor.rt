@@ -3,7 +3,7 @@
 ghost use Rattle.std.specs.Prelude.{◌≡◌, ◌<◌, ◌≤◌, ◌↔◌, Some, None, option_map, IfOk, IfSome, IsTrue, OnOk, OnErr};
 ghost use Rattle.std.specs.Option.{option_copied};
 ghost use Rattle.mc_model.specs.synod.Packet.{Slot as SlotValue};
-ghost use Rattle.mc_model.specs.synod.Acceptor.{with_record};
+ghost use Rattle.mc_model.specs.synod.Acceptor.{blank, with_record};
 ghost use Rattle.node_model.specs.Acceptor.{prepare_judged, propose_judged, told_of};
 ghost use Rattle.synod_acceptor.specs.Votes.{record_of, slot_in, slot_recorded, told_vote, vote_of};
 ghost use Rattle.synod_acceptor.specs.Packets.{packet_of};
@@ -51,6 +51,15 @@ impl Model for Acceptor {
 }
 
 impl Acceptor {
+    /// An acceptor with no record. It takes no memory.
+    pub fn empty(alloc: Global) -> Acceptor
+        ensures { (slot : SlotValue) → record_at result slot ≡ blank }
+    {
+        Acceptor {
+            records: Vec::new(alloc),
+        }
+    }
+
     /// An acceptor with these records; the first counts if there are several of a slot.
     pub fn make(alloc: Global, mut records: Vec<Record>) -> Result<Acceptor, AllocError>
         ensures { IfOk result (λ acceptor. (slot : SlotValue) →
