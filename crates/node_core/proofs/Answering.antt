@@ -1,11 +1,10 @@
 -- A step that answers by a verdict is the model's.
 use Rattle.std.proofs.Common.{◌≡◌, ◌≤◌, suc, ℕ, Bool, true, List, [], ◌∷◌, map, Option, Some, None, refl, sym, ap, subst, ◌∙◌}
 use Rattle.std.proofs.Math.Path.{fun_ext}
-use Rattle.std.specs.Prelude.{IfOk, Result, Ok, Err, option_map, if◌then◌else◌}
+use Rattle.std.specs.Prelude.{option_map, if◌then◌else◌}
 use Rattle.std.specs.Option.{unwrap_or}
 use Rattle.std.specs.Ordering.{nat_cmp}
 use Rattle.std.specs.BTreeMap.{insert_entry}
-use Rattle.mc_model.specs.message.Ids.{IsId}
 use Rattle.mc_model.specs.synod.Packet.{Packet, Slot, same_slot, slot_at}
 use Rattle.mc_model.specs.synod.Acceptor.{Records, SlotRecord, blank, with_record}
 use Rattle.mc_model.specs.node.Setup.{Setup}
@@ -32,7 +31,7 @@ use Rattle.node_core.specs.declared.step.Next.{Next}
 use Rattle.node_core.specs.declared.step.Step.{Step}
 use Rattle.node_core.specs.Keeping.{AreOf, IsTaken, acceptor_in, filed_as, kept_of, records_of}
 use Rattle.node_core.specs.Messages.{IsJudged, IsOf, changed_by, message_of}
-use Rattle.node_core.specs.Steps.{IsAnswer, IsNext, IsStep, entries_after, installed, kept_then, rested_if}
+use Rattle.node_core.specs.Steps.{Alters, IsAnswer, IsNext, IsStep, entries_after, installed, kept_then, rested_if}
 use Rattle.node_core.proofs.Queueing.{asked_same, held_same, place_same}
 use Rattle.node_core.proofs.Entries.{message_looked_up, message_put, own_at, own_put, records_put}
 
@@ -55,12 +54,6 @@ taken_fresh k id m none is empty of = record {
   message = is ∙ sym (none_kept k id none);
   records = λ place. empty (slot_at id place) ∙ ap (λ (o : Option Filed). record_at (acceptor_in o) (slot_at id place)) (sym none);
 }
-
-pub fresh_taken : {E : Type 0} (k : Holding) (id : ℕ) (result : Result Filed E) → value_at k.messages.entries id ≡ None →
-    IfOk result (λ m. (slot : Slot) → record_at m.acceptor slot ≡ blank) → IfOk result (λ m. (id : ℕ) → message_of id m ≡ unseen) →
-    IfOk result (λ m. (id : ℕ) → IsId id → IsOf k.setup.node k.incarnation k.setup.nodes id m) → IsId id → IfOk result (IsTaken k id)
-fresh_taken k id (Ok m) none records is of named = taken_fresh k id m none (is id) records (of id named)
-fresh_taken k id (Err e) none records is of named = tt
 
 -- ---- what is kept then
 
@@ -92,6 +85,11 @@ changed_is : (records : Records) (slot : Slot) (after : SlotRecord) (change : Op
 changed_is records slot after None same other = same_record records slot other ∙ ap (λ (r : SlotRecord). with_record records slot r other) (sym same)
 changed_is records slot after (Some change) is other =
     ap (λ (s : Slot). with_record records s (record_of change.after) other) is.0 ∙ ap (λ (r : SlotRecord). with_record records slot r other) is.1
+
+-- and it changes one
+alters_so : (records : Records) (slot : Slot) (after : SlotRecord) (change : Option Change) → Changes slot (records slot) after change → Alters change records
+alters_so records slot after None same = tt
+alters_so records slot after (Some change) is = λ same. is.2 (sym is.1 ∙ same ∙ ap records is.0)
 
 module _ (k : Holding) (slot : Slot) (taken new : Filed) (judgement : SlotRecord → Judgement) (verdict : Verdict) (step : Step)
     (is_taken : IsTaken k slot.id taken) (is_judged : IsJudged taken slot (judgement (record_at taken.acceptor slot)) new verdict) (is_answer : IsAnswer k slot.id new verdict step) where
@@ -153,6 +151,8 @@ module _ (k : Holding) (slot : Slot) (taken new : Filed) (judgement : SlotRecord
         ap (λ (es : List (ℕ × Filed)). records_of es other) (next_entries k slot.id new step.next is_answer.next)
         ∙ records_then other
         ∙ sym (ap (λ (change : Option Change). changed_by change (records_of Entries) other) is_answer.change ∙ changed_is (records_of Entries) slot Judged.after verdict.change change_is other);
+    alters = subst (λ (change : Option Change). Alters change (records_of Entries)) (sym is_answer.change)
+        (alters_so (records_of Entries) slot Judged.after verdict.change change_is);
     own = λ own. record {
       each = subst (λ (es : List (ℕ × Filed)). AreOf k.setup k.incarnation es) (sym (next_entries k slot.id new step.next is_answer.next))
           (own_put k.setup k.incarnation Entries slot.id new (of_new (is_taken.own own)) own.each);

@@ -26,7 +26,7 @@ use Rattle.node_core.specs.declared.message.Message.{Message as Filed}
 use Rattle.node_core.specs.declared.step.Step.{Step}
 use Rattle.node_core.specs.Keeping.{AreOf, AreOwn, IsAs, IsTaken, filed_as, kept_of, records_of}
 use Rattle.node_core.specs.Messages.{IsOfSame, IsPromised, IsRefused, changed_by, message_of}
-use Rattle.node_core.specs.Steps.{IsLeft, IsStep, giving}
+use Rattle.node_core.specs.Steps.{Alters, IsLeft, IsStep, giving}
 use Rattle.node_core.specs.Lists.{listed}
 use Rattle.node_core.proofs.Answering.{holding, next_entries, nexts}
 use Rattle.node_core.proofs.Queueing.{asked_same, place_same}
@@ -62,6 +62,7 @@ module _ (k : Holding) (id : ℕ) (new : Filed) (to : Message) (outputs : Output
         ap (λ (es : List (ℕ × Filed)). records_of es other) (next_entries k id new step.next is_left.next)
         ∙ records_then other
         ∙ sym (ap (λ (change : Option Change). changed_by change (records_of Entries) other) is_left.change);
+    alters = subst (λ (change : Option Change). Alters change (records_of Entries)) (sym is_left.change) tt;
     own = λ own. record {
       each = subst (λ (es : List (ℕ × Filed)). AreOf k.setup k.incarnation es) (sym (next_entries k id new step.next is_left.next))
           (own_put k.setup k.incarnation Entries id new (is.own own) own.each);

@@ -14,7 +14,11 @@ pub mod Listing
 pub mod Opening
 pub mod Voting
 pub mod Beginning
+pub mod Unsaved
+pub mod Saves
 pub mod Stopping
 pub mod TickTurns
+pub mod Walking
+pub mod Idling
 pub mod TickSteps
 pub mod Restarts

@@ -114,7 +114,7 @@ keys_filed : (es : List (ℕ × Filed)) → keys_of (map filed_as es) ≡ keys_o
 keys_filed [] = refl
 keys_filed (e ∷ es) = ap (λ (rest : List ℕ). e.0 ∷ rest) (keys_filed es)
 
-listed_in : (es : List (ℕ × Filed)) (id : ℕ) → (value_at es id ≢ None) → In id (keys_of es)
+pub listed_in : (es : List (ℕ × Filed)) (id : ℕ) → (value_at es id ≢ None) → In id (keys_of es)
 listed_in [] id some = absurd (some refl)
 listed_in (e ∷ es) id some = elim (cases_Bool (is_at (nat_cmp id) e.0)) [
   | inl same ↦ inl (same_key id e.0 same)

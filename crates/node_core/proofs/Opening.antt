@@ -29,12 +29,12 @@ use Rattle.node_core.specs.declared.kept.Kept.{Kept as Holding}
 use Rattle.node_core.specs.declared.life.Life.{Life}
 use Rattle.node_core.specs.declared.message.Message.{Message as Filed}
 use Rattle.node_core.specs.declared.step.Next.{Next}
-use Rattle.node_core.specs.Keeping.{AreOf, AreOwn, AreUnseen, IsFiled, IsOpen, IsTaken, filed_as, records_of}
+use Rattle.node_core.specs.Keeping.{AreOf, AreOwn, AreUnseen, IsFiled, IsOpen, IsTaken, acceptor_in, filed_as, records_of}
 use Rattle.node_core.specs.Messages.{IsOf, message_of}
 use Rattle.node_core.specs.Nodes.{HasOpened, Standing}
 use Rattle.node_core.specs.Steps.{IsInstalled, IsNext}
 use Rattle.node_core.proofs.Answering.{next_entries}
-use Rattle.node_core.proofs.Listing.{listed_of, listed_put, none_listed}
+use Rattle.node_core.proofs.Listing.{listed_in, listed_of, listed_put, none_listed}
 use Rattle.node_core.proofs.Queueing.{asked_none, asked_still, held_same}
 use Rattle.node_core.proofs.Entries.{own_put, records_put}
 
@@ -248,6 +248,8 @@ opened with records starts node life is works of_node of_start = record {
     messages = messages_are node.kept.messages.entries is.fresh i;
   };
   listed = is.listed;
+  whole = λ slot differs. listed_in node.kept.messages.entries slot.id
+      (λ none. differs (sym (is.kept slot) ∙ ap (λ (found : Option Filed). record_at (acceptor_in found) slot) none));
   setup = is.setup;
   works = works;
   of_node = of_node;

@@ -193,6 +193,7 @@ requeued_step k to step queue outputs is ticket place asked = record {
   kept = ap (λ (kept : Kept). record kept { held = requeued k.setup.nodes (held_in k.queue) queue }) is.kept;
   outputs = refl;
   saves = is.saves;
+  alters = is.alters;
   own = λ own. record {
     each = (is.own own).each;
     asked = subst (λ (t : ℕ). AreAsked k.setup.node k.incarnation t (requeued k.setup.nodes (held_in k.queue) queue)) (sym (ap suc ticket)) (asked own);
@@ -231,6 +232,7 @@ arrived_step k to step serial new outputs is ticket room sound own least = recor
   kept = ap (λ (kept : Kept). record kept { serial = serial; ticket = suc (suc k.given); held = held_in k.queue ++ held_of (box_value new) ∷ [] }) is.kept;
   outputs = refl;
   saves = is.saves;
+  alters = is.alters;
   own = λ mine. record {
     each = (is.own mine).each;
     asked = asked_more k.setup.node k.incarnation (suc k.given) (held_in k.queue) (held_of (box_value new)) ticket sound mine.asked;

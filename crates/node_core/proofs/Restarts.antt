@@ -1,5 +1,5 @@
 -- A node that opens again keeps what the model's does after a restart, and after a crash.
-use Rattle.std.proofs.Common.{◌≡◌, ℕ, suc, ◌+◌, Bool, true, false, refl, sym, ap, subst, ◌∙◌, inl, inr}
+use Rattle.std.proofs.Common.{◌≡◌, ℕ, suc, ◌+◌, Bool, true, false, Option, Some, None, refl, sym, ap, subst, ◌∙◌, inl, inr}
 use Rattle.std.specs.Prelude.{if◌then◌else◌}
 use Rattle.std.proofs.Math.Path.{fun_ext}
 use Rattle.std.specs.Map.{keys_of}
@@ -18,11 +18,17 @@ use Rattle.shelf.proofs.Entries.{still_ascends}
 use Rattle.stable_store.specs.Stored.{AreSame}
 use Rattle.synod_acceptor.specs.Packets.{packet_of}
 use Rattle.synod_acceptor.specs.declared.packet.Packet.{Packet as Sent}
+use Rattle.node_core.specs.declared.input.Input.{Input}
 use Rattle.node_core.specs.declared.input.Input.TheVariants as given
+use Rattle.node_core.specs.declared.kept.Kept.{Kept as Holding}
 use Rattle.node_core.specs.declared.life.Life.{Life}
+use Rattle.node_core.specs.declared.stopped.Found.{Found}
+use Rattle.node_core.specs.declared.stopped.Found.TheVariants.{After, Before}
+use Rattle.node_core.specs.declared.stopped.Stopped.{Stopped}
 use Rattle.node_core.specs.Keeping.{kept_of, records_of}
 use Rattle.node_core.specs.Nodes.{HasOpened, HasStopped, Seen, Standing}
-use Rattle.node_core.specs.Restarts.{ListsRecorded, next_life}
+use Rattle.node_core.specs.Restarts.{KeepsAsTold, ListsRecorded, next_life}
+use Rattle.node_core.specs.Stops.{IsTold, IsToldOf, is_after, left_by}
 use Rattle.node_core.proofs.Listing.{key_put, listed_of, was_recorded}
 
 -- ---- a restart
@@ -47,7 +53,7 @@ as_restarted with k stored lost node life lists same opened =
 -- ---- a stop
 
 -- what a stop leaves is of the same incarnation, and lists its messages
-record StillLists (k after : Kept) : Type 0 where
+pub record StillLists (k after : Kept) : Type 0 where
   pub life : after.incarnation ≡ k.incarnation
   pub lists : ListsRecorded after
 
@@ -66,7 +72,7 @@ saved_lists k slot r lists = record {
   };
 }
 
-stop_lists : (setup : Setup) (k : Kept) (packet : Packet) (after : Bool) → ListsRecorded k → StillLists k (stopped setup k packet after)
+pub stop_lists : (setup : Setup) (k : Kept) (packet : Packet) (after : Bool) → ListsRecorded k → StillLists k (stopped setup k packet after)
 stop_lists setup k packet false lists = unchanged k lists
 stop_lists setup k packet true lists = by_member (is_member setup (sender_of packet)) (by_packet packet)
   where
@@ -84,22 +90,66 @@ stop_lists setup k packet true lists = by_member (is_member setup (sender_of pac
     by_member true still = still
     by_member false still = unchanged k lists
 
-crash_is : (setup : Setup) (k : Kept) (packet : Packet) (after : Bool) → k.up ≡ true → stopped setup k packet after ≡ (stepped setup k (Crash packet after)).kept
+pub crash_is : (setup : Setup) (k : Kept) (packet : Packet) (after : Bool) → k.up ≡ true → stopped setup k packet after ≡ (stepped setup k (Crash packet after)).kept
 crash_is setup k packet after up = sym (ap (λ (test : Bool). (if◌then◌else◌ {A = Stepped} test (leaves (stopped setup k packet after)) (leaves k)).kept) up)
+
+opens_crashed : {S : Type 0} (k : Holding) (stored : Records) (packet : Packet) (after : Bool) (lost : ℕ) (node : Standing S) (life : Life) → ListsRecorded (kept_of k) →
+    HasOpened k.setup stored (next_life (kept_of k) lost) node life → AreSame stored (stopped k.setup (kept_of k) packet after).records →
+    kept_of node.kept ≡ (stepped k.setup (stopped k.setup (kept_of k) packet after) (Restart lost)).kept
+opens_crashed k stored packet after lost node life lists opened same =
+    let still = stop_lists k.setup (kept_of k) packet after lists in
+    as_restarted k.setup (stopped k.setup (kept_of k) packet after) stored lost node life still.lists same
+    (subst (λ (n : ℕ). HasOpened k.setup stored (suc (n + lost)) node life) (sym still.life) opened)
+
+-- what is stored is what was before the save, or what the step leaves
+crashed_before : {S : Type 0} (k : Holding) (stored : Records) (packet : Sent) (lost : ℕ) (node : Standing S) (life : Life) → ListsRecorded (kept_of k) →
+    HasOpened k.setup stored (next_life (kept_of k) lost) node life → AreSame stored (records_of k.messages.entries) →
+    kept_of node.kept ≡ (stepped k.setup (stepped k.setup (kept_of k) (Crash (packet_of packet) false)).kept (Restart lost)).kept
+crashed_before k stored packet lost node life lists opened same =
+    opens_crashed k stored (packet_of packet) false lost node life lists opened (record { each = same.each })
+
+crashed_behind : {S : Type 0} (k : Holding) (stored : Records) (packet : Sent) (lost : ℕ) (node : Standing S) (life : Life) → ListsRecorded (kept_of k) →
+    HasOpened k.setup stored (next_life (kept_of k) lost) node life → AreSame stored (left_by k packet) →
+    kept_of node.kept ≡ (stepped k.setup (stepped k.setup (kept_of k) (Crash (packet_of packet) true)).kept (Restart lost)).kept
+crashed_behind k stored packet lost node life lists opened same =
+    opens_crashed k stored (packet_of packet) true lost node life lists opened (record {
+      each = λ slot. same.each slot ∙ ap (λ (records : Records). records slot) (saved_so k.setup (kept_of k) (packet_of packet));
+    })
 
 pub as_crashed : {S : Type 0} (old mid : Seen) (packet : Sent) (lost : ℕ) (node : Standing S) (life : Life) → ListsRecorded (kept_of old.kept) →
     AreSame old.stored (records_of old.kept.messages.entries) → HasStopped old (given.Packet packet) mid →
     HasOpened old.kept.setup mid.stored (next_life (kept_of old.kept) lost) node life →
     (after : Bool) × (kept_of node.kept ≡ (stepped old.kept.setup (stepped old.kept.setup (kept_of old.kept) (Crash (packet_of packet) after)).kept (Restart lost)).kept)
-as_crashed {S} old mid packet lost node life lists stored has_stopped opened = elim has_stopped.stored [
-  | inl before ↦ (false, opens false (record { each = λ slot. before.each slot ∙ stored.each slot }))
-  | inr behind ↦ (true, opens true (record { each = λ slot. behind.each slot ∙ ap (λ (rs : Records). rs slot) (saved_so old.kept.setup (kept_of old.kept) (packet_of packet)) }))
-]
-  where
-    opens : (after : Bool) → AreSame mid.stored (stopped old.kept.setup (kept_of old.kept) (packet_of packet) after).records →
-        kept_of node.kept ≡ (stepped old.kept.setup (stopped old.kept.setup (kept_of old.kept) (packet_of packet) after) (Restart lost)).kept
-    opens after same =
-        let k = stopped old.kept.setup (kept_of old.kept) (packet_of packet) after in
-        let still = stop_lists old.kept.setup (kept_of old.kept) (packet_of packet) after lists in
-        as_restarted old.kept.setup k mid.stored lost node life still.lists same
-        (subst (λ (n : ℕ). HasOpened old.kept.setup mid.stored (suc (n + lost)) node life) (sym still.life) opened)
+as_crashed old mid packet lost node life lists stored has_stopped opened =
+    elim has_stopped.stored [
+      | inl before ↦ (false, crashed_before old.kept mid.stored packet lost node life lists opened (record { each = λ slot. before.each slot ∙ stored.each slot }))
+      | inr behind ↦ (true, crashed_behind old.kept mid.stored packet lost node life lists opened behind)
+    ]
+
+-- ---- what is told of a stop
+
+told_as : {S : Type 0} (k : Holding) (stored : Records) (packet : Sent) (lost : ℕ) (node : Standing S) (life : Life) (told : Stopped) → ListsRecorded (kept_of k) →
+    HasOpened k.setup stored (next_life (kept_of k) lost) node life → IsToldOf k stored packet told → (found : Found) → told.found ≡ found →
+    kept_of node.kept ≡ (stepped k.setup (stepped k.setup (kept_of k) (Crash (packet_of packet) (is_after found))).kept (Restart lost)).kept
+told_as k stored packet lost node life told lists opened is Before found = crashed_before k stored packet lost node life lists opened (is.before.0 found)
+told_as k stored packet lost node life told lists opened is After found = crashed_behind k stored packet lost node life lists opened (is.after.0 found)
+
+keeps_told : {S : Type 0} (k : Holding) (stored : Records) (input : Input) (packet : Sent) (lost : ℕ) (node : Standing S) (life : Life) (told : Option Stopped) →
+    ListsRecorded (kept_of k) → HasOpened k.setup stored (next_life (kept_of k) lost) node life → input ≡ given.Packet packet → node.stopped ≡ told →
+    IsTold k stored (Some packet) told → KeepsAsTold k input lost node
+keeps_told k stored input packet lost node life None lists opened came tells is = absurd is
+keeps_told k stored input packet lost node life (Some told) lists opened came tells is = record {
+  told = told;
+  tells = tells;
+  came = came ∙ ap given.Packet (sym is.is);
+  kept = subst (λ (p : Sent). kept_of node.kept ≡ (stepped k.setup (stepped k.setup (kept_of k) (Crash (packet_of p) (is_after told.found))).kept (Restart lost)).kept)
+      (sym is.is) (told_as k stored packet lost node life told lists opened is told.found refl);
+}
+
+pub as_told : {S : Type 0} (old halted : Seen) (input : Input) (lost : ℕ) (node : Standing S) (life : Life) → ListsRecorded (kept_of old.kept) →
+    HasStopped old input halted → HasOpened old.kept.setup halted.stored (next_life (kept_of old.kept) lost) node life →
+    IsTold halted.kept halted.stored halted.unfinished node.stopped → KeepsAsTold old.kept input lost node
+as_told old halted input lost node life lists has_stopped opened told =
+    keeps_told old.kept halted.stored input has_stopped.packet lost node life node.stopped lists opened has_stopped.came refl
+    (subst (λ (unfinished : Option Sent). IsTold old.kept halted.stored unfinished node.stopped) has_stopped.unfinished
+    (subst (λ (k : Holding). IsTold k halted.stored halted.unfinished node.stopped) has_stopped.kept told))

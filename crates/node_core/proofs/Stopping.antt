@@ -1,29 +1,51 @@
--- What a save leaves that was stopped.
-use Rattle.std.proofs.Common.{◌≡◌, ◌⊎◌, sym, ap, subst, ◌∙◌, inl, inr, Option, Some, None, if◌then◌else◌}
+-- What a save leaves that was stopped, and what is told of it.
+use Rattle.std.proofs.Common.{◌≡◌, ◌≢◌, ◌⊎◌, true, sym, ap, subst, ◌∙◌, inl, inr, refl, Option, Some, None, if◌then◌else◌}
+use Rattle.std.specs.Prelude.{◌↔◌}
+use Rattle.std.proofs.Math.Path.{fun_ext}
+use Rattle.std.proofs.lemmas.Bool.{true≢false}
 use Rattle.mc_model.specs.synod.Packet.{Slot, same_slot}
 use Rattle.mc_model.specs.synod.Acceptor.{Records, SlotRecord}
 use Rattle.node_model.specs.Kept.{Kept}
-use Rattle.node_model.specs.Stepped.{stepped}
+use Rattle.node_model.specs.Stepped.{stepped, stopped}
+use Rattle.node_model.proofs.Stops.{saved_so}
 use Rattle.stable_store.specs.Stored.{AreSame}
+use Rattle.synod_acceptor.specs.Packets.{packet_of}
 use Rattle.synod_acceptor.specs.Votes.{record_of, slot_recorded}
+use Rattle.synod_acceptor.specs.declared.packet.Packet.{Packet as Sent}
 use Rattle.synod_acceptor.specs.declared.record.Change.{Change}
 use Rattle.node_core.specs.declared.input.Input.{Input}
+use Rattle.node_core.specs.declared.input.Input.TheVariants as given
 use Rattle.node_core.specs.declared.kept.Kept.{Kept as Holding}
 use Rattle.node_core.specs.declared.step.Step.{Step}
+use Rattle.node_core.specs.declared.stopped.Found.{Found}
+use Rattle.node_core.specs.declared.stopped.Found.TheVariants.{After, Before}
+use Rattle.node_core.specs.declared.stopped.Stopped.{Stopped}
 use Rattle.node_core.specs.Keeping.{kept_of, records_of}
 use Rattle.node_core.specs.Messages.{changed_by}
+use Rattle.node_core.specs.Pendings.{IsPrepared}
 use Rattle.node_core.specs.Steps.{IsStepFor, input_of}
+use Rattle.node_core.specs.Stops.{HasSaved, IsFound, IsHalted, IsTold, IsUnfinished, is_after, left_by}
+use Rattle.node_core.proofs.Saves.{saved_after, saved_before}
+use Rattle.node_core.proofs.Unsaved.{altered, saves_for}
 
 change_over : (change : Option Change) (one other : Records) → AreSame one other → (slot : Slot) → changed_by change one slot ≡ changed_by change other slot
 change_over None one other same slot = same.each slot
 change_over (Some change) one other same slot =
     ap (λ (r : SlotRecord). if same_slot slot (slot_recorded change.after) then record_of change.after else r) (same.each slot)
 
-abbrev pub After : Holding → Input → Records
-After k input = (stepped k.setup (kept_of k) (input_of k.setup (kept_of k) input)).kept.records
+abbrev pub Left : Holding → Input → Records
+Left k input = (stepped k.setup (kept_of k) (input_of k.setup (kept_of k) input)).kept.records
+
+-- The save of a step failed, which was that of a packet.
+pub record IsCut (k : Holding) (input : Input) (unfinished : Option Sent) (stored new : Records) : Type 0 where
+  pub packet : Sent
+  pub came : input ≡ given.Packet packet
+  pub is : unfinished ≡ Some packet
+  pub left : AreSame new stored ⊎ AreSame new (Left k input)
+  pub halted : IsUnfinished k new unfinished
 
 after_step : (k : Holding) (input : Input) (step : Step) (stored new : Records) → IsStepFor k input step → AreSame stored (records_of k.messages.entries) →
-    AreSame new stored ⊎ AreSame new (changed_by step.change stored) → AreSame new stored ⊎ AreSame new (After k input)
+    AreSame new stored ⊎ AreSame new (changed_by step.change stored) → AreSame new stored ⊎ AreSame new (Left k input)
 after_step k input step stored new is same (inl before) = inl before
 after_step k input step stored new is same (inr changed) = inr (record {
   each = λ slot.
@@ -33,9 +55,88 @@ after_step k input step stored new is same (inr changed) = inr (record {
       ∙ ap (λ (kept : Kept). kept.records slot) is.is.kept;
 })
 
-pub stopped : (k was : Holding) (input given : Input) (step : Step) (stored new : Records) → was ≡ k → given ≡ input → IsStepFor was given step →
-    AreSame stored (records_of k.messages.entries) → AreSame new stored ⊎ AreSame new (changed_by step.change stored) →
-    AreSame new stored ⊎ AreSame new (After k input)
-stopped k was input given step stored new same_kept same_input is same left =
-    after_step k input step stored new
-    (subst (λ (i : Input). IsStepFor k i step) same_input (subst (λ (h : Holding). IsStepFor h given step) same_kept is)) same left
+over_kept : (stored new kept left : Records) → AreSame stored kept → AreSame new stored ⊎ AreSame new left → AreSame new kept ⊎ AreSame new left
+over_kept stored new kept left same (inl before) = inl (record { each = λ slot. before.each slot ∙ same.each slot })
+over_kept stored new kept left same (inr after) = inr after
+
+cut_with : (k : Holding) (input : Input) (step : Step) (unfinished : Option Sent) (stored new : Records) (change : Option Change) → step.change ≡ change →
+    change ≢ None → IsPrepared k input step unfinished → AreSame stored (records_of k.messages.entries) →
+    AreSame new stored ⊎ AreSame new (changed_by step.change stored) → IsCut k input unfinished stored new
+cut_with k input step unfinished stored new None is some prepared same left = absurd (some refl)
+cut_with k input step unfinished stored new (Some change) is some prepared same left =
+    let from = saves_for k input step unfinished change prepared is in
+    let either = after_step k input step stored new prepared.is same left in
+    let of_packet : IsStepFor k (given.Packet from.packet) step = subst (λ (i : Input). IsStepFor k i step) from.came prepared.is in
+    let halted : IsHalted k new from.packet = record {
+      found = subst (λ (i : Input). AreSame new (records_of k.messages.entries) ⊎ AreSame new (Left k i)) from.came
+          (over_kept stored new (records_of k.messages.entries) (Left k input) same either);
+      changes = λ unchanged. altered k _ step change of_packet.is is unchanged.each;
+    } in
+    record {
+      packet = from.packet;
+      came = from.came;
+      is = from.is;
+      left = either;
+      halted = subst (λ (packet : Option Sent). IsUnfinished k new packet) (sym from.is) halted;
+    }
+
+pub cut : (k was : Holding) (input given : Input) (step : Step) (unfinished : Option Sent) (stored new : Records) → was ≡ k → given ≡ input →
+    IsPrepared was given step unfinished → AreSame stored (records_of k.messages.entries) → step.change ≢ None →
+    AreSame new stored ⊎ AreSame new (changed_by step.change stored) → IsCut k input unfinished stored new
+cut k was input given step unfinished stored new same_kept same_input prepared same some left =
+    cut_with k input step unfinished stored new step.change refl some
+    (subst (λ (i : Input). IsPrepared k i step unfinished) same_input (subst (λ (h : Holding). IsPrepared h given step unfinished) same_kept prepared)) same left
+
+-- ---- what is told of it
+
+apart : Before ≡ After → ⊥
+apart same = true≢false (sym (ap is_after same))
+
+module _ (k : Holding) (stored : Records) (packet : Sent) (halted : IsHalted k stored packet) where
+  abbrev Now : Records
+  Now = records_of k.messages.entries
+
+  -- it has what was to be saved: then it is what the step leaves
+  has_after : HasSaved stored (packet_of packet) → AreSame stored (left_by k packet)
+  has_after has = elim halted.found [
+    | inl before ↦
+        let here : HasSaved Now (packet_of packet) = subst (λ (records : Records). HasSaved records (packet_of packet)) (fun_ext before.each) has in
+        absurd (halted.changes (record {
+          each = λ slot. ap (λ (records : Records). records slot) (saved_so k.setup (kept_of k) (packet_of packet)) ∙ saved_before k.setup (kept_of k) (packet_of packet) here slot;
+        }))
+    | inr after ↦ after
+  ]
+
+  after_has : AreSame stored (left_by k packet) → HasSaved stored (packet_of packet)
+  after_has after =
+      let is : left_by k packet ≡ (stopped k.setup (kept_of k) (packet_of packet) true).records = saved_so k.setup (kept_of k) (packet_of packet) in
+      let left : HasSaved (left_by k packet) (packet_of packet) =
+      subst (λ (records : Records). HasSaved records (packet_of packet)) (sym is)
+      (saved_after k.setup (kept_of k) (packet_of packet) (λ stays. halted.changes (record { each = λ slot. ap (λ (records : Records). records slot) is ∙ stays slot }))) in
+      subst (λ (records : Records). HasSaved records (packet_of packet)) (sym (fun_ext after.each)) left
+
+  not_both : AreSame stored Now → AreSame stored (left_by k packet) → ⊥
+  not_both before after = halted.changes (record { each = λ slot. sym (after.each slot) ∙ before.each slot })
+
+  found_before : (found : Found) → ((found ≡ After) ↔ HasSaved stored (packet_of packet)) → (found ≡ Before) ↔ AreSame stored Now
+  found_before Before is = (
+    λ same. elim halted.found [
+      | inl before ↦ before
+      | inr after ↦ absurd (apart (is.1 (after_has after)))
+    ],
+    λ before. refl,
+  )
+  found_before After is = (λ same. absurd (apart (sym same)), λ before. absurd (not_both before (has_after (is.0 refl))))
+
+  pub told_so : (told : Stopped) → told.packet ≡ packet → ((told.found ≡ After) ↔ HasSaved stored (packet_of packet)) → IsTold k stored (Some packet) (Some told)
+  told_so told same is = record {
+    is = same;
+    before = found_before told.found is;
+    after = (λ found. has_after (is.0 found), λ after. is.1 (after_has after));
+  }
+
+pub tells : (k : Holding) (stored : Records) (unfinished : Option Sent) (told : Option Stopped) → IsUnfinished k stored unfinished →
+    IsFound stored unfinished told → IsTold k stored unfinished told
+tells k stored None told halted found = found
+tells k stored (Some packet) None halted found = found
+tells k stored (Some packet) (Some told) halted found = told_so k stored packet halted told found.0 found.1

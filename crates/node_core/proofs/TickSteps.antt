@@ -26,7 +26,7 @@ use Rattle.node_core.specs.declared.turn_list.TurnList.{TurnList}
 use Rattle.synod_acceptor.specs.Packets.{packet_of}
 use Rattle.node_core.specs.Keeping.{AreOf, filed_as, kept_of, records_of}
 use Rattle.node_core.specs.Messages.{changed_by}
-use Rattle.node_core.specs.Steps.{HasRoom, IsStep, entries_after, granted_of, held_then, installed, kept_then, outputs_of, receipt_of, rested_if}
+use Rattle.node_core.specs.Steps.{Alters, HasRoom, IsStep, entries_after, granted_of, held_then, installed, kept_then, outputs_of, receipt_of, rested_if}
 use Rattle.node_core.specs.Ticking.{IsTurned, entries_turned, kept_turned}
 
 -- what serves for so many is room for them
@@ -97,6 +97,7 @@ module _ (k : Holding) (moment : ℕ) (up : List ℕ → Bool) (turns : TurnList
     kept = all_kept ∙ sym (ap (λ (p : Prepared). p.kept) turned.made);
     outputs = outputs_then ∙ sym (ap (λ (p : Prepared). given p.packets) turned.made);
     saves = λ slot. saved_then slot ∙ sym (ap (λ (change : Option Change). changed_by change (records_of k.messages.entries) slot) is.change);
+    alters = subst (λ (change : Option Change). Alters change (records_of k.messages.entries)) (sym is.change) tt;
     own = λ own. record {
       each = subst (AreOf k.setup k.incarnation) (sym entries_then) turned.own;
       asked = subst (λ (held : List Held). AreAsked k.setup.node k.incarnation (suc step.next.given) held) (sym held_is)

@@ -1,28 +1,21 @@
 -- What a tick makes of several messages, one after another.
-use Rattle.std.proofs.Common.{◌≡◌, ◌⊎◌, ℕ, zero, suc, ◌<◌, Bool, List, [], ◌∷◌, ◌++◌, length, map, Option, Some, None, refl, sym, ap, subst, ◌∙◌, inl, inr, append_assoc, arith}
+use Rattle.std.proofs.Common.{◌≡◌, ◌⊎◌, ℕ, suc, ◌<◌, Bool, List, [], ◌∷◌, ◌++◌, map, Option, Some, None, refl, sym, ap, subst, ◌∙◌, inl, inr, append_assoc, arith}
 use Rattle.std.proofs.lemmas.List.{append-nil, map-append}
-use Rattle.std.specs.Prelude.{All, IfOk, Ok, Err, Result, not, option_map}
-use Rattle.std.specs.BTreeSet.{insert_key}
-use Rattle.std.specs.Ordering.{nat_cmp}
-use Rattle.std.specs.declared.cmp.Ordering.TheVariants.{Less, Greater}
-use Rattle.std.proofs.lemmas.Bool.Decides.{nat_tests}
-use Rattle.std.proofs.lemmas.List.Elements.{All-from_recursion, recursion_from_All}
-use Rattle.mc_model.specs.message.Ids.{IsId}
+use Rattle.std.specs.Prelude.{IfOk, Ok, Err, Result, not, option_map}
 use Rattle.std.specs.Box.{box_value}
-use Rattle.std.specs.List.{AllByRecursion, slice_get}
 use Rattle.std.specs.Map.{keys_of}
 use Rattle.std.specs.Option.{unwrap_or}
 use Rattle.mc_model.specs.synod.Lists.{In}
 use Rattle.mc_model.specs.synod.Packet.{Packet, Slot, slot_at}
 use Rattle.mc_model.specs.node.Setup.{Setup}
-use Rattle.node_model.specs.Kept.{Held, Kept, message_at, with_message}
+use Rattle.node_model.specs.Kept.{Kept, message_at, with_message}
 use Rattle.node_model.specs.Message.{Message, unseen}
 use Rattle.node_model.specs.Proposer.{Prepared}
 use Rattle.node_model.specs.Rules.{first_rule}
-use Rattle.node_model.specs.Ticks.{and_then, ids_of, ids_with, is_late, ruled, ruled_each, ticked, without_round}
+use Rattle.node_model.specs.Ticks.{and_then, ids_of, is_late, ruled, ruled_each, ticked, without_round}
 use Rattle.node_model.proofs.Places.{elsewhere}
 use Rattle.requests.specs.Queues.{timely}
-use Rattle.requests.specs.Waiting.{Waits, held_in}
+use Rattle.requests.specs.Waiting.{held_in}
 use Rattle.fate_chain.specs.declared.decree.Author.{Author}
 use Rattle.rules.specs.declared.standpoint.Standpoint.{Standpoint}
 use Rattle.shelf.specs.Shelved.{value_at, with_value}
@@ -150,6 +143,33 @@ none_turned k clock up turns own messages packets =
 pub asked_timely : (k : Holding) (clock : ℕ) → AreOwn k → AreAsked k.setup.node k.incarnation (suc k.given) (timely clock (held_in k.queue))
 asked_timely k clock own = asked_kept k.setup.node k.incarnation (suc k.given) (λ h. not (is_late clock h)) (held_in k.queue) own.asked
 
+-- ---- before the first message
+
+by_rested : (id : ℕ) (found : Option Filed) →
+    unwrap_or (option_map (message_of id) (option_map rested found)) unseen ≡ unrounded (unwrap_or (option_map (message_of id) found) unseen)
+by_rested id None = refl
+by_rested id (Some other) = refl
+
+message_ticked : (k : Holding) (clock id : ℕ) (m : Filed) → IsTaken k id m → message_at (ticked (kept_of k) clock) id ≡ message_of id (rested m)
+message_ticked k clock id m taken =
+    ap (λ (entries : List (ℕ × Message)). message_at (record (kept_of k) { messages = entries }) id) (sym (rested_filed k.messages.entries))
+    ∙ ap (λ (found : Option Message). unwrap_or found unseen) (message_looked_up (map rested_entry k.messages.entries) id)
+    ∙ ap (λ (found : Option Filed). unwrap_or (option_map (message_of id) found) unseen) (value_visited rested k.messages.entries id)
+    ∙ by_rested id (value_at k.messages.entries id)
+    ∙ ap unrounded (sym (ap (λ (found : Option Message). unwrap_or found unseen) (message_looked_up k.messages.entries id)) ∙ sym taken.message)
+
+pub rests_first : (k : Holding) (id : ℕ) (m : Filed) (s : Standpoint) → AreOwn k → s.author.node ≡ k.setup.node → s.author.incarnation ≡ k.incarnation → IsTaken k id m →
+    IsAtRest k.setup (ticked (kept_of k) s.clock) (timely s.clock (held_in k.queue)) id m s
+rests_first k id m s own node incarnation taken = record {
+  node = node;
+  incarnation = incarnation;
+  clock = refl;
+  waits = refl;
+  numbered = (asked_timely k s.clock own).numbered;
+  message = message_ticked k s.clock id m taken;
+  records = taken.records;
+}
+
 -- ---- one more message
 
 module _ (k : Holding) (clock : ℕ) (up : List ℕ → Bool) (ids : List ℕ) (turns : TurnList) (is : IsTurned k clock up ids turns)
@@ -160,16 +180,12 @@ module _ (k : Holding) (clock : ℕ) (up : List ℕ → Bool) (ids : List ℕ) (
   not_put : In id (ids_turned turns) → ⊥
   not_put among = new (is.only id among)
 
-  by_value : (found : Option Filed) → unwrap_or (option_map (message_of id) (option_map rested found)) unseen ≡ unrounded (unwrap_or (option_map (message_of id) found) unseen)
-  by_value None = refl
-  by_value (Some other) = refl
-
   message_is : message_at (kept_turned k clock turns) id ≡ message_of id (rested m)
   message_is =
       ap (λ (found : Option Message). unwrap_or found unseen) (message_looked_up Before id)
       ∙ ap (λ (found : Option Filed). unwrap_or (option_map (message_of id) found) unseen)
       (untouched (map rested_entry k.messages.entries) turns.messages.items id not_put ∙ value_visited rested k.messages.entries id)
-      ∙ by_value (value_at k.messages.entries id)
+      ∙ by_rested id (value_at k.messages.entries id)
       ∙ ap unrounded (sym (ap (λ (found : Option Message). unwrap_or found unseen) (message_looked_up k.messages.entries id)) ∙ sym taken.message)
 
   pub at_rest : (s : Standpoint) → s.author.node ≡ k.setup.node → s.author.incarnation ≡ k.incarnation → s.clock ≡ clock → AreOwn k →
@@ -245,54 +261,7 @@ module _ (k : Holding) (clock : ℕ) (up : List ℕ → Bool) (ids : List ℕ) (
       ];
     }
 
--- ---- places
-
--- of ids of which each is lower it is none
-pub is_new : (ids : List ℕ) (id : ℕ) → AllByRecursion (λ (key : ℕ). key < id) ids → In id ids → ⊥
-is_new [] id lower none = none
-is_new (first ∷ others) id lower (inl same) = let below = lower.0 in omega arith
-is_new (first ∷ others) id lower (inr later) = is_new others id lower.1 later
-
--- a list has an item at each place within it
-pub stands_within : {A : Type 0} (xs : List A) (place : ℕ) → place < length xs → None ≡ slice_get xs place → ⊥
-stands_within [] place within none = absurd (omega arith)
-stands_within (x ∷ xs) zero within none = absurd (cc)
-stands_within (x ∷ xs) (suc place) within none = stands_within xs place (omega arith) none
-
--- ---- all messages that are asked of, too
-
-pub none_asked : (k : Holding) (clock : ℕ) (up : List ℕ → Bool) (turns : TurnList) → held_in k.queue ≡ [] → IsTurned k clock up (keys_of k.messages.entries) turns →
-    IsTurned k clock up (ids_of (ticked (kept_of k) clock)) turns
-none_asked k clock up turns none is =
-    subst (λ (held : List Held). IsTurned k clock up (ids_with (timely clock held) (keys_of (map without_round (map filed_as k.messages.entries)))) turns) (sym none)
-    (subst (λ (ids : List ℕ). IsTurned k clock up ids turns) (sym (same_ids k.messages.entries)) is)
-
--- what is asked of beside what is kept
-pub asked_ids : (k : Holding) (clock : ℕ) (ids : List ℕ) → ids ≡ ids_with (timely clock (held_in k.queue)) (keys_of k.messages.entries) → ids ≡ ids_of (ticked (kept_of k) clock)
-asked_ids k clock ids is = is ∙ ap (ids_with (timely clock (held_in k.queue))) (sym (same_ids k.messages.entries))
-
-pub empty_queue : (waits : List Waits) → length waits ≡ 0 → held_in waits ≡ []
-empty_queue [] none = refl
-empty_queue (first ∷ others) none = absurd (omega arith)
-
-pub nothing_left : (ids : List ℕ) → (0 < length ids → ⊥) → ids ≡ []
-nothing_left [] none = refl
-nothing_left (first ∷ others) none = absurd (none (omega arith))
-
-keys_named : (setup : Setup) (starts : ℕ) (entries : List (ℕ × Filed)) → AreOf setup starts entries → AllByRecursion IsId (keys_of entries)
-keys_named setup starts [] own = tt
-keys_named setup starts (e ∷ es) own = (own.0.named, keys_named setup starts es own.1)
-
-pub all_named : (setup : Setup) (starts : ℕ) (entries : List (ℕ × Filed)) → AreOf setup starts entries → All IsId (keys_of entries)
-all_named setup starts entries own = All-from_recursion IsId (keys_of entries) (keys_named setup starts entries own)
-
--- a higher key is put last
-pub put_behind : (keys : List ℕ) (key : ℕ) → AllByRecursion (λ (other : ℕ). other < key) keys → insert_key nat_cmp keys key ≡ keys ++ key ∷ []
-put_behind [] key lower = refl
-put_behind (first ∷ others) key lower =
-    let below : first < key = lower.0 in
-    let greater : nat_cmp key first ≡ Greater = grind (arith, nat_tests) in
-    rw greater (ap (λ (keys : List ℕ). first ∷ keys) (put_behind others key lower.1))
+-- ---- one after another
 
 pub turn_found : {E : Type 0} (k : Holding) (id : ℕ) (s : Standpoint) (up : List ℕ → Bool) (m : Filed) (result : Result (Option Turn) E) → IsTaken k id m →
     IfOk result (IsOfTurn id m) →
@@ -302,26 +271,19 @@ pub turn_found : {E : Type 0} (k : Holding) (id : ℕ) (s : Standpoint) (up : Li
 turn_found k id s up m (Ok turn) taken same is = record { from = m; taken = taken; same = same; turned_is = is }
 turn_found k id s up m (Err e) taken same is = tt
 
-all_in : (P : ℕ → Type 0) (ids : List ℕ) → AllByRecursion P ids → (id : ℕ) → In id ids → P id
-all_in P [] all id none = absurd none
-all_in P (first ∷ others) all id (inl same) = subst P (sym same) all.0
-all_in P (first ∷ others) all id (inr later) = all_in P others all.1 id later
-
 -- while the lowest id that is left is taken first
 pub record IsTurning (k : Holding) (clock : ℕ) (up : List ℕ → Bool) (left : List ℕ) (turns : TurnList) : Type 0 where
   pub done : List ℕ
   pub split : done ++ left ≡ ids_of (ticked (kept_of k) clock)
   pub below : (one later : ℕ) → In one done → In later left → one < later
-  pub named : (id : ℕ) → In id left → IsId id
   pub is : IsTurned k clock up done turns
 
-pub turning_begins : (k : Holding) (clock : ℕ) (up : List ℕ → Bool) (left : List ℕ) (turns : TurnList) → left ≡ ids_of (ticked (kept_of k) clock) → All IsId left →
+pub turning_begins : (k : Holding) (clock : ℕ) (up : List ℕ → Bool) (left : List ℕ) (turns : TurnList) → left ≡ ids_of (ticked (kept_of k) clock) →
     IsTurned k clock up [] turns → IsTurning k clock up left turns
-turning_begins k clock up left turns all named is = record {
+turning_begins k clock up left turns all is = record {
   done = [];
   split = all;
   below = λ one later none among. absurd none;
-  named = all_in IsId left (recursion_from_All IsId left named);
   is = is;
 }
 
@@ -329,9 +291,6 @@ module _ (k : Holding) (clock : ℕ) (up : List ℕ → Bool) (left : List ℕ) 
     (id : ℕ) (rest : List ℕ) (split : left ≡ id ∷ rest) where
   there : In id left
   there = subst (In id) (sym split) (inl refl)
-
-  pub is_named : IsId id
-  is_named = is.named id there
 
   pub is_next : In id is.done → ⊥
   is_next among = let below = is.below id id among there in absurd (omega arith)
@@ -345,17 +304,15 @@ module _ (k : Holding) (clock : ℕ) (up : List ℕ → Bool) (left : List ℕ) 
   done_or (first ∷ others) one (inl same) = inl (inl same)
   done_or (first ∷ others) one (inr among) = elim (done_or others one among) [ inl before ↦ inl (inr before) | inr same ↦ inr same ]
 
-  pub turning_goes_on : (after : TurnList) → All (λ (other : ℕ). nat_cmp id other ≡ Less) rest → IsTurned k clock up (is.done ++ id ∷ []) after →
+  pub turning_goes_on : (after : TurnList) → ((other : ℕ) → In other rest → id < other) → IsTurned k clock up (is.done ++ id ∷ []) after →
       IsTurning k clock up rest after
   turning_goes_on after above turned_so = record {
     done = is.done ++ id ∷ [];
     split = append_assoc is.done (id ∷ []) rest ∙ sym (ap (λ (ids : List ℕ). is.done ++ ids) split) ∙ is.split;
     below = λ one other among behind. elim (done_or is.done one among) [
       | inl before ↦ is.below one other before (later other behind)
-      | inr same ↦ let less = all_in (λ (it : ℕ). nat_cmp id it ≡ Less) rest (recursion_from_All (λ (it : ℕ). nat_cmp id it ≡ Less) rest above) other behind in
-          let lower : id < other = grind (arith, nat_tests) in subst (λ (it : ℕ). it < other) (sym same) lower
+      | inr same ↦ let lower = above other behind in subst (λ (it : ℕ). it < other) (sym same) lower
     ];
-    named = λ other among. is.named other (later other among);
     is = turned_so;
   }
 

@@ -1,4 +1,5 @@
 pub mod Lists
+pub mod Copies
 pub mod Setups
 pub mod Attempting
 pub mod Messages
@@ -7,6 +8,7 @@ pub mod Deleting
 pub mod Keeping
 pub mod Steps
 pub mod Pendings
+pub mod Stops
 pub mod Nodes
 pub mod Voting
 pub mod Telling
@@ -14,3 +16,5 @@ pub mod Arriving
 pub mod Renewal
 pub mod Ticking
 pub mod Restarts
+pub mod Walking
+pub mod Idling

@@ -1,27 +1,36 @@
 -- A node of the code, and its steps.
-use Rattle.std.specs.Prelude.{◌≡◌, ◌⊎◌, ℕ, ◌+◌, Bool, true, false, ◌||◌, List, Option, Some, None, if◌then◌else◌}
-use Rattle.mc_model.specs.synod.Acceptor.{Records}
+use Rattle.std.specs.Prelude.{◌≡◌, ◌≢◌, ◌⊎◌, ℕ, ◌+◌, Bool, true, false, ◌||◌, List, Option, Some, None, if◌then◌else◌}
+use Rattle.mc_model.specs.synod.Lists.{In}
+use Rattle.mc_model.specs.synod.Packet.{Slot}
+use Rattle.mc_model.specs.synod.Acceptor.{Records, blank}
 use Rattle.mc_model.specs.node.Setup.{Setup}
 use Rattle.node_model.specs.Recorded.{AreRecorded}
 use Rattle.node_model.specs.Stepped.{opened_over, stepped}
 use Rattle.stable_store.specs.Stored.{AreSame}
 use Rattle.stable_store.specs.declared.fault.StoreFault.{StoreFault}
 use Rattle.stable_store.specs.declared.fault.StoreFault.TheVariants as faults
+use Rattle.synod_acceptor.specs.declared.packet.Packet.{Packet}
 use Rattle.node_core.specs.declared.fault.StepFault.{StepFault}
 use Rattle.node_core.specs.declared.fault.StepFault.TheVariants.{Broken}
 use Rattle.node_core.specs.declared.input.Input.{Input}
+use Rattle.node_core.specs.declared.input.Input.TheVariants as given
 use Rattle.node_core.specs.declared.kept.Kept.{Kept}
 use Rattle.node_core.specs.declared.life.Life.{Life}
 use Rattle.node_core.specs.declared.outputs.Outputs.{Outputs}
+use Rattle.node_core.specs.declared.stopped.Stopped.{Stopped}
 use Rattle.node_core.specs.Keeping.{AreOwn, kept_of, records_of}
 use Rattle.node_core.specs.Pendings.{Awaited}
 use Rattle.node_core.specs.Steps.{input_of, outputs_of, refused_by}
+use Rattle.node_core.specs.Stops.{IsUnfinished}
 
--- what it keeps, whether a save failed, and its store
+-- what it keeps, whether a save failed, its store, the packet whose save failed since it opened, and what it tells of the save that failed
+-- before it opened
 pub record Standing (S : Type 0) : Type 0 where
   pub kept : Kept
   pub broken : Bool
   pub store : S
+  pub unfinished : Option Packet
+  pub stopped : Option Stopped
 
 -- the same with what is stored: the records and the last incarnation
 pub record Seen : Type 0 where
@@ -29,9 +38,18 @@ pub record Seen : Type 0 where
   pub broken : Bool
   pub stored : Records
   pub started : ℕ
+  pub unfinished : Option Packet
+  pub stopped : Option Stopped
 
 abbrev pub seen : {S : Type 0} → (S → Records) → (S → ℕ) → Standing S → Seen
-seen records started n = record { kept = n.kept; broken = n.broken; stored = records n.store; started = started n.store }
+seen records started n = record {
+  kept = n.kept;
+  broken = n.broken;
+  stored = records n.store;
+  started = started n.store;
+  unfinished = n.unfinished;
+  stopped = n.stopped;
+}
 
 -- nothing of it changed
 pub record IsUnmoved (old new : Seen) : Type 0 where
@@ -39,24 +57,35 @@ pub record IsUnmoved (old new : Seen) : Type 0 where
   pub broken : new.broken ≡ old.broken
   pub stored : AreSame new.stored old.stored
   pub started : new.started ≡ old.started
+  pub unfinished : new.unfinished ≡ old.unfinished
+  pub stopped : new.stopped ≡ old.stopped
 
--- The device failed at the save of a step: what is stored is what was, or what the step leaves, and the node keeps what it kept.
+-- The device failed at the save of a step, which is that of a packet: what is stored is what was, or what the step leaves, and the node
+-- keeps what it kept. The packet is unfinished.
 pub record HasStopped (old : Seen) (input : Input) (new : Seen) : Type 0 where
   pub kept : new.kept ≡ old.kept
   pub broken : new.broken ≡ true
   pub stored : AreSame new.stored old.stored ⊎ AreSame new.stored (stepped old.kept.setup (kept_of old.kept) (input_of old.kept.setup (kept_of old.kept) input)).kept.records
   pub started : new.started ≡ old.started
+  pub packet : Packet
+  pub came : input ≡ given.Packet packet
+  pub unfinished : new.unfinished ≡ Some packet
+  pub stopped : new.stopped ≡ old.stopped
 
--- Its messages are its own, and unless a save failed, its records are those that are stored.
-pub record IsStored (broken : Bool) (stored : Records) (k : Kept) : Type 0 where
+-- Its messages are its own, and unless a save failed, its records are those that are stored and no packet is unfinished. If one is, what is
+-- stored is what it keeps, or what the packet's step leaves.
+pub record IsStored (broken : Bool) (stored : Records) (unfinished : Option Packet) (k : Kept) : Type 0 where
   pub saved : broken ≡ false → AreSame stored (records_of k.messages.entries)
   pub own : AreOwn k
+  pub finished : broken ≡ false → unfinished ≡ None
+  pub halted : IsUnfinished k stored unfinished
 
--- It opened in this incarnation with these records and nothing else; its messages are those of which there is a record.
+-- It opened in this incarnation with these records and nothing else; its messages are those of which there is a record, at whatever place.
 pub record HasOpened {S : Type 0} (with : Setup) (records : Records) (starts : ℕ) (node : Standing S) (life : Life) : Type 0 where
   pub ids : List ℕ
   pub kept : kept_of node.kept ≡ opened_over records ids starts with.first_serial
   pub listed : AreRecorded records ids
+  pub whole : (slot : Slot) → (records slot ≢ blank) → In slot.id ids
   pub setup : node.kept.setup ≡ with
   pub works : node.broken ≡ false
   pub of_node : life.node ≡ with.node
@@ -80,6 +109,8 @@ pub record HasTaken {S : Type 0} (old : Standing S) (input : Input) (new : Stand
   pub setup : new.kept.setup ≡ old.kept.setup
   pub incarnation : new.kept.incarnation ≡ old.kept.incarnation
   pub works : new.broken ≡ false
+  pub unfinished : new.unfinished ≡ old.unfinished
+  pub stopped : new.stopped ≡ old.stopped
 
 -- ---- opening again
 
@@ -108,3 +139,5 @@ pub record IsLeft (old : Seen) (fault : StoreFault) (new : Seen) : Type 0 where
   pub broken : new.broken ≡ (old.broken || breaks fault)
   pub stored : AreSame new.stored old.stored
   pub started : IsRaised fault old.started new.started
+  pub unfinished : new.unfinished ≡ old.unfinished
+  pub stopped : new.stopped ≡ old.stopped

@@ -1,5 +1,5 @@
 -- A node that opens again, as the model's that starts anew.
-use Rattle.std.specs.Prelude.{◌≡◌, ℕ, suc, ◌+◌, Bool}
+use Rattle.std.specs.Prelude.{◌≡◌, ℕ, suc, ◌+◌, Bool, Some}
 use Rattle.std.specs.Map.{keys_of}
 use Rattle.std.specs.Ordering.{nat_cmp}
 use Rattle.std.specs.List.Sorted.{IsStrictlySortedBy}
@@ -13,10 +13,14 @@ use Rattle.node_model.specs.Stepped.{stepped}
 use Rattle.stable_store.specs.Stored.{AreSame}
 use Rattle.synod_acceptor.specs.Packets.{packet_of}
 use Rattle.synod_acceptor.specs.declared.packet.Packet.{Packet}
+use Rattle.node_core.specs.declared.input.Input.{Input}
 use Rattle.node_core.specs.declared.input.Input.TheVariants as given
+use Rattle.node_core.specs.declared.kept.Kept.{Kept as Holding}
 use Rattle.node_core.specs.declared.life.Life.{Life}
+use Rattle.node_core.specs.declared.stopped.Stopped.{Stopped}
 use Rattle.node_core.specs.Keeping.{kept_of, records_of}
 use Rattle.node_core.specs.Nodes.{HasOpened, HasStopped, Seen, Standing}
+use Rattle.node_core.specs.Stops.{IsTold, is_after}
 
 -- each message of which there is a record is among those that are kept, by ascending ids
 pub record ListsRecorded (k : Kept) : Type 0 where
@@ -46,3 +50,21 @@ OpensAsCrashed S =
     → HasOpened old.kept.setup stopped.stored (next_life (kept_of old.kept) lost) node life
     → (after : Bool)
     × (kept_of node.kept ≡ (stepped old.kept.setup (stepped old.kept.setup (kept_of old.kept) (Crash (packet_of packet) after)).kept (Restart lost)).kept)
+
+-- What it tells is so: at the packet that came it keeps what is kept after a crash, before or behind the save as is found, and a restart.
+pub record KeepsAsTold {S : Type 0} (k : Holding) (input : Input) (lost : ℕ) (node : Standing S) : Type 0 where
+  pub told : Stopped
+  pub tells : node.stopped ≡ Some told
+  pub came : input ≡ given.Packet told.packet
+  pub kept : kept_of node.kept
+      ≡ (stepped k.setup (stepped k.setup (kept_of k) (Crash (packet_of told.packet) (is_after told.found))).kept (Restart lost)).kept
+
+-- A node stopped in a save, and the same node was opened again.
+abbrev pub ReopensAsCrashed : Type 0 → Type 0
+ReopensAsCrashed S =
+    (old halted : Seen) (input : Input) (lost : ℕ) (node : Standing S) (life : Life)
+    → ListsRecorded (kept_of old.kept)
+    → HasStopped old input halted
+    → HasOpened old.kept.setup halted.stored (next_life (kept_of old.kept) lost) node life
+    → IsTold halted.kept halted.stored halted.unfinished node.stopped
+    → KeepsAsTold old.kept input lost node

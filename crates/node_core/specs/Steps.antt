@@ -1,8 +1,9 @@
 -- A step of the code, as a step of the node's model.
-use Rattle.std.specs.Prelude.{◌≡◌, ℕ, suc, ◌≤◌, ◌-◌, max, Bool, false, List, [], ◌∷◌, length, map, option_map, Option, Some, None, if◌then◌else◌}
+use Rattle.std.specs.Prelude.{◌≡◌, ◌≢◌, ℕ, suc, ◌≤◌, ◌-◌, max, Bool, false, List, [], ◌∷◌, length, map, option_map, Option, Some, None, if◌then◌else◌}
 use Rattle.std.specs.Box.{box_value}
 use Rattle.mc_model.specs.message.Chain.{Chain}
 use Rattle.mc_model.specs.synod.Packet.{Packet, Slot, slot_of}
+use Rattle.mc_model.specs.synod.Acceptor.{Records}
 use Rattle.mc_model.specs.node.Input.{Delivery, Grant, Input, Response, Tick}
 use Rattle.mc_model.specs.node.Outputs.{Outputs, Receipt}
 use Rattle.mc_model.specs.node.Setup.{Setup}
@@ -18,7 +19,9 @@ use Rattle.requests.specs.Replying.{reply_given}
 use Rattle.requests.specs.Waiting.{held_in}
 use Rattle.shelf.specs.Shelved.{Shelved, with_value}
 use Rattle.synod_acceptor.specs.Packets.{packet_of}
+use Rattle.synod_acceptor.specs.Votes.{record_of, slot_recorded}
 use Rattle.synod_acceptor.specs.declared.acceptor.Verdict.{Verdict}
+use Rattle.synod_acceptor.specs.declared.record.Change.{Change}
 use Rattle.node_core.specs.declared.fault.StepFault.{StepFault}
 use Rattle.node_core.specs.declared.fault.StepFault.TheVariants as faults
 use Rattle.node_core.specs.declared.input.Input.{Input as Given}
@@ -136,12 +139,18 @@ pub record AreOwnThen (k : Holding) (next : Next) : Type 0 where
   pub asked : AreAsked k.setup.node k.incarnation (suc next.given) (held_then k next)
   pub serial : 1 ≤ next.serial
 
+-- a change puts another record in the place of the old one
+abbrev pub Alters : Option Change → Records → Type 0
+Alters None records = Unit {0}
+Alters (Some change) records = record_of change.after ≢ records (slot_recorded change.after)
+
 -- A step of the code is this one: it keeps the same and gives out the same, and once its change is saved, the records that are saved are
--- those that are kept.
+-- those that are kept. There is a change only if a record changes.
 pub record IsStep (k : Holding) (to : Stepped) (step : Step) : Type 0 where
   pub kept : kept_then k step.next ≡ to.kept
   pub outputs : outputs_of step.outputs ≡ to.outputs
   pub saves : (slot : Slot) → records_of (installed k step.next).messages.entries slot ≡ changed_by step.change (records_of k.messages.entries) slot
+  pub alters : Alters step.change (records_of k.messages.entries)
   pub own : AreOwn k → AreOwnThen k step.next
   pub room : HasRoom k.messages step.next
   pub place : HasPlace k.queue step.next.queue

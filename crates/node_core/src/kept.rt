@@ -1,6 +1,6 @@
 //! What a node keeps.
 
-ghost use Rattle.std.specs.Prelude.{◌≡◌, ℕ, suc, ◌≤◌, ◌&&◌, length, [], None, IfErr, IfOk, OnOk, not, option_map, false};
+ghost use Rattle.std.specs.Prelude.{◌≡◌, ℕ, suc, ◌≤◌, ◌&&◌, length, [], None, IfErr, IfOk, IsOk, OnOk, not, option_map, false};
 ghost use Rattle.std.specs.Option.{option_copied};
 ghost use Rattle.mc_model.specs.node.Setup.{Setup as SetupValue};
 ghost use Rattle.mc_model.specs.synod.Acceptor.{Records};
@@ -17,6 +17,7 @@ ghost use Rattle.synod_acceptor.specs.Packets.{packet_of};
 ghost use Rattle.shelf.specs.Shelved.{value_at};
 ghost use Rattle.synod_acceptor.specs.Records.{entries_of, record_at};
 ghost use Rattle.synod_acceptor.specs.Votes.{report_of, slot_in, slot_reported, told_vote, vote_of};
+ghost use Rattle.node_core.specs.Idling.{FindsNothing};
 ghost use Rattle.node_core.specs.Keeping.{AreOwn, IsFiled, IsOpen, IsTaken, kept_of};
 ghost use Rattle.node_core.specs.Lists.{listed};
 ghost use Rattle.node_core.specs.Restarts.{ListsRecorded};
@@ -24,7 +25,8 @@ ghost use Rattle.node_core.specs.Queueing.{HasPlace, requeued};
 ghost use Rattle.node_core.specs.declared.queue_change.QueueChange.TheVariants.{Same};
 ghost use Rattle.requests.specs.Waiting.{held_in};
 ghost use Rattle.node_core.specs.Voting.{id_concerns, receipt_if, voted_in};
-ghost use Rattle.node_core.specs.Steps.{HasRoom, IsAnswer, IsFault, IsInstalled, IsLeft, IsNext, IsStep, IsStepFor, entries_after, giving, receipt_of, refused_by, rested_if};
+ghost use Rattle.node_core.specs.Pendings.{IsPrepared};
+ghost use Rattle.node_core.specs.Steps.{HasRoom, IsAnswer, IsFault, IsInstalled, IsLeft, IsNext, IsStep, entries_after, giving, receipt_of, refused_by, rested_if};
 
 use crate::fault::StepFault;
 use crate::input::{Input, sender};
@@ -114,27 +116,35 @@ impl Kept {
         Ok(())
     }
 
-    /// The step that an input leads to. It changes nothing, and copies what is kept of the input's message alone, or of those that a tick
-    /// does not leave as they are. A refusal comes before any memory is taken.
-    pub fn step(&self, input: Input) -> Result<Step, StepFault>
+    /// The step that an input leads to, and the packet that came, if one did. It changes nothing, and copies what is kept of the input's
+    /// message alone, or of those that a tick does not leave as they are. A refusal comes before any memory is taken, and a
+    /// tick that finds nothing due takes none.
+    pub fn step(&self, input: Input) -> Result<(Step, Option<Packet>), StepFault>
         requires { AreOwn self.now }
-        ensures ok { IfOk result (IsStepFor self.now input) }
+        ensures ok { IfOk result (λ prepared. IsPrepared self.now input prepared.0 prepared.1) }
         ensures faults { IfErr result (IsFault (refused_by self.now.setup (kept_of self.now) input)) }
+        ensures idle { FindsNothing self.now.setup (kept_of self.now) input → IsOk result }
     {
         match input {
             Input::Packet(packet) => {
                 let step = self.on_packet(&packet)?;
-                Ok(step)
+                Ok((step, Some(packet)))
             }
             Input::Request(account, request) => {
                 let step = self.on_request(&account, request)?;
-                Ok(step)
+                Ok((step, None))
             }
-            Input::Grant(id) => self.on_grant(id),
-            Input::Answered(slot, outcome) => self.on_answered(slot, outcome),
+            Input::Grant(id) => {
+                let step = self.on_grant(id)?;
+                Ok((step, None))
+            }
+            Input::Answered(slot, outcome) => {
+                let step = self.on_answered(slot, outcome)?;
+                Ok((step, None))
+            }
             Input::Tick(moment, up) => {
                 let step = self.on_tick(moment, &up)?;
-                Ok(step)
+                Ok((step, None))
             }
         }
     }
@@ -377,7 +387,7 @@ impl Kept {
     {
         match self.find(id) {
             Some(message) => message.copy(),
-            None => Message::fresh(self.alloc, self.author(), self.nodes()),
+            None => Ok(Message::fresh(self.alloc, self.author(), self.nodes())),
         }
     }
 

@@ -1,6 +1,6 @@
 //! Laws of a node that opens again: nothing to call, but to cite.
 
-ghost use Rattle.node_core.specs.Restarts.{OpensAsCrashed, OpensAsRestarted};
+ghost use Rattle.node_core.specs.Restarts.{OpensAsCrashed, OpensAsRestarted, ReopensAsCrashed};
 
 use stable_store::StableStore;
 
@@ -13,4 +13,10 @@ pub fn opens_as_restarted<S: StableStore>()
 /// comes before the save or behind it, and a restart.
 pub fn opens_as_crashed<S: StableStore>()
     ensures { OpensAsCrashed S }
+{}
+
+/// A node that was stopped in a save and opened again tells the packet that came, and keeps what the model's does after a crash at that
+/// packet, before the save or behind it as it tells, and a restart.
+pub fn reopens_as_crashed<S: StableStore>()
+    ensures { ReopensAsCrashed S }
 {}

@@ -3,6 +3,7 @@
 
 mod arriving;
 mod attempts;
+mod copies;
 mod fault;
 mod grant_refusal;
 mod granting;
@@ -23,18 +24,21 @@ mod round_drop;
 mod ruling;
 mod setup;
 mod step;
+mod stopped;
 mod telling;
 mod ticking;
 mod turn;
 mod turn_list;
+mod walk;
 
 pub use fault::StepFault;
 pub use grant_refusal::GrantRefusal;
 pub use input::Input;
-pub use laws::{opens_as_crashed, opens_as_restarted};
+pub use laws::{opens_as_crashed, opens_as_restarted, reopens_as_crashed};
 pub use life::Life;
 pub use node::Node;
 pub use open::open_node;
 pub use outputs::Outputs;
 pub use pending::Pending;
 pub use setup::Setup;
+pub use stopped::{Found, Stopped};

@@ -1,6 +1,6 @@
 //! What a node keeps of one message.
 
-ghost use Rattle.std.specs.Prelude.{◌≡◌, ◌≤◌, ℕ, true, Some, None, IfErr, IfOk, IfSome, OnOk, option_map, if◌then◌else◌};
+ghost use Rattle.std.specs.Prelude.{◌≡◌, ◌≤◌, ℕ, true, Ok, Some, None, IfErr, IfOk, IfSome, OnOk, option_map, if◌then◌else◌};
 ghost use Rattle.std.specs.Option.{option_copied};
 ghost use Rattle.mc_model.specs.node.Setup.{Setup};
 ghost use Rattle.mc_model.specs.synod.Packet.{Slot as SlotValue};
@@ -15,7 +15,7 @@ ghost use Rattle.mc_model.specs.message.Chain.{final_in};
 ghost use Rattle.mc_model.specs.message.Ids.{IsId};
 ghost use Rattle.fate_chain.specs.Kinds.{final_of};
 ghost use Rattle.synod_proposer.specs.Proposing.{IsOfSame as IsOfSameProposer, message_of as message_proposed};
-ghost use Rattle.synod_acceptor.specs.Records.{record_at};
+ghost use Rattle.synod_acceptor.specs.Records.{held_at, record_at};
 ghost use Rattle.synod_acceptor.specs.Votes.{record_of, report_of, slot_in, slot_recorded, slot_reported, told_vote, vote_of};
 ghost use Rattle.delivery.specs.Kept.{outcome_kept};
 ghost use Rattle.rules.specs.Attempts.{closed_as};
@@ -58,18 +58,19 @@ pub struct Message {
 }
 
 impl Message {
-    /// What an author, a node in an incarnation, keeps of a message that was never heard of, in a cluster of so many nodes.
-    pub fn fresh(alloc: Global, me: Author, nodes: u8) -> Result<Message, AllocError>
-        ensures records { IfOk result (λ message. (slot : SlotValue) → record_at message.acceptor slot ≡ blank) }
-        ensures message { IfOk result (λ message. (id : ℕ) → message_of id message ≡ unseen) }
-        ensures own { IfOk result (λ message. (id : ℕ) → IsId id → IsOf me.node me.incarnation nodes id message) }
+    /// What an author, a node in an incarnation, keeps of a message that was never heard of, in a cluster of so many nodes. It takes no
+    /// memory.
+    pub fn fresh(alloc: Global, me: Author, nodes: u8) -> Message
+        ensures records { (slot : SlotValue) → record_at result.acceptor slot ≡ blank }
+        ensures message { (id : ℕ) → message_of id result ≡ unseen }
+        ensures own { (id : ℕ) → IsId id → IsOf me.node me.incarnation nodes id result }
     {
-        Ok(Message {
-            acceptor: Acceptor::make(alloc, Vec::new(alloc))?,
+        Message {
+            acceptor: Acceptor::empty(alloc),
             learner: Learner::make(alloc, nodes),
             proposer: Proposer::make(me, nodes),
             attempts: Attempts::none(),
-        })
+        }
     }
 
     /// What the acceptor of the node of this number answers to a Prepare, and the change that is to be saved before; it has taken it in.
@@ -96,6 +97,14 @@ impl Message {
         let verdict = self.acceptor.judge_propose(node, vote)?;
         take_in(&mut self.acceptor, &verdict.change)?;
         Ok(verdict)
+    }
+
+    /// The record of a slot; none if nothing was promised and nothing voted there. It takes no memory.
+    pub fn record(&self, slot: Slot) -> Option<&Record>
+        ensures record { option_map record_of (option_copied result) ≡ held_at self.now.acceptor slot }
+        ensures slot { IfSome (option_copied result) (λ kept. slot_recorded kept ≡ slot) }
+    {
+        self.acceptor.record(slot)
     }
 
     /// Whether a round of this slot runs at this ballot. It takes no memory.
@@ -262,7 +271,8 @@ impl Message {
     }
 
     /// What a tick makes of the message of this id, if it is not kept as it was, once no round of it runs. `up` has the accounts of which a
-    /// session may receive, `queue` the requests that wait, of which those count that did not wait too long.
+    /// session may receive, `queue` the requests that wait, of which those count that did not wait too long. If no rule fits, it is kept
+    /// as it was, and no memory is taken.
     pub fn turn(
         &self,
         id: MsgId,
@@ -274,6 +284,8 @@ impl Message {
         ensures same { IfOk result (IsOfTurn id self.now) }
         ensures turned { IfOk result (λ turn. (setup : Setup) (k : KeptValue) → IsAtRest setup k (timely at.now.clock (held_in queue.now)) id self.now at.now →
             IsOf setup.node k.incarnation setup.nodes id self.now → turned k id turn ≡ ruled setup k id (first_rule setup k (is_up up.now) id)) }
+        ensures idle { (setup : Setup) (k : KeptValue) → IsAtRest setup k (timely at.now.clock (held_in queue.now)) id self.now at.now →
+            first_rule setup k (is_up up.now) id ≡ None → result ≡ Ok None }
     {
         let Some(ruling) = self.ruling(id, at, queue, up)? else {
             return Ok(None);
@@ -299,7 +311,8 @@ impl Message {
 
     /// What a tick decides on the message of this id by the first rule that fits, if one does: it is taken for a submit_sm that waits, the
     /// highest vote beyond what is known is followed that is its own or was told to a request, or it is decided what is due behind that. `up`
-    /// has the accounts of which a session may receive, `queue` the requests that wait, of which those count that did not wait too long.
+    /// has the accounts of which a session may receive, `queue` the requests that wait, of which those count that did not wait too long. It
+    /// takes memory only if a rule fits.
     pub fn ruling(
         &self,
         id: MsgId,
@@ -310,6 +323,8 @@ impl Message {
         requires { AreToldOf (timely at.now.clock (held_in queue.now)) }
         ensures rule { IfOk result (λ ruling. (setup : Setup) (k : KeptValue) → IsAtRest setup k (timely at.now.clock (held_in queue.now)) id self.now at.now →
             option_map ruled_as ruling ≡ option_map ruled_by (first_rule setup k (is_up up.now) id)) }
+        ensures idle { (setup : Setup) (k : KeptValue) → IsAtRest setup k (timely at.now.clock (held_in queue.now)) id self.now at.now →
+            first_rule setup k (is_up up.now) id ≡ None → result ≡ Ok None }
         ensures id { IfOk result (λ ruling. IfSome ruling (λ it. it.chain.id ≡ id)) }
         ensures place { IfOk result (λ ruling. IfSome ruling (λ it. IfSome it.given_up (λ place. place ≤ 17))) }
     {
@@ -334,7 +349,7 @@ impl Message {
         }
     }
 
-    /// What a tick decides behind a chain of the message that is known, if anything is due there.
+    /// What a tick decides behind a chain of the message that is known, if anything is due there. It takes memory only if something is.
     fn ruling_behind(
         &self,
         chain: &Chain,
@@ -344,6 +359,8 @@ impl Message {
     ) -> Result<Option<Ruling>, AllocError>
         ensures rule { IfOk result (λ ruling. (setup : Setup) (k : KeptValue) → IsAtRest setup k (timely at.now.clock (held_in queue.now)) chain.now.id self.now at.now →
             option_map ruled_as ruling ≡ option_map ruled_by (known_rule setup k (is_up up.now) chain.now.id (Some chain.now.decrees))) }
+        ensures idle { (setup : Setup) (k : KeptValue) → IsAtRest setup k (timely at.now.clock (held_in queue.now)) chain.now.id self.now at.now →
+            known_rule setup k (is_up up.now) chain.now.id (Some chain.now.decrees) ≡ None → result ≡ Ok None }
         ensures id { IfOk result (λ ruling. IfSome ruling (λ it. it.chain.id ≡ chain.now.id)) }
         ensures place { IfOk result (λ ruling. IfSome ruling (λ it. IfSome it.given_up (λ place. place ≤ 17))) }
     {

@@ -1,12 +1,17 @@
 //! One node.
 
-ghost use Rattle.std.specs.Prelude.{◌≡◌, ◌↔◌, ◌⊎◌, true, false, IfOk, IfErr, IsErrOf, OnErr, OnOk, ◌+◌};
+ghost use Rattle.std.specs.Prelude.{◌≡◌, ◌≢◌, ◌↔◌, ◌⊎◌, None, true, false, IfOk, IfErr, IsErrOf, IsOk, OnErr, OnOk, ◌+◌, ◌≤◌};
+ghost use Rattle.mc_model.specs.message.Ids.{IsIncarnation, IsNode};
 ghost use Rattle.node_core.specs.declared.fault.StepFault.TheVariants.{Broken, Device, Memory};
+ghost use Rattle.std.specs.Option.{option_copied};
 ghost use Rattle.stable_store.specs.Stored.{AreSame};
+ghost use Rattle.node_core.specs.Idling.{FindsNothing};
 ghost use Rattle.node_core.specs.Keeping.{kept_of, records_of};
 ghost use Rattle.node_core.specs.Messages.{changed_by};
 ghost use Rattle.node_core.specs.Restarts.{ListsRecorded};
+ghost use Rattle.node_core.specs.Setups.{IsSetup};
 ghost use Rattle.node_core.specs.Steps.{IsFault};
+ghost use Rattle.node_core.specs.Stops.{IsTold};
 ghost use Rattle.node_core.specs.Nodes.{HasOpened, HasStopped, HasTaken, IsAwaited, IsLeft, IsLifeOf, IsStored, IsUnmoved, breaks, fault_in, seen};
 
 use crate::fault::StepFault;
@@ -17,10 +22,11 @@ use crate::open::begin;
 use crate::outputs::Outputs;
 use crate::pending::Pending;
 use crate::step::Step;
+use crate::stopped::{Stopped, told};
 use stable_store::{StableStore, StoreFault};
 use std::marker::Model;
 use std::snapshot::Snapshot;
-use synod_acceptor::Change;
+use synod_acceptor::{Change, Packet};
 
 /// One node over the synod, and the store that outlives its stops. A step is prepared first, which changes nothing, and then committed,
 /// which takes no memory but what its store takes. Once a save failed it takes no more steps.
@@ -29,6 +35,9 @@ pub struct Node<S: StableStore> {
     store: S,
     kept: Kept,
     broken: bool,
+    // The packet whose save failed since it opened.
+    unfinished: Option<Packet>,
+    stopped: Option<Stopped>,
 }
 
 impl<S: StableStore> Model for Node<S> {
@@ -42,62 +51,74 @@ impl<S: StableStore> Model for Node<S> {
       kept = n.kept;
       broken = n.broken;
       store = n.store;
+      unfinished = n.unfinished;
+      stopped = n.stopped;
     } };
 
-    ghost invariant = { λ n. IsStored n.broken (S.records n.store) n.kept };
+    ghost invariant = { λ n. IsStored n.broken (S.records n.store) n.unfinished n.kept };
 }
 
 impl<S: StableStore> Node<S> {
     /// A node that keeps what its store has the records of.
     pub(crate) fn make(store: S, kept: Kept) -> Node<S>
-        requires { IsStored false (S.records store) kept }
+        requires { IsStored false (S.records store) None kept }
         ensures kept { result.kept ≡ kept }
         ensures broken { result.broken ≡ false }
         ensures store { result.store ≡ store }
+        ensures unfinished { result.unfinished ≡ None }
+        ensures stopped { result.stopped ≡ None }
     {
         Node {
             store,
             kept,
             broken: false,
+            unfinished: None,
+            stopped: None,
         }
     }
 
     /// Prepares what the node does with an input. It changes nothing, and copies what is kept of the message of the input alone, or of
     /// those that a tick does not leave as they are. Broken exactly if a save failed before; else Grant exactly if an attempt is asked for
     /// that is not granted, with the first reason that fits, and NotGranted exactly if what came of an attempt comes that is not open. Each
-    /// comes before any memory is taken; a tick is never refused.
+    /// comes before any memory is taken; a tick is never refused, and one that finds nothing due takes no memory.
     pub fn prepare_step(&self, input: Input) -> Result<Pending, StepFault>
         ensures ok { IfOk result (IsAwaited self.now input) }
         ensures broken { IsErrOf result Broken ↔ (self.now.broken ≡ true) }
         ensures faults { IfErr result (IsFault (fault_in self.now input)) }
+        ensures idle { self.now.broken ≡ false → FindsNothing self.now.kept.setup (kept_of self.now.kept) input → IsOk result }
     {
         self.judge()?;
         let given = Snapshot::of(&input);
-        let step = self.kept.step(input)?;
+        let (step, packet) = self.kept.step(input)?;
         Ok(Pending {
             given,
             step,
+            packet,
             was: Snapshot::of(&self.kept),
         })
     }
 
     /// Does what was prepared, if the node is as it was then: it saves what is to be saved, and then keeps what is to be kept and gives
-    /// out what is to be given out. It takes no memory but what its store takes. Broken exactly if a save failed before. Memory, from
-    /// the store, changes nothing. At Device the change is saved or not, and the node is Broken.
+    /// out what is to be given out. It takes no memory but what its store takes. Broken exactly if a save failed before; it changes nothing,
+    /// and nor does Memory, which is from the store. At Device, which comes at the step of a packet alone, the change is saved or not, and the
+    /// node is Broken.
     pub fn commit(&mut self, pending: Pending) -> Result<Outputs, StepFault>
         requires { pending.was ≡ self.old.kept }
         ensures ok { IfOk result (HasTaken self.old pending.input self.new) }
         ensures broken { IsErrOf result Broken ↔ (self.old.broken ≡ true) }
+        ensures stays { IsErrOf result Broken → IsUnmoved (seen S.records S.started self.old) (seen S.records S.started self.new) }
         ensures memory { IsErrOf result Memory → IsUnmoved (seen S.records S.started self.old) (seen S.records S.started self.new) }
         ensures device { IsErrOf result Device → HasStopped (seen S.records S.started self.old) pending.input (seen S.records S.started self.new) }
+        ensures faults { IfErr result (λ fault. (fault ≡ Broken) ⊎ (fault ≡ Device) ⊎ (fault ≡ Memory)) }
         ensures started { S.started self.new.store ≡ S.started self.old.store }
     {
         self.judge()?;
+        let Pending { step, packet, .. } = pending;
         let Step {
             outputs,
             change,
             next,
-        } = pending.step;
+        } = step;
         match save(&mut self.store, &change) {
             Ok(()) => {
                 self.kept.install(next);
@@ -105,6 +126,7 @@ impl<S: StableStore> Node<S> {
             }
             Err(StepFault::Device) => {
                 self.broken = true;
+                self.unfinished = packet;
                 Err(StepFault::Device)
             }
             Err(fault) => Err(fault),
@@ -113,17 +135,21 @@ impl<S: StableStore> Node<S> {
 
     /// Opens the node again over what its store has, in the incarnation after the last one that is stored, which is raised last: it
     /// keeps the records of the store and nothing else. The `Life` is the node's own, and an `Err` hands it back. Incarnations and Memory
-    /// leave the node and its store as they were; after Device and Damaged it is Broken, and the store has the same records.
+    /// leave the node and its store as they were; after Device and Damaged it is Broken, and the store has the same records. Once it opened,
+    /// `stopped` tells of the save that failed before, if one did.
     pub fn reopen(&mut self, life: Life) -> Result<Life, (StoreFault, Life)>
         requires { IsLifeOf self.old life }
         ensures ok { IfOk result (HasOpened self.old.kept.setup (S.records self.old.store) (S.started self.old.store + 1) self.new) }
         ensures started { OnOk result (S.started self.new.store ≡ S.started self.old.store + 1) }
+        ensures told { OnOk result (IsTold self.old.kept (S.records self.old.store) self.old.unfinished self.new.stopped) }
+        ensures finished { OnOk result (self.new.unfinished ≡ None) }
         ensures err { IfErr result (λ failed. IsLeft (seen S.records S.started self.old) failed.0 (seen S.records S.started self.new)) }
         ensures life { IfErr result (λ failed. failed.1 ≡ life) }
     {
         let setup = self.kept.setup();
         match begin(self.kept.alloc(), &mut self.store, setup) {
             Ok(kept) => {
+                self.stopped = told(&kept, self.unfinished.take());
                 self.kept = kept;
                 self.broken = false;
                 Ok(Life::of(setup.node, self.kept.incarnation()))
@@ -133,6 +159,14 @@ impl<S: StableStore> Node<S> {
                 Err((fault, life))
             }
         }
+    }
+
+    /// Of the save in which it stopped before it was opened again: the packet whose step it was, and whether what was stored then is what
+    /// was stored before it, or what it was to store. None if no save failed. It takes no memory.
+    pub fn stopped(&self) -> Option<&Stopped>
+        ensures { option_copied result ≡ self.now.stopped }
+    {
+        self.stopped.as_ref()
     }
 
     /// Broken exactly if a save failed before. It takes no memory.
@@ -155,6 +189,17 @@ impl<S: StableStore> Node<S> {
         self.kept.lists();
     }
 
+    /// What a proof takes of its numbers: it is one of nine nodes at most, and there are its incarnation and its serials. The call does nothing.
+    pub fn bounds(&self)
+        ensures node { IsNode self.now.kept.setup.node }
+        ensures setup { IsSetup self.now.kept.setup }
+        ensures incarnation { IsIncarnation self.now.kept.incarnation }
+        ensures serial { 1 ≤ self.now.kept.serial }
+    {
+        self.kept.setup().bounds();
+        self.kept.incarnation().number();
+    }
+
     /// The store, once the node is done with.
     pub fn into_store(self) -> S
         ensures { self.broken ≡ false → AreSame (S.records result) (records_of self.kept.messages.entries) }
@@ -171,6 +216,7 @@ fn save<S: StableStore>(store: &mut S, change: &Option<Change>) -> Result<(), St
         ⊎ AreSame (S.records store.new) (changed_by change.now (S.records store.old))) }
     ensures started { S.started store.new ≡ S.started store.old }
     ensures faults { IfErr result (λ fault. (fault ≡ Device) ⊎ (fault ≡ Memory)) }
+    ensures change { OnErr result (change.now ≢ None) }
 {
     let Some(change) = change else {
         return Ok(());

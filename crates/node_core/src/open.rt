@@ -1,6 +1,6 @@
 //! The opening of a node.
 
-ghost use Rattle.std.specs.Prelude.{◌≡◌, ◌+◌, IfOk, IfErr, OnOk};
+ghost use Rattle.std.specs.Prelude.{◌≡◌, ◌+◌, None, IfOk, IfErr, OnOk};
 ghost use Rattle.stable_store.specs.Stored.{AreSame};
 ghost use Rattle.node_core.specs.Keeping.{IsOpen};
 ghost use Rattle.node_core.specs.Nodes.{HasOpened, IsRaised};
@@ -23,6 +23,8 @@ pub fn open_node<S: StableStore>(
 ) -> Result<(Node<S>, Life), (StoreFault, S)>
     ensures ok { IfOk result (λ opened. HasOpened setup (S.records store) (S.started store + 1) opened.0 opened.1) }
     ensures raised { IfOk result (λ opened. S.started opened.0.store ≡ S.started store + 1) }
+    ensures finished { IfOk result (λ opened. opened.0.unfinished ≡ None) }
+    ensures untold { IfOk result (λ opened. opened.0.stopped ≡ None) }
     ensures records { IfErr result (λ failed. AreSame (S.records failed.1) (S.records store)) }
     ensures started { IfErr result (λ failed. IsRaised failed.0 (S.started store) (S.started failed.1)) }
 {

@@ -1,8 +1,10 @@
 //! What a step gives out.
 
 ghost use Rattle.std.specs.Prelude.{◌≡◌, [], ◌++◌, None, Some, IfOk, OnOk};
+ghost use Rattle.node_core.specs.Copies.{AreAlike};
 ghost use Rattle.node_core.specs.Lists.{listed};
 
+use crate::copies::{chains_copied, packets_copied, replies_copied};
 use fate_chain::Chain;
 use pdu_tables::Status;
 use requests::Reply;
@@ -82,6 +84,24 @@ impl Outputs {
             receipts: Vec::new(alloc),
             granted: Some(chain),
         }
+    }
+
+    /// The same outputs once more. An `Err` is want of memory.
+    pub fn copy(&self) -> Result<Outputs, AllocError>
+        ensures { IfOk result (AreAlike self.now) }
+    {
+        let granted = match &self.granted {
+            Some(chain) => Some(chain.copy()?),
+            None => None,
+        };
+        Ok(Outputs {
+            ticket: self.ticket,
+            refused: self.refused,
+            packets: packets_copied(&self.packets)?,
+            replies: replies_copied(&self.replies)?,
+            receipts: chains_copied(&self.receipts)?,
+            granted,
+        })
     }
 
     /// A packet and a receipt, as far as there are any.

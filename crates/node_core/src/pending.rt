@@ -11,6 +11,7 @@ use crate::outputs::Outputs;
 use crate::step::Step;
 use std::marker::Model;
 use std::snapshot::Snapshot;
+use synod_acceptor::Packet;
 
 /// What a node is to do with an input, prepared so far that nothing but its save can fail. It changes the node once it is committed.
 /// Contracts see what the node kept when it was prepared, and the input.
@@ -18,6 +19,8 @@ use std::snapshot::Snapshot;
 pub struct Pending {
     pub(crate) given: Snapshot<Input>,
     pub(crate) step: Step,
+    // The packet that came, if one did: only its step saves anything.
+    pub(crate) packet: Option<Packet>,
     pub(crate) was: Snapshot<Kept>,
 }
 
@@ -26,11 +29,11 @@ impl Model for Pending {
 
     ghost Value = { Awaited };
 
-    ghost use Rattle.node_core.specs.Steps.{IsStepFor};
+    ghost use Rattle.node_core.specs.Pendings.{IsPrepared};
 
     ghost view = { λ p. record { was = p.was.value; input = p.given.value } };
 
-    ghost invariant = { λ p. IsStepFor p.was.value p.given.value p.step };
+    ghost invariant = { λ p. IsPrepared p.was.value p.given.value p.step p.packet };
 }
 
 impl Pending {

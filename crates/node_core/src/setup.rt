@@ -1,6 +1,7 @@
 //! With what a node is set up.
 
 ghost use Rattle.std.specs.Prelude.{◌≡◌, ◌↔◌, IfErr, IfOk, IsOk};
+ghost use Rattle.mc_model.specs.message.Ids.{IsNode};
 ghost use Rattle.mc_types.specs.declared.fault.TypeFault.TheVariants.{OutOfRange};
 ghost use Rattle.node_core.specs.Setups.{IsSetup, setup_of};
 
@@ -57,5 +58,13 @@ impl Setup {
             first_serial,
             default_validity,
         })
+    }
+
+    /// What a proof takes of it: the node is one of nine at most, and there is such a serial. The call does nothing.
+    pub(crate) fn bounds(self)
+        ensures node { IsNode self.node }
+        ensures setup { IsSetup self }
+    {
+        self.node.number();
     }
 }

@@ -1,17 +1,26 @@
 //! What a node does at a tick.
 
-ghost use Rattle.std.specs.Prelude.{◌≡◌, ◌++◌, All, map, IfOk};
+ghost use Rattle.std.specs.Prelude.{◌≡◌, ◌≢◌, ◌<◌, ◌++◌, suc, [], Some, None, Ok, length, max, map, true, false, IfOk, IsOk, IsOkAnd, if◌then◌else◌};
+ghost use Rattle.std.specs.List.{list_any};
+ghost use Rattle.std.specs.List.Sorted.{IsStrictlySortedBy};
 ghost use Rattle.std.specs.Map.{keys_of};
+ghost use Rattle.std.specs.Option.{option_copied};
+ghost use Rattle.std.specs.Ordering.{nat_cmp};
+ghost use Rattle.mc_model.specs.synod.Lists.{In};
+ghost use Rattle.node_model.specs.Requests.{is_untold};
+ghost use Rattle.node_model.specs.Rules.{first_rule};
 ghost use Rattle.node_model.specs.Ticks.{asked_again, ids_of, on_tick, ticked};
-ghost use Rattle.mc_model.specs.message.Ids.{IsId};
+ghost use Rattle.requests.specs.Numbers.{IsLeastFrom, ids_in};
 ghost use Rattle.requests.specs.Queues.{timely};
 ghost use Rattle.requests.specs.Waiting.{held_in};
 ghost use Rattle.rules.specs.Dues.{is_up};
+ghost use Rattle.shelf.specs.Shelved.{value_at};
 ghost use Rattle.synod_acceptor.specs.Packets.{packet_of};
+ghost use Rattle.node_core.specs.Idling.{IsIdle, NoneFits};
 ghost use Rattle.node_core.specs.Keeping.{AreOwn, kept_of};
 ghost use Rattle.node_core.specs.Steps.{IsStep};
-ghost use Rattle.node_core.specs.Queueing.{AreToldOf};
 ghost use Rattle.node_core.specs.Ticking.{IsTurnOf, IsTurned};
+ghost use Rattle.node_core.specs.Walking.{kept_at, next_at};
 
 use crate::kept::Kept;
 use crate::message::Message;
@@ -20,20 +29,22 @@ use crate::queue_change::QueueChange;
 use crate::step::Step;
 use crate::turn::Turn;
 use crate::turn_list::TurnList;
+use crate::walk::Walk;
 use mc_types::{Moment, MsgId};
 use pdu_codec::Text;
 use rules::Standpoint;
 use std::alloc::AllocError;
-use std::collections::BTreeSet;
 use synod_acceptor::Packet;
 
 impl Kept {
     /// The step of a tick: the clock rises to this moment, if it is behind it;
     /// those that waited too long are answered so and wait no more, and those are asked of again of which no majority told; all rounds end,
     /// and for each message, by ascending ids, the first rule that fits starts one. `up` has the accounts of which a session may receive.
+    /// It takes no memory if nothing is due.
     pub(crate) fn on_tick(&self, moment: Moment, up: &[Text<16>]) -> Result<Step, AllocError>
         requires { AreOwn self.now }
-        ensures { IfOk result (IsStep self.now (on_tick self.now.setup (kept_of self.now) moment (is_up up.now))) }
+        ensures step { IfOk result (IsStep self.now (on_tick self.now.setup (kept_of self.now) moment (is_up up.now))) }
+        ensures idle { IsIdle self.now.setup (kept_of self.now) (max self.now.clock moment) (is_up up.now) → IsOk result }
     {
         let clock = self.clock.max(moment);
         let replies = self.queue.late(clock)?;
@@ -53,13 +64,15 @@ impl Kept {
         })
     }
 
-    /// The questions of the requests to which no majority told, which did not wait too long at this clock, and then these packets.
+    /// The questions of the requests to which no majority told, which did not wait too long at this clock, and then these packets. It takes
+    /// memory only if there is any.
     fn with_questions(
         &self,
         clock: Moment,
         mut starts: Vec<Packet>,
     ) -> Result<Vec<Packet>, AllocError>
-        ensures { IfOk result (λ packets. map packet_of packets.items ≡ asked_again self.now.setup (ticked (kept_of self.now) clock) ++ map packet_of starts.items) }
+        ensures packets { IfOk result (λ packets. map packet_of packets.items ≡ asked_again self.now.setup (ticked (kept_of self.now) clock) ++ map packet_of starts.items) }
+        ensures idle { list_any (is_untold self.now.setup.nodes) (timely clock (held_in self.now.queue)) ≡ false → starts.items ≡ [] → IsOk result }
     {
         let mut packets = self
             .queue
@@ -69,99 +82,105 @@ impl Kept {
     }
 
     /// What a tick makes of all messages, by ascending ids, at this clock, once all rounds ended: of those that are kept, and of those that
-    /// the requests ask of which did not wait too long. `up` has the accounts of which a session may receive.
+    /// the requests ask of which did not wait too long. `up` has the accounts of which a session may receive. It takes memory only for those
+    /// that a rule fits.
     fn turns(&self, clock: Moment, up: &[Text<16>]) -> Result<TurnList, AllocError>
         requires { AreOwn self.now }
-        ensures { IfOk result (IsTurned self.now clock (is_up up.now) (ids_of (ticked (kept_of self.now) clock))) }
-    {
-        if self.queue.len() == 0 {
-            self.turns_kept(clock, up)
-        } else {
-            self.turns_asked(clock, up)
-        }
-    }
-
-    /// What a tick makes of all messages that are kept. It takes no memory but for those that are not left as they are.
-    fn turns_kept(&self, clock: Moment, up: &[Text<16>]) -> Result<TurnList, AllocError>
-        requires { AreOwn self.now }
-        ensures { IfOk result (IsTurned self.now clock (is_up up.now) (keys_of self.now.messages.entries)) }
+        ensures turned { IfOk result (IsTurned self.now clock (is_up up.now) (ids_of (ticked (kept_of self.now) clock))) }
+        ensures idle { NoneFits self.now.setup (kept_of self.now) clock (is_up up.now) → IsOkAnd result (λ turns. (turns.messages.items ≡ []) × (turns.packets.items ≡ [])) }
     {
         let at = Standpoint {
             author: self.author(),
             clock,
         };
         let mut turns = TurnList::empty(self.alloc);
-        for place in 0..self.messages.len() {
-            let Some((key, message)) = self.messages.at(place) else {
-                unreachable!();
-            };
-            let Ok(id) = MsgId::of_number(key) else {
-                unreachable!();
-            };
-            if let Some(turn) = message.turn(id, &at, &self.queue, up)? {
-                turns.add(self.alloc, id, turn)?;
-            }
-        }
-        Ok(turns)
-    }
-
-    /// What a tick makes of all messages that are kept or asked of.
-    fn turns_asked(&self, clock: Moment, up: &[Text<16>]) -> Result<TurnList, AllocError>
-        requires { AreOwn self.now }
-        ensures { IfOk result (IsTurned self.now clock (is_up up.now) (ids_of (ticked (kept_of self.now) clock))) }
-    {
-        let at = Standpoint {
-            author: self.author(),
-            clock,
+        let mut walk = Walk {
+            from: 0,
+            place: 0,
+            asked: self.queue.next_id(clock, 0),
         };
-        let mut ids = self.ids(clock)?;
-        let mut turns = TurnList::empty(self.alloc);
-        while let Some(key) = ids.pop_first() {
-            let Ok(id) = MsgId::of_number(key) else {
-                unreachable!();
-            };
-            if let Some(turn) = self.turn_of(id, &at, up)? {
+        while let Some(id) = self.next_in(&walk) {
+            let message = self.kept_in(&walk, id);
+            if let Some(turn) = self.turn_of(id, message, &at, up)? {
                 turns.add(self.alloc, id, turn)?;
             }
+            walk = self.passed(clock, walk, id, message.is_some());
         }
         Ok(turns)
     }
 
-    /// What a tick makes of the message of this id, if it is not kept as it was.
+    /// The id of the next message of a walk; none if none is left. It takes no memory.
+    fn next_in(&self, walk: &Walk) -> Option<MsgId>
+        requires { AreOwn self.now }
+        ensures next { result ≡ next_at self.now walk.now }
+        ensures ascends { IsStrictlySortedBy nat_cmp (keys_of self.now.messages.entries) }
+    {
+        let Some((key, _)) = self.messages.at(walk.place) else {
+            return walk.asked;
+        };
+        let Ok(id) = MsgId::of_number(key) else {
+            unreachable!();
+        };
+        match walk.asked {
+            Some(asked) if asked.number() < key => Some(asked),
+            _ => Some(id),
+        }
+    }
+
+    /// What is kept of the next message of a walk, which has this id; none if a request asks of it alone. It takes no memory.
+    fn kept_in(&self, walk: &Walk, id: MsgId) -> Option<&Message>
+        ensures { option_copied result ≡ kept_at self.now walk.now id }
+    {
+        match self.messages.at(walk.place) {
+            Some((key, message)) if key == id.number() => Some(message),
+            _ => None,
+        }
+    }
+
+    /// Where a walk stands behind the message of this id, its next one, which is kept or not. It takes no memory.
+    fn passed(&self, clock: Moment, walk: Walk, id: MsgId, kept: bool) -> Walk
+        requires { kept ≡ true → walk.place < length self.now.messages.entries }
+        ensures from { result.from ≡ suc id }
+        ensures place { result.place ≡ (if kept then suc walk.place else walk.place) }
+        ensures same { walk.asked ≢ Some id → result.asked ≡ walk.asked }
+        ensures asked { walk.asked ≡ Some id → IsLeastFrom (suc id) (λ other. In other (ids_in (timely clock (held_in self.now.queue)))) result.asked }
+    {
+        let from = id.number() + 1;
+        // For the proof alone: a place above this one is a number, too.
+        self.messages.len();
+        Walk {
+            from,
+            place: if kept { walk.place + 1 } else { walk.place },
+            asked: match walk.asked {
+                Some(asked) if asked == id => self.queue.next_id(clock, from),
+                _ => walk.asked,
+            },
+        }
+    }
+
+    /// What a tick makes of the message of this id, of which this is kept, if it is not kept as it was. If no rule fits, it takes no memory.
     fn turn_of(
         &self,
         id: MsgId,
+        message: Option<&Message>,
         at: &Standpoint,
         up: &[Text<16>],
     ) -> Result<Option<Turn>, AllocError>
-        requires { AreToldOf (timely at.now.clock (held_in self.now.queue)) }
-        ensures { IfOk result (IsTurnOf self.now id at.now (is_up up.now)) }
+        requires own { AreOwn self.now }
+        requires node { at.now.author.node ≡ self.now.setup.node }
+        requires incarnation { at.now.author.incarnation ≡ self.now.incarnation }
+        requires kept { option_copied message ≡ value_at self.now.messages.entries id }
+        ensures turned { IfOk result (IsTurnOf self.now id at.now (is_up up.now)) }
+        ensures idle { first_rule self.now.setup (ticked (kept_of self.now) at.now.clock) (is_up up.now) id ≡ None → result ≡ Ok None }
     {
-        match self.find(id) {
+        // For the proof alone: the number is an id.
+        id.number();
+        match message {
             Some(message) => message.turn(id, at, &self.queue, up),
-            None => Message::fresh(self.alloc, self.author(), self.nodes())?.turn(
-                id,
-                at,
-                &self.queue,
-                up,
-            ),
+            None => {
+                let message = Message::fresh(self.alloc, self.author(), self.nodes());
+                message.turn(id, at, &self.queue, up)
+            }
         }
-    }
-
-    /// The ids of the messages that a tick at this clock goes over.
-    fn ids(&self, clock: Moment) -> Result<BTreeSet<u64>, AllocError>
-        requires { AreOwn self.now }
-        ensures keys { IfOk result (λ ids. ids.keys ≡ ids_of (ticked (kept_of self.now) clock)) }
-        ensures named { IfOk result (λ ids. All IsId ids.keys) }
-    {
-        let mut ids = BTreeSet::new(self.alloc);
-        for place in 0..self.messages.len() {
-            let Some((key, _)) = self.messages.at(place) else {
-                unreachable!();
-            };
-            ids.insert(key)?;
-        }
-        self.queue.put_ids(clock, &mut ids)?;
-        Ok(ids)
     }
 }

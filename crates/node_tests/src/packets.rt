@@ -1,7 +1,7 @@
 //! What a node does with packets.
 
 use crate::values::{Comes, input};
-use crate::walks::{Answer, answer_let_go, opened, otherwise, otherwise_by, setup};
+use crate::walks::{Answer, answer_in, answer_let_go, opened, otherwise, otherwise_by, setup};
 use node_core::Node;
 use stable_store::ListStore;
 use std::alloc::Global;
@@ -39,6 +39,23 @@ fn let_go(
     let prepared = answer_let_go(acceptor, input(alloc, Comes::Propose(1, 262161))?);
     let rows = [(Comes::Ask(3), Answer::ToldNothing)];
     Ok((prepared, otherwise_by(alloc, acceptor, &rows)?))
+}
+
+// What a copy says of what a node answers to a Propose that it lets go.
+fn copy_let_go(alloc: Global, acceptor: &Node<ListStore>) -> Result<Answer, Fail> {
+    let pending = acceptor.prepare_step(input(alloc, Comes::Propose(1, 262161))?)?;
+    let copy = pending.outputs().copy()?;
+    Ok(answer_in(&copy))
+}
+
+#[test]
+fn a_copy_says_the_same(rt: HostRuntime) -> Result<(), Fail> {
+    let setup = setup()?;
+    let acceptor = opened(rt.alloc(), ListStore::make(rt.alloc()), setup)?;
+    let answer = copy_let_go(rt.alloc(), &acceptor);
+    drop(acceptor);
+    assert_eq!(rt; answer?, Answer::Voted(262161));
+    Ok(())
 }
 
 #[test]

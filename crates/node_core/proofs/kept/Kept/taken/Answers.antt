@@ -1,7 +1,7 @@
 use Rattle.std.proofs.Common.{◌≡◌, ◌∙◌, Some, None, sym, ap}
 use Rattle.std.proofs.lemmas.Result.{IfOk-weaker}
 use Rattle.shelf.specs.Shelved.{value_at}
-use Rattle.node_core.proofs.Answering.{fresh_taken, taken_there}
+use Rattle.node_core.proofs.Answering.{taken_fresh, taken_there}
 use Rattle.node_core.proofs.kept.Kept.taken.Goals as goal
 
 pub returns-in-Some : goal.returns-in-Some
@@ -12,4 +12,5 @@ returns-in-Some c =
 pub returns-in-None : goal.returns-in-None
 returns-in-None c =
     let none : None ≡ value_at c.args.self.now.messages.entries c.args.id = rw c.in-None.is at c.find.ensures.value in
-    fresh_taken c.args.self.now c.args.id c.fresh.result (sym none) c.fresh.ensures.records c.fresh.ensures.message (rw (c.author.ensures.node, c.author.ensures.incarnation, c.nodes.ensures) at c.fresh.ensures.own) c.find.ensures.named
+    let own = (rw (c.author.ensures.node, c.author.ensures.incarnation, c.nodes.ensures) at c.fresh.ensures.own) c.args.id c.find.ensures.named in
+    taken_fresh c.args.self.now c.args.id c.fresh.result (sym none) (c.fresh.ensures.message c.args.id) c.fresh.ensures.records own

@@ -1,25 +1,53 @@
 use Rattle.std.proofs.Common.{rules, ◌≡◌, refl, sym, ap, subst, ◌∙◌, true, false}
+use Rattle.std.proofs.lemmas.Bool.{true≢false}
 use Rattle.node_core.specs.Nodes.{HasStopped, Standing, seen}
 use Rattle.node_core.specs.Pendings.{Awaited}
-use Rattle.node_core.proofs.Stopping.{stopped}
+use Rattle.node_core.proofs.Stopping.{cut}
 use Rattle.node_core.proofs.node.Node.commit.Goals as goal
+
+pub invariant_of-self-in-Err-Device : goal.invariant_of-self-in-Err-Device
+invariant_of-self-in-Err-Device g c =
+    let records = g.S.StableStore.records in
+    let works : c.self.inside.broken ≡ false = search rules in
+    let kept : c.pending.inside.was.value ≡ c.self.inside.kept =
+    ap (λ (p : Awaited). p.was) c.pending.view_is ∙ c.requires ∙ sym (ap (λ (n : Standing g.row.S.Denot). n.kept) c.self.view_is) in
+    let is = cut c.self.inside.kept c.pending.inside.was.value c.args.pending.input c.pending.inside.given.value c.pending.inside.step c.pending.inside.packet
+    (records c.self.inside.store) (records c.save.new.store) kept (ap (λ (p : Awaited). p.input) c.pending.view_is) c.pending.invariant
+    (c.self.invariant.saved works) c.in-Err-Device.ensures.change c.in-Err-Device.ensures.device in
+    record {
+      saved = λ works. absurd (true≢false works);
+      own = c.self.invariant.own;
+      finished = λ works. absurd (true≢false works);
+      halted = is.halted;
+    }
 
 pub returns-in-Err-Device-clause-device : goal.returns-in-Err-Device-clause-device
 returns-in-Err-Device-clause-device g c = λ device.
     let records = g.S.StableStore.records in
     let started = g.S.StableStore.started in
-    let new : Standing g.row.S.Denot = record { kept = c.self.inside.kept; broken = true; store = c.save.new.store } in
+    let new : Standing g.row.S.Denot = record {
+      kept = c.self.inside.kept;
+      broken = true;
+      store = c.save.new.store;
+      unfinished = c.pending.inside.packet;
+      stopped = c.self.inside.stopped;
+    } in
     let works : c.self.inside.broken ≡ false = search rules in
     let kept : c.pending.inside.was.value ≡ c.self.inside.kept =
     ap (λ (p : Awaited). p.was) c.pending.view_is ∙ c.requires ∙ sym (ap (λ (n : Standing g.row.S.Denot). n.kept) c.self.view_is) in
+    let is = cut c.self.inside.kept c.pending.inside.was.value c.args.pending.input c.pending.inside.given.value c.pending.inside.step c.pending.inside.packet
+    (records c.self.inside.store) (records c.save.new.store) kept (ap (λ (p : Awaited). p.input) c.pending.view_is) c.pending.invariant
+    (c.self.invariant.saved works) c.in-Err-Device.ensures.change c.in-Err-Device.ensures.device in
     subst (λ (old : Standing g.row.S.Denot). HasStopped (seen records started old) c.args.pending.input (seen records started new)) c.self.view_is
     (record {
       kept = refl;
       broken = refl;
-      stored = stopped c.self.inside.kept c.pending.inside.was.value c.args.pending.input c.pending.inside.given.value c.pending.inside.step
-          (records c.self.inside.store) (records c.save.new.store) kept (ap (λ (p : Awaited). p.input) c.pending.view_is) c.pending.invariant
-          (c.self.invariant.saved works) c.in-Err-Device.ensures.device;
+      stored = is.left;
       started = c.save.ensures.started;
+      packet = is.packet;
+      came = is.came;
+      unfinished = is.is;
+      stopped = refl;
     })
 
 pub returns-clause-broken : goal.returns-clause-broken
