@@ -7,10 +7,9 @@ use Rattle.sessions.specs.Steps.{Done}
 use Rattle.script_text.specs.Settings.{Settings}
 use Rattle.script_text.specs.Node.{Node}
 use Rattle.script_text.specs.Prints.{text_of_prints}
-use Rattle.script_text.specs.Runner.{Runner, Acted, Owned, Served, Streamed, Told, holding, reaction_prints}
+use Rattle.script_text.specs.Runner.{Runner, Acted, Served, Streamed, holding, reaction_prints}
 use Rattle.script_runner.specs.declared.centre.Centre.{Centre}
-use Rattle.script_runner.specs.declared.connected.Owner.{Owner}
-use Rattle.script_runner.specs.Steps.{node_of}
+use Rattle.script_node.specs.Steps.{node_of}
 
 -- the runner that a centre is
 abbrev pub runner_of : Centre → Runner
@@ -19,9 +18,6 @@ runner_of centre = record { node = node_of centre.node; sessions = centre.connec
 -- what is there between lines: nothing yet, or the runner that a centre is
 abbrev pub stage_of : Option Centre → Option Runner
 stage_of stage = option_map runner_of stage
-
-abbrev pub owned_by : Owner → Owned
-owned_by owner = record { number = owner.number; request = owner.request }
 
 -- A session was served so, and its lines were added.
 pub record IsServed (served : Served) (left : Node) (remains : Session) (before after : List ℕ) : Type 0 where
@@ -47,8 +43,3 @@ with_kept runner number session held = if is_gone session.state then runner else
 pub record IsDone (acted : Acted) (left : Runner) (before after : List ℕ) : Type 0 where
   pub next : left ≡ acted.next
   pub text : after ≡ before ++ text_of_prints acted.prints
-
--- Replies went out: they left these sessions, and added the text of what was printed.
-pub record AreTold (told : Told) (left : List (ℕ × Session)) (before after : List ℕ) : Type 0 where
-  pub sessions : left ≡ told.sessions
-  pub text : after ≡ before ++ text_of_prints told.prints

@@ -1,4 +1,2 @@
-pub mod Steps
 pub mod Centre
 pub mod Outcome
-pub mod Lives

@@ -3,14 +3,14 @@
 ghost use Rattle.std.specs.Prelude.{◌≡◌, ◌≤◌, IfOk, OnOk};
 ghost use Rattle.script_text.specs.Settings.{settings_of};
 
-use crate::connected::Connected;
-use crate::node::ScriptNode;
-use crate::output::{write_all_gone, write_declined, write_replies, write_unsettled};
 use crate::serve::serve;
-use crate::streams::Streams;
 use config::Config;
 use mc_types::Moment;
 use pdu_frames::Framer;
+use script_node::ScriptNode;
+use script_sessions::{
+    Connected, Streams, write_all_gone, write_declined, write_replies, write_unsettled,
+};
 use sessions::Session;
 use std::alloc::{AllocError, Global};
 

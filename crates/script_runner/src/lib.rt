@@ -2,16 +2,10 @@
 #![tactic(auto)]
 
 mod centre;
-mod connected;
 mod fault;
-mod live_node;
-mod node;
-mod output;
 mod program;
-mod response;
 mod run;
 mod serve;
-mod streams;
 
 pub use fault::{ScriptFault, exit_status};
 pub use program::run_program;

@@ -11,16 +11,16 @@ ghost use Rattle.script_text.specs.Settings.{settings_of};
 ghost use Rattle.script_text.specs.Prints.{text_of_prints};
 ghost use Rattle.script_text.specs.Runner.{in_window, on_cut, on_done, on_frame, on_request, reaction_prints, refusal_prints, request_of};
 ghost use Rattle.script_runner.specs.Centre.{IsLeft, IsServed, IsStreamed};
-ghost use Rattle.script_runner.specs.Steps.{node_of};
+ghost use Rattle.script_node.specs.Steps.{node_of};
 
-use crate::node::ScriptNode;
-use crate::output::{write_gone, write_outgoing};
 use accounts::Routes;
 use config::Config;
 use desk::Request;
 use pdu_codec::{Body, Header, Pdu, PduFault, Text, decode, read_header};
 use pdu_frames::Framer;
 use pdu_tables::Status;
+use script_node::ScriptNode;
+use script_sessions::{write_gone, write_outgoing};
 use sessions::{OpenRequest, Outgoing, Reaction, Requested, Response, Session};
 use std::alloc::{AllocError, Global};
 

@@ -2,7 +2,7 @@ use Rattle.std.proofs.Common.{Ok, Err, refl, ◌++◌, length, take, drop, ◌-�
 use Rattle.sessions.specs.States.{is_gone}
 use Rattle.pdu_frames.specs.Frames.{IsPart, HasWrongLength}
 use Rattle.script_text.specs.Settings.{settings_of}
-use Rattle.script_runner.specs.Steps.{node_of}
+use Rattle.script_node.specs.Steps.{node_of}
 use Rattle.script_runner.proofs.Serving.{after_kept, after_last, after_take, after_wrong_if, all_taken, joined, wrong_in_front}
 use Rattle.script_runner.proofs.serve.serve.Goals as goal
 

@@ -2,7 +2,7 @@ use Rattle.std.proofs.Common.{◌+◌, ◌++◌, length}
 use Rattle.pdu_frames.specs.Frames.{cut}
 use Rattle.script_text.specs.Settings.{settings_of}
 use Rattle.script_text.specs.Runner.{on_cut}
-use Rattle.script_runner.specs.Steps.{node_of}
+use Rattle.script_node.specs.Steps.{node_of}
 use Rattle.script_runner.proofs.Serving.{Continues}
 use Rattle.script_runner.proofs.serve.serve.Given as goal
 

@@ -1,5 +1,5 @@
 use Rattle.script_text.specs.Settings.{settings_of}
-use Rattle.script_runner.specs.Steps.{node_of}
+use Rattle.script_node.specs.Steps.{node_of}
 use Rattle.script_runner.proofs.Serving.{below_16, fault_served, frame-ok, frame-short, left_served_if}
 use Rattle.script_runner.proofs.serve.serve_frame.Goals as goal
 

@@ -1,6 +1,6 @@
 use Rattle.script_text.specs.Settings.{settings_of}
 use Rattle.script_runner.specs.Centre.{runner_of}
-use Rattle.script_runner.specs.Steps.{node_of}
+use Rattle.script_node.specs.Steps.{node_of}
 use Rattle.script_runner.proofs.Keeping.{octets_done}
 use Rattle.script_runner.proofs.centre.Centre.octets.Goals as goal
 

@@ -1,0 +1,41 @@
+-- Steps of the code's node, in the words of the text of a script.
+use Rattle.std.specs.Prelude.{◌≡◌, List, [], ◌∷◌, map, Option, Some, None, option_map}
+use Rattle.std.specs.Global.{Vec}
+use Rattle.mc_model.specs.synod.Packet.{Packet}
+use Rattle.mc_model.specs.node.Input.{Delivery}
+use Rattle.node_model.specs.Outputs.{Stepped}
+use Rattle.pdu_tables.specs.StatusCodes.{status_code}
+use Rattle.requests.specs.Replying.{reply_given}
+use Rattle.requests.specs.declared.answer.Reply.{Reply}
+use Rattle.script_text.specs.Node.{Node, awaiting, step_at, with_step}
+use Rattle.node_core.specs.Keeping.{kept_of}
+use Rattle.synod_acceptor.specs.Packets.{packet_of}
+use Rattle.script_node.specs.declared.node.Answers.{Answers}
+use Rattle.script_node.specs.declared.node.ScriptNode.{ScriptNode}
+
+-- what it keeps, and the packets that are still to come
+abbrev pub node_of : ScriptNode → Node
+node_of n = record { setup = n.node.kept.setup; kept = kept_of n.node.kept; packets = map packet_of n.packets.items }
+
+-- A step of the node left it so, and gave these replies.
+pub record HasReplied (step : Stepped) (before : Node) (replies : Vec Reply) (after : Node) : Type 0 where
+  pub node : after ≡ with_step before step
+  pub given : map reply_given replies.items ≡ step.outputs.replies
+
+-- The same with what was answered to the request that came.
+pub record HasStepped (step : Stepped) (before : Node) (answers : Answers) (after : Node) : Type 0 where
+  pub replied : HasReplied step before answers.replies after
+  pub ticket : answers.ticket ≡ step.outputs.ticket
+  pub refused : option_map status_code answers.refused ≡ step.outputs.refused
+
+-- The first packet came, and led to these replies.
+pub record HasCome (before : Node) (replies : Vec Reply) (after : Node) : Type 0 where
+  pub packet : Packet
+  pub others : List Packet
+  pub waited : before.packets ≡ packet ∷ others
+  pub replied : HasReplied (step_at (awaiting before others) (Delivery packet)) (awaiting before others) replies after
+
+-- Or there was none, and nothing changed.
+abbrev pub IsDelivered : Node → Option (Vec Reply) → Node → Type 0
+IsDelivered before None after = (before.packets ≡ []) × (after ≡ before)
+IsDelivered before (Some replies) after = HasCome before replies after

@@ -1,8 +1,0 @@
-use Rattle.std.proofs.Common.{map}
-use Rattle.requests.specs.Replying.{reply_given}
-use Rattle.script_text.specs.Runner.{told}
-use Rattle.script_runner.proofs.Settling.{AreLeft}
-use Rattle.script_runner.proofs.output.write_replies.Given as goal
-
-abbrev pub invariant-loop-reply : goal.invariant-loop-reply
-invariant-loop-reply l = AreLeft (told l.fn.connected (map reply_given l.fn.replies.items)) (told l.connected (map reply_given l.reply-iterator.rest.items)) l.fn.text.items l.text.items

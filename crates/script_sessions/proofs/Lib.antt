@@ -1,0 +1,4 @@
+pub mod Digits
+pub mod Ids
+pub mod Owners
+pub mod Telling

@@ -1,0 +1,13 @@
+//! The sessions of a script: those that are connected, what their streams hold, and the lines of what goes out on them.
+#![tactic(auto)]
+
+mod connected;
+mod output;
+mod response;
+mod streams;
+
+pub use connected::{Connected, Owner};
+pub use output::{
+    write_all_gone, write_declined, write_gone, write_outgoing, write_replies, write_unsettled,
+};
+pub use streams::Streams;

@@ -1,0 +1,129 @@
+//! The lines that are written.
+
+ghost use Rattle.std.specs.Prelude.{◌≡◌, ◌++◌, map, OnOk};
+ghost use Rattle.sessions.specs.Responses.{pdu_of};
+ghost use Rattle.script_text.specs.Prints.{declined_line, gone_line, octets_line, pdu_line, text_of_prints, unsettled_line};
+ghost use Rattle.script_text.specs.Runner.{gone_prints, owner_of, replied, reply_prints, told};
+ghost use Rattle.requests.specs.Replying.{reply_given};
+ghost use Rattle.script_sessions.specs.Told.{AreTold};
+ghost use Rattle.hex.specs.Hex.{encode_lower};
+
+use crate::connected::Connected;
+use crate::response::reply_octets;
+use itoa::Buffer;
+use pdu_codec::Text;
+use requests::Reply;
+use sessions::Outgoing;
+use std::alloc::{AllocError, Global};
+
+/// What of a line is no digit of an octet: the words, a session of three digits and the line feed.
+const LINE_WORDS: usize = 11;
+
+/// Adds the line of what goes out on a session, of a centre with this system_id.
+pub fn write_outgoing(
+    alloc: Global,
+    text: &mut Vec<u8>,
+    session: u8,
+    system_id: &Text<16>,
+    outgoing: Outgoing,
+) -> Result<(), AllocError>
+    ensures { OnOk result (text.new.items ≡ text.old.items ++ pdu_line session (pdu_of system_id.now outgoing)) }
+{
+    let octets = outgoing.octets(alloc, system_id)?;
+    write_octets(text, session, &octets)
+}
+
+/// Adds the lines of replies to requests that waited, one after another.
+pub fn write_replies(
+    alloc: Global,
+    text: &mut Vec<u8>,
+    connected: &mut Connected,
+    replies: Vec<Reply>,
+) -> Result<(), AllocError>
+    ensures { OnOk result (AreTold (told connected.old (map reply_given replies.items)) connected.new text.old.items text.new.items) }
+{
+    for reply in replies {
+        write_reply(alloc, text, connected, reply)?;
+    }
+    Ok(())
+}
+
+/// Adds the line of the reply to a request that waited, on the session that holds its ticket. If that session is gone, it adds nothing.
+fn write_reply(
+    alloc: Global,
+    text: &mut Vec<u8>,
+    connected: &mut Connected,
+    reply: Reply,
+) -> Result<(), AllocError>
+    ensures sessions { OnOk result (connected.new ≡ replied connected.old reply.ticket (owner_of connected.old reply.ticket)) }
+    ensures text { OnOk result (text.new.items ≡ text.old.items ++ text_of_prints (reply_prints (reply_given reply) (owner_of connected.old reply.ticket))) }
+{
+    let Some(owner) = connected.take_request(reply.ticket) else {
+        drop(reply);
+        return Ok(());
+    };
+    let octets = reply_octets(alloc, owner.request, reply)?;
+    write_octets(text, owner.number, &octets)
+}
+
+/// Adds the line of a PDU of these octets. It makes room for the line once.
+fn write_octets(text: &mut Vec<u8>, session: u8, octets: &[u8]) -> Result<(), AllocError>
+    ensures { OnOk result (text.new.items ≡ text.old.items ++ octets_line session octets.now) }
+{
+    text.reserve(octets.len().saturating_mul(2).saturating_add(LINE_WORDS))?;
+    text.extend_from_slice(b"pdu 1 ")?;
+    text.extend_from_slice(Buffer::new().format(session).as_bytes())?;
+    text.push(b' ')?;
+    write_digits(text, octets)?;
+    text.push(b'\n')?;
+    Ok(())
+}
+
+/// Adds two digits for each octet.
+fn write_digits(text: &mut Vec<u8>, octets: &[u8]) -> Result<(), AllocError>
+    ensures { OnOk result (text.new.items ≡ text.old.items ++ encode_lower octets.now) }
+{
+    for octet in octets {
+        let mut digits = [0; 2];
+        hex::encode_to_slice([*octet], &mut digits).unwrap();
+        text.extend_from_slice(&digits)?;
+    }
+    Ok(())
+}
+
+/// Adds the line that tells that a session is gone.
+pub fn write_gone(text: &mut Vec<u8>, session: u8) -> Result<(), AllocError>
+    ensures { OnOk result (text.new.items ≡ text.old.items ++ gone_line session) }
+{
+    text.extend_from_slice(b"gone 1 ")?;
+    text.extend_from_slice(Buffer::new().format(session).as_bytes())?;
+    text.push(b'\n')?;
+    Ok(())
+}
+
+/// Adds the line that tells that a settle has delivered as many packets as it may.
+pub fn write_unsettled(text: &mut Vec<u8>) -> Result<(), AllocError>
+    ensures { OnOk result (text.new.items ≡ text.old.items ++ unsettled_line) }
+{
+    text.extend_from_slice(b"unsettled\n")
+}
+
+/// Adds the line that tells that what a line asks for is refused, by the number of the refusal.
+pub fn write_declined(text: &mut Vec<u8>, number: u8) -> Result<(), AllocError>
+    ensures { OnOk result (text.new.items ≡ text.old.items ++ declined_line number) }
+{
+    text.extend_from_slice(b"refused ")?;
+    text.extend_from_slice(Buffer::new().format(number).as_bytes())?;
+    text.push(b'\n')?;
+    Ok(())
+}
+
+/// Adds the line of each of these sessions that it is gone.
+pub fn write_all_gone(text: &mut Vec<u8>, connected: &Connected) -> Result<(), AllocError>
+    ensures { OnOk result (text.new.items ≡ text.old.items ++ text_of_prints (gone_prints connected.now)) }
+{
+    for (number, _) in connected.sessions() {
+        write_gone(text, *number)?;
+    }
+    Ok(())
+}
