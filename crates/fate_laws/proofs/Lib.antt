@@ -5,7 +5,6 @@ pub mod Stepping
 pub mod Since
 pub mod Decided
 pub mod Replying
-pub mod Asking
 pub mod Sound
 pub mod Telling
 pub mod Serving

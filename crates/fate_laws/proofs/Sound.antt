@@ -26,10 +26,11 @@ use Rattle.node_laws.proofs.Orders.{in_append, reverse_in}
 use Rattle.desk.specs.declared.request.Request.{Request}
 use Rattle.script_text.specs.Node.{Node, alone, awaiting, request_at, step_at, tick_at, with_step}
 use Rattle.fate_laws.proofs.Answering.{IsAsked}
-use Rattle.fate_laws.proofs.Asking.{request_comes}
+use Rattle.arrival_laws.proofs.Asking.{request_comes}
 use Rattle.fate_laws.proofs.Replying.{AreFit, Grows, fits_grow, replies_fit}
 use Rattle.fate_laws.proofs.Decided.{IsDecided}
-use Rattle.fate_laws.proofs.Stepping.{ComesAbout, GoesOn, IsPlain, goes_on, up_for}
+use Rattle.arrival_laws.proofs.Comings.{ComesAbout, IsPlain}
+use Rattle.fate_laws.proofs.Stepping.{GoesOn, goes_on, up_for}
 use Rattle.fate_laws.proofs.WellMade.{well_made, world, world_holds}
 
 -- ---- a cluster of one

@@ -26,19 +26,9 @@ use Rattle.node_model.specs.Ticks.{ids_of, is_late, late_reply, ruled_each, tick
 use Rattle.node_laws.specs.Runs.{IsUpFor}
 use Rattle.node_laws.proofs.Orders.{in_mapped}
 use Rattle.node_laws.proofs.Told.{found_at}
+use Rattle.arrival_laws.proofs.Comings.{ComesAbout, IsPlain}
 use Rattle.fate_laws.proofs.Answering.{IsAsked, asked_by, asked_later, reply_asked}
 use Rattle.fate_laws.proofs.Lasting.{Lasts, lasts_still, message_lasts, rules_last, start_lasts}
-
--- a request comes that is about a message
-abbrev pub ComesAbout : Input → ℕ → Type 0
-ComesAbout (Arrival request) id = id_in request ≡ id
-ComesAbout (Delivery packet) id = ⊥
-ComesAbout (Crash packet after) id = ⊥
-ComesAbout (Refusal status) id = ⊥
-ComesAbout (Tick moment up) id = ⊥
-ComesAbout (Grant slot) id = ⊥
-ComesAbout (Response slot outcome) id = ⊥
-ComesAbout (Restart lost) id = ⊥
 
 -- The node stays up, gives no serial again, its requests are those that waited and one that came, and each reply answers one that waited.
 pub record GoesOn (k : Kept) (input : Input) (step : Stepped) : Type 0 where
@@ -270,17 +260,6 @@ tick_goes setup k moment up =
           let it = in_mapped late_reply (filter (is_late clock) k.held) reply among in
           record { request = it.from; among = in_filter (is_late clock) k.held it.from it.among; about = sym (ap (λ (r : Reply). r.id) it.is) };
     }
-
--- what comes to a node by a script
-abbrev pub IsPlain : Input → Type 0
-IsPlain (Delivery packet) = Unit {0}
-IsPlain (Arrival request) = Unit {0}
-IsPlain (Refusal status) = Unit {0}
-IsPlain (Tick moment up) = Unit {0}
-IsPlain (Crash packet after) = ⊥
-IsPlain (Grant slot) = ⊥
-IsPlain (Response slot outcome) = ⊥
-IsPlain (Restart lost) = ⊥
 
 -- it comes to a node that is up
 pub up_for : (k : Kept) (input : Input) → IsPlain input → IsUpFor k input ↔ (k.up ≡ true)

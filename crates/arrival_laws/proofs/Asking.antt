@@ -27,7 +27,7 @@ use Rattle.desk.specs.Desk.{asks_reserved_receipt, fields_refusal, first_failing
 use Rattle.desk.specs.Times.{Times, in_order, times_judged, times_of}
 use Rattle.desk.specs.declared.request.Request.{Request as Asked}
 use Rattle.desk.specs.declared.request.Request.TheVariants as asked
-use Rattle.fate_laws.proofs.Stepping.{ComesAbout, IsPlain}
+use Rattle.arrival_laws.proofs.Comings.{ComesAbout, IsPlain}
 
 -- It may come, no packet has to be sent before, and the id of a request is a short number.
 pub record MayBeAsked (setup : Setup) (k : Kept) (input : Input) : Type 0 where

@@ -1,0 +1,106 @@
+-- What comes to a node of the code may come to it.
+use Rattle.std.proofs.Common.{◌≡◌, ◌↔◌, ◌⊎◌, ℕ, ◌<◌, ◌≤◌, pred, Bool, true, false, List, length, Option, Some, None, Result, Ok, Err, refl, sym, ap, subst, ◌∙◌, inl, inr, arith}
+use Rattle.std.specs.Prelude.{IfErr, IsErrOf, is_some, not, option_map, if◌then◌else◌}
+use Rattle.std.proofs.lemmas.Bool.{and_parts}
+use Rattle.mc_model.specs.message.Chain.{IsPermitted}
+use Rattle.mc_model.specs.message.Decree.{Decree}
+use Rattle.mc_model.specs.message.Ids.{IsIncarnation, IsNode}
+use Rattle.mc_model.specs.synod.Packet.{Slot, slot_at}
+use Rattle.mc_model.specs.node.Grant.{GrantRefusal}
+use Rattle.mc_model.specs.node.Outcome.{IsOutcome, Outcome}
+use Rattle.mc_model.specs.node.Setup.{Setup}
+use Rattle.mc_parts.proofs.Lengths.{most_decrees}
+use Rattle.node_model.specs.Message.{most_places}
+use Rattle.node_model.specs.Attempts.{grant_refusal, known_refusal}
+use Rattle.node_model.specs.Kept.{Kept, message_at}
+use Rattle.node_laws.specs.Runs.{IsGrantable, IsOpen}
+use Rattle.node_laws.specs.Steps.{IsWellMade}
+use Rattle.delivery.specs.Kept.{outcome_kept}
+use Rattle.synod_acceptor.specs.Packets.{packet_of}
+use Rattle.arrival_laws.proofs.Asking.{request_comes}
+use Rattle.node_core.specs.declared.fault.StepFault.{StepFault}
+use Rattle.node_core.specs.declared.fault.StepFault.TheVariants as faults
+use Rattle.node_core.specs.declared.input.Input.{Input}
+use Rattle.node_core.specs.declared.input.Input.TheVariants as given
+use Rattle.node_core.specs.Attempting.{is_open, known_place, known_slot, reason_of}
+use Rattle.node_core.specs.Keeping.{kept_of}
+use Rattle.node_core.specs.Nodes.{HasStopped, IsUnmoved, Seen, Standing}
+use Rattle.node_core.specs.Steps.{IsFault, refused_by}
+use Rattle.node_runs.specs.Runs.{IsLeftBy, IsSound, may_come_to}
+
+-- ---- attempts
+
+module _ (setup : Setup) (k : Kept) (id : ℕ) where
+  allowed : (refusal : Option GrantRefusal) → option_map (λ (one : GrantRefusal). faults.Grant (reason_of one)) refusal ≡ None → refusal ≡ None
+  allowed None is = refl
+  allowed (Some one) is = absurd cc
+
+  grantable : option_map (λ (one : GrantRefusal). faults.Grant (reason_of one)) (grant_refusal setup k id) ≡ None → IsGrantable setup k (known_slot k id)
+  grantable none = by_known (message_at k id).known refl (allowed (grant_refusal setup k id) none)
+    where
+      by_known : (known : Option (List Decree)) → (message_at k id).known ≡ known → grant_refusal setup k id ≡ None → IsGrantable setup k (known_slot k id)
+      by_known None is free =
+          let unknown : known_refusal setup k (message_at k id) None ≡ None =
+          ap (λ (chain : Option (List Decree)). known_refusal setup k (message_at k id) chain) (sym is) ∙ free in
+          absurd cc
+      by_known (Some chain) is free = record {
+        chain = chain;
+        known = is;
+        place = ap (λ (known : Option (List Decree)). slot_at id (known_place known)) is;
+        allowed = free;
+      }
+
+open_so : (k : Kept) (slot : Slot) (outcome : Outcome) → IsOutcome outcome → (if is_open k slot then None else Some faults.NotGranted) ≡ None → IsOpen k slot outcome
+open_so k slot outcome possible none = by_open (is_open k slot) refl none
+  where
+    by_closed : (closed : Option Outcome) → not (is_some closed) ≡ true → closed ≡ None
+    by_closed None is = refl
+    by_closed (Some one) is = absurd cc
+
+    by_open : (test : Bool) → is_open k slot ≡ test → (if test then None else Some faults.NotGranted) ≡ None → IsOpen k slot outcome
+    by_open false is none = absurd cc
+    by_open true is none =
+        let parts = and_parts ((message_at k slot.id).granted slot.place) (not (is_some ((message_at k slot.id).closed slot.place))) is in
+        record { granted = parts.0; closed = by_closed ((message_at k slot.id).closed slot.place) parts.1; possible = possible }
+
+-- ---- all that comes
+
+pub comes : {S : Type 0} (node : Standing S) (input : Input) → IsNode node.kept.setup.node → IsIncarnation node.kept.incarnation → 1 ≤ node.kept.serial →
+    IsSound input → refused_by node.kept.setup (kept_of node.kept) input ≡ None → may_come_to node input
+comes node (given.Packet packet) is_node lives begun sound free = sound
+comes node (given.Request account request) is_node lives begun sound free =
+    (request_comes node.kept.setup (kept_of node.kept) is_node lives begun account request).may
+comes node (given.Grant id) is_node lives begun sound free = grantable node.kept.setup (kept_of node.kept) id free
+comes node (given.Answered slot outcome) is_node lives begun sound free = open_so (kept_of node.kept) slot (outcome_kept outcome) sound free
+comes node (given.Tick moment up) is_node lives begun sound free = tt
+
+-- ---- packets
+
+-- a permitted chain has a place
+pub has_place : (id : ℕ) (decrees : List Decree) → IsPermitted id decrees → pred (length decrees) < most_places
+has_place id decrees permitted = let short : length decrees ≤ 18 = most_decrees id decrees permitted in omega (arith, short)
+
+-- ---- a step that is not taken
+
+pub take_faults : {A : Type 0} (result : Result A StepFault) (broken : Bool) (other : Option StepFault) → IsErrOf result faults.Broken ↔ (broken ≡ true) →
+    IfErr result (λ fault. (fault ≡ faults.Broken) ⊎ (fault ≡ faults.Device) ⊎ (fault ≡ faults.Memory)) →
+    IfErr result (λ fault. (fault ≡ faults.Device) ⊎ (fault ≡ faults.Memory) ⊎ IsFault (if broken then Some faults.Broken else other) fault)
+take_faults (Ok given) broken other is among = tt
+take_faults (Err fault) broken other is among = elim among [
+  | inl same ↦
+      inr (inr (subst (λ (test : Bool). IsFault (if test then Some faults.Broken else other) fault)
+      (sym (is.0 (λ i. Err (same i)))) same))
+  | inr (inl same) ↦ inl same
+  | inr (inr same) ↦ inr (inl same)
+]
+
+pub take_left : {A : Type 0} (result : Result A StepFault) (old new : Seen) (input : Input) →
+    IfErr result (λ fault. (fault ≡ faults.Broken) ⊎ (fault ≡ faults.Device) ⊎ (fault ≡ faults.Memory)) →
+    (IsErrOf result faults.Broken → IsUnmoved old new) → (IsErrOf result faults.Memory → IsUnmoved old new) →
+    (IsErrOf result faults.Device → HasStopped old input new) → IfErr result (λ fault. IsLeftBy fault old input new)
+take_left (Ok given) old new input among unmoved memory device = tt
+take_left (Err fault) old new input among unmoved memory device = elim among [
+  | inl same ↦ subst (λ (one : StepFault). IsLeftBy one old input new) (sym same) (unmoved (λ i. Err (same i)))
+  | inr (inl same) ↦ subst (λ (one : StepFault). IsLeftBy one old input new) (sym same) (device (λ i. Err (same i)))
+  | inr (inr same) ↦ subst (λ (one : StepFault). IsLeftBy one old input new) (sym same) (memory (λ i. Err (same i)))
+]

@@ -1,0 +1,16 @@
+use Rattle.std.proofs.Common.{subst}
+use Rattle.node_core.specs.declared.input.Input.{Input}
+use Rattle.node_core.specs.Nodes.{HasStopped, seen}
+use Rattle.node_runs.proofs.Inputs.{take_faults, take_left}
+use Rattle.node_runs.proofs.coming.take.Goals as goal
+
+pub returns-clause-faults : goal.returns-clause-faults
+returns-clause-faults g c = take_faults c.commit.result c.args.node.now.broken _ c.commit.ensures.broken c.commit.ensures.faults
+
+pub returns-clause-left : goal.returns-clause-left
+returns-clause-left g c =
+    let records = g.S.StableStore.records in
+    let started = g.S.StableStore.started in
+    take_left c.commit.result _ _ c.args.input c.commit.ensures.faults c.commit.ensures.stays c.commit.ensures.memory
+    (λ failed. subst (λ (came : Input). HasStopped (seen records started c.args.node.now) came (seen records started c.commit.new.self))
+    c.in_ok-pending.ensures.ok.given (c.commit.ensures.device failed))

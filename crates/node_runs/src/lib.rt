@@ -1,0 +1,8 @@
+//! The runs of a node.
+#![tactic(auto)]
+
+mod coming;
+mod laws;
+
+pub use coming::take;
+pub use laws::a_node_is_one_actor;
