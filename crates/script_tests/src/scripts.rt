@@ -121,3 +121,51 @@ fn many_messages_expire(rt: HostRuntime) -> Result<(), Fail> {
     assert_eq!(rt; output.len(), BOUND.len() + answers + expired.len());
     Ok(())
 }
+
+/// The 9,999th incarnation is the last: a restart is refused then, the session stays, and the node goes on.
+#[test]
+fn the_last_incarnation_goes_on(rt: HostRuntime) -> Result<(), Fail> {
+    let alloc = rt.alloc();
+    let restarts = times(alloc, b"restart 1\n", 9998)?;
+    let script = joined(
+        alloc,
+        &[
+            b"nodes 1\n",
+            &restarts,
+            BIND_LINE,
+            b"restart 1\nrestart 1\n",
+            SUBMIT,
+            b"settle\n",
+        ],
+    )?;
+    let mut output = Vec::new(alloc);
+    assert_eq!(rt;
+        run_script(alloc, &mut script.as_slice(), &mut output),
+        Ok(())
+    );
+    let taken = b"pdu 1 1 0000001b8000000400000000000000023139393939303030303100\n";
+    let wanted = joined(alloc, &[BOUND, b"refused 6\nrefused 6\n", taken])?;
+    assert!(rt; output == wanted);
+    Ok(())
+}
+
+/// Ten messages are asked for anew at each of 5,000 ticks: 50,010 times a round is begun and answered, which is more than a settle delivers.
+/// The next one delivers the rest.
+#[test]
+fn a_settle_ends_after_100000_deliveries(rt: HostRuntime) -> Result<(), Fail> {
+    let alloc = rt.alloc();
+    let submits = times(alloc, SUBMIT, 10)?;
+    let ticks = times(alloc, b"tick 1 946684800\n", 5000)?;
+    let script = joined(alloc, &[BIND, &submits, &ticks, b"settle\n", b"settle\n"])?;
+    let unsettled = joined(alloc, &[BOUND, b"unsettled\n"])?;
+    let mut output = Vec::new(alloc);
+    assert_eq!(rt;
+        run_script(alloc, &mut script.as_slice(), &mut output),
+        Ok(())
+    );
+    assert!(rt; output.as_slice().starts_with(&unsettled));
+    // Each answer to a submit_sm has 27 octets.
+    let answers = 10 * (b"pdu 1 1 \n".len() + 2 * 27);
+    assert_eq!(rt; output.len(), unsettled.len() + answers);
+    Ok(())
+}
