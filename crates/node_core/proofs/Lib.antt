@@ -17,6 +17,7 @@ pub mod Beginning
 pub mod Unsaved
 pub mod Saves
 pub mod Stopping
+pub mod Committing
 pub mod TickTurns
 pub mod Walking
 pub mod Idling

@@ -68,7 +68,7 @@ one_more setup up front id k so is =
 abbrev unrounded : Message → Message
 unrounded m = record m { round = None }
 
-rested_filed : (entries : List (ℕ × Filed)) → map filed_as (map rested_entry entries) ≡ map without_round (map filed_as entries)
+pub rested_filed : (entries : List (ℕ × Filed)) → map filed_as (map rested_entry entries) ≡ map without_round (map filed_as entries)
 rested_filed [] = refl
 rested_filed (e ∷ es) = ap (λ (others : List (ℕ × Message)). without_round (filed_as e) ∷ others) (rested_filed es)
 

@@ -1,13 +1,20 @@
 -- A tick that finds nothing due.
-use Rattle.std.specs.Prelude.{◌≡◌, ℕ, max, Bool, false, List, None}
+use Rattle.std.specs.Prelude.{◌≡◌, ℕ, max, Bool, false, IfSome, List, [], Option, None}
+use Rattle.std.specs.Global.{Vec}
 use Rattle.mc_model.specs.synod.Lists.{In}
 use Rattle.mc_model.specs.node.Setup.{Setup}
 use Rattle.node_model.specs.Kept.{Held, Kept}
+use Rattle.node_model.specs.Outputs.{leaves}
+use Rattle.node_model.specs.Stepped.{stepped}
 use Rattle.node_model.specs.Requests.{is_untold}
 use Rattle.node_model.specs.Rules.{first_rule}
-use Rattle.node_model.specs.Ticks.{ids_of, is_late, ticked}
+use Rattle.node_model.specs.Ticks.{ids_of, is_late, on_tick, ticked}
 use Rattle.rules.specs.Dues.{is_up}
 use Rattle.node_core.specs.declared.input.Input.{Input}
+use Rattle.node_core.specs.declared.kept.Kept.{Kept as Holding}
+use Rattle.node_core.specs.declared.step.Step.{Step}
+use Rattle.node_core.specs.Keeping.{kept_of}
+use Rattle.node_core.specs.Steps.{input_of}
 use Rattle.node_core.specs.declared.input.Input.TheVariants.{Answered, Grant, Packet, Request, Tick}
 
 -- no rule fits a message that is kept or asked of
@@ -27,3 +34,19 @@ FindsNothing setup k (Request account request) = ⊥
 FindsNothing setup k (Grant id) = ⊥
 FindsNothing setup k (Answered slot outcome) = ⊥
 FindsNothing setup k (Tick moment up) = IsIdle setup k (max k.clock moment) (is_up up.items)
+
+-- ---- one after another
+
+-- a step of a tick that keeps each message, but for its round, and gives nothing out
+pub record IsStill (step : Step) : Type 0 where
+  pub messages : step.next.messages.items ≡ []
+  pub packets : step.outputs.packets.items ≡ []
+  pub replies : step.outputs.replies.items ≡ []
+
+-- with these accounts, if they are noted, a tick at the clock of a node that keeps this changes nothing and gives nothing out
+abbrev pub IsQuiet : Setup → Kept → Option (Vec (List ℕ)) → Type 0
+IsQuiet setup k idle = IfSome idle (λ up. on_tick setup k k.clock (is_up up.items) ≡ leaves k)
+
+-- so it is after the step for this input
+abbrev pub IsQuietFor : Holding → Input → Option (Vec (List ℕ)) → Type 0
+IsQuietFor k input idle = IsQuiet k.setup (stepped k.setup (kept_of k) (input_of k.setup (kept_of k) input)).kept idle

@@ -17,7 +17,7 @@ ghost use Rattle.synod_acceptor.specs.Packets.{packet_of};
 ghost use Rattle.shelf.specs.Shelved.{value_at};
 ghost use Rattle.synod_acceptor.specs.Records.{entries_of, record_at};
 ghost use Rattle.synod_acceptor.specs.Votes.{report_of, slot_in, slot_reported, told_vote, vote_of};
-ghost use Rattle.node_core.specs.Idling.{FindsNothing};
+ghost use Rattle.node_core.specs.Idling.{FindsNothing, IsQuiet, IsQuietFor};
 ghost use Rattle.node_core.specs.Keeping.{AreOwn, IsFiled, IsOpen, IsTaken, kept_of};
 ghost use Rattle.node_core.specs.Lists.{listed};
 ghost use Rattle.node_core.specs.Restarts.{ListsRecorded};
@@ -36,9 +36,10 @@ use crate::queue_change::QueueChange;
 use crate::renewal::Renewal;
 use crate::round_drop::RoundDrop;
 use crate::setup::Setup;
-use crate::step::{Next, Put, Step};
+use crate::step::{Foreseen, Next, Put, Step};
 use fate_chain::{Author, Chain, Final, Submission};
 use mc_types::{Ballot, Incarnation, Moment, MsgId, NodeNo, Slot};
+use pdu_codec::Text;
 use requests::Queue;
 use rules::Standpoint;
 use shelf::Shelf;
@@ -116,35 +117,41 @@ impl Kept {
         Ok(())
     }
 
-    /// The step that an input leads to, and the packet that came, if one did. It changes nothing, and copies what is kept of the input's
-    /// message alone, or of those that a tick does not leave as they are. A refusal comes before any memory is taken, and a
-    /// tick that finds nothing due takes none.
-    pub fn step(&self, input: Input) -> Result<(Step, Option<Packet>), StepFault>
-        requires { AreOwn self.now }
-        ensures ok { IfOk result (λ prepared. IsPrepared self.now input prepared.0 prepared.1) }
+    /// The step that an input leads to, of which `idle` has the accounts with which a tick at this clock does nothing, if that is known, and
+    /// the packet that came, if one did. It changes nothing, and copies what is kept of the input's message alone, or of those that a tick
+    /// does not leave as they are. A refusal comes before any memory is taken, and a tick that finds nothing due takes none.
+    pub fn step(
+        &self,
+        input: Input,
+        idle: &Option<Vec<Text<16>>>,
+    ) -> Result<(Foreseen, Option<Packet>), StepFault>
+        requires own { AreOwn self.now }
+        requires idle { IsQuiet self.now.setup (kept_of self.now) idle.now }
+        ensures ok { IfOk result (λ prepared. IsPrepared self.now input prepared.0.step prepared.1) }
+        ensures quiet { IfOk result (λ prepared. IsQuietFor self.now input prepared.0.idle) }
         ensures faults { IfErr result (IsFault (refused_by self.now.setup (kept_of self.now) input)) }
         ensures idle { FindsNothing self.now.setup (kept_of self.now) input → IsOk result }
     {
         match input {
             Input::Packet(packet) => {
                 let step = self.on_packet(&packet)?;
-                Ok((step, Some(packet)))
+                Ok((alone(step), Some(packet)))
             }
             Input::Request(account, request) => {
                 let step = self.on_request(&account, request)?;
-                Ok((step, None))
+                Ok((alone(step), None))
             }
             Input::Grant(id) => {
                 let step = self.on_grant(id)?;
-                Ok((step, None))
+                Ok((alone(step), None))
             }
             Input::Answered(slot, outcome) => {
                 let step = self.on_answered(slot, outcome)?;
-                Ok((step, None))
+                Ok((alone(step), None))
             }
             Input::Tick(moment, up) => {
-                let step = self.on_tick(moment, &up)?;
-                Ok((step, None))
+                let foreseen = self.tick(moment, up, idle)?;
+                Ok((foreseen, None))
             }
         }
     }
@@ -528,6 +535,14 @@ impl Kept {
         next.room = Some(self.messages.room(self.alloc, 1)?);
         Ok(next)
     }
+}
+
+/// A step after which it is not known if a tick does anything.
+fn alone(step: Step) -> Foreseen
+    ensures step { result.step ≡ step }
+    ensures idle { result.idle ≡ None }
+{
+    Foreseen { step, idle: None }
 }
 
 /// Makes of the requests that wait what a step makes of them. It takes no memory.

@@ -21,15 +21,17 @@ use crate::life::Life;
 use crate::open::begin;
 use crate::outputs::Outputs;
 use crate::pending::Pending;
-use crate::step::Step;
+use crate::step::{Foreseen, Step};
 use crate::stopped::{Stopped, told};
+use pdu_codec::Text;
 use stable_store::{StableStore, StoreFault};
 use std::marker::Model;
 use std::snapshot::Snapshot;
 use synod_acceptor::{Change, Packet};
 
 /// One node over the synod, and the store that outlives its stops. A step is prepared first, which changes nothing, and then committed,
-/// which takes no memory but what its store takes. Once a save failed it takes no more steps.
+/// which takes no memory but what its store takes. Once a save failed it takes no more steps. It notes the accounts of a tick that found
+/// nothing to do, so that the next one at the same moment need not look at its messages.
 #[derive(Drop)]
 pub struct Node<S: StableStore> {
     store: S,
@@ -38,6 +40,8 @@ pub struct Node<S: StableStore> {
     // The packet whose save failed since it opened.
     unfinished: Option<Packet>,
     stopped: Option<Stopped>,
+    // The accounts with which a tick at its clock does nothing, if they are noted.
+    idle: Option<Vec<Text<16>>>,
 }
 
 impl<S: StableStore> Model for Node<S> {
@@ -45,6 +49,8 @@ impl<S: StableStore> Model for Node<S> {
 
     ghost Value = { Standing S };
 
+    ghost use Rattle.node_core.specs.Idling.{IsQuiet};
+    ghost use Rattle.node_core.specs.Keeping.{kept_of};
     ghost use Rattle.node_core.specs.Nodes.{IsStored};
 
     ghost view = { λ n. record {
@@ -55,7 +61,8 @@ impl<S: StableStore> Model for Node<S> {
       stopped = n.stopped;
     } };
 
-    ghost invariant = { λ n. IsStored n.broken (S.records n.store) n.unfinished n.kept };
+    ghost invariant = { λ n.
+        IsStored n.broken (S.records n.store) n.unfinished n.kept × IsQuiet n.kept.setup (kept_of n.kept) n.idle };
 }
 
 impl<S: StableStore> Node<S> {
@@ -74,6 +81,7 @@ impl<S: StableStore> Node<S> {
             broken: false,
             unfinished: None,
             stopped: None,
+            idle: None,
         }
     }
 
@@ -89,10 +97,10 @@ impl<S: StableStore> Node<S> {
     {
         self.judge()?;
         let given = Snapshot::of(&input);
-        let (step, packet) = self.kept.step(input)?;
+        let (foreseen, packet) = self.kept.step(input, &self.idle)?;
         Ok(Pending {
             given,
-            step,
+            foreseen,
             packet,
             was: Snapshot::of(&self.kept),
         })
@@ -113,7 +121,12 @@ impl<S: StableStore> Node<S> {
         ensures started { S.started self.new.store ≡ S.started self.old.store }
     {
         self.judge()?;
-        let Pending { step, packet, .. } = pending;
+        let Pending {
+            foreseen,
+            packet,
+            ..
+        } = pending;
+        let Foreseen { step, idle } = foreseen;
         let Step {
             outputs,
             change,
@@ -122,6 +135,7 @@ impl<S: StableStore> Node<S> {
         match save(&mut self.store, &change) {
             Ok(()) => {
                 self.kept.install(next);
+                self.idle = idle;
                 Ok(outputs)
             }
             Err(StepFault::Device) => {
@@ -152,6 +166,7 @@ impl<S: StableStore> Node<S> {
                 self.stopped = told(&kept, self.unfinished.take());
                 self.kept = kept;
                 self.broken = false;
+                self.idle = None;
                 Ok(Life::of(setup.node, self.kept.incarnation()))
             }
             Err(fault) => {

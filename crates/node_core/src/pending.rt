@@ -8,7 +8,7 @@ ghost use Rattle.node_core.specs.Steps.{input_of, outputs_of};
 use crate::input::Input;
 use crate::kept::Kept;
 use crate::outputs::Outputs;
-use crate::step::Step;
+use crate::step::Foreseen;
 use std::marker::Model;
 use std::snapshot::Snapshot;
 use synod_acceptor::Packet;
@@ -18,7 +18,7 @@ use synod_acceptor::Packet;
 #[derive(Drop)]
 pub struct Pending {
     pub(crate) given: Snapshot<Input>,
-    pub(crate) step: Step,
+    pub(crate) foreseen: Foreseen,
     // The packet that came, if one did: only its step saves anything.
     pub(crate) packet: Option<Packet>,
     pub(crate) was: Snapshot<Kept>,
@@ -29,11 +29,11 @@ impl Model for Pending {
 
     ghost Value = { Awaited };
 
-    ghost use Rattle.node_core.specs.Pendings.{IsPrepared};
+    ghost use Rattle.node_core.specs.Pendings.{IsForeseen};
 
     ghost view = { λ p. record { was = p.was.value; input = p.given.value } };
 
-    ghost invariant = { λ p. IsPrepared p.was.value p.given.value p.step p.packet };
+    ghost invariant = { λ p. IsForeseen p.was.value p.given.value p.foreseen p.packet };
 }
 
 impl Pending {
@@ -41,6 +41,6 @@ impl Pending {
     pub fn outputs(&self) -> &Outputs
         ensures { outputs_of result.now ≡ (stepped self.now.was.setup (kept_of self.now.was) (input_of self.now.was.setup (kept_of self.now.was) self.now.input)).outputs }
     {
-        &self.step.outputs
+        &self.foreseen.step.outputs
     }
 }

@@ -4,6 +4,7 @@ use crate::message::Message;
 use crate::outputs::Outputs;
 use crate::queue_change::QueueChange;
 use mc_types::{Moment, MsgId};
+use pdu_codec::Text;
 use shelf::Room;
 use synod_acceptor::Change;
 
@@ -33,4 +34,11 @@ pub struct Step {
     pub outputs: Outputs,
     pub change: Option<Change>,
     pub next: Next,
+}
+
+/// A step, and the accounts with which a tick does nothing after it, if that is known.
+#[derive(Drop)]
+pub struct Foreseen {
+    pub step: Step,
+    pub idle: Option<Vec<Text<16>>>,
 }

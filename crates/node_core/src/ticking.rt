@@ -1,12 +1,13 @@
 //! What a node does at a tick.
 
-ghost use Rattle.std.specs.Prelude.{◌≡◌, ◌≢◌, ◌<◌, ◌++◌, suc, [], Some, None, Ok, length, max, map, true, false, IfOk, IsOk, IsOkAnd, if◌then◌else◌};
+ghost use Rattle.std.specs.Prelude.{◌≡◌, ◌≢◌, ◌<◌, ◌++◌, suc, [], Some, None, Ok, length, max, map, true, false, IfOk, IsOk, IsOkAnd, IsSomeAnd, if◌then◌else◌};
 ghost use Rattle.std.specs.List.{list_any};
 ghost use Rattle.std.specs.List.Sorted.{IsStrictlySortedBy};
 ghost use Rattle.std.specs.Map.{keys_of};
 ghost use Rattle.std.specs.Option.{option_copied};
 ghost use Rattle.std.specs.Ordering.{nat_cmp};
 ghost use Rattle.mc_model.specs.synod.Lists.{In};
+ghost use Rattle.node_model.specs.Outputs.{leaves};
 ghost use Rattle.node_model.specs.Requests.{is_untold};
 ghost use Rattle.node_model.specs.Rules.{first_rule};
 ghost use Rattle.node_model.specs.Ticks.{asked_again, ids_of, on_tick, ticked};
@@ -16,7 +17,7 @@ ghost use Rattle.requests.specs.Waiting.{held_in};
 ghost use Rattle.rules.specs.Dues.{is_up};
 ghost use Rattle.shelf.specs.Shelved.{value_at};
 ghost use Rattle.synod_acceptor.specs.Packets.{packet_of};
-ghost use Rattle.node_core.specs.Idling.{IsIdle, NoneFits};
+ghost use Rattle.node_core.specs.Idling.{IsIdle, IsQuiet, IsStill, NoneFits};
 ghost use Rattle.node_core.specs.Keeping.{AreOwn, kept_of};
 ghost use Rattle.node_core.specs.Steps.{IsStep};
 ghost use Rattle.node_core.specs.Ticking.{IsTurnOf, IsTurned};
@@ -26,7 +27,7 @@ use crate::kept::Kept;
 use crate::message::Message;
 use crate::outputs::Outputs;
 use crate::queue_change::QueueChange;
-use crate::step::Step;
+use crate::step::{Foreseen, Step};
 use crate::turn::Turn;
 use crate::turn_list::TurnList;
 use crate::walk::Walk;
@@ -37,6 +38,31 @@ use std::alloc::AllocError;
 use synod_acceptor::Packet;
 
 impl Kept {
+    /// The step of a tick, of which `idle` has the accounts with which one at this clock does nothing, if that is known. If the moment is not
+    /// above the clock and the accounts are the same, it is that step at once. It takes no memory if nothing is due.
+    pub(crate) fn tick(
+        &self,
+        moment: Moment,
+        up: Vec<Text<16>>,
+        idle: &Option<Vec<Text<16>>>,
+    ) -> Result<Foreseen, AllocError>
+        requires own { AreOwn self.now }
+        requires idle { IsQuiet self.now.setup (kept_of self.now) idle.now }
+        ensures step { IfOk result (λ it. IsStep self.now (on_tick self.now.setup (kept_of self.now) moment (is_up up.items)) it.step) }
+        ensures quiet { IfOk result (λ it. IsQuiet self.now.setup (on_tick self.now.setup (kept_of self.now) moment (is_up up.items)).kept it.idle) }
+        ensures idle { IsIdle self.now.setup (kept_of self.now) (max self.now.clock moment) (is_up up.items) → IsOk result }
+    {
+        if moment <= self.clock && is_noted(idle, &up) {
+            return Ok(Foreseen {
+                step: self.same(),
+                idle: Some(up),
+            });
+        }
+        let step = self.on_tick(moment, &up)?;
+        let idle = if is_still(&step) { Some(up) } else { None };
+        Ok(Foreseen { step, idle })
+    }
+
     /// The step of a tick: the clock rises to this moment, if it is behind it;
     /// those that waited too long are answered so and wait no more, and those are asked of again of which no majority told; all rounds end,
     /// and for each message, by ascending ids, the first rule that fits starts one. `up` has the accounts of which a session may receive.
@@ -45,6 +71,8 @@ impl Kept {
         requires { AreOwn self.now }
         ensures step { IfOk result (IsStep self.now (on_tick self.now.setup (kept_of self.now) moment (is_up up.now))) }
         ensures idle { IsIdle self.now.setup (kept_of self.now) (max self.now.clock moment) (is_up up.now) → IsOk result }
+        ensures rests { IfOk result (λ step. IsStill step →
+            on_tick self.now.setup (kept_of self.now) moment (is_up up.now) ≡ leaves (ticked (kept_of self.now) (max self.now.clock moment))) }
     {
         let clock = self.clock.max(moment);
         let replies = self.queue.late(clock)?;
@@ -71,7 +99,8 @@ impl Kept {
         clock: Moment,
         mut starts: Vec<Packet>,
     ) -> Result<Vec<Packet>, AllocError>
-        ensures packets { IfOk result (λ packets. map packet_of packets.items ≡ asked_again self.now.setup (ticked (kept_of self.now) clock) ++ map packet_of starts.items) }
+        ensures packets { IfOk result (λ packets. map packet_of packets.items
+            ≡ asked_again self.now.setup (ticked (kept_of self.now) clock) ++ map packet_of starts.items) }
         ensures idle { list_any (is_untold self.now.setup.nodes) (timely clock (held_in self.now.queue)) ≡ false → starts.items ≡ [] → IsOk result }
     {
         let mut packets = self
@@ -87,7 +116,8 @@ impl Kept {
     fn turns(&self, clock: Moment, up: &[Text<16>]) -> Result<TurnList, AllocError>
         requires { AreOwn self.now }
         ensures turned { IfOk result (IsTurned self.now clock (is_up up.now) (ids_of (ticked (kept_of self.now) clock))) }
-        ensures idle { NoneFits self.now.setup (kept_of self.now) clock (is_up up.now) → IsOkAnd result (λ turns. (turns.messages.items ≡ []) × (turns.packets.items ≡ [])) }
+        ensures idle { NoneFits self.now.setup (kept_of self.now) clock (is_up up.now) →
+            IsOkAnd result (λ turns. (turns.messages.items ≡ []) × (turns.packets.items ≡ [])) }
     {
         let at = Standpoint {
             author: self.author(),
@@ -183,4 +213,30 @@ impl Kept {
             }
         }
     }
+}
+
+/// Whether these accounts are noted.
+fn is_noted(idle: &Option<Vec<Text<16>>>, up: &[Text<16>]) -> bool
+    ensures { result ≡ true → IsSomeAnd idle.now (λ noted. noted.items ≡ up.now) }
+{
+    match idle {
+        Some(noted) => are_same(noted, up),
+        None => false,
+    }
+}
+
+/// Whether these accounts are the others.
+fn are_same(accounts: &[Text<16>], others: &[Text<16>]) -> bool
+    ensures { result ≡ true → accounts.now ≡ others.now }
+{
+    accounts == others
+}
+
+/// Whether a step of a tick keeps each message but for its round, and gives nothing out.
+fn is_still(step: &Step) -> bool
+    ensures { result ≡ true → IsStill step.now }
+{
+    step.next.messages.is_empty()
+        && step.outputs.packets.is_empty()
+        && step.outputs.replies.is_empty()
 }

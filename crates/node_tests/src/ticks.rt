@@ -71,3 +71,35 @@ fn a_node_that_heard_of_nothing_starts_nothing(rt: HostRuntime) -> Result<(), Fa
     assert_eq!(rt; otherwise(rt.alloc(), &rows)?, None);
     Ok(())
 }
+
+#[test]
+fn a_tick_at_the_same_moment_looks_at_other_accounts(rt: HostRuntime) -> Result<(), Fail> {
+    let rows = [
+        (Comes::Voted(1), Answer::Nothing),
+        (Comes::Voted(3), Answer::Nothing),
+        (Comes::Tick(EXPIRY - 1, ""), Answer::Nothing),
+        (Comes::Tick(EXPIRY - 1, ""), Answer::Nothing),
+        (Comes::Tick(EXPIRY - 2, ""), Answer::Nothing),
+        (
+            Comes::Tick(EXPIRY - 1, "sme1"),
+            Answer::Started(1000100001, 1, 262162),
+        ),
+    ];
+    assert_eq!(rt; otherwise(rt.alloc(), &rows)?, None);
+    Ok(())
+}
+
+#[test]
+fn a_message_that_comes_behind_a_tick_is_not_forgotten(rt: HostRuntime) -> Result<(), Fail> {
+    let rows = [
+        (Comes::Tick(EXPIRY, ""), Answer::Nothing),
+        (Comes::Voted(1), Answer::Nothing),
+        (Comes::Voted(3), Answer::Nothing),
+        (
+            Comes::Tick(EXPIRY, ""),
+            Answer::Started(1000100001, 1, 262162),
+        ),
+    ];
+    assert_eq!(rt; otherwise(rt.alloc(), &rows)?, None);
+    Ok(())
+}

@@ -11,7 +11,7 @@ use Rattle.synod_acceptor.specs.Packets.{packet_of}
 use Rattle.node_core.specs.Idling.{NoneFits}
 use Rattle.node_core.specs.Keeping.{kept_of}
 use Rattle.node_core.proofs.Idling.{none_passes, timely_in}
-use Rattle.node_core.proofs.TickSteps.{room_serves, ticked_at}
+use Rattle.node_core.proofs.TickSteps.{room_serves, still_at, ticked_at}
 use Rattle.node_core.proofs.kept.Kept.on_tick.Goals as goal
 
 pub returns-clause-step : goal.returns-clause-step
@@ -59,3 +59,12 @@ returns-in_err-packets-clause-idle c idle =
     let empty : c.in_ok-turns.turns.packets.items ≡ [] = (rw c.in_ok-turns.was at (c.turns.ensures.idle fits)).1 in
     let ok = c.with_questions.ensures.idle none empty in
     absurd (true≢false (sym (rw c.in_err-packets.was at ok)))
+
+pub returns-clause-rests : goal.returns-clause-rests
+returns-clause-rests c still =
+    let k = c.args.self.now in
+    let clock : c.max-clock.result ≡ max k.clock c.args.moment = search rules in
+    let packets = ap (λ v. map packet_of v.items) c.telling.ensures.packets ∙ c.in_ok-packets.ensures.packets in
+    let replies = ap (λ v. map reply_given v.items) c.telling.ensures.replies ∙ c.in_ok-replies.ensures.replies in
+    still_at k c.args.moment c.max-clock.result (is_up c.args.up.now) c.in_ok-turns.turns clock c.in_ok-turns.ensures.turned still.messages
+    (sym packets ∙ ap (map packet_of) still.packets) (sym replies ∙ ap (map reply_given) still.replies)

@@ -30,6 +30,6 @@ returns-in-Ok-clause-told g c =
     let records = g.S.StableStore.records c.self.inside.store in
     let found : IsFound (records_of c.in-Ok.kept.messages.entries) c.self.inside.unfinished c.told.result =
     subst (λ (o : Option Sent). IsFound (records_of c.in-Ok.kept.messages.entries) o c.told.result) c.take.ensures.value c.told.ensures in
-    let is = tells c.self.inside.kept records c.self.inside.unfinished c.told.result c.self.invariant.halted
+    let is = tells c.self.inside.kept records c.self.inside.unfinished c.told.result c.self.invariant.0.halted
     (subst (λ (rs : Records). IsFound rs c.self.inside.unfinished c.told.result) (fun_ext c.in-Ok.ensures.ok.kept) found) in
     subst (λ (old : Standing g.row.S.Denot). IsTold old.kept (g.S.StableStore.records old.store) old.unfinished c.told.result) c.self.view_is is

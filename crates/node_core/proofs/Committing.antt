@@ -1,0 +1,37 @@
+-- What a node keeps once a step is saved.
+use Rattle.std.proofs.Common.{◌≡◌, suc, true, false, map, subst, ◌∙◌}
+use Rattle.node_core.specs.declared.input.Input.{Input}
+use Rattle.node_core.specs.declared.kept.Kept.{Kept as Holding}
+use Rattle.node_core.specs.declared.step.Next.{Next}
+use Rattle.node_core.specs.declared.step.Step.{Step}
+use Rattle.node_core.specs.Keeping.{filed_as, kept_of, records_of}
+use Rattle.node_core.specs.Nodes.{HasTaken, Standing}
+use Rattle.node_core.specs.Steps.{IsInstalled, IsStepFor, kept_then}
+
+installed_so : (old new : Holding) (next : Next) → IsInstalled old next new → kept_of new ≡ kept_then old next
+installed_so old new next is = λ i. record {
+  records = records_of (is.entries i);
+  up = true;
+  incarnation = is.incarnation i;
+  clock = is.clock i;
+  serial = is.serial i;
+  ticket = suc (is.given i);
+  held = is.queue i;
+  messages = map filed_as (is.entries i);
+}
+
+pub taken : {S : Type 0} (old new : Standing S) (was : Holding) (input came : Input) (step : Step) → was ≡ old.kept → came ≡ input → IsStepFor was came step →
+    IsInstalled old.kept step.next new.kept → new.broken ≡ false → new.unfinished ≡ old.unfinished → new.stopped ≡ old.stopped → HasTaken old input new step.outputs
+taken old new was input came step same_kept same_input prepared installed works unfinished stopped =
+    let is : IsStepFor old.kept input step =
+    subst (λ (i : Input). IsStepFor old.kept i step) same_input (subst (λ (h : Holding). IsStepFor h came step) same_kept prepared) in
+    record {
+      kept = installed_so old.kept new.kept step.next installed ∙ is.is.kept;
+      given = is.is.outputs;
+      allowed = is.allowed;
+      setup = installed.setup;
+      incarnation = installed.incarnation;
+      works = works;
+      unfinished = unfinished;
+      stopped = stopped;
+    }
