@@ -8,6 +8,13 @@ use crate::due_decree::DueDecree;
 use fate_chain::{Chain, Decree, ErrorCode, Kind};
 use mc_types::Moment;
 
+/// The decrees of the cases, of which the first that fits is due; none if no case does.
+macro_rules! on_case {
+    ($($case:expr => $due:expr;)*) => {
+        $(if $case { Some($due) } else)* { None }
+    };
+}
+
 /// What is due at a moment for a message that was taken, or whose last attempt failed: that it expires; else that it cannot be
 /// delivered; else its next attempt, if its target is up. None if none of these may follow then, and while an attempt is open or the
 /// message has a final state. The moment is the one that the decree would have, so it is not before the newest decree's. It takes no
@@ -16,14 +23,10 @@ pub fn due(chain: &Chain, now: Moment, up: bool) -> Option<DueDecree>
     ensures { IsDue chain.now.decrees now up result }
 {
     let attempt = DueDecree::Attempt(next_attempt(chain));
-    if may_be_due(chain, now, DueDecree::Expired) {
-        Some(DueDecree::Expired)
-    } else if may_be_due(chain, now, DueDecree::Undeliverable) {
-        Some(DueDecree::Undeliverable)
-    } else if up && may_be_due(chain, now, attempt) {
-        Some(attempt)
-    } else {
-        None
+    on_case! {
+        may_be_due(chain, now, DueDecree::Expired) => DueDecree::Expired;
+        may_be_due(chain, now, DueDecree::Undeliverable) => DueDecree::Undeliverable;
+        up && may_be_due(chain, now, attempt) => attempt;
     }
 }
 
