@@ -29,6 +29,7 @@ taken old new was input came step same_kept same_input prepared installed works 
       kept = installed_so old.kept new.kept step.next installed ∙ is.is.kept;
       given = is.is.outputs;
       allowed = is.allowed;
+      granted = is.granted;
       setup = installed.setup;
       incarnation = installed.incarnation;
       works = works;

@@ -91,3 +91,10 @@ same_texts (x ∷ xs) [] same = absurd (true≢false (sym same))
 same_texts (x ∷ xs) (y ∷ ys) same =
     let both = and_parts (bytes_eq x y) (pointwise bytes_eq xs ys) same in
     λ i. (bytes_eq-Decides x y).0 both.0 i ∷ same_texts xs ys both.1 i
+
+pub texts_same : (xs ys : List (List ℕ)) → xs ≡ ys → pointwise bytes_eq xs ys ≡ true
+texts_same xs ys same = subst (λ (zs : List (List ℕ)). pointwise bytes_eq xs zs ≡ true) same (itself xs)
+  where
+    itself : (zs : List (List ℕ)) → pointwise bytes_eq zs zs ≡ true
+    itself [] = refl
+    itself (z ∷ zs) = let here : bytes_eq z z ≡ true = (bytes_eq-Decides z z).1 refl in rw here (itself zs)

@@ -18,8 +18,13 @@ pub mod Unsaved
 pub mod Saves
 pub mod Stopping
 pub mod Committing
+pub mod Storing
 pub mod TickTurns
+pub mod Decided
+pub mod Passing
 pub mod Walking
+pub mod IdLists
+pub mod Living
 pub mod Idling
 pub mod TickSteps
 pub mod Restarts

@@ -1,5 +1,5 @@
 -- The step of a tick is the model's.
-use Rattle.std.proofs.Common.{◌≡◌, ℕ, suc, ◌≤◌, ◌-◌, max, true, Bool, List, [], length, map, None, Option, sym, ap, subst, ◌∙◌, inl, inr, arith}
+use Rattle.std.proofs.Common.{◌≡◌, ◌⊎◌, ◌+◌, ℕ, suc, ◌≤◌, ◌-◌, max, true, Bool, List, [], map, None, Option, sym, ap, subst, ◌∙◌, inl, inr, arith}
 use Rattle.std.proofs.Math.Path.{fun_ext}
 use Rattle.std.specs.Prelude.{◌++◌, filter, option_map}
 use Rattle.mc_model.specs.synod.Packet.{Packet, Slot}
@@ -12,7 +12,6 @@ use Rattle.requests.specs.Queues.{timely}
 use Rattle.pdu_tables.specs.StatusCodes.{status_code}
 use Rattle.requests.specs.Replying.{reply_given}
 use Rattle.requests.specs.Waiting.{held_in}
-use Rattle.shelf.specs.Shelved.{Serves, Shelved}
 use Rattle.synod_acceptor.specs.declared.record.Change.{Change}
 use Rattle.node_core.specs.declared.kept.Kept.{Kept as Holding}
 use Rattle.node_core.specs.declared.message.Message.{Message as Filed}
@@ -30,10 +29,9 @@ use Rattle.node_core.specs.Steps.{Alters, HasRoom, IsStep, entries_after, grante
 use Rattle.node_core.specs.Ticking.{IsTurned, entries_turned, kept_turned}
 
 -- what serves for so many is room for them
-pub room_serves : (shelf : Shelved Filed) (puts : List Put) (room : ℕ) → Serves shelf (length puts) room →
-    length puts ≤ max shelf.room (room - length shelf.entries)
-room_serves shelf puts room (inl enough) = omega (arith, enough)
-room_serves shelf puts room (inr more) = let had = more.0 in omega (arith, had)
+pub room_serves : (have entries more room : ℕ) → (more ≤ have) ⊎ (entries + more ≤ room) → more ≤ max have (room - entries)
+room_serves have entries more room (inl enough) = omega (arith, enough)
+room_serves have entries more room (inr enough) = omega (arith, enough)
 
 -- a step leaves and sends what a tick makes of the messages and of the requests that wait
 pub record IsTickStep (k : Holding) (clock : ℕ) (turns : TurnList) (step : Step) : Type 0 where

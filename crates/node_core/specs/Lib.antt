@@ -2,6 +2,7 @@ pub mod Lists
 pub mod Copies
 pub mod Setups
 pub mod Attempting
+pub mod Living
 pub mod Messages
 pub mod Queueing
 pub mod Deleting
@@ -10,6 +11,7 @@ pub mod Steps
 pub mod Pendings
 pub mod Stops
 pub mod Nodes
+pub mod Permits
 pub mod Voting
 pub mod Telling
 pub mod Arriving

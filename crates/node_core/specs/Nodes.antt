@@ -20,7 +20,7 @@ use Rattle.node_core.specs.declared.outputs.Outputs.{Outputs}
 use Rattle.node_core.specs.declared.stopped.Stopped.{Stopped}
 use Rattle.node_core.specs.Keeping.{AreOwn, kept_of, records_of}
 use Rattle.node_core.specs.Pendings.{Awaited}
-use Rattle.node_core.specs.Steps.{input_of, outputs_of, refused_by}
+use Rattle.node_core.specs.Steps.{GrantsKnown, input_of, outputs_of, refused_by}
 use Rattle.node_core.specs.Stops.{IsUnfinished}
 
 -- what it keeps, whether a save failed, its store, the packet whose save failed since it opened, and what it tells of the save that failed
@@ -106,6 +106,7 @@ pub record HasTaken {S : Type 0} (old : Standing S) (input : Input) (new : Stand
   pub kept : kept_of new.kept ≡ (stepped old.kept.setup (kept_of old.kept) (input_of old.kept.setup (kept_of old.kept) input)).kept
   pub given : outputs_of outputs ≡ (stepped old.kept.setup (kept_of old.kept) (input_of old.kept.setup (kept_of old.kept) input)).outputs
   pub allowed : refused_by old.kept.setup (kept_of old.kept) input ≡ None
+  pub granted : GrantsKnown (kept_of old.kept) input outputs.granted
   pub setup : new.kept.setup ≡ old.kept.setup
   pub incarnation : new.kept.incarnation ≡ old.kept.incarnation
   pub works : new.broken ≡ false

@@ -1,6 +1,7 @@
 -- A step of the code, as a step of the node's model.
-use Rattle.std.specs.Prelude.{◌≡◌, ◌≢◌, ℕ, suc, ◌≤◌, ◌-◌, max, Bool, false, List, [], ◌∷◌, length, map, option_map, Option, Some, None, if◌then◌else◌}
+use Rattle.std.specs.Prelude.{◌≡◌, ◌≢◌, ℕ, suc, ◌≤◌, ◌-◌, max, Bool, false, List, [], ◌∷◌, length, map, option_map, Option, Some, None, IfSome, if◌then◌else◌}
 use Rattle.std.specs.Box.{box_value}
+use Rattle.std.specs.Vec.{vec_capacity}
 use Rattle.mc_model.specs.message.Chain.{Chain}
 use Rattle.mc_model.specs.synod.Packet.{Packet, Slot, slot_of}
 use Rattle.mc_model.specs.synod.Acceptor.{Records}
@@ -8,7 +9,7 @@ use Rattle.mc_model.specs.node.Input.{Delivery, Grant, Input, Response, Tick}
 use Rattle.mc_model.specs.node.Outputs.{Outputs, Receipt}
 use Rattle.mc_model.specs.node.Setup.{Setup}
 use Rattle.node_model.specs.Attempts.{grant_refusal}
-use Rattle.node_model.specs.Kept.{Held, Kept}
+use Rattle.node_model.specs.Kept.{Held, Kept, message_at}
 use Rattle.node_model.specs.Outputs.{Stepped, nothing}
 use Rattle.node_model.specs.Stepped.{stepped}
 use Rattle.delivery.specs.Kept.{outcome_kept}
@@ -17,7 +18,7 @@ use Rattle.pdu_tables.specs.StatusCodes.{status_code}
 use Rattle.rules.specs.Dues.{is_up}
 use Rattle.requests.specs.Replying.{reply_given}
 use Rattle.requests.specs.Waiting.{held_in}
-use Rattle.shelf.specs.Shelved.{Shelved, with_value}
+use Rattle.shelf.specs.Shelved.{with_value}
 use Rattle.synod_acceptor.specs.Packets.{packet_of}
 use Rattle.synod_acceptor.specs.Votes.{record_of, slot_recorded}
 use Rattle.synod_acceptor.specs.declared.acceptor.Verdict.{Verdict}
@@ -28,6 +29,7 @@ use Rattle.node_core.specs.declared.input.Input.{Input as Given}
 use Rattle.node_core.specs.declared.input.Input.TheVariants as given
 use Rattle.node_core.specs.declared.kept.Kept.{Kept as Holding}
 use Rattle.node_core.specs.declared.message.Message.{Message as Filed}
+use Rattle.node_core.specs.declared.message_room.MessageRoom.{MessageRoom}
 use Rattle.node_core.specs.declared.outputs.Outputs.{Outputs as Sent}
 use Rattle.node_core.specs.declared.queue_change.QueueChange.TheVariants as changes
 use Rattle.node_core.specs.declared.step.Next.{Next}
@@ -35,6 +37,7 @@ use Rattle.node_core.specs.declared.step.Put.{Put}
 use Rattle.node_core.specs.declared.step.Step.{Step}
 use Rattle.node_core.specs.Attempting.{is_open, known_slot, reason_of}
 use Rattle.node_core.specs.Keeping.{AreOf, AreOwn, kept_of, records_of}
+use Rattle.node_core.specs.Living.{Listed}
 use Rattle.node_core.specs.Messages.{changed_by, rested}
 use Rattle.node_core.specs.Queueing.{AreAsked, HasPlace, requeued}
 
@@ -115,13 +118,19 @@ pub record IsInstalled (old : Holding) (next : Next) (new : Holding) : Type 0 wh
   pub entries : new.messages.entries ≡ entries_after (rested_if next.drops_rounds old.messages.entries) next.messages.items
   pub queue : held_in new.queue ≡ requeued old.setup.nodes (held_in old.queue) next.queue
 
--- there is room for its messages
-abbrev pub room_in : Option ℕ → ℕ
+-- there is room for its messages, and to list them
+abbrev pub room_in : Option MessageRoom → ℕ
 room_in None = 0
-room_in (Some room) = room
+room_in (Some room) = room.shelf
 
-abbrev pub HasRoom : Shelved Filed → Next → Type 0
-HasRoom shelf next = length next.messages.items ≤ max shelf.room (room_in next.room - length shelf.entries)
+abbrev pub listings_in : Option MessageRoom → ℕ
+listings_in None = 0
+listings_in (Some room) = vec_capacity room.live
+
+abbrev pub HasRoom : Listed → Next → Type 0
+HasRoom kept next =
+    (length next.messages.items ≤ max kept.room (room_in next.room - length kept.entries))
+    × (length next.messages.items ≤ max kept.listings (listings_in next.room - length kept.entries))
 
 -- this message is to take the place of what is kept of this id, and nothing else changes
 pub record IsNext (k : Holding) (id : ℕ) (m : Filed) (next : Next) : Type 0 where
@@ -155,10 +164,23 @@ pub record IsStep (k : Holding) (to : Stepped) (step : Step) : Type 0 where
   pub room : HasRoom k.messages step.next
   pub place : HasPlace k.queue step.next.queue
 
+-- what is given out of an attempt that is granted is the known chain of its message
+pub record IsKnown (k : Kept) (id : ℕ) (chain : Chain) : Type 0 where
+  pub about : chain.id ≡ id
+  pub known : (message_at k id).known ≡ Some chain.decrees
+
+abbrev pub GrantsKnown : Kept → Given → Option Chain → Type 0
+GrantsKnown k (given.Packet packet) granted = Unit {0}
+GrantsKnown k (given.Request account request) granted = Unit {0}
+GrantsKnown k (given.Grant id) granted = IfSome granted (IsKnown k id)
+GrantsKnown k (given.Answered slot outcome) granted = Unit {0}
+GrantsKnown k (given.Tick moment up) granted = Unit {0}
+
 -- the step of the model for this input, which is not refused
 pub record IsStepFor (k : Holding) (input : Given) (step : Step) : Type 0 where
   pub is : IsStep k (stepped k.setup (kept_of k) (input_of k.setup (kept_of k) input)) step
   pub allowed : refused_by k.setup (kept_of k) input ≡ None
+  pub granted : GrantsKnown (kept_of k) input step.outputs.granted
 
 -- it answers by a verdict, and keeps this message
 pub record IsAnswer (k : Holding) (id : ℕ) (m : Filed) (verdict : Verdict) (step : Step) : Type 0 where

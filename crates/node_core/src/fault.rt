@@ -17,6 +17,8 @@ pub enum StepFault {
     NotGranted,
     /// 4: the device of the store failed. What was to be saved is saved or not, and the node is Broken.
     Device,
+    /// 5: the life or the permit is of another node or another incarnation.
+    StrangeLife,
     /// There was no memory for it.
     Memory,
 }

@@ -1,12 +1,12 @@
 //! What a node does if an attempt is asked for, and if what came of one comes.
 
-ghost use Rattle.std.specs.Prelude.{◌≡◌, ◌≤◌, true, None, Some, IfErr, IfOk, option_map, if◌then◌else◌};
+ghost use Rattle.std.specs.Prelude.{◌≡◌, ◌≤◌, true, None, Some, IfErr, IfOk, IfSome, option_map, if◌then◌else◌};
 ghost use Rattle.delivery.specs.Kept.{outcome_kept};
 ghost use Rattle.node_model.specs.Attempts.{grant_refusal, on_grant, on_response};
 ghost use Rattle.node_model.specs.Kept.{message_at};
 ghost use Rattle.node_core.specs.Attempting.{is_open, known_slot, reason_of};
 ghost use Rattle.node_core.specs.Keeping.{AreOwn, kept_of};
-ghost use Rattle.node_core.specs.Steps.{IsFault, IsStep};
+ghost use Rattle.node_core.specs.Steps.{IsFault, IsKnown, IsStep};
 ghost use Rattle.node_core.specs.declared.fault.StepFault.TheVariants.{Grant, NotGranted};
 
 use crate::fault::StepFault;
@@ -25,6 +25,7 @@ impl Kept {
         requires { AreOwn self.now }
         ensures ok { IfOk result (IsStep self.now (on_grant (kept_of self.now) (known_slot (kept_of self.now) id))) }
         ensures given { IfOk result (λ step. grant_refusal self.now.setup (kept_of self.now) id ≡ None) }
+        ensures known { IfOk result (λ step. IfSome step.outputs.granted (IsKnown (kept_of self.now) id)) }
         ensures faults { IfErr result (IsFault (option_map (λ refusal. Grant (reason_of refusal)) (grant_refusal self.now.setup (kept_of self.now) id))) }
     {
         let chain = self.attempt(id)?.copy()?;

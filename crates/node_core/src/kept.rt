@@ -31,10 +31,9 @@ ghost use Rattle.node_core.specs.Steps.{HasRoom, IsAnswer, IsFault, IsInstalled,
 use crate::fault::StepFault;
 use crate::input::{Input, sender};
 use crate::message::{Message, fate_in};
+use crate::message_shelf::MessageShelf;
 use crate::outputs::Outputs;
 use crate::queue_change::QueueChange;
-use crate::renewal::Renewal;
-use crate::round_drop::RoundDrop;
 use crate::setup::Setup;
 use crate::step::{Foreseen, Next, Put, Step};
 use fate_chain::{Author, Chain, Final, Submission};
@@ -42,7 +41,6 @@ use mc_types::{Ballot, Incarnation, Moment, MsgId, NodeNo, Slot};
 use pdu_codec::Text;
 use requests::Queue;
 use rules::Standpoint;
-use shelf::Shelf;
 use std::alloc::{AllocError, Global};
 use synod_acceptor::{Name, Packet, Record, Report, Verdict, Vote};
 
@@ -57,7 +55,7 @@ pub struct Kept {
     serial: u32,
     given: u64,
     pub(crate) queue: Queue,
-    pub(crate) messages: Shelf<Message>,
+    pub(crate) messages: MessageShelf,
 }
 
 impl Kept {
@@ -79,7 +77,7 @@ impl Kept {
             serial,
             given: 0,
             queue: Queue::make(alloc)?,
-            messages: Shelf::empty(alloc),
+            messages: MessageShelf::empty(alloc),
         };
         while let Some(stored) = records.pop() {
             kept.file(stored)?;
@@ -93,14 +91,14 @@ impl Kept {
     {
         self.incarnation = incarnation;
         let me = self.author();
-        self.messages.for_each(&Renewal { me });
+        self.messages.renew(me);
     }
 
     /// What a proof takes of its messages: each of which there is a record is among them. The call does nothing.
     pub fn lists(&self)
         ensures { ListsRecorded (kept_of self.now) }
     {
-        self.messages.at(0);
+        self.messages.ascends();
     }
 
     /// Takes in a record of its store.
@@ -403,7 +401,9 @@ impl Kept {
         ensures value { option_copied result ≡ value_at self.now.messages.entries id }
         ensures named { IsId id }
     {
-        self.messages.get(id.number())
+        // For the proof alone: the number is an id.
+        id.number();
+        self.messages.get(id)
     }
 
     /// Where its memory comes from.
@@ -561,22 +561,24 @@ fn requeue(queue: &mut Queue, change: QueueChange, nodes: u8)
 }
 
 /// Ends the round of each message, if rounds end. It takes no memory.
-fn rest_if(shelf: &mut Shelf<Message>, ends: bool)
-    ensures entries { shelf.new.entries ≡ rested_if ends shelf.old.entries }
-    ensures room { shelf.new.room ≡ shelf.old.room }
+fn rest_if(kept: &mut MessageShelf, ends: bool)
+    ensures entries { kept.new.entries ≡ rested_if ends kept.old.entries }
+    ensures room { kept.new.room ≡ kept.old.room }
+    ensures listings { kept.new.listings ≡ kept.old.listings }
 {
     if ends {
-        shelf.for_each(&RoundDrop);
+        kept.rest();
     }
 }
 
 /// Puts messages in the places of what was kept of their ids, the last of them first; there is room for them. It takes no memory.
-fn put_each(shelf: &mut Shelf<Message>, mut messages: Vec<Put>)
-    requires { length messages.items ≤ shelf.old.room }
-    ensures { shelf.new.entries ≡ entries_after shelf.old.entries messages.items }
+fn put_each(kept: &mut MessageShelf, mut messages: Vec<Put>)
+    requires room { length messages.items ≤ kept.old.room }
+    requires listings { length messages.items ≤ kept.old.listings }
+    ensures { kept.new.entries ≡ entries_after kept.old.entries messages.items }
 {
     while let Some(put) = messages.pop() {
-        shelf.put(put.id.number(), put.message);
+        kept.put(put.id, put.message);
     }
 }
 

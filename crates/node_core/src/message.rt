@@ -27,6 +27,7 @@ ghost use Rattle.node_model.specs.Rules.{first_rule, known_rule};
 ghost use Rattle.rules.specs.Dues.{is_up, rule_of};
 ghost use Rattle.node_core.specs.Ticking.{IsAtRest, IsOfTurn, gives_up, ruled_as, ruled_by, turned};
 ghost use Rattle.node_core.specs.Messages.{IsConcluded, IsHeard, IsJudged, IsOf, IsPromised, IsRefused, IsStarted, IsStartedFor, IsTriedSo, changed_by, closed_at, granted_at, message_of, rested};
+ghost use Rattle.node_core.specs.Living.{is_decided};
 ghost use Rattle.node_core.specs.Renewal.{renewed};
 ghost use Rattle.requests.specs.Queues.{timely};
 ghost use Rattle.requests.specs.Waiting.{held_in, known_of};
@@ -147,6 +148,13 @@ impl Message {
             Some(chain) => fate_in(chain).is_some(),
             None => false,
         }
+    }
+
+    /// Whether a final state of the message of this id is known, and its acceptor did not vote beyond that. It takes no memory.
+    pub fn is_decided(&self, id: MsgId) -> bool
+        ensures { result ≡ is_decided id self.now }
+    {
+        self.has_fate(id) && follow(self.learner.known(id), self.acceptor.tell(id)).is_none()
     }
 
     /// Ends the round that runs, if any. It takes no memory.

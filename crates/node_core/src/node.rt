@@ -12,6 +12,8 @@ ghost use Rattle.node_core.specs.Restarts.{ListsRecorded};
 ghost use Rattle.node_core.specs.Setups.{IsSetup};
 ghost use Rattle.node_core.specs.Steps.{IsFault};
 ghost use Rattle.node_core.specs.Stops.{IsTold};
+ghost use Rattle.node_core.specs.Pendings.{packet_in};
+ghost use Rattle.node_core.specs.Permits.{is_life_of};
 ghost use Rattle.node_core.specs.Nodes.{HasOpened, HasStopped, HasTaken, IsAwaited, IsLeft, IsLifeOf, IsStored, IsUnmoved, breaks, fault_in, seen};
 
 use crate::fault::StepFault;
@@ -23,6 +25,7 @@ use crate::outputs::Outputs;
 use crate::pending::Pending;
 use crate::step::{Foreseen, Step};
 use crate::stopped::{Stopped, told};
+use mc_types::Moment;
 use pdu_codec::Text;
 use stable_store::{StableStore, StoreFault};
 use std::marker::Model;
@@ -147,6 +150,29 @@ impl<S: StableStore> Node<S> {
         }
     }
 
+    /// Does what was prepared, if the node is as it was then, it is not Broken, and no packet came. So it saves nothing. It takes no memory.
+    pub(crate) fn commit_unsaved(&mut self, pending: Pending) -> Outputs
+        requires was { pending.was ≡ self.old.kept }
+        requires works { self.old.broken ≡ false }
+        requires unsaved { packet_in pending.input ≡ None }
+        ensures taken { HasTaken self.old pending.input self.new result }
+        ensures store { self.new.store ≡ self.old.store }
+    {
+        let Pending { foreseen, .. } = pending;
+        let Foreseen { step, idle } = foreseen;
+        let Step { outputs, next, .. } = step;
+        self.kept.install(next);
+        self.idle = idle;
+        outputs
+    }
+
+    /// Whether a life is this node's, in its incarnation. It takes no memory.
+    pub fn is_life(&self, life: &Life) -> bool
+        ensures { result ≡ is_life_of self.now life.now }
+    {
+        life.node() == self.kept.setup().node && life.incarnation() == self.kept.incarnation()
+    }
+
     /// Opens the node again over what its store has, in the incarnation after the last one that is stored, which is raised last: it
     /// keeps the records of the store and nothing else. The `Life` is the node's own, and an `Err` hands it back. Incarnations and Memory
     /// leave the node and its store as they were; after Device and Damaged it is Broken, and the store has the same records. Once it opened,
@@ -182,6 +208,13 @@ impl<S: StableStore> Node<S> {
         ensures { option_copied result ≡ self.now.stopped }
     {
         self.stopped.as_ref()
+    }
+
+    /// The clock, which never falls while the node is open.
+    pub fn clock(&self) -> Moment
+        ensures { result ≡ self.now.kept.clock }
+    {
+        self.kept.clock()
     }
 
     /// Broken exactly if a save failed before. It takes no memory.

@@ -1,11 +1,11 @@
 //! A step that is prepared.
 
 use crate::message::Message;
+use crate::message_room::MessageRoom;
 use crate::outputs::Outputs;
 use crate::queue_change::QueueChange;
 use mc_types::{Moment, MsgId};
 use pdu_codec::Text;
-use shelf::Room;
 use synod_acceptor::Change;
 
 /// A message that takes the place of what is kept of its id.
@@ -25,7 +25,7 @@ pub struct Next {
     pub drops_rounds: bool,
     pub queue: QueueChange,
     pub messages: Vec<Put>,
-    pub room: Option<Room<Message>>,
+    pub room: Option<MessageRoom>,
 }
 
 /// What a step gives out, the change that is saved before, if any, and what is kept after it.

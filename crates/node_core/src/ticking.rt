@@ -1,6 +1,6 @@
 //! What a node does at a tick.
 
-ghost use Rattle.std.specs.Prelude.{◌≡◌, ◌≢◌, ◌<◌, ◌++◌, suc, [], Some, None, Ok, length, max, map, true, false, IfOk, IsOk, IsOkAnd, IsSomeAnd, if◌then◌else◌};
+ghost use Rattle.std.specs.Prelude.{◌≡◌, ◌↔◌, ◌≢◌, IsTrue, ◌<◌, ◌++◌, suc, [], Some, None, Ok, length, max, map, true, false, IfOk, IsOk, IsOkAnd, IsSomeAnd, if◌then◌else◌};
 ghost use Rattle.std.specs.List.{list_any};
 ghost use Rattle.std.specs.List.Sorted.{IsStrictlySortedBy};
 ghost use Rattle.std.specs.Map.{keys_of};
@@ -21,7 +21,7 @@ ghost use Rattle.node_core.specs.Idling.{IsIdle, IsQuiet, IsStill, NoneFits};
 ghost use Rattle.node_core.specs.Keeping.{AreOwn, kept_of};
 ghost use Rattle.node_core.specs.Steps.{IsStep};
 ghost use Rattle.node_core.specs.Ticking.{IsTurnOf, IsTurned};
-ghost use Rattle.node_core.specs.Walking.{kept_at, next_at};
+ghost use Rattle.node_core.specs.Living.{IsNextLive};
 
 use crate::kept::Kept;
 use crate::message::Message;
@@ -111,8 +111,8 @@ impl Kept {
     }
 
     /// What a tick makes of all messages, by ascending ids, at this clock, once all rounds ended: of those that are kept, and of those that
-    /// the requests ask of which did not wait too long. `up` has the accounts of which a session may receive. It takes memory only for those
-    /// that a rule fits.
+    /// the requests ask of which did not wait too long. It looks at those that are live or asked of, since no rule fits another. `up` has the
+    /// accounts of which a session may receive. It takes memory only for those that a rule fits.
     fn turns(&self, clock: Moment, up: &[Text<16>]) -> Result<TurnList, AllocError>
         requires { AreOwn self.now }
         ensures turned { IfOk result (IsTurned self.now clock (is_up up.now) (ids_of (ticked (kept_of self.now) clock))) }
@@ -123,89 +123,74 @@ impl Kept {
             author: self.author(),
             clock,
         };
+        // For the proof alone: the ids ascend.
+        self.messages.ascends();
         let mut turns = TurnList::empty(self.alloc);
         let mut walk = Walk {
             from: 0,
-            place: 0,
+            live: self.messages.next_live(0),
             asked: self.queue.next_id(clock, 0),
         };
-        while let Some(id) = self.next_in(&walk) {
-            let message = self.kept_in(&walk, id);
-            if let Some(turn) = self.turn_of(id, message, &at, up)? {
+        while let Some(id) = walk.next() {
+            if let Some(turn) = self.turn_of(id, &at, up)? {
                 turns.add(self.alloc, id, turn)?;
             }
-            walk = self.passed(clock, walk, id, message.is_some());
+            walk = self.passed(clock, walk, id);
         }
         Ok(turns)
     }
 
-    /// The id of the next message of a walk; none if none is left. It takes no memory.
-    fn next_in(&self, walk: &Walk) -> Option<MsgId>
-        requires { AreOwn self.now }
-        ensures next { result ≡ next_at self.now walk.now }
-        ensures ascends { IsStrictlySortedBy nat_cmp (keys_of self.now.messages.entries) }
-    {
-        let Some((key, _)) = self.messages.at(walk.place) else {
-            return walk.asked;
-        };
-        let Ok(id) = MsgId::of_number(key) else {
-            unreachable!();
-        };
-        match walk.asked {
-            Some(asked) if asked.number() < key => Some(asked),
-            _ => Some(id),
-        }
-    }
-
-    /// What is kept of the next message of a walk, which has this id; none if a request asks of it alone. It takes no memory.
-    fn kept_in(&self, walk: &Walk, id: MsgId) -> Option<&Message>
-        ensures { option_copied result ≡ kept_at self.now walk.now id }
-    {
-        match self.messages.at(walk.place) {
-            Some((key, message)) if key == id.number() => Some(message),
-            _ => None,
-        }
-    }
-
-    /// Where a walk stands behind the message of this id, its next one, which is kept or not. It takes no memory.
-    fn passed(&self, clock: Moment, walk: Walk, id: MsgId, kept: bool) -> Walk
-        requires { kept ≡ true → walk.place < length self.now.messages.entries }
+    /// Where a walk stands behind the message of this id, its next one. It takes no memory.
+    fn passed(&self, clock: Moment, walk: Walk, id: MsgId) -> Walk
         ensures from { result.from ≡ suc id }
-        ensures place { result.place ≡ (if kept then suc walk.place else walk.place) }
-        ensures same { walk.asked ≢ Some id → result.asked ≡ walk.asked }
+        ensures same_live { walk.live ≢ Some id → result.live ≡ walk.live }
+        ensures live { walk.live ≡ Some id → IsNextLive self.now.messages.entries (suc id) result.live }
+        ensures same_asked { walk.asked ≢ Some id → result.asked ≡ walk.asked }
         ensures asked { walk.asked ≡ Some id → IsLeastFrom (suc id) (λ other. In other (ids_in (timely clock (held_in self.now.queue)))) result.asked }
     {
-        let from = id.number() + 1;
-        // For the proof alone: a place above this one is a number, too.
-        self.messages.len();
         Walk {
-            from,
-            place: if kept { walk.place + 1 } else { walk.place },
-            asked: match walk.asked {
-                Some(asked) if asked == id => self.queue.next_id(clock, from),
-                _ => walk.asked,
-            },
+            from: id.number() + 1,
+            live: self.live_behind(walk.live, id),
+            asked: self.asked_behind(clock, walk.asked, id),
         }
     }
 
-    /// What a tick makes of the message of this id, of which this is kept, if it is not kept as it was. If no rule fits, it takes no memory.
+    /// The next message that is live, behind the one of this id.
+    fn live_behind(&self, live: Option<MsgId>, id: MsgId) -> Option<MsgId>
+        ensures same { live ≢ Some id → result ≡ live }
+        ensures next { live ≡ Some id → IsNextLive self.now.messages.entries (suc id) result }
+    {
+        match live {
+            Some(next) if next == id => self.messages.next_live(id.number() + 1),
+            _ => live,
+        }
+    }
+
+    /// The next message of which a request asks, behind the one of this id.
+    fn asked_behind(&self, clock: Moment, asked: Option<MsgId>, id: MsgId) -> Option<MsgId>
+        ensures same { asked ≢ Some id → result ≡ asked }
+        ensures next { asked ≡ Some id → IsLeastFrom (suc id) (λ other. In other (ids_in (timely clock (held_in self.now.queue)))) result }
+    {
+        match asked {
+            Some(next) if next == id => self.queue.next_id(clock, id.number() + 1),
+            _ => asked,
+        }
+    }
+
+    /// What a tick makes of the message of this id, if it is not kept as it was. If no rule fits, it takes no memory.
     fn turn_of(
         &self,
         id: MsgId,
-        message: Option<&Message>,
         at: &Standpoint,
         up: &[Text<16>],
     ) -> Result<Option<Turn>, AllocError>
         requires own { AreOwn self.now }
         requires node { at.now.author.node ≡ self.now.setup.node }
         requires incarnation { at.now.author.incarnation ≡ self.now.incarnation }
-        requires kept { option_copied message ≡ value_at self.now.messages.entries id }
         ensures turned { IfOk result (IsTurnOf self.now id at.now (is_up up.now)) }
         ensures idle { first_rule self.now.setup (ticked (kept_of self.now) at.now.clock) (is_up up.now) id ≡ None → result ≡ Ok None }
     {
-        // For the proof alone: the number is an id.
-        id.number();
-        match message {
+        match self.find(id) {
             Some(message) => message.turn(id, at, &self.queue, up),
             None => {
                 let message = Message::fresh(self.alloc, self.author(), self.nodes());
@@ -217,7 +202,7 @@ impl Kept {
 
 /// Whether these accounts are noted.
 fn is_noted(idle: &Option<Vec<Text<16>>>, up: &[Text<16>]) -> bool
-    ensures { result ≡ true → IsSomeAnd idle.now (λ noted. noted.items ≡ up.now) }
+    ensures { IsTrue result ↔ IsSomeAnd idle.now (λ noted. noted.items ≡ up.now) }
 {
     match idle {
         Some(noted) => are_same(noted, up),
@@ -227,14 +212,14 @@ fn is_noted(idle: &Option<Vec<Text<16>>>, up: &[Text<16>]) -> bool
 
 /// Whether these accounts are the others.
 fn are_same(accounts: &[Text<16>], others: &[Text<16>]) -> bool
-    ensures { result ≡ true → accounts.now ≡ others.now }
+    ensures { IsTrue result ↔ (accounts.now ≡ others.now) }
 {
     accounts == others
 }
 
 /// Whether a step of a tick keeps each message but for its round, and gives nothing out.
 fn is_still(step: &Step) -> bool
-    ensures { result ≡ true → IsStill step.now }
+    ensures { IsTrue result ↔ IsStill step.now }
 {
     step.next.messages.is_empty()
         && step.outputs.packets.is_empty()

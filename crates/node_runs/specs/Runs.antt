@@ -79,6 +79,7 @@ Happens records old (Stops packet behind lost) new =
 abbrev pub IsLeftBy : StepFault → Seen → Given → Seen → Type 0
 IsLeftBy (faults.Grant reason) old input new = IsUnmoved old new
 IsLeftBy faults.NotGranted old input new = IsUnmoved old new
+IsLeftBy faults.StrangeLife old input new = IsUnmoved old new
 IsLeftBy faults.Broken old input new = IsUnmoved old new
 IsLeftBy faults.Device old input new = HasStopped old input new
 IsLeftBy faults.Memory old input new = IsUnmoved old new

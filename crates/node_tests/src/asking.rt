@@ -23,7 +23,7 @@ fn put_back(outputs: Outputs, left: &mut VecDeque<Packet>) -> Result<(), Fail> {
 }
 
 // What a node answers to an input. Its packets are left.
-fn answer_to(
+pub fn answer_to(
     node: &mut Node<ListStore>,
     input: Input,
     left: &mut VecDeque<Packet>,
@@ -36,7 +36,10 @@ fn answer_to(
 }
 
 // The last reply as each packet that is left comes back to the node.
-fn last_answer(node: &mut Node<ListStore>, left: &mut VecDeque<Packet>) -> Result<Answer, Fail> {
+pub fn last_answer(
+    node: &mut Node<ListStore>,
+    left: &mut VecDeque<Packet>,
+) -> Result<Answer, Fail> {
     let mut last = Answer::Nothing;
     for _ in 0..20 {
         let Some(packet) = left.pop_front() else {
@@ -68,7 +71,7 @@ fn otherwise_by(
 }
 
 // That of a node alone.
-fn setup() -> Result<Setup, Fail> {
+pub fn setup() -> Result<Setup, Fail> {
     Ok(Setup::make(node(1)?, 1, 1, 172800)?)
 }
 
@@ -172,7 +175,7 @@ fn a_node_is_one_of_its_cluster(rt: HostRuntime) -> Result<(), Fail> {
 }
 
 // The start of 2000.
-const BEGINNING: u32 = 946684800;
+pub const BEGINNING: u32 = 946684800;
 
 #[test]
 fn a_request_is_asked_of_again_and_answered_after_30_seconds(rt: HostRuntime) -> Result<(), Fail> {

@@ -12,6 +12,8 @@ mod opening;
 #[cfg(test)]
 mod packets;
 #[cfg(test)]
+mod permits;
+#[cfg(test)]
 mod ticks;
 #[cfg(test)]
 mod values;

@@ -103,3 +103,36 @@ fn a_message_that_comes_behind_a_tick_is_not_forgotten(rt: HostRuntime) -> Resul
     assert_eq!(rt; otherwise(rt.alloc(), &rows)?, None);
     Ok(())
 }
+
+#[test]
+fn a_live_message_is_found_among_many_that_are_decided(rt: HostRuntime) -> Result<(), Fail> {
+    let mut rows = Vec::new(rt.alloc());
+    for more in 1..90u8 {
+        rows.push((Comes::VotedDeleted(1, more), Answer::Nothing))?;
+        rows.push((Comes::VotedDeleted(3, more), Answer::Nothing))?;
+    }
+    rows.push((Comes::Voted(1), Answer::Nothing))?;
+    rows.push((Comes::Voted(3), Answer::Nothing))?;
+    rows.push((Comes::Tick(EXPIRY - 2, ""), Answer::Nothing))?;
+    rows.push((Comes::Tick(EXPIRY - 1, ""), Answer::Nothing))?;
+    rows.push((
+        Comes::Tick(EXPIRY, ""),
+        Answer::Started(1000100001, 1, 262162),
+    ))?;
+    assert_eq!(rt; otherwise(rt.alloc(), &rows)?, None);
+    Ok(())
+}
+
+#[test]
+fn a_message_that_was_decided_is_heard_again(rt: HostRuntime) -> Result<(), Fail> {
+    let rows = [
+        (Comes::VotedDeleted(1, 0), Answer::Nothing),
+        (Comes::VotedDeleted(3, 0), Answer::Nothing),
+        (Comes::Tick(EXPIRY - 1, ""), Answer::Nothing),
+        (Comes::Voted(1), Answer::Nothing),
+        (Comes::Voted(3), Answer::Nothing),
+        (Comes::Tick(EXPIRY, "sme1"), Answer::Nothing),
+    ];
+    assert_eq!(rt; otherwise(rt.alloc(), &rows)?, None);
+    Ok(())
+}

@@ -2,7 +2,7 @@
 
 use crate::asked::{Asked, request};
 use delivery::Outcome;
-use fate_chain::{Author, Chain, Decree, Kind};
+use fate_chain::{Author, Chain, Decree, ErrorCode, Final, Kind};
 use mc_types::{Ballot, Incarnation, Moment, MsgId, NodeNo, Slot};
 use node_core::Input;
 use pdu_codec::Text;
@@ -32,6 +32,8 @@ pub enum Comes {
     Voted(u8),
     // A vote for that chain with its first attempt, by a node in an incarnation.
     VotedAttempt(u8, u8, u16),
+    // A vote that the message of the id this many numbers after that one is deleted.
+    VotedDeleted(u8, u8),
     // The attempt is asked for, and its message was delivered.
     Grant,
     Delivered,
@@ -100,6 +102,10 @@ fn packet_of(alloc: Global, comes: Comes) -> Result<Packet, Fail> {
             from: node(from)?,
             vote: attempted(alloc, by, incarnation)?,
         }),
+        Comes::VotedDeleted(from, more) => Ok(Packet::Voted {
+            from: node(from)?,
+            vote: deleted(alloc, more)?,
+        }),
         _ => Err("a packet".into()),
     }
 }
@@ -130,6 +136,28 @@ fn attempted(alloc: Global, by: u8, incarnation: u16) -> Result<Vote, Fail> {
         author,
         moment: Moment::least(),
         kind: Kind::Attempt(1),
+    });
+    drop(taken);
+    Ok(Vote {
+        ballot,
+        chain: chain?,
+    })
+}
+
+fn deleted(alloc: Global, more: u8) -> Result<Vote, Fail> {
+    let mut octets = Vec::from_slice(alloc, TAKEN)?;
+    let last = octets.get_mut(8).ok_or("an id")?;
+    *last = last.checked_add(more).ok_or("an id")?;
+    let author = Author {
+        node: node(1)?,
+        incarnation: Incarnation::make(1)?,
+    };
+    let ballot = Ballot::of_number(262161)?;
+    let taken = Chain::read(alloc, &octets)?;
+    let chain = taken.extended(Decree {
+        author,
+        moment: Moment::least(),
+        kind: Kind::Fate(Final::Deleted, ErrorCode::of(0)),
     });
     drop(taken);
     Ok(Vote {

@@ -14,8 +14,8 @@ returns c = λ with starts records is.
       serial = c.args.self.now.serial;
       given = c.args.self.now.given;
       queue = c.args.self.now.queue;
-      messages = c.for_each.new.self;
+      messages = c.renew.new.self;
     } in
     subst (λ (starts : ℕ). IsOpen with starts records new) c.author-me.ensures.incarnation
     (begun c.author-me.result with starts records c.args.self.now new c.author-me.ensures.node refl (sym c.author-me.ensures.incarnation) refl refl refl refl
-    c.for_each.ensures.entries is)
+    c.renew.ensures is)

@@ -1,6 +1,7 @@
 use Rattle.std.proofs.Common.{◌≡◌, ℕ, false, [], length, map, max, refl, sym, ap, subst, ◌∙◌, rules}
 use Rattle.std.proofs.lemmas.Bool.{true≢false}
 use Rattle.std.specs.List.{list_any}
+use Rattle.std.specs.Vec.{vec_capacity}
 use Rattle.node_model.specs.Requests.{is_untold}
 use Rattle.node_model.specs.Ticks.{is_late}
 use Rattle.requests.specs.Queues.{timely}
@@ -31,7 +32,10 @@ returns-clause-step c =
       drops = refl;
       queue = refl;
       messages = refl;
-      room = room_serves k.messages turns.messages.items c.in_ok-room.room (rw many at c.in_ok-room.ensures.serves);
+      room = (
+        room_serves k.messages.room (length k.messages.entries) (length turns.messages.items) c.in_ok-room.room.shelf (rw many at c.in_ok-room.ensures.shelf),
+        room_serves k.messages.listings (length k.messages.entries) (length turns.messages.items) (vec_capacity c.in_ok-room.room.live) (rw many at c.in_ok-room.ensures.live),
+      );
       ticket = c.telling.ensures.ticket;
       refused = c.telling.ensures.refused;
       packets = packets;

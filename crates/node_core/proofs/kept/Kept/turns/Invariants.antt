@@ -1,7 +1,9 @@
 use Rattle.std.proofs.Common.{◌≡◌, [], length}
+use Rattle.node_model.specs.Ticks.{ids_of, ticked}
 use Rattle.rules.specs.Dues.{is_up}
 use Rattle.node_core.specs.Idling.{NoneFits}
 use Rattle.node_core.specs.Keeping.{kept_of}
+use Rattle.node_core.specs.Living.{AreRising}
 use Rattle.node_core.specs.Walking.{IsWalk, ids_left}
 use Rattle.node_core.proofs.TickTurns.{IsTurning}
 use Rattle.node_core.proofs.kept.Kept.turns.Given as goal
@@ -11,6 +13,7 @@ invariant-loop-id l = record {
   walks : IsWalk l.self l.fn.clock l.walk;
   turns : IsTurning l.self l.fn.clock (is_up l.up) (ids_left l.self l.fn.clock l.walk) l.turns;
   none : NoneFits l.self.setup (kept_of l.self) l.fn.clock (is_up l.up) → (l.turns.messages.items ≡ []) × (l.turns.packets.items ≡ []);
+  rising : AreRising (ids_of (ticked (kept_of l.self) l.fn.clock));
 }
 
 abbrev pub decreases-loop-id : goal.decreases-loop-id

@@ -1,0 +1,64 @@
+-- A step that saves nothing leaves what is stored.
+use Rattle.std.proofs.Common.{◌≡◌, ◌≤◌, ℕ, suc, false, List, Option, Some, None, refl, sym, ap, subst, ◌∙◌}
+use Rattle.std.specs.Prelude.{is_some}
+use Rattle.std.proofs.lemmas.Bool.{true≢false}
+use Rattle.mc_model.specs.node.Setup.{Setup}
+use Rattle.requests.specs.Waiting.{held_in}
+use Rattle.mc_model.specs.synod.Acceptor.{Records}
+use Rattle.node_model.specs.Kept.{Held}
+use Rattle.synod_acceptor.specs.declared.packet.Packet.{Packet as Sent}
+use Rattle.synod_acceptor.specs.declared.record.Change.{Change}
+use Rattle.node_core.specs.declared.input.Input.{Input}
+use Rattle.node_core.specs.declared.kept.Kept.{Kept as Holding}
+use Rattle.node_core.specs.declared.message.Message.{Message as Filed}
+use Rattle.node_core.specs.declared.step.Step.{Step}
+use Rattle.node_core.specs.Keeping.{AreOf, AreOwn, records_of}
+use Rattle.node_core.specs.Messages.{changed_by}
+use Rattle.node_core.specs.Nodes.{IsStored}
+use Rattle.node_core.specs.Pendings.{IsPrepared, packet_in}
+use Rattle.node_core.specs.Queueing.{AreAsked}
+use Rattle.node_core.specs.Steps.{AreOwnThen, IsInstalled}
+use Rattle.node_core.specs.Stops.{IsUnfinished}
+use Rattle.node_core.proofs.Unsaved.{saves_for}
+
+some_is_none : {A : Type 0} (x : A) → Some x ≡ None → ⊥
+some_is_none x same = true≢false (ap is_some same)
+
+unchanged : (k : Holding) (input : Input) (step : Step) (packet : Option Sent) (change : Option Change) → step.change ≡ change →
+    IsPrepared k input step packet → packet_in input ≡ None → step.change ≡ None
+unchanged k input step packet None is prepared none = is
+unchanged k input step packet (Some change) is prepared none =
+    let from = saves_for k input step packet change prepared is in
+    absurd (some_is_none from.packet (sym (ap packet_in from.came) ∙ none))
+
+own_then : (k new : Holding) (step : Step) → IsInstalled k step.next new → AreOwnThen k step.next → AreOwn new
+own_then k new step is own = record {
+  each = subst (λ (s : Setup). AreOf s new.incarnation new.messages.entries) (sym is.setup)
+      (subst (λ (i : ℕ). AreOf k.setup i new.messages.entries) (sym is.incarnation)
+      (subst (λ (es : List (ℕ × Filed)). AreOf k.setup k.incarnation es) (sym is.entries) own.each));
+  asked = subst (λ (s : Setup). AreAsked s.node new.incarnation (suc new.given) (held_in new.queue)) (sym is.setup)
+      (subst (λ (i : ℕ). AreAsked k.setup.node i (suc new.given) (held_in new.queue)) (sym is.incarnation)
+      (subst (λ (n : ℕ). AreAsked k.setup.node k.incarnation (suc n) (held_in new.queue)) (sym is.given)
+      (subst (λ (hs : List Held). AreAsked k.setup.node k.incarnation (suc step.next.given) hs) (sym is.queue) own.asked)));
+  serial = subst (λ (n : ℕ). 1 ≤ n) (sym is.serial) own.serial;
+}
+
+-- what is stored is what it keeps, as before the step
+pub kept_unsaved : (k was new : Holding) (input given : Input) (step : Step) (packet unfinished : Option Sent) (stored : Records) → was ≡ k → given ≡ input →
+    IsPrepared was given step packet → packet_in input ≡ None → IsInstalled k step.next new →
+    IsStored false stored unfinished k → IsStored false stored unfinished new
+kept_unsaved k was new input given step packet unfinished stored same_kept same_input prepared none is old =
+    let now : IsPrepared k input step packet =
+    subst (λ (i : Input). IsPrepared k i step packet) same_input (subst (λ (h : Holding). IsPrepared h given step packet) same_kept prepared) in
+    let same = unchanged k input step packet step.change refl now none in
+    record {
+      saved = λ works. record {
+        each = λ slot.
+            (old.saved works).each slot
+            ∙ sym (ap (λ (es : List (ℕ × Filed)). records_of es slot) is.entries ∙ now.is.is.saves slot
+            ∙ ap (λ (c : Option Change). changed_by c (records_of k.messages.entries) slot) same);
+      };
+      own = own_then k new step is (now.is.is.own old.own);
+      finished = old.finished;
+      halted = subst (λ (p : Option Sent). IsUnfinished new stored p) (sym (old.finished refl)) tt;
+    }
