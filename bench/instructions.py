@@ -2,7 +2,7 @@
 """Prints how many instructions one line more costs `centre script`, with 1,000, 10,000 and 90,000 messages.
 
 The scripts are those of `bench/one_node.py`, with 900 more submits or queries, each with its settle, ten ticks at which nothing is due, at the
-clock that the node has and at a later one, or a restart. Valgrind's callgrind counts the instructions, so that two runs on a busy machine
+clock that the node has and at a later one, or a restart; and ten such ticks once all messages have expired. Valgrind's callgrind counts the instructions, so that two runs on a busy machine
 print the same; it does not say what they cost where memory is far. It takes some minutes. Give the built program as the argument:
 
     python3 bench/instructions.py crates/centre/out/centre
@@ -15,6 +15,7 @@ import tempfile
 from one_node import START, SUBMIT, messages, query, settled
 
 MORE, TICKS = 900, 10
+EXPIRED = START + 10 * 86_400
 
 
 def instructions(program, lines):
@@ -38,6 +39,11 @@ def main():
         def more(extra):
             return instructions(program, lines + extra) - base
 
+        # All expire; the tick behind the settle finds them decided.
+        ended = [f"tick 1 {EXPIRED}", "settle", f"tick 1 {EXPIRED + 1}"]
+        over = instructions(program, lines + ended)
+        later = [f"tick 1 {EXPIRED + 2 + number}" for number in range(TICKS)]
+        decided = instructions(program, lines + ended + later) - over
         serials = [1 + 97 * number % count for number in range(MORE)]
         print(
             f"{count} messages: "
@@ -45,6 +51,7 @@ def main():
             f"a query_sm {more(settled([query(serial) for serial in serials])) // MORE}, "
             f"a tick at the same moment {more([f'tick 1 {START}'] * TICKS) // TICKS}, "
             f"a tick a second later {more([f'tick 1 {START + 1 + number}' for number in range(TICKS)]) // TICKS}, "
+            f"a tick over as many that are decided {decided // TICKS}, "
             f"a restart {more(['restart 1'])}",
             flush=True,
         )
