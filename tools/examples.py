@@ -5,7 +5,7 @@
     python3 tools/examples.py PROGRAM        # runs a built program, as crates/centre/out/centre
 
 The examples are those of the folder `examples`, NAME.script with NAME.expected and, if they are not 0 and empty, NAME.status and NAME.stderr; and the
-fenced blocks of `docs/SCRIPTS.md`: one marked `script`, one marked `output` after it and, if the last line is a bad one, one marked `stderr`. With --try what is
+fenced blocks of `docs/SCRIPTS.md`: one marked `script`, one marked `output` after it and, if a line is bad, one marked `stderr`. With --try what is
 written on standard error is not compared, since `rt try` does not hand it on; the exit status is. This is beside the gate.
 """
 import pathlib
