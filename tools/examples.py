@@ -4,9 +4,10 @@
     python3 tools/examples.py --try          # builds it unproved, by `rt try` in crates/centre: a minute
     python3 tools/examples.py PROGRAM        # runs a built program, as crates/centre/out/centre
 
-The examples are those of the folder `examples`, NAME.script with NAME.expected and, if they are not 0 and empty, NAME.status and NAME.stderr; and the
-fenced blocks of `docs/SCRIPTS.md`: one marked `script`, one marked `output` after it and, if a line is bad, one marked `stderr`. With --try what is
-written on standard error is not compared, since `rt try` does not hand it on; the exit status is. This is beside the gate.
+The examples are the first script, each line of which has to stand in README; those of the folder `examples`, NAME.script with NAME.expected and, if they
+are not 0 and empty, NAME.status and NAME.stderr; and the fenced blocks of `docs/SCRIPTS.md`: one marked `script`, one marked `output` after it and, if a
+line is bad, one marked `stderr`. With --try what is written on standard error is not compared, since `rt try` does not hand it on; the exit status is.
+This is beside the gate.
 """
 import pathlib
 import re
@@ -17,6 +18,15 @@ import tempfile
 ROOT = pathlib.Path(__file__).resolve().parent.parent
 FENCES = re.compile(r"```script\n(.*?)```\s+```output\n(.*?)```(?:\s+```stderr\n(.*?)```)?", re.DOTALL)
 CASE = re.compile(r"^case=(\S+) run=(\S+) status=(\d+) .*output=(\S+)", re.MULTILINE)
+
+
+def first_script():
+    script, output = ((ROOT / "crates/centre" / name).read_text() for name in ("stdin", "stdout"))
+    readme = (ROOT / "README.md").read_text()
+    for line in (script + output).splitlines():
+        if line not in readme:
+            sys.exit(f"README lacks a line of the first script: {line}")
+    yield "first_script", script, output, 0, ""
 
 
 def in_folder():
@@ -53,7 +63,7 @@ def run_unproved(examples):
 
 
 def main():
-    examples = [*in_folder(), *in_page()]
+    examples = [*first_script(), *in_folder(), *in_page()]
     match sys.argv[1:]:
         case ["--try"]:
             wrong = list(run_unproved(examples))
