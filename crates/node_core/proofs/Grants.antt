@@ -20,6 +20,7 @@ use Rattle.node_model.specs.Message.{Message}
 use Rattle.node_model.specs.Outputs.{Stepped, nothing}
 use Rattle.node_model.specs.Proposer.{Prepared, Start, highest_round, last_round, started, started_at}
 use Rattle.node_model.specs.Rules.{is_attempt_by}
+use Rattle.node_model.specs.Granted.{known_place, known_slot}
 use Rattle.node_model.proofs.Places.{message_here}
 use Rattle.pdu_tables.specs.StatusCodes.{status_code}
 use Rattle.requests.specs.Replying.{reply_given}
@@ -33,7 +34,7 @@ use Rattle.node_core.specs.declared.message.Message.{Message as Filed}
 use Rattle.node_core.specs.declared.outputs.Outputs.{Outputs as Sent-outputs}
 use Rattle.node_core.specs.declared.step.Next.{Next}
 use Rattle.node_core.specs.declared.step.Step.{Step}
-use Rattle.node_core.specs.Attempting.{IsBacked, known_place, known_slot}
+use Rattle.node_core.specs.Attempting.{IsBacked}
 use Rattle.node_core.specs.Keeping.{AreOwn, IsTaken, kept_of}
 use Rattle.node_core.specs.Lists.{listed}
 use Rattle.node_core.specs.Messages.{IsConcluded, IsOf, IsOfSame, IsTriedSo, closed_at, granted_at, may_start, message_of, next_round, prepare_from, with_start}

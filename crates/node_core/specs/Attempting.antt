@@ -1,12 +1,11 @@
--- What the code keeps of a node's attempts on a message, and which of them are granted and closed.
-use Rattle.std.specs.Prelude.{◌≡◌, ℕ, ◌≤◌, pred, Bool, true, false, ◌==◌, ◌&&◌, not, is_some, List, [], ◌∷◌, length, get_or, Option, Some, None, option_map}
+-- What the code keeps of a node's attempts on a message.
+use Rattle.std.specs.Prelude.{◌≡◌, ℕ, ◌≤◌, Bool, true, false, ◌==◌, ◌&&◌, List, [], ◌∷◌, length, get_or, Option, Some, None, option_map}
 use Rattle.mc_model.specs.message.Decree.{Decree}
-use Rattle.mc_model.specs.synod.Packet.{Slot, slot_at}
 use Rattle.mc_model.specs.node.Grant.{AlreadyGranted, Closed, GrantRefusal, NotChosen, NotMine, OlderIncarnation}
 use Rattle.mc_model.specs.node.Outcome.{Outcome}
 use Rattle.mc_model.specs.node.Setup.{Setup}
 use Rattle.node_model.specs.Message.{Message}
-use Rattle.node_model.specs.Kept.{Kept, message_at}
+use Rattle.node_model.specs.Kept.{Kept}
 use Rattle.node_model.specs.Rules.{is_attempt_by}
 use Rattle.fate_chain.specs.declared.decree.Author.{Author}
 use Rattle.rules.specs.Attempts.{closed_as}
@@ -63,18 +62,3 @@ IsBacked me starts place (Some []) = ⊥
 IsBacked me starts place (Some (newest ∷ older)) =
     (place ≤ length older)
     × (place ≡ length older → (is_attempt_by me newest newest.kind && newest.author.incarnation == starts) ≡ true)
-
--- the slot in which a chain that is known stands
-abbrev pub known_place : Option (List Decree) → ℕ
-known_place None = 0
-known_place (Some chain) = pred (length chain)
-
-abbrev pub known_slot : Kept → ℕ → Slot
-known_slot k id = slot_at id (known_place (message_at k id).known)
-
--- an attempt that was granted and is not closed
-abbrev pub is_open_in : Message → ℕ → Bool
-is_open_in m place = m.granted place && not (is_some (m.closed place))
-
-abbrev pub is_open : Kept → Slot → Bool
-is_open k slot = is_open_in (message_at k slot.id) slot.place

@@ -12,6 +12,7 @@ use Rattle.node_model.specs.Attempts.{grant_refusal}
 use Rattle.node_model.specs.Kept.{Held, Kept, message_at}
 use Rattle.node_model.specs.Outputs.{Stepped, nothing}
 use Rattle.node_model.specs.Stepped.{stepped}
+use Rattle.node_model.specs.Granted.{is_open, known_slot}
 use Rattle.delivery.specs.Kept.{outcome_kept}
 use Rattle.desk.specs.Arrivals.{requested}
 use Rattle.pdu_tables.specs.StatusCodes.{status_code}
@@ -35,7 +36,7 @@ use Rattle.node_core.specs.declared.queue_change.QueueChange.TheVariants as chan
 use Rattle.node_core.specs.declared.step.Next.{Next}
 use Rattle.node_core.specs.declared.step.Put.{Put}
 use Rattle.node_core.specs.declared.step.Step.{Step}
-use Rattle.node_core.specs.Attempting.{is_open, known_slot, reason_of}
+use Rattle.node_core.specs.Attempting.{reason_of}
 use Rattle.node_core.specs.Keeping.{AreOf, AreOwn, kept_of, records_of}
 use Rattle.node_core.specs.Living.{Listed}
 use Rattle.node_core.specs.Messages.{changed_by, rested}

@@ -4,7 +4,8 @@ ghost use Rattle.std.specs.Prelude.{◌≡◌, ◌≤◌, true, None, Some, IfEr
 ghost use Rattle.delivery.specs.Kept.{outcome_kept};
 ghost use Rattle.node_model.specs.Attempts.{grant_refusal, on_grant, on_response};
 ghost use Rattle.node_model.specs.Kept.{message_at};
-ghost use Rattle.node_core.specs.Attempting.{is_open, known_slot, reason_of};
+ghost use Rattle.node_model.specs.Granted.{is_open, known_slot};
+ghost use Rattle.node_core.specs.Attempting.{reason_of};
 ghost use Rattle.node_core.specs.Keeping.{AreOwn, kept_of};
 ghost use Rattle.node_core.specs.Steps.{IsFault, IsKnown, IsStep};
 ghost use Rattle.node_core.specs.declared.fault.StepFault.TheVariants.{Grant, NotGranted};

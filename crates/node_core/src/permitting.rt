@@ -4,7 +4,7 @@ ghost use Rattle.std.specs.Prelude.{◌≡◌, ◌↔◌, false, true, None, Som
 ghost use Rattle.delivery.specs.declared.outcome.Outcome.{Outcome as OutcomeValue};
 ghost use Rattle.node_core.specs.declared.fault.StepFault.TheVariants.{Memory};
 ghost use Rattle.node_core.specs.declared.input.Input.TheVariants as given;
-ghost use Rattle.node_core.specs.Attempting.{known_slot};
+ghost use Rattle.node_model.specs.Granted.{known_slot};
 ghost use Rattle.node_core.specs.Keeping.{kept_of};
 ghost use Rattle.node_core.specs.Nodes.{HasTaken, IsAwaited, fault_in};
 ghost use Rattle.node_core.specs.Permits.{HasTakenUnder, IsAnswered, IsGrant, IsHandedBack, fault_under, is_life_of};

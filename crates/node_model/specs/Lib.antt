@@ -15,5 +15,6 @@ pub mod Outputs
 pub mod Packets
 pub mod Ticks
 pub mod Attempts
+pub mod Granted
 pub mod Recorded
 pub mod Stepped

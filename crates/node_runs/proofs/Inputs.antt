@@ -13,6 +13,7 @@ use Rattle.mc_parts.proofs.Lengths.{most_decrees}
 use Rattle.node_model.specs.Message.{most_places}
 use Rattle.node_model.specs.Attempts.{grant_refusal, known_refusal}
 use Rattle.node_model.specs.Kept.{Kept, message_at}
+use Rattle.node_model.specs.Granted.{is_open, known_place, known_slot}
 use Rattle.node_laws.specs.Runs.{IsGrantable, IsOpen}
 use Rattle.node_laws.specs.Steps.{IsWellMade}
 use Rattle.delivery.specs.Kept.{outcome_kept}
@@ -22,7 +23,7 @@ use Rattle.node_core.specs.declared.fault.StepFault.{StepFault}
 use Rattle.node_core.specs.declared.fault.StepFault.TheVariants as faults
 use Rattle.node_core.specs.declared.input.Input.{Input}
 use Rattle.node_core.specs.declared.input.Input.TheVariants as given
-use Rattle.node_core.specs.Attempting.{is_open, known_place, known_slot, reason_of}
+use Rattle.node_core.specs.Attempting.{reason_of}
 use Rattle.node_core.specs.Keeping.{kept_of}
 use Rattle.node_core.specs.Nodes.{HasStopped, IsUnmoved, Seen, Standing}
 use Rattle.node_core.specs.Steps.{IsFault, refused_by}

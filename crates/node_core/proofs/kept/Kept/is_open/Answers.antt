@@ -1,8 +1,8 @@
 use Rattle.std.proofs.Common.{◌≡◌, ◌∙◌, Some, None, sym, ap}
 use Rattle.mc_model.specs.synod.Packet.{Slot}
 use Rattle.node_model.specs.Message.{Message}
+use Rattle.node_model.specs.Granted.{is_open_in}
 use Rattle.shelf.specs.Shelved.{value_at}
-use Rattle.node_core.specs.Attempting.{is_open_in}
 use Rattle.node_core.proofs.Answering.{none_kept, taken_there}
 use Rattle.node_core.proofs.kept.Kept.is_open.Goals as goal
 
