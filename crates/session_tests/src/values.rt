@@ -3,7 +3,7 @@
 use crate::events::came;
 use crate::names::{BIND_RECEIVER, BIND_TRANSCEIVER, BIND_TRANSMITTER};
 use accounts::{Account, Accounts};
-use mc_types::{Moment, MsgId};
+use mc_types::{Moment, MsgId, Slot};
 use pdu_codec::Text;
 use sessions::{Delivery, Session};
 use std::alloc::Global;
@@ -36,9 +36,10 @@ pub fn at(seconds: u32) -> Result<Moment, Fail> {
     Ok(Moment::make(seconds.saturating_add(946684800))?)
 }
 
-/// An attempt of the message 1000100001.
+/// The first attempt of the message 1000100001.
 pub fn attempt() -> Result<Delivery, Fail> {
-    Ok(Delivery::Attempt(MsgId::read(b"1000100001")?))
+    let id = MsgId::read(b"1000100001")?;
+    Ok(Delivery::Attempt(Slot { id, place: 1 }))
 }
 
 /// Brings a session that is connected into a state.

@@ -4,7 +4,7 @@ ghost use Rattle.std.specs.Prelude.{◌≡◌, ◌==◌, not, find, position, fi
 ghost use Rattle.std.specs.List.{list_any};
 ghost use Rattle.sessions.specs.Windows.{without_first, is_overdue};
 
-use mc_types::{Moment, MsgId};
+use mc_types::{Moment, MsgId, Slot};
 use std::alloc::{AllocError, Global};
 use std::marker::Model;
 
@@ -14,8 +14,8 @@ const PATIENCE: u32 = 30;
 /// What a deliver_sm brings to the ESME.
 #[derive(Clone, Copy, Debug, PartialEq, Eq)]
 pub enum Delivery {
-    /// The message of this id.
-    Attempt(MsgId),
+    /// The message of the attempt that is in this slot.
+    Attempt(Slot),
     /// The receipt of the message of this id.
     Receipt(MsgId),
 }
@@ -85,7 +85,7 @@ impl Abandoned {
 
 impl Pushed {
     /// Whether it waits 30 seconds or more at this moment.
-    fn is_overdue(&self, now: Moment) -> bool
+    pub fn is_overdue(&self, now: Moment) -> bool
         ensures { result ≡ is_overdue now self.now }
     {
         self.since.seconds() + PATIENCE <= now.seconds()

@@ -246,8 +246,15 @@ impl Session {
         ensures memory { OnErr result (IsTrue (list_any (is_overdue now) self.old.pushed)) }
     {
         let abandoned = Abandoned::at(*self.pushed.allocator(), &self.pushed, now)?;
-        retain_timely(&mut self.pushed, now);
+        self.let_go_overdue(now);
         Ok(abandoned)
+    }
+
+    /// The same, but for what is given up. It takes no memory.
+    pub fn let_go_overdue(&mut self, now: Moment)
+        ensures { self.new ≡ steps.on_tick self.old now }
+    {
+        retain_timely(&mut self.pushed, now);
     }
 
     /// The session is gone: the pushed requests that were open are given up, and what the ESME asked is forgotten. It takes no

@@ -1,7 +1,7 @@
 use Rattle.std.proofs.Common.{not, arith}
 use Rattle.sessions.specs.Windows.{is_overdue}
 use Rattle.sessions.proofs.Kept.{filtered_pushed}
-use Rattle.sessions.proofs.session.Session.on_tick.Goals as goal
+use Rattle.sessions.proofs.session.Session.let_go_overdue.Goals as goal
 
 pub invariant_of-self : goal.invariant_of-self
 invariant_of-self c =
