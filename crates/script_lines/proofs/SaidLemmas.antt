@@ -10,8 +10,10 @@ use Rattle.std.proofs.lemmas.List.Sums.{position_or_len_is}
 use Rattle.std.proofs.lemmas.Option.{cond_some, some_pair_parts}
 use Rattle.std.proofs.lemmas.Str.Parse.{digit_at}
 use Rattle.hex.specs.Hex.{decode_of}
-use Rattle.mc_model.specs.message.Ids.{IsMoment}
-use Rattle.script_lines.specs.Said.{Said, Skipped, Nodes, Octets, Tick, Settle, Restart, IsWording, IsSession, Spells, spaced, ◌>>=◌, behind, has_leading_zero, number_of, word_len, number_at, nodes_said, octets_parts, octets_said, tick_said, are_ones, settle_said, restart_said, is_skipped, words_said, said_of}
+use Rattle.mc_model.specs.message.Ids.{IsId, IsMoment}
+use Rattle.mc_types.specs.Texts.{id_in}
+use Rattle.mc_types.proofs.Texts.{ids_and_texts}
+use Rattle.script_lines.specs.Said.{Said, Skipped, Nodes, Octets, Tick, Grant, Settle, Restart, IsWording, IsSession, Spells, spaced, ◌>>=◌, behind, has_leading_zero, number_of, word_len, number_at, nodes_said, octets_parts, octets_said, tick_said, grant_said, are_ones, settle_said, restart_said, is_skipped, words_said, said_of}
 use Rattle.script_lines.proofs.WordLemmas.{own, Numeral, Numeral-from_test, test-from_Numeral}
 
 -- ---- a step that gave a value
@@ -246,6 +248,22 @@ unfolding tick_said behind
 tick_again moment range =
     rw (decimal_one, number_at_again 946684800 4102444799 moment [] range.least range.most (omega (arith, range.most)) (λ some. absurd (omega arith))) refl
 
+-- ---- grants
+
+grant_takes : (text : List ℕ) (said : Said) → grant_said text ≡ Some said → IsWording said (codes "grant" ++ text)
+unfolding grant_said
+grant_takes text said e =
+    let a = bind_some (behind (codes " 1 ") text) (λ word. id_in word >>= λ id. Some (Grant id)) said e in
+    let b = bind_some (id_in a.0) (λ id. Some (Grant id)) said a.2 in
+    let said-is : Grant b.0 ≡ said = (let both = b.2 in cc) in
+    let named = (ids_and_texts a.0 b.0).0 b.1 in
+    let words : text ≡ spaced (decimal 1 ∷ decimal b.0 ∷ []) = rw (behind_takes (codes " 1 ") text a.0 a.1, named.1, append-nil (decimal b.0), decimal_one) refl in
+    subst (λ s. IsWording s (codes "grant" ++ text)) said-is (named.0, ap (λ xs. codes "grant" ++ xs) words)
+
+grant_again : (id : ℕ) → IsId id → grant_said (spaced (decimal 1 ∷ decimal id ∷ [])) ≡ Some (Grant id)
+unfolding grant_said behind
+grant_again id is = rw (decimal_one, append-nil (decimal id), (ids_and_texts (decimal id) id).1 (is, refl)) refl
+
 -- ---- the end
 
 one_more : (octet digit : ℕ) (text : List ℕ) (nodes : List ℕ) → octet ≡ 32 → digit ≡ 49 → text ≡ spaced (map decimal nodes) → octet ∷ digit ∷ text ≡ spaced (map decimal (1 ∷ nodes))
@@ -288,22 +306,26 @@ unfolding words_said settle_said
 words_takes line said e =
     let restart = cond (starts_with nat_eq line (codes "restart")) (restart_said (drop 7 line)) None in
     let settle = cond (starts_with nat_eq line (codes "settle")) (settle_said (drop 6 line)) restart in
-    let tick = cond (starts_with nat_eq line (codes "tick")) (tick_said (drop 4 line)) settle in
+    let grant = cond (starts_with nat_eq line (codes "grant")) (grant_said (drop 5 line)) settle in
+    let tick = cond (starts_with nat_eq line (codes "tick")) (tick_said (drop 4 line)) grant in
     let pdu = cond (starts_with nat_eq line (codes "pdu")) (octets_said (drop 3 line)) tick in
     elim (chosen (starts_with nat_eq line (codes "nodes")) (nodes_said (drop 5 line)) pdu (Some said) e) [
       | inl nodes ↦ subst (IsWording said) (sym (begins (codes "nodes") line nodes.0)) (nodes_takes (drop 5 line) said nodes.1)
       | inr others ↦ elim (chosen (starts_with nat_eq line (codes "pdu")) (octets_said (drop 3 line)) tick (Some said) others.1) [
         | inl octets ↦ subst (IsWording said) (sym (begins (codes "pdu") line octets.0)) (octets_take (drop 3 line) said octets.1)
-        | inr later ↦ elim (chosen (starts_with nat_eq line (codes "tick")) (tick_said (drop 4 line)) settle (Some said) later.1) [
+        | inr later ↦ elim (chosen (starts_with nat_eq line (codes "tick")) (tick_said (drop 4 line)) grant (Some said) later.1) [
           | inl moment ↦ subst (IsWording said) (sym (begins (codes "tick") line moment.0)) (tick_takes (drop 4 line) said moment.1)
-          | inr end ↦ elim (chosen (starts_with nat_eq line (codes "settle")) (settle_said (drop 6 line)) restart (Some said) end.1) [
-            | inl settles ↦
-                let is = cond_some (are_ones (drop 6 line)) Settle said settles.1 in
-                let nodes = settle_takes (drop 6 line) is.0 in
-                subst (λ s. IsWording s line) is.1 (nodes.0, nodes.1, begins (codes "settle") line settles.0 ∙ ap (λ xs. codes "settle" ++ xs) nodes.2)
-            | inr last ↦ elim (chosen (starts_with nat_eq line (codes "restart")) (restart_said (drop 7 line)) None (Some said) last.1) [
-              | inl restarts ↦ subst (IsWording said) (sym (begins (codes "restart") line restarts.0)) (restart_takes (drop 7 line) said restarts.1)
-              | inr none ↦ absurd (let clash = none.1 in cc)
+          | inr asks ↦ elim (chosen (starts_with nat_eq line (codes "grant")) (grant_said (drop 5 line)) settle (Some said) asks.1) [
+            | inl grants ↦ subst (IsWording said) (sym (begins (codes "grant") line grants.0)) (grant_takes (drop 5 line) said grants.1)
+            | inr end ↦ elim (chosen (starts_with nat_eq line (codes "settle")) (settle_said (drop 6 line)) restart (Some said) end.1) [
+              | inl settles ↦
+                  let is = cond_some (are_ones (drop 6 line)) Settle said settles.1 in
+                  let nodes = settle_takes (drop 6 line) is.0 in
+                  subst (λ s. IsWording s line) is.1 (nodes.0, nodes.1, begins (codes "settle") line settles.0 ∙ ap (λ xs. codes "settle" ++ xs) nodes.2)
+              | inr last ↦ elim (chosen (starts_with nat_eq line (codes "restart")) (restart_said (drop 7 line)) None (Some said) last.1) [
+                | inl restarts ↦ subst (IsWording said) (sym (begins (codes "restart") line restarts.0)) (restart_takes (drop 7 line) said restarts.1)
+                | inr none ↦ absurd (let clash = none.1 in cc)
+              ]
             ]
           ]
         ]
@@ -355,6 +377,10 @@ tick_line : (text : List ℕ) → said_short (codes "tick" ++ text) ≡ tick_sai
 unfolding words_said
 tick_line text = refl
 
+grant_line : (text : List ℕ) → said_short (codes "grant" ++ text) ≡ grant_said text
+unfolding words_said
+grant_line text = refl
+
 settle_line : (text : List ℕ) → are_ones text ≡ true → said_short (codes "settle" ++ text) ≡ Some Settle
 unfolding words_said settle_said
 settle_line text ones = rw ones refl
@@ -374,6 +400,8 @@ wording_again line (Octets session octets) w =
     ap said_short w.1.3 ∙ octets_line (spaced (decimal 1 ∷ decimal session ∷ w.1.0 ∷ [])) ∙ octets_again session w.1.0 octets w.0 w.1.1 w.1.2
 wording_again line (Tick moment) w =
     ap said_short w.1 ∙ tick_line (spaced (decimal 1 ∷ decimal moment ∷ [])) ∙ tick_again moment w.0
+wording_again line (Grant id) w =
+    ap said_short w.1 ∙ grant_line (spaced (decimal 1 ∷ decimal id ∷ [])) ∙ grant_again id w.0
 wording_again line Settle w = ap said_short w.2 ∙ settle_line (spaced (map decimal w.0)) (settle_again w.0 w.1)
 wording_again line Restart w = ap said_short w ∙ restart_line (spaced (decimal 1 ∷ [])) ∙ restart_again
 

@@ -6,7 +6,8 @@ use Rattle.std.specs.Str.Parse.{digits_value}
 use Rattle.std.specs.Fmt.{decimal}
 use Rattle.std.specs.Result.{result_ok}
 use Rattle.hex.specs.Hex.{decode_of}
-use Rattle.mc_model.specs.message.Ids.{IsMoment}
+use Rattle.mc_model.specs.message.Ids.{IsId, IsMoment}
+use Rattle.mc_types.specs.Texts.{id_in}
 use Rattle.script_lines.specs.declared.line.Line.{Line}
 use Rattle.script_lines.specs.declared.line.Line.TheVariants as lines
 
@@ -20,6 +21,8 @@ pub data Said : Type 0 where
   Octets : ℕ → List ℕ → Said
   -- this moment has come
   Tick : ℕ → Said
+  -- the attempt of the message of this id is asked for
+  Grant : ℕ → Said
   -- what was asked is answered
   Settle : Said
   -- the node starts anew
@@ -31,6 +34,7 @@ said_by lines.Skipped = Skipped
 said_by (lines.Nodes serial) = Nodes serial
 said_by (lines.Octets session octets) = Octets session octets.items
 said_by (lines.Tick moment) = Tick moment
+said_by (lines.Grant id) = Grant id
 said_by lines.Settle = Settle
 said_by lines.Restart = Restart
 
@@ -60,6 +64,7 @@ IsWording (Octets session octets) line =
     × ((digits : List ℕ) × (digits ≢ []) × (decode_of digits ≡ Ok octets)
     × (line ≡ codes "pdu" ++ spaced (decimal 1 ∷ decimal session ∷ digits ∷ [])))
 IsWording (Tick moment) line = IsMoment moment × (line ≡ codes "tick" ++ spaced (decimal 1 ∷ decimal moment ∷ []))
+IsWording (Grant id) line = IsId id × (line ≡ codes "grant" ++ spaced (decimal 1 ∷ decimal id ∷ []))
 IsWording Settle line = (nodes : List ℕ) × All (λ node. node ≡ 1) nodes × (line ≡ codes "settle" ++ spaced (map decimal nodes))
 IsWording Restart line = line ≡ codes "restart" ++ spaced (decimal 1 ∷ [])
 
@@ -135,6 +140,13 @@ tick_said text = do
   moment ← number_at 946684800 4102444799 words
   if length moment.1 == 0 then Some (Tick moment.0) else None
 
+-- what is behind `grant`
+unfoldable pub grant_said : List ℕ → Option Said
+grant_said text = do
+  word ← behind (codes " 1 ") text
+  id ← id_in word
+  Some (Grant id)
+
 -- each word is `1`
 abbrev pub are_ones : List ℕ → Bool
 are_ones [] = true
@@ -157,6 +169,7 @@ words_said line =
     if starts_with nat_eq line (codes "nodes") then nodes_said (drop 5 line)
     else if starts_with nat_eq line (codes "pdu") then octets_said (drop 3 line)
     else if starts_with nat_eq line (codes "tick") then tick_said (drop 4 line)
+    else if starts_with nat_eq line (codes "grant") then grant_said (drop 5 line)
     else if starts_with nat_eq line (codes "settle") then settle_said (drop 6 line)
     else if starts_with nat_eq line (codes "restart") then restart_said (drop 7 line)
     else None
@@ -179,6 +192,7 @@ SaysOctets (Some (Octets session octets)) = Unit {0}
 SaysOctets (Some Skipped) = ⊥
 SaysOctets (Some (Nodes serial)) = ⊥
 SaysOctets (Some (Tick moment)) = ⊥
+SaysOctets (Some (Grant id)) = ⊥
 SaysOctets (Some Settle) = ⊥
 SaysOctets (Some Restart) = ⊥
 SaysOctets None = ⊥

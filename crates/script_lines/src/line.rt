@@ -5,10 +5,11 @@ ghost use Rattle.std.specs.Option.{option_map, option_copied};
 ghost use Rattle.std.specs.List.{list_all};
 ghost use Rattle.std.specs.Char.{is_ascii_digit, is_ascii_hexdigit};
 ghost use Rattle.hex.specs.Hex.{decode_of};
-ghost use Rattle.script_lines.specs.Said.{Said, Spells, SaysOctets, said_by, said_of, words_said, nodes_said, octets_said, tick_said, settle_said, restart_said};
+ghost use Rattle.script_lines.specs.Said.{Said, Spells, SaysOctets, said_by, said_of, words_said, nodes_said, octets_said, tick_said, grant_said, settle_said, restart_said};
 ghost use Rattle.script_lines.specs.Said as spec;
 
 use crate::octets::place_of;
+use mc_types::MsgId;
 use std::alloc::{AllocError, Global};
 use std::str;
 
@@ -38,6 +39,8 @@ pub enum Line {
     Octets(u8, Vec<u8>),
     /// `tick 1 MOMENT`: this moment has come, in whole seconds since 1970-01-01T00:00:00Z, 946684800 to 4102444799.
     Tick(u32),
+    /// `grant 1 ID`: the attempt of the message of this id is asked for.
+    Grant(MsgId),
     /// `settle`, which may name the node 1.
     Settle,
     /// `restart 1`: the node starts anew.
@@ -73,6 +76,9 @@ fn words_of(alloc: Global, line: &[u8]) -> Result<Option<Line>, AllocError>
     }
     if let Some(words) = behind(b"tick", line) {
         return Ok(tick_of(words));
+    }
+    if let Some(words) = behind(b"grant", line) {
+        return Ok(grant_of(words));
     }
     if let Some(words) = behind(b"settle", line) {
         return Ok(settle_of(words));
@@ -147,6 +153,16 @@ fn tick_of(words: &[u8]) -> Option<Line>
         return None;
     }
     Some(Line::Tick(seconds as u32))
+}
+
+/// What stands behind `grant`: the node, and the id of a message.
+#[tactic(auto, unfolding(crate::specs::Said::grant_said))]
+fn grant_of(words: &[u8]) -> Option<Line>
+    ensures { option_map said_by result ≡ grant_said words.now }
+{
+    let word = behind(b" 1 ", words)?;
+    let id = MsgId::read(word).ok()?;
+    Some(Line::Grant(id))
 }
 
 /// What stands behind `settle`: the node, as often as it may be.
