@@ -1,11 +1,14 @@
 -- Lines that join are those that a script is computed from, and the node goes by what was done at it.
 use Rattle.std.specs.Prelude.{nat_lt}
 use Rattle.std.proofs.Common.{◌≡◌, ℕ, zero, suc, Bool, true, false, cond, List, [], ◌∷◌, ◌++◌, Option, Some, None, Result, Ok, Err, refl, sym, ◌∙◌, ap, subst}
-use Rattle.script_lines.specs.Said.{Said, Skipped, Nodes, Octets, Tick, Settle, Restart, said_of}
+use Rattle.script_lines.specs.Said.{Said, Skipped, Nodes, Octets, Tick, Grant, Settle, Restart, said_of}
 use Rattle.sessions.specs.Session.{Session}
 use Rattle.sessions.specs.States.{is_gone}
 use Rattle.sessions.specs.Steps.{Done, on_fault, on_pdu, on_wrong_length}
 use Rattle.sessions.specs.Responses.{requested_by}
+use Rattle.sessions.specs.declared.pushed.Delivery.{Delivery as Pushing}
+use Rattle.sessions.specs.declared.pushed.Delivery.TheVariants as deliveries
+use Rattle.sessions.specs.declared.pushed.Pushed.{Pushed}
 use Rattle.sessions.specs.declared.reaction.Reaction.{Reaction}
 use Rattle.sessions.specs.declared.reaction.Reaction.TheVariants as reactions
 use Rattle.sessions.specs.declared.requested.Requested.{Requested}
@@ -15,16 +18,23 @@ use Rattle.pdu_codec.specs.Pdu.{read_pdu}
 use Rattle.pdu_fields.specs.declared.fault.PduFault.{PduFault}
 use Rattle.pdu_bodies.specs.declared.pdu.Pdu.{Pdu}
 use Rattle.pdu_frames.specs.Frames.{Cut, cut, begins_wrong}
-use Rattle.mc_model.specs.synod.Packet.{Packet}
-use Rattle.mc_model.specs.node.Input.{Delivery, Input, Restart as StartsAnew}
+use Rattle.mc_model.specs.message.Submission.{Submission}
+use Rattle.mc_model.specs.synod.Packet.{Packet, Slot}
+use Rattle.mc_model.specs.node.Grant.{GrantRefusal}
+use Rattle.mc_model.specs.node.Input.{Delivery, Grant as Asks, Input, Response, Restart as StartsAnew}
+use Rattle.mc_model.specs.node.Outcome.{Outcome}
 use Rattle.mc_model.specs.node.Setup.{Setup}
+use Rattle.node_model.specs.Attempts.{grant_refusal}
+use Rattle.node_model.specs.Granted.{is_open, known_slot}
 use Rattle.node_model.specs.Kept.{Kept}
 use Rattle.node_model.specs.Stepped.{stepped as node_stepped}
 use Rattle.desk.specs.declared.request.Request.{Request}
 use Rattle.script_text.specs.Settings.{Settings}
 use Rattle.script_text.specs.Node.{Node, awaiting, request_at, step_at, tick_at, with_step}
 use Rattle.script_text.specs.Prints.{Print}
-use Rattle.script_text.specs.Runner.{Runner, Acted, Served, Streamed, behind, on_request, on_reaction, on_done, on_read, on_frame, on_rest, on_frames, on_cut, on_octets, on_tick, on_settle, on_delivery, on_restart, declined, last_incarnation, no_incarnation, restarted, settles, first_or, followed_by, most_deliveries, rests, kept, session_in, held_in, without, holding, request_of}
+use Rattle.script_text.specs.Pushes.{accounts_up, overdue_in, session_at, target_in}
+use Rattle.script_text.specs.Attempts.{Went, all_given_up, concluded, delivered_so, given_up, rests_at, submission_at, unanswered, went}
+use Rattle.script_text.specs.Runner.{Runner, Acted, Served, Streamed, Came, came_by, nothing_came, behind, granted, granted_unless, gives_up, on_grant, pushes, sent, sent_to, ticked, on_request, on_reaction, on_done, on_read, on_frame, on_rest, on_frames, on_cut, on_octets, on_tick, on_settle, on_delivery, on_restart, declined, last_incarnation, no_incarnation, restarted, settles, first_or, followed_by, most_deliveries, rests, kept, session_in, held_in, without, holding}
 use Rattle.script_text.specs.Script.{Stage, Stepped, Joins, LineStep, after, bad_from, prints_from, step_by, step_of, stepped}
 use Rattle.script_text.specs.Laws.{GoesBy, kept_by}
 
@@ -75,6 +85,33 @@ goes_once : (node : Node) (input : Input) → GoesBy node (input ∷ []) (with_s
 unfolding kept_by
 goes_once node input = record { setup = refl; kept = refl }
 
+-- ---- by what came of attempts
+
+abbrev WentGoes : Node → Went → Type 0
+WentGoes node went = GoesBy node went.inputs went.node
+
+concluded_goes : (node : Node) (slot : Slot) (outcome : Outcome) → WentGoes node (concluded node slot outcome)
+concluded_goes node slot outcome = by_test (is_open node.kept slot)
+  where
+    by_test : (open_there : Bool) → WentGoes node (cond {A = Went} open_there (went node (Response slot outcome)) (rests_at node))
+    by_test true = goes_once node (Response slot outcome)
+    by_test false = goes_nowhere node
+
+delivered_goes : (node : Node) (delivery : Pushing) (outcome : Option Outcome) → WentGoes node (delivered_so node delivery outcome)
+delivered_goes node (deliveries.Attempt slot) (Some outcome) = concluded_goes node slot outcome
+delivered_goes node (deliveries.Attempt slot) None = goes_nowhere node
+delivered_goes node (deliveries.Receipt id) outcome = goes_nowhere node
+
+all_go : (node : Node) (pushed : List Pushed) → WentGoes node (all_given_up node pushed)
+unfolding all_given_up
+all_go node [] = goes_nowhere node
+all_go node (first ∷ others) =
+    let one = given_up node first in
+    let last = all_given_up one.node others in
+    goes_behind node one.node last.node one.inputs last.inputs (delivered_goes node first.delivery (Some unanswered)) (all_go one.node others)
+
+-- ---- by what comes on a session
+
 abbrev ServedGoes : Node → Served → Type 0
 ServedGoes node served = GoesBy node served.inputs served.node
 
@@ -83,16 +120,18 @@ request_goes number node session requested sequence None request = goes_nowhere 
 request_goes number node session requested sequence (Some account) None = goes_nowhere node
 request_goes number node session requested sequence (Some account) (Some request) = goes_once node (request_at node account request)
 
-reaction_goes : (settings : Settings) (number : ℕ) (node : Node) (sequence : ℕ) (request : Option Request) (session : Session) (reaction : Reaction) → ServedGoes node (on_reaction settings number node sequence request session reaction)
-reaction_goes settings number node sequence request session (reactions.Ask requested) = request_goes number node session requested sequence session.account request
-reaction_goes settings number node sequence request session other = goes_nowhere node
+reaction_goes : (settings : Settings) (number : ℕ) (node : Node) (came : Came) (session : Session) (reaction : Reaction) → ServedGoes node (on_reaction settings number node came session reaction)
+reaction_goes settings number node came session (reactions.Ask requested) = request_goes number node session requested came.sequence session.account came.request
+reaction_goes settings number node came session (reactions.Answered pushed answer) = delivered_goes node pushed.delivery (came.outcome pushed.sequence)
+reaction_goes settings number node came session (reactions.Leave outgoing abandoned) = all_go node abandoned
+reaction_goes settings number node came session other = goes_nowhere node
 
-done_goes : (settings : Settings) (number : ℕ) (node : Node) (sequence : ℕ) (request : Option Request) (done : Done) → ServedGoes node (on_done settings number node sequence request done)
-done_goes settings number node sequence request done = reaction_goes settings number node sequence request done.next done.reaction
+done_goes : (settings : Settings) (number : ℕ) (node : Node) (came : Came) (done : Done) → ServedGoes node (on_done settings number node came done)
+done_goes settings number node came done = reaction_goes settings number node came done.next done.reaction
 
 read_goes : (settings : Settings) (number : ℕ) (node : Node) (session : Session) (octets : List ℕ) (read : Result Pdu PduFault) → ServedGoes node (on_read settings number node session octets read)
-read_goes settings number node session octets (Ok pdu) = done_goes settings number node pdu.sequence (request_of settings pdu.body) (on_pdu settings.accounts session pdu)
-read_goes settings number node session octets (Err fault) = done_goes settings number node 0 None (on_fault session fault (requested_by (command_of (word_at 4 octets))) (word_at 12 octets))
+read_goes settings number node session octets (Ok pdu) = done_goes settings number node (came_by settings pdu) (on_pdu settings.accounts session pdu)
+read_goes settings number node session octets (Err fault) = done_goes settings number node nothing_came (on_fault session fault (requested_by (command_of (word_at 4 octets))) (word_at 12 octets))
 
 frame_goes : (settings : Settings) (number : ℕ) (node : Node) (session : Session) (octets : List ℕ) → ServedGoes node (on_frame settings number node session octets)
 unfolding on_frame
@@ -101,8 +140,8 @@ frame_goes settings number node session octets = read_goes settings number node 
 rest_goes : (settings : Settings) (number : ℕ) (node : Node) (session : Session) (rest : List ℕ) → ServedGoes node (on_rest settings number node session rest).served
 rest_goes settings number node session rest = at_test (begins_wrong rest)
   where
-    at_test : (wrong : Bool) → ServedGoes node (cond {A = Streamed} wrong (record { served = on_done settings number node 0 None (on_wrong_length session); held = [] }) (record { served = record { node = node; session = session; inputs = []; prints = [] }; held = rest })).served
-    at_test true = done_goes settings number node 0 None (on_wrong_length session)
+    at_test : (wrong : Bool) → ServedGoes node (cond {A = Streamed} wrong (record { served = on_done settings number node nothing_came (on_wrong_length session); held = [] }) (record { served = record { node = node; session = session; inputs = []; prints = [] }; held = rest })).served
+    at_test true = done_goes settings number node nothing_came (on_wrong_length session)
     at_test false = goes_nowhere node
 
 frames_go : (settings : Settings) (number : ℕ) (node : Node) (session : Session) (frames : List (List ℕ)) (rest : List ℕ) → ServedGoes node (on_frames settings number node session frames rest).served
@@ -140,8 +179,43 @@ octets_go settings runner number octets =
     stream : Cut
     stream = cut (held_in runner.streams number ++ octets)
 
+gives_up_goes : (runner : Runner) (now : ℕ) → ActedGoes runner (gives_up runner now)
+gives_up_goes runner now = let goes = all_go runner.node (overdue_in runner.sessions now) in record { setup = goes.setup; kept = goes.kept }
+
 pub tick_goes : (runner : Runner) (moment : ℕ) → ActedGoes runner (on_tick runner moment)
-tick_goes runner moment = goes_once runner.node (tick_at moment)
+tick_goes runner moment =
+    let first = ticked runner moment in
+    let last = gives_up first.next first.next.node.kept.clock in
+    goes_behind runner.node first.next.node last.next.node first.inputs last.inputs (goes_once runner.node (tick_at moment (accounts_up runner.sessions)))
+    (gives_up_goes first.next first.next.node.kept.clock)
+
+-- ---- by a grant
+
+fails_goes : (runner : Runner) (slot : Slot) → ActedGoes runner (sent runner slot None)
+fails_goes runner slot = let goes = concluded_goes runner.node slot unanswered in record { setup = goes.setup; kept = goes.kept }
+
+pushes_goes : (runner : Runner) (slot : Slot) (taken : Submission) (number : ℕ) (session : Option Session) → ActedGoes runner (pushes runner slot taken number session)
+pushes_goes runner slot taken number None = goes_nowhere runner.node
+pushes_goes runner slot taken number (Some session) = goes_nowhere runner.node
+
+sent_to_goes : (runner : Runner) (slot : Slot) (taken : Submission) (target : Option ℕ) → ActedGoes runner (sent_to runner slot taken target)
+sent_to_goes runner slot taken None = fails_goes runner slot
+sent_to_goes runner slot taken (Some number) = pushes_goes runner slot taken number (session_at runner.sessions number)
+
+sent_goes : (runner : Runner) (slot : Slot) (taken : Option Submission) → ActedGoes runner (sent runner slot taken)
+sent_goes runner slot None = fails_goes runner slot
+sent_goes runner slot (Some taken) = sent_to_goes runner slot taken (target_in runner.sessions taken.target)
+
+granted_goes : (runner : Runner) (id : ℕ) (slot : Slot) (refusal : Option GrantRefusal) → ActedGoes runner (granted_unless runner id slot refusal)
+granted_goes runner id slot None =
+    let first = granted runner (Asks slot) in
+    let last = sent first.next slot (submission_at runner.node id) in
+    goes_behind runner.node first.next.node last.next.node first.inputs last.inputs (goes_once runner.node (Asks slot))
+    (sent_goes first.next slot (submission_at runner.node id))
+granted_goes runner id slot (Some refusal) = goes_nowhere runner.node
+
+pub grant_goes : (runner : Runner) (id : ℕ) → ActedGoes runner (on_grant runner id)
+grant_goes runner id = granted_goes runner id (known_slot runner.node.kept id) (grant_refusal runner.node.setup runner.node.kept id)
 
 restart_goes : (runner : Runner) → ActedGoes runner (on_restart runner)
 restart_goes runner = by_test (nat_lt runner.node.kept.incarnation last_incarnation)
@@ -185,6 +259,7 @@ line_goes settings runner line done is = by_said (said_of line) is
     by_said (Some (Nodes serial)) is = absurd cc
     by_said (Some (Octets session octets)) is = acted_goes runner (on_octets settings runner session octets) done (octets_go settings runner session octets) is
     by_said (Some (Tick moment)) is = acted_goes runner (on_tick runner moment) done (tick_goes runner moment) is
+    by_said (Some (Grant id)) is = acted_goes runner (on_grant runner id) done (grant_goes runner id) is
     by_said (Some Restart) is = acted_goes runner (on_restart runner) done (restart_goes runner) is
     by_said (Some Settle) is = acted_goes runner (on_settle runner) done (settles_goes most_deliveries runner) is
 

@@ -1,5 +1,6 @@
 -- Calm scripts: between two settles at most one thing happens that a node tells to other nodes, or waits for.
 use Rattle.std.specs.Prelude.{◌≡◌, ℕ, ◌<◌, ◌≤◌, ◌-◌, ◌^◌, ◌&&◌, Bool, true, false, is_some, List, [], ◌∷◌, length, Option, Some, None, Result, Ok, Err}
+use Rattle.std.specs.List.{flat_map}
 use Rattle.mc_types.specs.Texts.{id_in}
 use Rattle.accounts.specs.Accounts.{account_of, bind_refusal}
 use Rattle.accounts.specs.declared.account.Account.{Account}
@@ -10,7 +11,8 @@ use Rattle.pdu_fields.specs.declared.fault.PduFault.{PduFault}
 use Rattle.pdu_bodies.specs.declared.pdu.Body.{Body}
 use Rattle.pdu_bodies.specs.declared.pdu.Body.TheVariants as bodies
 use Rattle.pdu_bodies.specs.declared.pdu.Pdu.{Pdu}
-use Rattle.script_text.specs.Events.{Event, Comes, Ticks, Settles, Play, play_of}
+use Rattle.sessions.specs.declared.pushed.Pushed.{Pushed}
+use Rattle.script_text.specs.Events.{Event, Comes, Ticks, Grants, Settles, Play, play_of}
 use Rattle.script_text.specs.Settings.{Settings, script_settings}
 use Rattle.script_text.specs.OneNode.{OneNode, account_at, happens, one_node, played}
 
@@ -59,10 +61,20 @@ abbrev pub read_stir : List Account → Option (List ℕ) → Result Pdu PduFaul
 read_stir accounts account (Ok pdu) = body_stir accounts account pdu.body
 read_stir accounts account (Err fault) = Still
 
+-- what was pushed and waits for its answer
+abbrev pub pushed_in : OneNode → List Pushed
+pushed_in one = flat_map (λ entry. entry.1.pushed) one.sessions
+
+-- a moment comes when nothing that was pushed waits
+abbrev pub tick_stir : List Pushed → Stir
+tick_stir [] = Stirs
+tick_stir (pushed ∷ others) = Never
+
 abbrev pub event_stir : Settings → OneNode → Event → Stir
-event_stir settings node (Comes session octets) = read_stir settings.accounts (account_at node session) (read_pdu octets)
-event_stir settings node (Ticks moment) = Stirs
-event_stir settings node Settles = Still
+event_stir settings one (Comes number octets) = read_stir settings.accounts (account_at one number) (read_pdu octets)
+event_stir settings one (Ticks moment) = tick_stir (pushed_in one)
+event_stir settings one (Grants id) = Stirs
+event_stir settings one Settles = Still
 
 abbrev pub quiet_by : Bool → Stir → Bool
 quiet_by quiet Still = quiet
@@ -71,9 +83,10 @@ quiet_by quiet Never = quiet
 
 -- whether it is quiet after an event, so that something may happen before the next settle
 abbrev pub quiet_after : Settings → OneNode → Bool → Event → Bool
-quiet_after settings node quiet (Comes session octets) = quiet_by quiet (read_stir settings.accounts (account_at node session) (read_pdu octets))
-quiet_after settings node quiet (Ticks moment) = false
-quiet_after settings node quiet Settles = true
+quiet_after settings one quiet (Comes number octets) = quiet_by quiet (read_stir settings.accounts (account_at one number) (read_pdu octets))
+quiet_after settings one quiet (Ticks moment) = false
+quiet_after settings one quiet (Grants id) = false
+quiet_after settings one quiet Settles = true
 
 abbrev pub may_happen : Bool → Stir → Bool
 may_happen quiet Still = true
@@ -82,16 +95,17 @@ may_happen quiet Never = false
 
 -- events are calm at a node, from a moment on at which it is quiet or not
 unfoldable pub are_calm : Settings → OneNode → Bool → List Event → Bool
-are_calm settings node quiet [] = true
-are_calm settings node quiet (event ∷ events) =
-    may_happen quiet (event_stir settings node event)
-    && are_calm settings (happens settings node event).next (quiet_after settings node quiet event) events
+are_calm settings one quiet [] = true
+are_calm settings one quiet (event ∷ events) =
+    may_happen quiet (event_stir settings one event)
+    && are_calm settings (happens settings one event).next (quiet_after settings one quiet event) events
 
--- A calm script begins with `nodes 1`, has no bad line and no PDU of a wrong length, binds transceivers alone and ends no session;
+-- A calm script begins with `nodes 1`, has no bad line and no PDU of a wrong length, binds transceivers alone and ends no session, and
+-- leaves no deliver_sm unanswered at a tick;
 -- at most 10,000 messages are taken; and so little happens that tickets do not run out (own).
 pub record IsCalm (script : List ℕ) : Type 0 where
   pub play : Play
   pub played_by : play_of script ≡ Some play
   pub calm : are_calm script_settings (one_node play.serial) true play.events ≡ true
-  pub messages : length (played play).next.table ≤ 10000
+  pub messages : length (played play).next.node.table ≤ 10000
   pub tickets : length play.events < 2 ^ 64 - 1

@@ -4,7 +4,7 @@ use Rattle.std.specs.Ordering.{nat_cmp}
 use Rattle.std.specs.BTreeMap.{insert_entry}
 use Rattle.pdu_frames.specs.Frames.{Cut, cut, begins_wrong}
 use Rattle.script_lines.specs.Lines.{lines_of}
-use Rattle.script_lines.specs.Said.{Said, Skipped, Nodes, Octets, Tick, Settle, Restart, said_of}
+use Rattle.script_lines.specs.Said.{Said, Skipped, Nodes, Octets, Tick, Grant, Settle, Restart, said_of}
 use Rattle.script_text.specs.Runner.{held_in}
 
 pub data Event : Type 0 where
@@ -12,6 +12,8 @@ pub data Event : Type 0 where
   Comes : ℕ → List ℕ → Event
   -- a moment has come
   Ticks : ℕ → Event
+  -- the attempt of the message of this id is asked for
+  Grants : ℕ → Event
   -- all that was asked is answered
   Settles : Event
 
@@ -32,6 +34,7 @@ heard_by streams (Some Skipped) = Some (record { events = []; streams = streams 
 heard_by streams (Some (Nodes serial)) = None
 heard_by streams (Some (Octets number octets)) = heard_of streams number (cut (held_in streams number ++ octets))
 heard_by streams (Some (Tick moment)) = Some (record { events = Ticks moment ∷ []; streams = streams })
+heard_by streams (Some (Grant id)) = Some (record { events = Grants id ∷ []; streams = streams })
 heard_by streams (Some Settle) = Some (record { events = Settles ∷ []; streams = streams })
 heard_by streams (Some Restart) = None
 

@@ -15,7 +15,7 @@ use Rattle.pdu_bodies.specs.declared.pdu.Pdu.{Pdu}
 use Rattle.pdu_bodies.specs.declared.pdu.QueryAnswer.{QueryAnswer}
 use Rattle.script_text.specs.Settings.{Settings}
 use Rattle.script_text.specs.Node.{Node}
-use Rattle.script_text.specs.Prints.{Print, AtOnce, Late, Gone, Unsettled, Declined}
+use Rattle.script_text.specs.Prints.{Print, AtOnce, Late, Delivers, Gone, Unsettled, Declined, Ungranted}
 use Rattle.script_text.specs.Runner.{Runner}
 use Rattle.script_text.specs.Script.{Stage, Joins, bad_from, bad_line, prints_from, prints_of, text_of}
 use Rattle.script_text.specs.OneNode.{one_node_text}
@@ -65,9 +65,11 @@ CalmTextIsOfOneNode = (script : List ℕ) → IsCalm script → (bad_line script
 abbrev pub pdu_in : Print → Option Pdu
 pdu_in (AtOnce session pdu) = Some pdu
 pdu_in (Late session id pdu) = Some pdu
+pdu_in (Delivers session pdu) = Some pdu
 pdu_in (Gone session) = None
 pdu_in Unsettled = None
 pdu_in (Declined number) = None
+pdu_in (Ungranted reason) = None
 
 -- A query_sm_resp with ESME_ROK tells that the message of a message_id has this message_state.
 pub record TellsState (print : Print) (message_id : List ℕ) (state : ℕ) : Type 0 where

@@ -1,5 +1,7 @@
 pub mod Settings
+pub mod Pushes
 pub mod Node
+pub mod Attempts
 pub mod Responses
 pub mod Prints
 pub mod Runner

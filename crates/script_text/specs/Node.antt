@@ -1,5 +1,5 @@
 -- The node of a script: what it keeps by the node's model, and the packets that it sent to itself and that are still to come.
-use Rattle.std.specs.Prelude.{ℕ, Bool, false, List, [], ◌++◌}
+use Rattle.std.specs.Prelude.{ℕ, List, [], ◌++◌}
 use Rattle.mc_model.specs.synod.Packet.{Packet}
 use Rattle.mc_model.specs.node.Input.{Input, Tick}
 use Rattle.mc_model.specs.node.Setup.{Setup}
@@ -8,6 +8,7 @@ use Rattle.node_model.specs.Outputs.{Stepped}
 use Rattle.node_model.specs.Stepped.{opened_new, stepped}
 use Rattle.desk.specs.Arrivals.{requested}
 use Rattle.desk.specs.declared.request.Request.{Request}
+use Rattle.script_text.specs.Pushes.{is_up}
 
 pub record Node : Type 0 where
   pub setup : Setup
@@ -40,9 +41,6 @@ awaiting node packets = record node { packets = packets }
 abbrev pub request_at : Node → List ℕ → Request → Input
 request_at node account request = requested node.setup node.kept account request
 
--- no session takes a message yet
-abbrev pub nobody_up : List ℕ → Bool
-nobody_up account = false
-
-abbrev pub tick_at : ℕ → Input
-tick_at moment = Tick moment nobody_up
+-- a moment, at which these accounts have a session that may receive
+abbrev pub tick_at : ℕ → List (List ℕ) → Input
+tick_at moment up = Tick moment (is_up up)

@@ -11,12 +11,16 @@ pub data Print : Type 0 where
   AtOnce : ℕ → Pdu → Print
   -- on this session a PDU goes out that answers a request that waited, for the message of this id
   Late : ℕ → ℕ → Pdu → Print
+  -- on this session a deliver_sm goes out
+  Delivers : ℕ → Pdu → Print
   -- this session is gone
   Gone : ℕ → Print
   -- a settle has delivered as many packets as it may
   Unsettled : Print
   -- what the line asks for is refused, with this number
   Declined : ℕ → Print
+  -- an attempt that was asked for is not granted, for the reason of this number
+  Ungranted : ℕ → Print
 
 -- the line of octets that go out on a session
 abbrev pub octets_line : ℕ → List ℕ → List ℕ
@@ -36,12 +40,18 @@ unsettled_line = codes "unsettled" ++ 10 ∷ []
 abbrev pub declined_line : ℕ → List ℕ
 declined_line number = codes "refused " ++ decimal number ++ 10 ∷ []
 
+-- a grant is refused with 3, and its own reason (own)
+abbrev pub ungranted_line : ℕ → List ℕ
+ungranted_line reason = codes "refused 3 " ++ decimal reason ++ 10 ∷ []
+
 abbrev pub line_of : Print → List ℕ
 line_of (AtOnce session pdu) = pdu_line session pdu
 line_of (Late session id pdu) = pdu_line session pdu
+line_of (Delivers session pdu) = pdu_line session pdu
 line_of (Gone session) = gone_line session
 line_of Unsettled = unsettled_line
 line_of (Declined number) = declined_line number
+line_of (Ungranted reason) = ungranted_line reason
 
 -- the text of what is printed
 abbrev pub text_of_prints : List Print → List ℕ

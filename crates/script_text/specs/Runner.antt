@@ -1,11 +1,16 @@
--- What the lines of a script do today, by one node and the sessions with its ESMEs.
+-- What the lines of a script do, by one node and the sessions with its ESMEs.
 use Rattle.std.specs.Prelude.{ℕ, zero, suc, nat_lt, ◌==◌, List, [], ◌∷◌, ◌++◌, find, map, Option, Some, None, Result, Ok, Err, if◌then◌else◌}
 use Rattle.std.specs.Ordering.{nat_cmp}
 use Rattle.std.specs.Map.{lookup, remove_entry, set_value}
 use Rattle.std.specs.BTreeMap.{is_at, insert_entry}
-use Rattle.mc_model.specs.synod.Packet.{Packet}
-use Rattle.mc_model.specs.node.Input.{Delivery, Input, Restart}
+use Rattle.mc_model.specs.message.Submission.{Submission}
+use Rattle.mc_model.specs.synod.Packet.{Packet, Slot}
+use Rattle.mc_model.specs.node.Grant.{GrantRefusal, refusal_number}
+use Rattle.mc_model.specs.node.Input.{Delivery, Grant, Input, Restart}
+use Rattle.mc_model.specs.node.Outcome.{Outcome}
 use Rattle.mc_model.specs.node.Outputs.{Reply}
+use Rattle.node_model.specs.Attempts.{grant_refusal}
+use Rattle.node_model.specs.Granted.{known_slot}
 use Rattle.node_model.specs.Outputs.{Stepped}
 use Rattle.accounts.specs.Routes.{target_of}
 use Rattle.pdu_tables.specs.CommandCodes.{command_of}
@@ -16,13 +21,15 @@ use Rattle.pdu_bodies.specs.declared.pdu.Body.{Body}
 use Rattle.pdu_bodies.specs.declared.pdu.Body.TheVariants as bodies
 use Rattle.pdu_bodies.specs.declared.pdu.Pdu.{Pdu}
 use Rattle.pdu_frames.specs.Frames.{Cut, cut, begins_wrong}
+use Rattle.delivery.specs.Outcomes.{told_in}
 use Rattle.sessions.specs.Session.{Session}
 use Rattle.sessions.specs.Responses.{pdu_of, requested_by}
 use Rattle.sessions.specs.States.{is_gone}
 use Rattle.sessions.specs.Steps.{Done, on_fault, on_pdu, on_reply, on_wait, on_wrong_length}
 use Rattle.sessions.specs.Steps as sessions
 use Rattle.sessions.specs.declared.reaction.Reaction.{Reaction}
-use Rattle.sessions.specs.declared.reaction.Reaction.TheVariants.{Respond, Leave, Ask}
+use Rattle.sessions.specs.declared.pushed.Delivery.TheVariants.{Attempt}
+use Rattle.sessions.specs.declared.reaction.Reaction.TheVariants.{Respond, Leave, Ask, Answered}
 use Rattle.sessions.specs.declared.request.OpenRequest.{OpenRequest}
 use Rattle.sessions.specs.declared.requested.Requested.{Requested}
 use Rattle.desk.specs.declared.request.Request.{Request}
@@ -30,7 +37,9 @@ use Rattle.desk.specs.declared.request.Request.TheVariants.{Submit, Ask as AskOf
 use Rattle.script_text.specs.Settings.{Settings}
 use Rattle.script_text.specs.Node.{Node, awaiting, request_at, step_at, tick_at, with_step}
 use Rattle.script_text.specs.Responses.{refused_with, reply_pdu}
-use Rattle.script_text.specs.Prints.{Print, AtOnce, Late, Gone, Unsettled, Declined}
+use Rattle.script_text.specs.Pushes.{accounts_up, delivery_on, overdue_in, session_at, target_in, timely_in, with_push}
+use Rattle.script_text.specs.Attempts.{Went, all_given_up, concluded, delivered_so, submission_at, unanswered}
+use Rattle.script_text.specs.Prints.{Print, AtOnce, Late, Delivers, Gone, Unsettled, Declined, Ungranted}
 
 -- The node; the sessions that are connected, by their numbers; and of each the octets of the PDU that has not come whole.
 pub record Runner : Type 0 where
@@ -51,12 +60,33 @@ pub record Served : Type 0 where
 abbrev pub unasked : Node → Session → List Print → Served
 unasked node session prints = record { node = node; session = session; inputs = []; prints = prints }
 
+-- the node went on by what came of attempts, and this is printed
+abbrev pub gone_on : Session → Went → List Print → Served
+gone_on session went prints = record { node = went.node; session = session; inputs = went.inputs; prints = prints }
+
 -- the request for the node that a body is, if it is one: a submit_sm has the account that the routes give, if they give one
 abbrev pub request_of : Settings → Body → Option Request
 request_of settings (bodies.SubmitSm message) = Some (Submit message (target_of settings.routes message.destination.digits))
 request_of settings (bodies.QuerySm query) = Some (AskOf query)
 request_of settings (bodies.CancelSm cancel) = Some (Cancel cancel)
 request_of settings other = None
+
+-- What a PDU is to the node: its sequence_number, the request that its body is, if it is one, and what it tells of the deliver_sm that has
+-- a sequence_number.
+pub record Came : Type 0 where
+  pub sequence : ℕ
+  pub request : Option Request
+  pub outcome : ℕ → Option Outcome
+
+abbrev pub came_by : Settings → Pdu → Came
+came_by settings pdu = record {
+  sequence = pdu.sequence;
+  request = request_of settings pdu.body;
+  outcome = λ sequence. told_in sequence pdu;
+}
+
+abbrev pub nothing_came : Came
+nothing_came = record { sequence = 0; request = None; outcome = λ sequence. None }
 
 -- a request that waits takes its place in the window
 abbrev pub in_window : Session → Requested → ℕ → Option ℕ → Session
@@ -87,26 +117,32 @@ on_request number node session requested sequence (Some account) None = unasked 
 on_request number node session requested sequence (Some account) (Some request) =
     on_input number node session requested sequence (request_at node account request)
 
--- what of a reaction goes out; an answer of the ESME answers nothing yet
+-- what of a reaction goes out
 abbrev pub reaction_prints : Settings → ℕ → Reaction → List Print
 reaction_prints settings number (Respond outgoing) = AtOnce number (pdu_of settings.system_id outgoing) ∷ []
 reaction_prints settings number (Leave outgoing abandoned) = AtOnce number (pdu_of settings.system_id outgoing) ∷ Gone number ∷ []
 reaction_prints settings number other = []
 
--- what comes of a PDU at its session goes to the node, or out
-abbrev pub on_reaction : Settings → ℕ → Node → ℕ → Option Request → Session → Reaction → Served
-on_reaction settings number node sequence request session (Ask requested) = on_request number node session requested sequence session.account request
-on_reaction settings number node sequence request session other = unasked node session (reaction_prints settings number other)
+-- What comes of a PDU at its session goes to the node, or out. The ESME's answer tells what came of an attempt; a session that goes gives
+-- up those that were open there.
+abbrev pub on_reaction : Settings → ℕ → Node → Came → Session → Reaction → Served
+on_reaction settings number node came session (Ask requested) =
+    on_request number node session requested came.sequence session.account came.request
+on_reaction settings number node came session (Answered pushed answer) =
+    gone_on session (delivered_so node pushed.delivery (came.outcome pushed.sequence)) []
+on_reaction settings number node came session (Leave outgoing abandoned) =
+    gone_on session (all_given_up node abandoned) (reaction_prints settings number (Leave outgoing abandoned))
+on_reaction settings number node came session other = unasked node session (reaction_prints settings number other)
 
-abbrev pub on_done : Settings → ℕ → Node → ℕ → Option Request → Done → Served
-on_done settings number node sequence request done = on_reaction settings number node sequence request done.next done.reaction
+abbrev pub on_done : Settings → ℕ → Node → Came → Done → Served
+on_done settings number node came done = on_reaction settings number node came done.next done.reaction
 
 -- what octets are read to be, a PDU or a fault, by their session
 abbrev pub on_read : Settings → ℕ → Node → Session → List ℕ → Result Pdu PduFault → Served
 on_read settings number node session octets (Ok pdu) =
-    on_done settings number node pdu.sequence (request_of settings pdu.body) (on_pdu settings.accounts session pdu)
+    on_done settings number node (came_by settings pdu) (on_pdu settings.accounts session pdu)
 on_read settings number node session octets (Err fault) =
-    on_done settings number node 0 None (on_fault session fault (requested_by (command_of (word_at 4 octets))) (word_at 12 octets))
+    on_done settings number node nothing_came (on_fault session fault (requested_by (command_of (word_at 4 octets))) (word_at 12 octets))
 
 -- the octets of one frame come on a session
 unfoldable pub on_frame : Settings → ℕ → Node → Session → List ℕ → Served
@@ -122,7 +158,7 @@ pub record Streamed : Type 0 where
 -- Behind the last whole frame: a wrong length ends the session. Else the octets wait for more.
 abbrev pub on_rest : Settings → ℕ → Node → Session → List ℕ → Streamed
 on_rest settings number node session rest =
-    if begins_wrong rest then record { served = on_done settings number node 0 None (on_wrong_length session); held = [] }
+    if begins_wrong rest then record { served = on_done settings number node nothing_came (on_wrong_length session); held = [] }
     else record { served = unasked node session []; held = rest }
 
 -- what was done first, and then this
@@ -162,7 +198,7 @@ session_or_opened (Some session) = session
 
 -- the session of a number: one that is not connected begins now
 abbrev pub session_in : List (ℕ × Session) → ℕ → Session
-session_in connected number = session_or_opened (lookup (is_at (nat_cmp number)) connected)
+session_in connected number = session_or_opened (session_at connected number)
 
 abbrev pub or_nothing : Option (List ℕ) → List ℕ
 or_nothing None = []
@@ -227,7 +263,7 @@ replied_at connected number ticket (Some session) = set_value (is_at (nat_cmp nu
 -- the request leaves the window of its session
 abbrev pub replied : List (ℕ × Session) → ℕ → Option Owned → List (ℕ × Session)
 replied connected ticket None = connected
-replied connected ticket (Some owned) = replied_at connected owned.number ticket (lookup (is_at (nat_cmp owned.number)) connected)
+replied connected ticket (Some owned) = replied_at connected owned.number ticket (session_at connected owned.number)
 
 abbrev pub reply_prints : Reply → Option Owned → List Print
 reply_prints reply None = []
@@ -258,9 +294,69 @@ answered runner node input told = record {
 abbrev pub answered_by : Runner → Node → Input → Stepped → Acted
 answered_by runner node input step = answered runner (with_step node step) input (told runner.sessions step.outputs.replies)
 
+-- ---- a moment
+
+-- what was done first, and then this
+abbrev pub followed_by : Acted → Acted → Acted
+followed_by first last = record { next = last.next; inputs = first.inputs ++ last.inputs; prints = first.prints ++ last.prints }
+
+-- the node is told of a moment, and of the accounts that have a session that may receive
+abbrev pub ticks_by : Runner → Input → Acted
+ticks_by runner tick = answered_by runner runner.node tick (step_at runner.node tick)
+
+abbrev pub ticked : Runner → ℕ → Acted
+ticked runner moment = ticks_by runner (tick_at moment (accounts_up runner.sessions))
+
+-- what waits too long on its session is given up
+abbrev pub gives_up_by : Runner → ℕ → Went → Acted
+gives_up_by runner now went = record {
+  next = record runner { node = went.node; sessions = timely_in runner.sessions now };
+  inputs = went.inputs;
+  prints = [];
+}
+
+abbrev pub gives_up : Runner → ℕ → Acted
+gives_up runner now = gives_up_by runner now (all_given_up runner.node (overdue_in runner.sessions now))
+
 -- a moment has come
 abbrev pub on_tick : Runner → ℕ → Acted
-on_tick runner moment = answered_by runner runner.node (tick_at moment) (step_at runner.node (tick_at moment))
+on_tick runner moment = followed_by (ticked runner moment) (gives_up (ticked runner moment).next (ticked runner moment).next.node.kept.clock)
+
+-- ---- an attempt is asked for
+
+-- the deliver_sm goes out, and waits for its answer
+abbrev pub pushes : Runner → Slot → Submission → ℕ → Option Session → Acted
+pushes runner slot taken number None = record { next = runner; inputs = []; prints = [] }
+pushes runner slot taken number (Some session) = record {
+  next = record runner { sessions = with_push runner.sessions number runner.node.kept.clock (Attempt slot) };
+  inputs = [];
+  prints = Delivers number (delivery_on session taken) ∷ [];
+}
+
+-- nobody is there whom it could go to
+abbrev pub fails_by : Runner → Went → Acted
+fails_by runner went = record { next = record runner { node = went.node }; inputs = went.inputs; prints = [] }
+
+abbrev pub sent_to : Runner → Slot → Submission → Option ℕ → Acted
+sent_to runner slot taken None = fails_by runner (concluded runner.node slot unanswered)
+sent_to runner slot taken (Some number) = pushes runner slot taken number (session_at runner.sessions number)
+
+abbrev pub sent : Runner → Slot → Option Submission → Acted
+sent runner slot None = fails_by runner (concluded runner.node slot unanswered)
+sent runner slot (Some taken) = sent_to runner slot taken (target_in runner.sessions taken.target)
+
+-- the attempt is granted
+abbrev pub granted : Runner → Input → Acted
+granted runner grant = record { next = record runner { node = with_step runner.node (step_at runner.node grant) }; inputs = grant ∷ []; prints = [] }
+
+-- it is granted, and sent to its account, or it is not granted
+abbrev pub granted_unless : Runner → ℕ → Slot → Option GrantRefusal → Acted
+granted_unless runner id slot None = followed_by (granted runner (Grant slot)) (sent (granted runner (Grant slot)).next slot (submission_at runner.node id))
+granted_unless runner id slot (Some refusal) = record { next = runner; inputs = []; prints = Ungranted (refusal_number refusal) ∷ [] }
+
+-- the attempt is asked for in which the known chain of a message ends
+abbrev pub on_grant : Runner → ℕ → Acted
+on_grant runner id = granted_unless runner id (known_slot runner.node.kept id) (grant_refusal runner.node.setup runner.node.kept id)
 
 -- ---- a restart
 
@@ -306,10 +402,6 @@ rests runner = record { next = runner; inputs = []; prints = [] }
 
 abbrev pub unsettled : Runner → Acted
 unsettled runner = record { next = runner; inputs = []; prints = Unsettled ∷ [] }
-
--- what was done first, and then this
-abbrev pub followed_by : Acted → Acted → Acted
-followed_by first last = record { next = last.next; inputs = first.inputs ++ last.inputs; prints = first.prints ++ last.prints }
 
 abbrev pub first_or : {A : Type 0} → A → (Packet → List Packet → A) → List Packet → A
 first_or none some [] = none

@@ -1,12 +1,12 @@
 -- The text of a script.
 use Rattle.std.specs.Prelude.{◌≡◌, ℕ, suc, List, [], ◌∷◌, ◌++◌, Option, Some, None}
 use Rattle.script_lines.specs.Lines.{lines_of}
-use Rattle.script_lines.specs.Said.{Said, Skipped, Nodes, Octets, Tick, Settle, Restart, said_of}
+use Rattle.script_lines.specs.Said.{Said, Skipped, Nodes, Octets, Tick, Grant, Settle, Restart, said_of}
 use Rattle.script_text.specs.Settings.{Settings, script_settings}
 use Rattle.mc_model.specs.node.Input.{Input}
 use Rattle.script_text.specs.Node as node
 use Rattle.script_text.specs.Prints.{Print, text_of_prints}
-use Rattle.script_text.specs.Runner.{Runner, Acted, on_octets, on_restart, on_settle, on_tick}
+use Rattle.script_text.specs.Runner.{Runner, Acted, on_grant, on_octets, on_restart, on_settle, on_tick}
 
 -- what is there before the first line that says something: no session is connected
 abbrev pub opened : Settings → ℕ → Runner
@@ -35,11 +35,13 @@ step_by settings stage (Some Skipped) = silent stage
 step_by settings None (Some (Nodes serial)) = silent (Some (opened settings serial))
 step_by settings None (Some (Octets session octets)) = None
 step_by settings None (Some (Tick moment)) = None
+step_by settings None (Some (Grant id)) = None
 step_by settings None (Some Settle) = None
 step_by settings None (Some Restart) = None
 step_by settings (Some runner) (Some (Nodes serial)) = None
 step_by settings (Some runner) (Some (Octets session octets)) = stepped (on_octets settings runner session octets)
 step_by settings (Some runner) (Some (Tick moment)) = stepped (on_tick runner moment)
+step_by settings (Some runner) (Some (Grant id)) = stepped (on_grant runner id)
 step_by settings (Some runner) (Some Settle) = stepped (on_settle runner)
 step_by settings (Some runner) (Some Restart) = stepped (on_restart runner)
 

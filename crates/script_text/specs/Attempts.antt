@@ -1,0 +1,60 @@
+-- What came of attempts, at the node of a script (own).
+use Rattle.std.specs.Prelude.{ℕ, List, [], ◌∷◌, ◌++◌, Option, Some, None, if◌then◌else◌}
+use Rattle.mc_model.specs.message.Chain.{taken_in}
+use Rattle.mc_model.specs.message.Decree.{Decree}
+use Rattle.mc_model.specs.message.Submission.{Submission}
+use Rattle.mc_model.specs.synod.Packet.{Slot}
+use Rattle.mc_model.specs.node.Input.{Input, Response}
+use Rattle.mc_model.specs.node.Outcome.{Outcome, Unanswered, no_answer_error}
+use Rattle.node_model.specs.Granted.{is_open}
+use Rattle.node_model.specs.Kept.{message_at}
+use Rattle.sessions.specs.declared.pushed.Delivery.{Delivery}
+use Rattle.sessions.specs.declared.pushed.Delivery.TheVariants as deliveries
+use Rattle.sessions.specs.declared.pushed.Pushed.{Pushed}
+use Rattle.script_text.specs.Node.{Node, step_at, with_step}
+
+-- the node after what came to it
+pub record Went : Type 0 where
+  pub node : Node
+  pub inputs : List Input
+
+abbrev pub rests_at : Node → Went
+rests_at node = record { node = node; inputs = [] }
+
+abbrev pub went : Node → Input → Went
+went node input = record { node = with_step node (step_at node input); inputs = input ∷ [] }
+
+-- an attempt that is open has this outcome; of one that is closed nothing comes any more
+abbrev pub concluded : Node → Slot → Outcome → Went
+concluded node slot outcome = if is_open node.kept slot then went node (Response slot outcome) else rests_at node
+
+-- nobody answered it
+abbrev pub unanswered : Outcome
+unanswered = Unanswered no_answer_error
+
+-- what was pushed has this outcome, if it has one
+abbrev pub delivered_so : Node → Delivery → Option Outcome → Went
+delivered_so node (deliveries.Attempt slot) (Some outcome) = concluded node slot outcome
+delivered_so node (deliveries.Attempt slot) None = rests_at node
+delivered_so node (deliveries.Receipt id) outcome = rests_at node
+
+abbrev pub given_up : Node → Pushed → Went
+given_up node pushed = delivered_so node pushed.delivery (Some unanswered)
+
+abbrev pub then_went : Went → Went → Went
+then_went first last = record { node = last.node; inputs = first.inputs ++ last.inputs }
+
+-- these pushed requests are given up, one after the other
+unfoldable pub all_given_up : Node → List Pushed → Went
+all_given_up node [] = rests_at node
+all_given_up node (pushed ∷ others) = then_went (given_up node pushed) (all_given_up (given_up node pushed).node others)
+
+-- ---- an attempt that is granted
+
+abbrev pub taken_on : Option (List Decree) → Option Submission
+taken_on None = None
+taken_on (Some decrees) = taken_in decrees
+
+-- what was taken of a message, as the node knows it
+abbrev pub submission_at : Node → ℕ → Option Submission
+submission_at node id = taken_on (message_at node.kept id).known
