@@ -148,6 +148,9 @@ two_words text words rest n more p q r = one_word text words (decimal n ∷ more
 last_word : (text words word : List ℕ) → text ≡ codes " " ++ words → words ≡ word → text ≡ spaced (word ∷ [])
 last_word text words word p q = rw (p, q, append-nil word) refl
 
+number_last : (text word : List ℕ) (n : ℕ) → text ≡ codes " 1 " ++ word → word ≡ decimal n → text ≡ spaced (decimal 1 ∷ decimal n ∷ [])
+number_last text word n p q = rw (p, q, decimal_one, append-nil (decimal n)) refl
+
 -- a word is there
 some_word : (word : List ℕ) → word ≢ [] → (length word == 0) ≡ false
 some_word [] some = absurd (some refl)
@@ -257,7 +260,7 @@ grant_takes text said e =
     let b = bind_some (id_in a.0) (λ id. Some (Grant id)) said a.2 in
     let said-is : Grant b.0 ≡ said = (let both = b.2 in cc) in
     let named = (ids_and_texts a.0 b.0).0 b.1 in
-    let words : text ≡ spaced (decimal 1 ∷ decimal b.0 ∷ []) = rw (behind_takes (codes " 1 ") text a.0 a.1, named.1, append-nil (decimal b.0), decimal_one) refl in
+    let words = number_last text a.0 b.0 (behind_takes (codes " 1 ") text a.0 a.1) named.1 in
     subst (λ s. IsWording s (codes "grant" ++ text)) said-is (named.0, ap (λ xs. codes "grant" ++ xs) words)
 
 grant_again : (id : ℕ) → IsId id → grant_said (spaced (decimal 1 ∷ decimal id ∷ [])) ≡ Some (Grant id)

@@ -1,5 +1,5 @@
 -- What the centre pushes to ESMEs: over which session a deliver_sm goes, and what it brings (SMPP 3.4, 4.6.1; the sessions: own).
-use Rattle.std.specs.Prelude.{ℕ, Bool, true, false, ◌&&◌, nat_le, not, List, [], ◌∷◌, filter, find, map, Option, Some, None, is_none}
+use Rattle.std.specs.Prelude.{ℕ, Bool, true, false, ◌&&◌, nat_le, List, [], ◌∷◌, filter, find, map, Option, Some, None, is_none, if◌then◌else◌}
 use Rattle.std.specs.List.{filter_map, flat_map, list_any, range_with_len}
 use Rattle.std.specs.Map.{lookup, set_value}
 use Rattle.std.specs.Ordering.{nat_cmp}
