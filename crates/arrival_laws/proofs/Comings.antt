@@ -14,13 +14,13 @@ ComesAbout (Grant slot) id = ⊥
 ComesAbout (Response slot outcome) id = ⊥
 ComesAbout (Restart lost) id = ⊥
 
--- a packet, a request or a tick comes
+-- a packet, a request, a tick, a grant or what came of an attempt comes
 abbrev pub IsPlain : Input → Type 0
 IsPlain (Delivery packet) = Unit {0}
 IsPlain (Arrival request) = Unit {0}
 IsPlain (Refusal status) = Unit {0}
 IsPlain (Tick moment up) = Unit {0}
+IsPlain (Grant slot) = Unit {0}
+IsPlain (Response slot outcome) = Unit {0}
 IsPlain (Crash packet after) = ⊥
-IsPlain (Grant slot) = ⊥
-IsPlain (Response slot outcome) = ⊥
 IsPlain (Restart lost) = ⊥

@@ -1,24 +1,24 @@
 -- What comes to a node of the code may come to it.
-use Rattle.std.proofs.Common.{◌≡◌, ◌↔◌, ◌⊎◌, ℕ, ◌<◌, ◌≤◌, pred, Bool, true, false, List, length, Option, Some, None, Result, Ok, Err, refl, sym, ap, subst, ◌∙◌, inl, inr, arith}
-use Rattle.std.specs.Prelude.{IfErr, IsErrOf, is_some, not, option_map, if◌then◌else◌}
-use Rattle.std.proofs.lemmas.Bool.{and_parts}
+use Rattle.std.proofs.Common.{◌≡◌, ◌↔◌, ◌⊎◌, ℕ, ◌<◌, ◌≤◌, pred, Bool, true, false, List, length, Option, Some, None, Result, Ok, Err, refl, sym, subst, inl, inr, arith}
+use Rattle.std.specs.Prelude.{IfErr, IsErrOf, option_map, if◌then◌else◌}
 use Rattle.mc_model.specs.message.Chain.{IsPermitted}
 use Rattle.mc_model.specs.message.Decree.{Decree}
 use Rattle.mc_model.specs.message.Ids.{IsIncarnation, IsNode}
-use Rattle.mc_model.specs.synod.Packet.{Slot, slot_at}
+use Rattle.mc_model.specs.synod.Packet.{Slot}
 use Rattle.mc_model.specs.node.Grant.{GrantRefusal}
 use Rattle.mc_model.specs.node.Outcome.{IsOutcome, Outcome}
 use Rattle.mc_model.specs.node.Setup.{Setup}
 use Rattle.mc_parts.proofs.Lengths.{most_decrees}
 use Rattle.node_model.specs.Message.{most_places}
-use Rattle.node_model.specs.Attempts.{grant_refusal, known_refusal}
-use Rattle.node_model.specs.Kept.{Kept, message_at}
-use Rattle.node_model.specs.Granted.{is_open, known_place, known_slot}
+use Rattle.node_model.specs.Attempts.{grant_refusal}
+use Rattle.node_model.specs.Kept.{Kept}
+use Rattle.node_model.specs.Granted.{is_open, known_slot}
 use Rattle.node_laws.specs.Runs.{IsGrantable, IsOpen}
 use Rattle.node_laws.specs.Steps.{IsWellMade}
 use Rattle.delivery.specs.Kept.{outcome_kept}
 use Rattle.synod_acceptor.specs.Packets.{packet_of}
 use Rattle.arrival_laws.proofs.Asking.{request_comes}
+use Rattle.arrival_laws.proofs.Attempts.{grant_comes, outcome_comes}
 use Rattle.node_core.specs.declared.fault.StepFault.{StepFault}
 use Rattle.node_core.specs.declared.fault.StepFault.TheVariants as faults
 use Rattle.node_core.specs.declared.input.Input.{Input}
@@ -37,32 +37,14 @@ module _ (setup : Setup) (k : Kept) (id : ℕ) where
   allowed (Some one) is = absurd cc
 
   grantable : option_map (λ (one : GrantRefusal). faults.Grant (reason_of one)) (grant_refusal setup k id) ≡ None → IsGrantable setup k (known_slot k id)
-  grantable none = by_known (message_at k id).known refl (allowed (grant_refusal setup k id) none)
-    where
-      by_known : (known : Option (List Decree)) → (message_at k id).known ≡ known → grant_refusal setup k id ≡ None → IsGrantable setup k (known_slot k id)
-      by_known None is free =
-          let unknown : known_refusal setup k (message_at k id) None ≡ None =
-          ap (λ (chain : Option (List Decree)). known_refusal setup k (message_at k id) chain) (sym is) ∙ free in
-          absurd cc
-      by_known (Some chain) is free = record {
-        chain = chain;
-        known = is;
-        place = ap (λ (known : Option (List Decree)). slot_at id (known_place known)) is;
-        allowed = free;
-      }
+  grantable none = grant_comes setup k id (allowed (grant_refusal setup k id) none)
 
 open_so : (k : Kept) (slot : Slot) (outcome : Outcome) → IsOutcome outcome → (if is_open k slot then None else Some faults.NotGranted) ≡ None → IsOpen k slot outcome
-open_so k slot outcome possible none = by_open (is_open k slot) refl none
+open_so k slot outcome possible none = outcome_comes k slot outcome possible (by_test (is_open k slot) none)
   where
-    by_closed : (closed : Option Outcome) → not (is_some closed) ≡ true → closed ≡ None
-    by_closed None is = refl
-    by_closed (Some one) is = absurd cc
-
-    by_open : (test : Bool) → is_open k slot ≡ test → (if test then None else Some faults.NotGranted) ≡ None → IsOpen k slot outcome
-    by_open false is none = absurd cc
-    by_open true is none =
-        let parts = and_parts ((message_at k slot.id).granted slot.place) (not (is_some ((message_at k slot.id).closed slot.place))) is in
-        record { granted = parts.0; closed = by_closed ((message_at k slot.id).closed slot.place) parts.1; possible = possible }
+    by_test : (test : Bool) → (if test then None else Some faults.NotGranted) ≡ None → test ≡ true
+    by_test true none = refl
+    by_test false none = absurd cc
 
 -- ---- all that comes
 
