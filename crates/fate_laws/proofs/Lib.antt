@@ -6,6 +6,7 @@ pub mod Since
 pub mod Decided
 pub mod Replying
 pub mod Sound
+pub mod Concluding
 pub mod Telling
 pub mod Serving
 pub mod Printing

@@ -7,32 +7,39 @@ use Rattle.std.proofs.lemmas.Bool.Decides.{nat_tests}
 use Rattle.std.proofs.lemmas.Fmt.{decimal_injective}
 use Rattle.mc_model.specs.message.Decree.{Final, Deleted}
 use Rattle.mc_model.specs.synod.Lists.{In}
-use Rattle.mc_model.specs.synod.Packet.{Packet}
-use Rattle.mc_model.specs.node.Input.{Delivery, Input}
+use Rattle.mc_model.specs.message.Submission.{Submission}
+use Rattle.mc_model.specs.synod.Packet.{Packet, Slot}
+use Rattle.mc_model.specs.node.Grant.{GrantRefusal, refusal_number}
+use Rattle.mc_model.specs.node.Input.{Delivery, Grant as Grants, Input}
 use Rattle.mc_model.specs.node.Outputs.{Reply}
 use Rattle.mc_model.specs.node.Replies.{Answer}
 use Rattle.mc_model.specs.cluster.World.{World, start}
 use Rattle.mc_laws.proofs.Reached.{Holds, holds}
+use Rattle.node_model.specs.Attempts.{grant_refusal}
+use Rattle.node_model.specs.Granted.{known_slot}
 use Rattle.node_model.specs.Outputs.{Stepped as NodeStep}
 use Rattle.fate_chain.specs.States.{state_of}
 use Rattle.script_lines.specs.Lines.{lines_of}
-use Rattle.script_lines.specs.Said.{Said, Skipped, Nodes, Octets, Tick, Settle, Restart, said_of}
+use Rattle.script_lines.specs.Said.{Said, Skipped, Nodes, Octets, Tick, Grant, Settle, Restart, said_of}
 use Rattle.script_lines.proofs.SaidLemmas.{spelled_so}
 use Rattle.pdu_tables.specs.StateCodes.{state_code}
 use Rattle.pdu_tables.specs.declared.state.State.TheVariants as states
 use Rattle.sessions.specs.Session.{Session}
 use Rattle.script_text.specs.Settings.{Settings, script_settings}
 use Rattle.script_text.specs.Node.{Node, awaiting, step_at, tick_at, with_step}
+use Rattle.script_text.specs.Attempts.{concluded, submission_at, unanswered}
 use Rattle.script_text.specs.Prints.{Print, Late}
+use Rattle.script_text.specs.Pushes.{accounts_up, overdue_in, session_at, target_in}
 use Rattle.script_text.specs.Responses.{reply_pdu}
-use Rattle.script_text.specs.Runner.{Runner, Acted, Owned, Told, answered_by, declined, first_or, followed_by, gone_prints, in_front, last_incarnation, most_deliveries, no_incarnation, on_delivery, on_octets, on_restart, on_settle, on_tick, owner_of, replied, reply_prints, restarted, rests, settles, told, unsettled}
+use Rattle.script_text.specs.Runner.{Runner, Acted, Owned, Told, answered_by, declined, fails_by, first_or, followed_by, gives_up, gone_prints, granted, granted_unless, in_front, last_incarnation, most_deliveries, no_incarnation, on_delivery, on_grant, on_octets, on_restart, on_settle, on_tick, owner_of, pushes, replied, reply_prints, restarted, rests, sent, sent_to, settles, ticked, told, unsettled}
 use Rattle.script_text.specs.Script.{Stepped, after, opened, prints_from, prints_of, step_by, step_of}
 use Rattle.script_text.specs.Laws.{StatesFate, TellsDeletion, TellsState}
 use Rattle.fate_laws.proofs.Replying.{AreFit, Grows, IsFitAnswer}
 use Rattle.fate_laws.proofs.Decided.{IsDecided, decided_once}
 use Rattle.fate_laws.proofs.Serving.{AreMute, octets_served}
-use Rattle.fate_laws.proofs.Sound.{IsSound, Leads, StepsTo, delivery_leads, leads_still, opened_sound, restart_leads, sound_holds, tick_leads, world_of}
-use Rattle.fate_laws.proofs.Telling.{IsTold, TellsDeleted, TellsFates, declined_is_mute, fates_told_later, gone_is_mute, mute_tells_deleted, mute_tells_fates, reply_is_told, reply_tells_deleted, reply_tells_fates, unsettled_is_mute}
+use Rattle.fate_laws.proofs.Sound.{IsSound, Leads, StepsTo, delivery_leads, grant_leads, leads_still, opened_sound, restart_leads, sound_holds, tick_leads, world_of}
+use Rattle.fate_laws.proofs.Concluding.{all_lead, unanswered_leads}
+use Rattle.fate_laws.proofs.Telling.{IsTold, TellsDeleted, TellsFates, declined_is_mute, delivery_is_mute, fates_told_later, gone_is_mute, mute_tells_deleted, mute_tells_fates, reply_is_told, reply_tells_deleted, reply_tells_fates, ungranted_is_mute, unsettled_is_mute}
 
 -- ---- what prints tell
 
@@ -141,10 +148,69 @@ mute_acts first acted leads mute = (
   λ prints tell. mutes_tell first acted.prints prints mute (told_before first (world_of acted.next.node leads.sound) prints leads.grows tell),
 )
 
+-- one after the other
+acts_then : (first : World) (one last : Acted) (acts : ActsSo first one) → ActsSo (world_of one.next.node acts.0) last →
+    ActsSo first (followed_by one last)
+acts_then first one last acts later = (
+  later.0,
+  λ prints tell.
+      subst (Tell first) (sym (append_assoc one.prints last.prints prints)) (acts.1 (last.prints ++ prints) (later.1 prints tell)),
+)
+
+ticked_acts : (runner : Runner) (moment : ℕ) (sound : IsSound runner.node) → ActsSo (world_of runner.node sound) (ticked runner moment)
+ticked_acts runner moment sound =
+    let tick = tick_at moment (accounts_up runner.sessions) in
+    step_acts (world_of runner.node sound) runner runner.node tick (step_at runner.node tick)
+    (tick_leads runner.node sound moment (accounts_up runner.sessions))
+
+gives_up_acts : (runner : Runner) (now : ℕ) (sound : IsSound runner.node) → ActsSo (world_of runner.node sound) (gives_up runner now)
+gives_up_acts runner now sound =
+    mute_acts (world_of runner.node sound) (gives_up runner now) (all_lead runner.node sound (overdue_in runner.sessions now)) tt
+
 tick_acts : (runner : Runner) (moment : ℕ) (sound : IsSound runner.node) → ActsSo (world_of runner.node sound) (on_tick runner moment)
 tick_acts runner moment sound =
-    step_acts (world_of runner.node sound) runner runner.node (tick_at moment) (step_at runner.node (tick_at moment))
-    (tick_leads runner.node sound moment)
+    let first = ticked runner moment in
+    let here = ticked_acts runner moment sound in
+    acts_then (world_of runner.node sound) first (gives_up first.next first.next.node.kept.clock) here
+    (gives_up_acts first.next first.next.node.kept.clock here.0)
+
+-- an attempt that is granted, and goes out or fails
+module _ (runner : Runner) (sound : IsSound runner.node) where
+  abbrev origin : World
+  origin = world_of runner.node sound
+
+  fails_acts : (slot : Slot) → ActsSo origin (fails_by runner (concluded runner.node slot unanswered))
+  fails_acts slot = mute_acts origin (fails_by runner (concluded runner.node slot unanswered)) (unanswered_leads runner.node sound slot) tt
+
+  pushes_acts : (slot : Slot) (taken : Submission) (number : ℕ) (session : Option Session) → ActsSo origin (pushes runner slot taken number session)
+  pushes_acts slot taken number None = mute_acts origin (pushes runner slot taken number None) (leads_still runner.node sound) tt
+  pushes_acts slot taken number (Some session) =
+      mute_acts origin (pushes runner slot taken number (Some session)) (leads_still runner.node sound) (delivery_is_mute number session taken, tt)
+
+  sent_to_acts : (slot : Slot) (taken : Submission) (target : Option ℕ) → ActsSo origin (sent_to runner slot taken target)
+  sent_to_acts slot taken None = fails_acts slot
+  sent_to_acts slot taken (Some number) = pushes_acts slot taken number (session_at runner.sessions number)
+
+  sent_acts : (slot : Slot) (taken : Option Submission) → ActsSo origin (sent runner slot taken)
+  sent_acts slot None = fails_acts slot
+  sent_acts slot (Some taken) = sent_to_acts slot taken (target_in runner.sessions taken.target)
+
+grant_acts : (runner : Runner) (id : ℕ) (sound : IsSound runner.node) → ActsSo (world_of runner.node sound) (on_grant runner id)
+grant_acts runner id sound = by_refusal (grant_refusal runner.node.setup runner.node.kept id) refl
+  where
+    slot : Slot
+    slot = known_slot runner.node.kept id
+
+    by_refusal : (refusal : Option GrantRefusal) → grant_refusal runner.node.setup runner.node.kept id ≡ refusal →
+        ActsSo (world_of runner.node sound) (granted_unless runner id (known_slot runner.node.kept id) refusal)
+    by_refusal (Some refusal) is =
+        mute_acts (world_of runner.node sound) (granted_unless runner id slot (Some refusal)) (leads_still runner.node sound)
+        (ungranted_is_mute (refusal_number refusal), tt)
+    by_refusal None is =
+        let one = granted runner (Grants slot) in
+        let here = mute_acts (world_of runner.node sound) one (grant_leads runner.node sound id is).leads tt in
+        acts_then (world_of runner.node sound) one (sent one.next slot (submission_at runner.node id)) here
+        (sent_acts one.next here.0 slot (submission_at runner.node id))
 
 delivery_acts : (runner : Runner) (packet : Packet) (others : List Packet) → runner.node.packets ≡ packet ∷ others → (sound : IsSound runner.node) →
     ActsSo (world_of runner.node sound) (on_delivery runner packet others)
@@ -165,13 +231,7 @@ settles_act (suc more) runner sound = at_first runner.node.packets refl (settles
     at_first (packet ∷ others) is later =
         let first = on_delivery runner packet others in
         let here = delivery_acts runner packet others is sound in
-        let there = later first.next here.0 in
-        let last = settles more first.next in (
-          there.0,
-          λ prints tell.
-              subst (Tell (world_of runner.node sound)) (sym (append_assoc first.prints last.prints prints))
-              (here.1 (last.prints ++ prints) (there.1 prints tell)),
-        )
+        acts_then (world_of runner.node sound) first (settles more first.next) here (later first.next here.0)
 
 octets_act : (settings : Settings) (runner : Runner) (number : ℕ) (octets : List ℕ) (sound : IsSound runner.node) →
     ActsSo (world_of runner.node sound) (on_octets settings runner number octets)
@@ -216,6 +276,8 @@ said_tells settings lines (Some (Octets number octets)) later runner sound =
     acted_tells settings lines (world_of runner.node sound) (on_octets settings runner number octets) later (octets_act settings runner number octets sound)
 said_tells settings lines (Some (Tick moment)) later runner sound =
     acted_tells settings lines (world_of runner.node sound) (on_tick runner moment) later (tick_acts runner moment sound)
+said_tells settings lines (Some (Grant id)) later runner sound =
+    acted_tells settings lines (world_of runner.node sound) (on_grant runner id) later (grant_acts runner id sound)
 said_tells settings lines (Some Settle) later runner sound =
     acted_tells settings lines (world_of runner.node sound) (on_settle runner) later (settle_acts runner sound)
 said_tells settings lines (Some Restart) later runner sound =
@@ -252,6 +314,7 @@ first_tells settings (line ∷ lines) = by_said (said_of line) refl (first_tells
         record { first = world_of (opened settings serial).node sound; tell = lines_tell settings lines (opened settings serial) sound }
     by_said (Some (Octets number octets)) is later = none_told
     by_said (Some (Tick moment)) is later = none_told
+    by_said (Some (Grant id)) is later = none_told
     by_said (Some Settle) is later = none_told
     by_said (Some Restart) is later = none_told
 

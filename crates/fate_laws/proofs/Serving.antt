@@ -19,8 +19,9 @@ use Rattle.desk.specs.declared.request.Request.{Request}
 use Rattle.script_text.specs.Settings.{Settings}
 use Rattle.script_text.specs.Node.{Node, request_at, step_at}
 use Rattle.script_text.specs.Prints.{Print}
-use Rattle.script_text.specs.Runner.{Runner, Served, Streamed, behind, held_in, holding, kept, on_cut, on_done, on_frame, on_frames, on_octets, on_read, on_reaction, on_request, on_rest, refusal_prints, request_of, session_in, unasked, without}
+use Rattle.script_text.specs.Runner.{Came, Runner, Served, Streamed, behind, came_by, held_in, holding, kept, nothing_came, on_cut, on_done, on_frame, on_frames, on_octets, on_read, on_reaction, on_request, on_rest, refusal_prints, session_in, unasked, without}
 use Rattle.fate_laws.proofs.Sound.{IsSound, Leads, leads_still, leads_then, request_leads, world_of}
+use Rattle.fate_laws.proofs.Concluding.{IsPossible, all_lead, delivered_leads, told_possible}
 use Rattle.fate_laws.proofs.Telling.{IsMute, gone_is_mute, refusal_is_mute, response_is_mute}
 
 abbrev pub AreMute : List Print → Type 0
@@ -58,27 +59,37 @@ request_served number node session requested sequence (Some account) (Some reque
   mute = refusal_mute number requested sequence (step_at node (request_at node account request)).outputs.refused;
 }
 
-reaction_served : (settings : Settings) (number : ℕ) (node : Node) (sequence : ℕ)
-    (request : Option Request) (session : Session) (reaction : Reaction) → (sound : IsSound node) →
-    IsServed (world_of node sound) (on_reaction settings number node sequence request session reaction)
-reaction_served settings number node sequence request session (reactions.Ask requested) sound =
-    request_served number node session requested sequence session.account request sound
-reaction_served settings number node sequence request session (reactions.Respond outgoing) sound =
-    nothing_asked node session _ sound (response_is_mute number settings.system_id outgoing, tt)
-reaction_served settings number node sequence request session (reactions.Leave outgoing abandoned) sound =
-    nothing_asked node session _ sound (response_is_mute number settings.system_id outgoing, (gone_is_mute number, tt))
-reaction_served settings number node sequence request session other sound = nothing_asked node session [] sound tt
+-- what comes tells only of outcomes that are possible
+abbrev TellsPossible : Came → Type 0
+TellsPossible came = (sequence : ℕ) → IsPossible (came.outcome sequence)
 
-done_served : (settings : Settings) (number : ℕ) (node : Node) (sequence : ℕ) (request : Option Request) (done : Done) → (sound : IsSound node) →
-    IsServed (world_of node sound) (on_done settings number node sequence request done)
-done_served settings number node sequence request done sound = reaction_served settings number node sequence request done.next done.reaction sound
+reaction_served : (settings : Settings) (number : ℕ) (node : Node) (came : Came) (session : Session) (reaction : Reaction) →
+    TellsPossible came → (sound : IsSound node) → IsServed (world_of node sound) (on_reaction settings number node came session reaction)
+reaction_served settings number node came session (reactions.Ask requested) possible sound =
+    request_served number node session requested came.sequence session.account came.request sound
+reaction_served settings number node came session (reactions.Answered pushed answer) possible sound = record {
+  leads = delivered_leads node sound pushed.delivery (came.outcome pushed.sequence) (possible pushed.sequence);
+  mute = tt;
+}
+reaction_served settings number node came session (reactions.Respond outgoing) possible sound =
+    nothing_asked node session _ sound (response_is_mute number settings.system_id outgoing, tt)
+reaction_served settings number node came session (reactions.Leave outgoing abandoned) possible sound = record {
+  leads = all_lead node sound abandoned;
+  mute = (response_is_mute number settings.system_id outgoing, (gone_is_mute number, tt));
+}
+reaction_served settings number node came session other possible sound = nothing_asked node session [] sound tt
+
+done_served : (settings : Settings) (number : ℕ) (node : Node) (came : Came) (done : Done) → TellsPossible came → (sound : IsSound node) →
+    IsServed (world_of node sound) (on_done settings number node came done)
+done_served settings number node came done possible sound = reaction_served settings number node came done.next done.reaction possible sound
 
 read_served : (settings : Settings) (number : ℕ) (node : Node) (session : Session) (octets : List ℕ) (read : Result Pdu PduFault) → (sound : IsSound node) →
     IsServed (world_of node sound) (on_read settings number node session octets read)
 read_served settings number node session octets (Ok pdu) sound =
-    done_served settings number node pdu.sequence (request_of settings pdu.body) (on_pdu settings.accounts session pdu) sound
+    done_served settings number node (came_by settings pdu) (on_pdu settings.accounts session pdu) (λ sequence. told_possible sequence pdu) sound
 read_served settings number node session octets (Err fault) sound =
-    done_served settings number node 0 None (on_fault session fault (requested_by (command_of (word_at 4 octets))) (word_at 12 octets)) sound
+    done_served settings number node nothing_came (on_fault session fault (requested_by (command_of (word_at 4 octets))) (word_at 12 octets))
+    (λ sequence. tt) sound
 
 frame_served : (settings : Settings) (number : ℕ) (node : Node) (session : Session) (octets : List ℕ) → (sound : IsSound node) →
     IsServed (world_of node sound) (on_frame settings number node session octets)
@@ -92,9 +103,9 @@ rest_served : (settings : Settings) (number : ℕ) (node : Node) (session : Sess
 rest_served settings number node session rest sound = at_test (begins_wrong rest)
   where
     at_test : (wrong : Bool) → IsServed (world_of node sound) (cond {A = Streamed} wrong
-        (record { served = on_done settings number node 0 None (on_wrong_length session); held = [] })
+        (record { served = on_done settings number node nothing_came (on_wrong_length session); held = [] })
         (record { served = unasked node session []; held = rest })).served
-    at_test true = done_served settings number node 0 None (on_wrong_length session) sound
+    at_test true = done_served settings number node nothing_came (on_wrong_length session) (λ sequence. tt) sound
     at_test false = nothing_asked node session [] sound tt
 
 frames_served : (settings : Settings) (number : ℕ) (node : Node) (session : Session) (frames : List (List ℕ)) (rest : List ℕ) → (sound : IsSound node) →

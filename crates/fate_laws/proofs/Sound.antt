@@ -1,12 +1,13 @@
 -- The node of a script is the node of a cluster of one, to which there comes what may come.
-use Rattle.std.proofs.Common.{◌≡◌, ℕ, ◌<◌, ◌≤◌, ◌^◌, Bool, true, false, List, [], ◌∷◌, ◌++◌, refl, sym, ap, subst, ◌∙◌, inl, inr, arith}
+use Rattle.std.proofs.Common.{◌≡◌, ℕ, ◌<◌, ◌≤◌, ◌^◌, Bool, true, false, List, [], ◌∷◌, ◌++◌, None, refl, sym, ap, subst, ◌∙◌, inl, inr, arith}
 use Rattle.std.specs.Prelude.{if◌then◌else◌, reverse}
 use Rattle.std.proofs.lemmas.List.{append-nil}
 use Rattle.mc_model.specs.message.Ids.{IsIncarnation, IsNode}
 use Rattle.mc_model.specs.synod.Lists.{In}
-use Rattle.mc_model.specs.synod.Packet.{Packet}
+use Rattle.mc_model.specs.synod.Packet.{Packet, Slot}
 use Rattle.mc_model.specs.node.Act.{Act}
-use Rattle.mc_model.specs.node.Input.{Delivery, Input, Restart}
+use Rattle.mc_model.specs.node.Input.{Delivery, Grant, Input, Response, Restart}
+use Rattle.mc_model.specs.node.Outcome.{IsOutcome, Outcome}
 use Rattle.mc_model.specs.node.Outputs.{Outputs, Reply, replies_in}
 use Rattle.mc_model.specs.node.Setup.{Setup}
 use Rattle.mc_model.specs.cluster.Steps.{AreSteps, Cluster, acts_in, by_node}
@@ -15,6 +16,8 @@ use Rattle.mc_parts.proofs.Membership.{in_either}
 use Rattle.mc_laws.proofs.Behind.{reached_on}
 use Rattle.mc_laws.proofs.Growth.{changed_here}
 use Rattle.mc_laws.proofs.Reached.{Holds}
+use Rattle.node_model.specs.Attempts.{grant_refusal}
+use Rattle.node_model.specs.Granted.{is_open, known_slot}
 use Rattle.node_model.specs.Kept.{Held, Kept}
 use Rattle.node_model.specs.Outputs.{Stepped, leaves}
 use Rattle.node_model.specs.Requests.{id_of}
@@ -27,6 +30,7 @@ use Rattle.desk.specs.declared.request.Request.{Request}
 use Rattle.script_text.specs.Node.{Node, alone, awaiting, request_at, step_at, tick_at, with_step}
 use Rattle.fate_laws.proofs.Answering.{IsAsked}
 use Rattle.arrival_laws.proofs.Asking.{request_comes}
+use Rattle.arrival_laws.proofs.Attempts.{grant_comes, outcome_comes}
 use Rattle.fate_laws.proofs.Replying.{AreFit, Grows, fits_grow, replies_fit}
 use Rattle.fate_laws.proofs.Decided.{IsDecided}
 use Rattle.arrival_laws.proofs.Comings.{ComesAbout, IsPlain}
@@ -231,7 +235,7 @@ plain_leads node sound rest among input plain may came small =
     replies_small : AreSmall (step_at node input)
     replies_small reply among = asked_small reply.id (goes.replies reply among)
 
--- ---- requests, ticks and packets
+-- ---- requests, ticks, attempts and packets
 
 lives : (node : Node) → IsSound node → IsIncarnation node.kept.incarnation
 lives node sound =
@@ -247,10 +251,24 @@ request_leads node sound account request =
     plain_leads node sound node.packets (λ packet is_in. is_in) (request_at node account request)
     comes.plain comes.may (λ sent among. comes.unsent sent) comes.small
 
-pub tick_leads : (node : Node) (sound : IsSound node) → (moment : ℕ) →
-    StepsTo (world_of node sound) (step_at node (tick_at moment)) (with_step node (step_at node (tick_at moment)))
-tick_leads node sound moment =
-    plain_leads node sound node.packets (λ packet is_in. is_in) (tick_at moment) tt tt (λ sent among. tt) (λ id about. absurd about)
+pub tick_leads : (node : Node) (sound : IsSound node) → (moment : ℕ) (up : List (List ℕ)) →
+    StepsTo (world_of node sound) (step_at node (tick_at moment up)) (with_step node (step_at node (tick_at moment up)))
+tick_leads node sound moment up =
+    plain_leads node sound node.packets (λ packet is_in. is_in) (tick_at moment up) tt tt (λ sent among. tt) (λ id about. absurd about)
+
+-- a grant that is not refused
+pub grant_leads : (node : Node) (sound : IsSound node) → (id : ℕ) → grant_refusal node.setup node.kept id ≡ None →
+    StepsTo (world_of node sound) (step_at node (Grant (known_slot node.kept id))) (with_step node (step_at node (Grant (known_slot node.kept id))))
+grant_leads node sound id free =
+    plain_leads node sound node.packets (λ packet is_in. is_in) (Grant (known_slot node.kept id)) tt (grant_comes node.setup node.kept id free)
+    (λ sent among. tt) (λ other about. absurd about)
+
+-- the outcome of an attempt that is open
+pub response_leads : (node : Node) (sound : IsSound node) → (slot : Slot) (outcome : Outcome) → IsOutcome outcome → is_open node.kept slot ≡ true →
+    StepsTo (world_of node sound) (step_at node (Response slot outcome)) (with_step node (step_at node (Response slot outcome)))
+response_leads node sound slot outcome possible there =
+    plain_leads node sound node.packets (λ packet is_in. is_in) (Response slot outcome) tt (outcome_comes node.kept slot outcome possible there)
+    (λ sent among. tt) (λ id about. absurd about)
 
 pub delivery_leads : (node : Node) (sound : IsSound node) → (packet : Packet) (rest : List Packet) → node.packets ≡ packet ∷ rest →
     StepsTo (world_of node sound) (step_at node (Delivery packet)) (with_step (awaiting node rest) (step_at node (Delivery packet)))

@@ -8,6 +8,7 @@ use Rattle.mc_model.specs.synod.Packet.{Ask, Name, Packet, Prepare, Promise, Pro
 use Rattle.mc_model.specs.node.Actor.{Cancel, Query, Request, Submit, id_in}
 use Rattle.mc_model.specs.node.Effect.{next_serial}
 use Rattle.mc_model.specs.node.Input.{Arrival, Crash, Delivery, Grant, Input, Refusal, Response, Restart, Tick}
+use Rattle.mc_model.specs.node.Outcome.{Outcome}
 use Rattle.mc_model.specs.node.Outputs.{Reply}
 use Rattle.mc_model.specs.node.Replies.{Answer}
 use Rattle.mc_model.specs.node.Setup.{Setup}
@@ -18,6 +19,7 @@ use Rattle.node_model.specs.Learner.{heard, makes_known}
 use Rattle.node_model.specs.Proposer.{is_own_ballot, promised_by, refused, runs_at, started}
 use Rattle.node_model.specs.Requests.{begun, held_at, id_of, settled_by, settles, ticket_of, told_by, with_held}
 use Rattle.node_model.specs.Answers.{answer_to, still_waits}
+use Rattle.node_model.specs.Attempts.{closed_by, concluded, on_grant, on_response}
 use Rattle.node_model.specs.Starts.{delete_for, take_for}
 use Rattle.node_model.specs.Outputs.{Stepped, leaves, sends}
 use Rattle.node_model.specs.Packets.{answer_told, if_member, is_member, is_own_name, known_then, on_known, on_packet, on_promise, on_refused, on_tell, on_voted, promised_in, proposals, settled_for, settled_told, start_told, tell_held, tells_about, told_to, vote_concerns}
@@ -28,7 +30,7 @@ use Rattle.node_laws.proofs.Orders.{in_mapped}
 use Rattle.node_laws.proofs.Told.{found_at}
 use Rattle.arrival_laws.proofs.Comings.{ComesAbout, IsPlain}
 use Rattle.fate_laws.proofs.Answering.{IsAsked, asked_by, asked_later, reply_asked}
-use Rattle.fate_laws.proofs.Lasting.{Lasts, lasts_still, message_lasts, rules_last, start_lasts}
+use Rattle.fate_laws.proofs.Lasting.{Lasts, lasts_still, lasts_then, message_lasts, rules_last, start_lasts}
 
 -- The node stays up, gives no serial again, its requests are those that waited and one that came, and each reply answers one that waited.
 pub record GoesOn (k : Kept) (input : Input) (step : Stepped) : Type 0 where
@@ -261,15 +263,29 @@ tick_goes setup k moment up =
           record { request = it.from; among = in_filter (is_late clock) k.held it.from it.among; about = sym (ap (λ (r : Reply). r.id) it.is) };
     }
 
+-- ---- attempts
+
+grant_goes : (k : Kept) (slot : Slot) → GoesOn k (Grant slot) (on_grant k slot)
+grant_goes k slot = quietly k (Grant slot) (on_grant k slot) (message_lasts k slot.id _) refl
+
+response_goes : (setup : Setup) (k : Kept) (slot : Slot) (outcome : Outcome) → GoesOn k (Response slot outcome) (on_response setup k slot outcome)
+response_goes setup k slot outcome =
+    let closed = closed_by k slot outcome in
+    let start = concluded setup k slot outcome (message_at k slot.id).known in
+    quietly k (Response slot outcome) (on_response setup k slot outcome)
+    (lasts_then k closed (started setup closed slot.id start).kept (message_lasts k slot.id _) (start_lasts setup closed slot.id start)) refl
+
+-- ---- what comes
+
 -- it comes to a node that is up
 pub up_for : (k : Kept) (input : Input) → IsPlain input → IsUpFor k input ↔ (k.up ≡ true)
 up_for k (Delivery packet) plain = (λ up. up, λ up. up)
 up_for k (Arrival request) plain = (λ up. up, λ up. up)
 up_for k (Refusal status) plain = (λ up. up, λ up. up)
 up_for k (Tick moment tests) plain = (λ up. up, λ up. up)
+up_for k (Grant slot) plain = (λ up. up, λ up. up)
+up_for k (Response slot outcome) plain = (λ up. up, λ up. up)
 up_for k (Crash packet after) plain = absurd plain
-up_for k (Grant slot) plain = absurd plain
-up_for k (Response slot outcome) plain = absurd plain
 up_for k (Restart lost) plain = absurd plain
 
 pub goes_on : (setup : Setup) (k : Kept) (input : Input) → k.up ≡ true → IsPlain input → GoesOn k input (stepped setup k input)
@@ -281,7 +297,7 @@ goes_on setup k input up plain =
     by_input (Arrival request) plain = arrival_goes setup k request
     by_input (Refusal status) plain = quietly k (Refusal status) _ (lasts_still k) refl
     by_input (Tick moment up) plain = tick_goes setup k moment up
+    by_input (Grant slot) plain = grant_goes k slot
+    by_input (Response slot outcome) plain = response_goes setup k slot outcome
     by_input (Crash packet after) plain = absurd plain
-    by_input (Grant slot) plain = absurd plain
-    by_input (Response slot outcome) plain = absurd plain
     by_input (Restart lost) plain = absurd plain

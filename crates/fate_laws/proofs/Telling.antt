@@ -4,6 +4,7 @@ use Rattle.std.specs.Fmt.{decimal}
 use Rattle.std.proofs.lemmas.Fmt.{decimal_injective}
 use Rattle.mc_model.specs.message.Chain.{final_in}
 use Rattle.mc_model.specs.message.Decree.{Decree, Final, Deleted}
+use Rattle.mc_model.specs.message.Submission.{Submission}
 use Rattle.mc_model.specs.node.Replies.{Accepted, Answer, Kept as Keeps, NotMatched, NotOwner, Removed, Shown, TooLate, Unknown}
 use Rattle.mc_model.specs.cluster.World.{World}
 use Rattle.accounts.specs.declared.role.Role.TheVariants as roles
@@ -15,6 +16,7 @@ use Rattle.pdu_bodies.specs.declared.pdu.Body.{Body}
 use Rattle.pdu_bodies.specs.declared.pdu.Body.TheVariants.{QuerySmResp, CancelSmResp}
 use Rattle.pdu_bodies.specs.declared.pdu.Pdu.{Pdu}
 use Rattle.pdu_bodies.specs.declared.pdu.QueryAnswer.{QueryAnswer}
+use Rattle.sessions.specs.Session.{Session}
 use Rattle.sessions.specs.Responses.{pdu_of, refusal_body, response_pdu}
 use Rattle.sessions.specs.declared.requested.Requested.{Requested}
 use Rattle.sessions.specs.declared.requested.Requested.TheVariants as requests
@@ -23,8 +25,9 @@ use Rattle.sessions.specs.declared.response.Response.TheVariants.{Nack, Refused,
 use Rattle.sessions.specs.declared.response.Outgoing.{Outgoing}
 use Rattle.fate_chain.specs.States.{state_of}
 use Rattle.script_text.specs.Responses.{refused_with, reply_pdu}
-use Rattle.script_text.specs.Prints.{Print, AtOnce, Declined, Gone, Late, Unsettled}
-use Rattle.script_text.specs.Laws.{StatesFate, TellsDeletion, TellsState}
+use Rattle.script_text.specs.Prints.{Print, AtOnce, Declined, Delivers, Gone, Late, Ungranted, Unsettled}
+use Rattle.script_text.specs.Pushes.{delivery_on}
+use Rattle.script_text.specs.Laws.{StatesFate, TellsDeletion, TellsState, pdu_in}
 use Rattle.fate_laws.proofs.Replying.{Grows, IsFitAnswer}
 use Rattle.fate_laws.proofs.Decided.{IsDecided}
 
@@ -60,19 +63,24 @@ pub record IsMute (print : Print) : Type 0 where
   pub state : (message_id : List ℕ) (state : ℕ) → TellsState print message_id state → ⊥
   pub deletion : (message_id : List ℕ) → TellsDeletion print message_id → ⊥
 
-at_once_is_mute : (session : ℕ) (pdu : Pdu) → TellsNone pdu.body → IsMute (AtOnce session pdu)
-at_once_is_mute session pdu none = record {
+-- a PDU that tells none goes out, and answers no request that waited
+other_is_mute : (print : Print) (pdu : Pdu) → pdu_in print ≡ Some pdu → TellsNone pdu.body →
+    ((session id : ℕ) (other : Pdu) → print ≡ Late session id other → ⊥) → IsMute print
+other_is_mute print pdu is none never = record {
   state = λ message_id state tells.
-      let same : pdu ≡ tells.pdu = some_is pdu tells.pdu tells.printed in
+      let same : pdu ≡ tells.pdu = some_is pdu tells.pdu (sym is ∙ tells.printed) in
       none tells.answer (ap (λ (p : Pdu). p.body) same ∙ tells.body);
-  deletion = λ message_id tells. at_once_not_late session pdu tells.session tells.id tells.pdu tells.printed;
+  deletion = λ message_id tells. never tells.session tells.id tells.pdu tells.printed;
 }
   where
     some_is : (one other : Pdu) → Some one ≡ Some other → one ≡ other
     some_is one other is = cc
 
-    at_once_not_late : (session : ℕ) (pdu : Pdu) (number id : ℕ) (other : Pdu) → AtOnce session pdu ≡ Late number id other → ⊥
-    at_once_not_late session pdu number id other is = cc
+at_once_is_mute : (session : ℕ) (pdu : Pdu) → TellsNone pdu.body → IsMute (AtOnce session pdu)
+at_once_is_mute session pdu none = other_is_mute (AtOnce session pdu) pdu refl none (λ number id other is. not_late number id other is)
+  where
+    not_late : (number id : ℕ) (other : Pdu) → AtOnce session pdu ≡ Late number id other → ⊥
+    not_late number id other is = cc
 
 pub refusal_is_mute : (session : ℕ) (requested : Requested) (sequence status : ℕ) → IsMute (AtOnce session (refused_with requested sequence status))
 refusal_is_mute session requested sequence status = at_once_is_mute session (refused_with requested sequence status) (refusal_tells_none requested)
@@ -81,41 +89,36 @@ pub response_is_mute : (session : ℕ) (system_id : List ℕ) (outgoing : Outgoi
 response_is_mute session system_id outgoing =
     at_once_is_mute session (pdu_of system_id outgoing) (response_tells_none system_id outgoing.sequence outgoing.response)
 
-pub gone_is_mute : (session : ℕ) → IsMute (Gone session)
-gone_is_mute session = record {
-  state = λ message_id state tells. none_is_some tells.pdu tells.printed;
-  deletion = λ message_id tells. gone_not_late tells.session tells.id tells.pdu tells.printed;
+-- a deliver_sm goes out
+pub delivery_is_mute : (number : ℕ) (session : Session) (taken : Submission) → IsMute (Delivers number (delivery_on session taken))
+delivery_is_mute number session taken =
+    other_is_mute (Delivers number (delivery_on session taken)) (delivery_on session taken) refl (λ answer is. cc)
+    (λ other id pdu is. not_late (delivery_on session taken) other id pdu is)
+  where
+    not_late : (pdu : Pdu) (other id : ℕ) (late : Pdu) → Delivers number pdu ≡ Late other id late → ⊥
+    not_late pdu other id late is = cc
+
+-- no PDU goes out
+silent_is_mute : (print : Print) → pdu_in print ≡ None → IsMute print
+silent_is_mute print none = record {
+  state = λ message_id state tells. none_is_some tells.pdu (sym none ∙ tells.printed);
+  deletion = λ message_id tells. none_is_some tells.pdu (sym none ∙ ap (λ (p : Print). pdu_in p) tells.printed);
 }
   where
     none_is_some : (pdu : Pdu) → None ≡ Some pdu → ⊥
     none_is_some pdu is = cc
 
-    gone_not_late : (number id : ℕ) (other : Pdu) → Gone session ≡ Late number id other → ⊥
-    gone_not_late number id other is = cc
+pub gone_is_mute : (session : ℕ) → IsMute (Gone session)
+gone_is_mute session = silent_is_mute (Gone session) refl
 
 pub unsettled_is_mute : IsMute Unsettled
-unsettled_is_mute = record {
-  state = λ message_id state tells. none_is_some tells.pdu tells.printed;
-  deletion = λ message_id tells. unsettled_not_late tells.session tells.id tells.pdu tells.printed;
-}
-  where
-    none_is_some : (pdu : Pdu) → None ≡ Some pdu → ⊥
-    none_is_some pdu is = cc
+unsettled_is_mute = silent_is_mute Unsettled refl
 
-    unsettled_not_late : (number id : ℕ) (other : Pdu) → Unsettled ≡ Late number id other → ⊥
-    unsettled_not_late number id other is = cc
+pub declined_is_mute : (number : ℕ) → IsMute (Declined number)
+declined_is_mute number = silent_is_mute (Declined number) refl
 
-pub declined_is_mute : (refusal : ℕ) → IsMute (Declined refusal)
-declined_is_mute refusal = record {
-  state = λ message_id state tells. none_is_some tells.pdu tells.printed;
-  deletion = λ message_id tells. declined_not_late tells.session tells.id tells.pdu tells.printed;
-}
-  where
-    none_is_some : (pdu : Pdu) → None ≡ Some pdu → ⊥
-    none_is_some pdu is = cc
-
-    declined_not_late : (number id : ℕ) (other : Pdu) → Declined refusal ≡ Late number id other → ⊥
-    declined_not_late number id other is = cc
+pub ungranted_is_mute : (reason : ℕ) → IsMute (Ungranted reason)
+ungranted_is_mute reason = silent_is_mute (Ungranted reason) refl
 
 -- ---- replies
 
