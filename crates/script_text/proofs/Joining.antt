@@ -1,5 +1,8 @@
 -- Lines that join are those that a script is computed from, and the node goes by what was done at it.
-use Rattle.std.specs.Prelude.{nat_lt}
+use Rattle.std.specs.Prelude.{nat_lt, is_none}
+use Rattle.std.specs.Map.{remove_entry}
+use Rattle.std.specs.Ordering.{nat_cmp}
+use Rattle.std.specs.BTreeMap.{insert_entry, is_at}
 use Rattle.std.proofs.Common.{◌≡◌, ℕ, zero, suc, Bool, true, false, cond, List, [], ◌∷◌, ◌++◌, Option, Some, None, Result, Ok, Err, refl, sym, ◌∙◌, ap, subst}
 use Rattle.script_lines.specs.Said.{Said, Skipped, Nodes, Octets, Tick, Grant, Settle, Restart, said_of}
 use Rattle.sessions.specs.Session.{Session}
@@ -34,7 +37,7 @@ use Rattle.script_text.specs.Node.{Node, awaiting, request_at, step_at, tick_at,
 use Rattle.script_text.specs.Prints.{Print}
 use Rattle.script_text.specs.Pushes.{accounts_up, overdue_in, session_at, target_in}
 use Rattle.script_text.specs.Attempts.{Went, all_given_up, concluded, delivered_so, given_up, rests_at, submission_at, unanswered, went}
-use Rattle.script_text.specs.Runner.{Runner, Acted, Served, Streamed, Came, came_by, nothing_came, behind, granted, granted_unless, gives_up, on_grant, pushes, sent, sent_to, ticked, on_request, on_reaction, on_done, on_read, on_frame, on_rest, on_frames, on_cut, on_octets, on_tick, on_settle, on_delivery, on_restart, declined, last_incarnation, no_incarnation, restarted, settles, first_or, followed_by, most_deliveries, rests, kept, session_in, held_in, without, holding}
+use Rattle.script_text.specs.Runner.{Runner, Acted, Served, Came, answered_by, came_by, declined, first_or, followed_by, gives_up, granted, granted_unless, held_in, holds, last_incarnation, makes_room, most_deliveries, no_incarnation, nothing_came, on_cut, on_delivery, on_done, on_frame, on_frames, on_grant, on_octets, on_reaction, on_read, on_request, on_rest, on_restart, on_settle, on_tick, opened_at, posts, posts_for, posts_for_all, pushes, restarted, rests, sent, sent_to, served_at, serves, session_in, settles, ticked, with_session}
 use Rattle.script_text.specs.Script.{Stage, Stepped, Joins, LineStep, after, bad_from, prints_from, step_by, step_of, stepped}
 use Rattle.script_text.specs.Laws.{GoesBy, kept_by}
 
@@ -133,51 +136,70 @@ read_goes : (settings : Settings) (number : ℕ) (node : Node) (session : Sessio
 read_goes settings number node session octets (Ok pdu) = done_goes settings number node (came_by settings pdu) (on_pdu settings.accounts session pdu)
 read_goes settings number node session octets (Err fault) = done_goes settings number node nothing_came (on_fault session fault (requested_by (command_of (word_at 4 octets))) (word_at 12 octets))
 
-frame_goes : (settings : Settings) (number : ℕ) (node : Node) (session : Session) (octets : List ℕ) → ServedGoes node (on_frame settings number node session octets)
-unfolding on_frame
-frame_goes settings number node session octets = read_goes settings number node session octets (read_pdu octets)
-
-rest_goes : (settings : Settings) (number : ℕ) (node : Node) (session : Session) (rest : List ℕ) → ServedGoes node (on_rest settings number node session rest).served
-rest_goes settings number node session rest = at_test (begins_wrong rest)
-  where
-    at_test : (wrong : Bool) → ServedGoes node (cond {A = Streamed} wrong (record { served = on_done settings number node nothing_came (on_wrong_length session); held = [] }) (record { served = record { node = node; session = session; inputs = []; prints = [] }; held = rest })).served
-    at_test true = done_goes settings number node nothing_came (on_wrong_length session)
-    at_test false = goes_nowhere node
-
-frames_go : (settings : Settings) (number : ℕ) (node : Node) (session : Session) (frames : List (List ℕ)) (rest : List ℕ) → ServedGoes node (on_frames settings number node session frames rest).served
-unfolding on_frames
-frames_go settings number node session [] rest = rest_goes settings number node session rest
-frames_go settings number node session (frame ∷ frames) rest = at_test (is_gone served.session.state) (frames_go settings number served.node served.session frames rest)
-  where
-    served : Served
-    served = on_frame settings number node session frame
-
-    later : Streamed
-    later = on_frames settings number served.node served.session frames rest
-
-    at_test : (gone : Bool) → ServedGoes served.node later.served → ServedGoes node (cond {A = Streamed} gone (record { served = on_frame settings number node session frame; held = [] }) (behind (on_frame settings number node session frame) (on_frames settings number (on_frame settings number node session frame).node (on_frame settings number node session frame).session frames rest))).served
-    at_test true others = frame_goes settings number node session frame
-    at_test false others = goes_behind node served.node later.served.node served.inputs later.served.inputs (frame_goes settings number node session frame) others
+-- ---- by what comes on a session
 
 abbrev pub ActedGoes : Runner → Acted → Type 0
 ActedGoes runner acted = GoesBy runner.node acted.inputs acted.next.node
 
-kept_node : (others : Runner) (number : ℕ) (streamed : Streamed) → (kept others number streamed).node ≡ streamed.served.node
-kept_node others number streamed = at_test (is_gone streamed.served.session.state)
+then_goes : (runner : Runner) (first last : Acted) → ActedGoes runner first → ActedGoes first.next last → ActedGoes runner (followed_by first last)
+then_goes runner first last one other = goes_behind runner.node first.next.node last.next.node first.inputs last.inputs one other
+
+rests_goes : (runner : Runner) (prints : List Print) → ActedGoes runner (record { next = runner; inputs = []; prints = prints })
+rests_goes runner prints = goes_nowhere runner.node
+
+served_node : (runner : Runner) (number : ℕ) (node : Node) (session : Session) → (with_session (record runner { node = node }) number session).node ≡ node
+served_node runner number node session = at_test (is_gone session.state)
   where
-    at_test : (gone : Bool) → (cond {A = Runner} gone (record others { node = streamed.served.node }) (holding (record others { node = streamed.served.node }) number streamed.served.session streamed.held)).node ≡ streamed.served.node
+    at_test : (gone : Bool) → (cond {A = Runner} gone (record runner { node = node; sessions = remove_entry (is_at (nat_cmp number)) runner.sessions })
+        (record runner { node = node; sessions = insert_entry nat_cmp runner.sessions number session })).node ≡ node
     at_test true = refl
     at_test false = refl
+
+serves_goes : (runner : Runner) (number : ℕ) (served : Served) → ServedGoes runner.node served → ActedGoes runner (serves runner number served)
+serves_goes runner number served goes =
+    let first = served_at runner number served in
+    then_goes runner first (posts_for first.next served.session.account)
+    (subst (λ (n : Node). GoesBy runner.node served.inputs n) (sym (served_node runner number served.node served.session)) goes)
+    (goes_nowhere first.next.node)
+
+frame_goes : (settings : Settings) (number : ℕ) (runner : Runner) (octets : List ℕ) → ActedGoes runner (on_frame settings number runner octets)
+unfolding on_frame
+frame_goes settings number runner octets =
+    let session = session_in runner.sessions number in
+    serves_goes runner number (on_read settings number runner.node session octets (read_pdu octets)) (read_goes settings number runner.node session octets (read_pdu octets))
+
+rest_goes : (settings : Settings) (number : ℕ) (runner : Runner) (rest : List ℕ) → ActedGoes runner (on_rest settings number runner rest)
+rest_goes settings number runner rest = at_test (begins_wrong rest)
+  where
+    ends : Served
+    ends = on_done settings number runner.node nothing_came (on_wrong_length (session_in runner.sessions number))
+
+    at_test : (wrong : Bool) → ActedGoes runner (cond {A = Acted} wrong (serves runner number ends) (holds runner number rest))
+    at_test true = serves_goes runner number ends (done_goes settings number runner.node nothing_came (on_wrong_length (session_in runner.sessions number)))
+    at_test false = goes_nowhere runner.node
+
+frames_go : (settings : Settings) (number : ℕ) (runner : Runner) (frames : List (List ℕ)) (rest : List ℕ) → ActedGoes runner (on_frames settings number runner frames rest)
+unfolding on_frames
+frames_go settings number runner [] rest = rest_goes settings number runner rest
+frames_go settings number runner (frame ∷ frames) rest = at_test (is_none (session_at first.next.sessions number)) (frames_go settings number first.next frames rest)
+  where
+    first : Acted
+    first = on_frame settings number runner frame
+
+    later : Acted
+    later = on_frames settings number first.next frames rest
+
+    at_test : (gone : Bool) → ActedGoes first.next later → ActedGoes runner (cond {A = Acted} gone first (followed_by first later))
+    at_test true others = frame_goes settings number runner frame
+    at_test false others = then_goes runner first later (frame_goes settings number runner frame) others
 
 pub octets_go : (settings : Settings) (runner : Runner) (number : ℕ) (octets : List ℕ) → ActedGoes runner (on_octets settings runner number octets)
 unfolding on_octets
 octets_go settings runner number octets =
-    let streamed = on_cut settings number runner.node (session_in runner.sessions number) stream in
-    subst (λ (n : Node). GoesBy runner.node streamed.served.inputs n) (sym (kept_node (without runner number) number streamed))
-    (frames_go settings number runner.node (session_in runner.sessions number) stream.frames stream.rest)
-  where
-    stream : Cut
-    stream = cut (held_in runner.streams number ++ octets)
+    let stream : Cut = cut (held_in runner.streams number ++ octets) in
+    frames_go settings number (opened_at runner number) stream.frames stream.rest
+
+-- ---- by a moment
 
 gives_up_goes : (runner : Runner) (now : ℕ) → ActedGoes runner (gives_up runner now)
 gives_up_goes runner now = let goes = all_go runner.node (overdue_in runner.sessions now) in record { setup = goes.setup; kept = goes.kept }
@@ -185,9 +207,9 @@ gives_up_goes runner now = let goes = all_go runner.node (overdue_in runner.sess
 pub tick_goes : (runner : Runner) (moment : ℕ) → ActedGoes runner (on_tick runner moment)
 tick_goes runner moment =
     let first = ticked runner moment in
-    let last = gives_up first.next first.next.node.kept.clock in
-    goes_behind runner.node first.next.node last.next.node first.inputs last.inputs (goes_once runner.node (tick_at moment (accounts_up runner.sessions)))
-    (gives_up_goes first.next first.next.node.kept.clock)
+    let up = gives_up first.next first.next.node.kept.clock in
+    then_goes runner first (makes_room first.next) (goes_once runner.node (tick_at moment (accounts_up runner.sessions)))
+    (then_goes first.next up (posts_for_all up.next) (gives_up_goes first.next first.next.node.kept.clock) (goes_nowhere up.next.node))
 
 -- ---- by a grant
 
@@ -225,7 +247,12 @@ restart_goes runner = by_test (nat_lt runner.node.kept.incarnation last_incarnat
     by_test false = goes_nowhere runner.node
 
 delivery_goes : (runner : Runner) (packet : Packet) (others : List Packet) → ActedGoes runner (on_delivery runner packet others)
-delivery_goes runner packet others = let goes = goes_once (awaiting runner.node others) (Delivery packet) in record { setup = goes.setup; kept = goes.kept }
+delivery_goes runner packet others =
+    let node = awaiting runner.node others in
+    let step = step_at node (Delivery packet) in
+    let first = answered_by runner node (Delivery packet) step in
+    let goes = goes_once node (Delivery packet) in
+    then_goes runner first (posts first.next step.outputs.receipts) (record { setup = goes.setup; kept = goes.kept }) (goes_nowhere first.next.node)
 
 pub settles_goes : (more : ℕ) (runner : Runner) → ActedGoes runner (settles more runner)
 unfolding settles

@@ -1,5 +1,5 @@
 -- Laws of the texts of scripts.
-use Rattle.std.specs.Prelude.{◌≡◌, ◌≢◌, ◌⊎◌, ℕ, List, [], ◌∷◌, ◌++◌, Option, Some, None}
+use Rattle.std.specs.Prelude.{◌≡◌, ◌≢◌, ◌⊎◌, ℕ, Bool, List, [], ◌∷◌, ◌++◌, Option, Some, None}
 use Rattle.std.specs.Fmt.{decimal}
 use Rattle.mc_model.specs.synod.Lists.{In}
 use Rattle.mc_model.specs.node.Input.{Input}
@@ -13,9 +13,11 @@ use Rattle.pdu_tables.specs.declared.status.Status.TheVariants as statuses
 use Rattle.pdu_bodies.specs.declared.pdu.Body.TheVariants.{QuerySmResp, CancelSmResp}
 use Rattle.pdu_bodies.specs.declared.pdu.Pdu.{Pdu}
 use Rattle.pdu_bodies.specs.declared.pdu.QueryAnswer.{QueryAnswer}
+use Rattle.fate_chain.specs.States.{final_code}
+use Rattle.receipts.specs.Texts.{Report}
 use Rattle.script_text.specs.Settings.{Settings}
 use Rattle.script_text.specs.Node.{Node}
-use Rattle.script_text.specs.Prints.{Print, AtOnce, Late, Delivers, Gone, Unsettled, Declined, Ungranted}
+use Rattle.script_text.specs.Prints.{Print, AtOnce, Late, Delivers, Reports, Gone, Unsettled, Declined, Ungranted, report_pdu}
 use Rattle.script_text.specs.Runner.{Runner}
 use Rattle.script_text.specs.Script.{Stage, Joins, bad_from, bad_line, prints_from, prints_of, text_of}
 use Rattle.script_text.specs.OneNode.{one_node_text}
@@ -66,6 +68,7 @@ abbrev pub pdu_in : Print → Option Pdu
 pdu_in (AtOnce session pdu) = Some pdu
 pdu_in (Late session id pdu) = Some pdu
 pdu_in (Delivers session pdu) = Some pdu
+pdu_in (Reports session sequence optional report) = Some (report_pdu sequence optional report)
 pdu_in (Gone session) = None
 pdu_in Unsettled = None
 pdu_in (Declined number) = None
@@ -91,11 +94,21 @@ pub record TellsDeletion (print : Print) (message_id : List ℕ) : Type 0 where
   pub body : pdu.body ≡ CancelSmResp
   pub message : decimal id ≡ message_id
 
+-- A delivery receipt tells that the message of a message_id ended in this message_state.
+pub record TellsReceipt (print : Print) (message_id : List ℕ) (state : ℕ) : Type 0 where
+  pub session : ℕ
+  pub sequence : ℕ
+  pub optional : Bool
+  pub report : Report
+  pub printed : print ≡ Reports session sequence optional report
+  pub message : decimal report.id ≡ message_id
+  pub state_is : final_code report.final ≡ state
+
 -- A print states that a message has a final state, by its message_state.
 abbrev pub StatesFate : Print → List ℕ → ℕ → Type 0
 StatesFate print message_id state =
     (TellsState print message_id state × (state ≢ state_code states.Enroute))
-    ⊎ (TellsDeletion print message_id × (state ≡ state_code states.Deleted))
+    ⊎ ((TellsDeletion print message_id × (state ≡ state_code states.Deleted)) ⊎ TellsReceipt print message_id state)
 
 -- Two final states that a script prints for one message are equal.
 abbrev pub OneFateIsPrinted : Type 0

@@ -4,6 +4,7 @@ pub mod Node
 pub mod Attempts
 pub mod Responses
 pub mod Prints
+pub mod Receipts
 pub mod Runner
 pub mod Script
 pub mod Events

@@ -8,10 +8,10 @@ use Rattle.mc_model.specs.message.Submission.{Submission}
 use Rattle.mc_model.specs.node.Actor.{Request}
 use Rattle.mc_model.specs.node.Grant.{GrantRefusal, refusal_number}
 use Rattle.mc_model.specs.node.Outcome.{Outcome}
-use Rattle.mc_model.specs.node.Outputs.{Reply}
-use Rattle.alone_laws.specs.Attempts.{concluded_at, granted_at, newest_slot, refusal_at}
-use Rattle.alone_laws.specs.Tables.{TableNode, chain_at, new_table, reply_to, requested}
-use Rattle.alone_laws.specs.Ticks.{ticked}
+use Rattle.mc_model.specs.node.Outputs.{Receipt, Reply}
+use Rattle.alone_laws.specs.Attempts.{concluded_at, granted_at, newest_slot, receipts_on, refusal_at}
+use Rattle.alone_laws.specs.Tables.{TableNode, chain_at, new_table, receipts_by, reply_to, requested}
+use Rattle.alone_laws.specs.Ticks.{receipts_between, ticked}
 use Rattle.pdu_tables.specs.CommandCodes.{command_of}
 use Rattle.pdu_tables.specs.declared.status.Status.{Status}
 use Rattle.pdu_codec.specs.Grammar.{word_at}
@@ -34,14 +34,18 @@ use Rattle.script_text.specs.Attempts.{unanswered}
 use Rattle.script_text.specs.Responses.{refusal_pdu, reply_pdu}
 use Rattle.script_text.specs.Prints.{Print, AtOnce, Late, Delivers, Ungranted, text_of_prints}
 use Rattle.script_text.specs.Pushes.{accounts_up, delivery_on, is_up, target_in, with_push}
+use Rattle.script_text.specs.Receipts.{Mail, Posted, all_posted, posted_for_all, posted_for_any}
 use Rattle.script_text.specs.Runner.{Came, came_by, nothing_came, session_in}
 use Rattle.script_text.specs.Events.{Event, Comes, Ticks, Grants, Settles, Play, play_of}
 
--- The table of the node, the sessions, on which no request of an ESME waits, and what the next settle prints.
+-- The table of the node; the sessions, on which no request of an ESME waits; the receipts that wait for a session; and what the next settle
+-- prints, and the receipts that are due then.
 pub record OneNode : Type 0 where
   pub node : TableNode
   pub sessions : List (ℕ × Session)
+  pub waiting : List Receipt
   pub owed : List Print
+  pub due : List Receipt
 
 -- what happens leaves this, and prints this
 pub record Happened : Type 0 where
@@ -50,6 +54,21 @@ pub record Happened : Type 0 where
 
 abbrev pub prints_now : OneNode → List Print → Happened
 prints_now one prints = record { next = one; prints = prints }
+
+-- ---- receipts
+
+abbrev pub mail_of : OneNode → Mail
+mail_of one = record { sessions = one.sessions; waiting = one.waiting }
+
+abbrev pub with_posted : OneNode → Posted → Happened
+with_posted one posted = prints_now (record one { sessions = posted.mail.sessions; waiting = posted.mail.waiting }) posted.prints
+
+abbrev pub behind : List Print → Happened → Happened
+behind prints happened = record { next = happened.next; prints = prints ++ happened.prints }
+
+-- what waits for an account goes out
+abbrev pub posts_for : OneNode → Option (List ℕ) → Happened
+posts_for one account = with_posted one (posted_for_any one.node.clock (mail_of one) account)
 
 -- ---- a request
 
@@ -69,6 +88,7 @@ asked_so one number kind sequence (Ok request) =
     prints_now (record one {
       node = requested one.node request;
       owed = one.owed ++ late number kind sequence (reply_to one.node request) ∷ [];
+      due = one.due ++ receipts_by one.node request;
     }) []
 asked_so one number kind sequence (Err status) = prints_now one (AtOnce number (refusal_pdu kind sequence status) ∷ [])
 
@@ -80,7 +100,7 @@ asked settings one number kind sequence account request = prints_now one []
 -- ---- attempts
 
 abbrev pub concludes : OneNode → ℕ → Outcome → OneNode
-concludes one id outcome = record one { node = concluded_at one.node id outcome }
+concludes one id outcome = record one { node = concluded_at one.node id outcome; due = one.due ++ receipts_on one.node id outcome }
 
 -- the ESME answered what was pushed to it
 abbrev pub answered : OneNode → Delivery → Option Outcome → OneNode
@@ -122,8 +142,12 @@ reacted settings one number came next (Answered pushed answer) =
     prints_now (answered (with_session one number next) pushed.delivery (came.outcome pushed.sequence)) []
 reacted settings one number came next other = prints_now one []
 
+-- and then what waits for the account of the session goes out
+abbrev pub and_posted : Happened → Option (List ℕ) → Happened
+and_posted happened account = behind happened.prints (posts_for happened.next account)
+
 abbrev pub done_by : Settings → OneNode → ℕ → Came → Done → Happened
-done_by settings one number came done = reacted settings one number came done.next done.reaction
+done_by settings one number came done = and_posted (reacted settings one number came done.next done.reaction) done.next.account
 
 abbrev pub came : Settings → OneNode → ℕ → List ℕ → Result Pdu PduFault → Happened
 came settings one number octets (Ok pdu) =
@@ -134,11 +158,21 @@ came settings one number octets (Err fault) =
 
 -- ---- events
 
+-- the table after a moment, what is due by it, and what goes out then
+abbrev pub ticks : OneNode → TableNode → Happened
+ticks one t =
+    with_posted (record one { node = t; due = one.due ++ receipts_between one.node.table t.table })
+    (posted_for_all t.clock (mail_of one) (accounts_up one.sessions))
+
+-- what was owed is printed, and the receipts that are due go out
+abbrev pub settled : OneNode → Happened
+settled one = behind one.owed (with_posted (record one { owed = []; due = [] }) (all_posted one.node.clock (mail_of one) one.due))
+
 unfoldable pub happens : Settings → OneNode → Event → Happened
 happens settings one (Comes number octets) = came settings one number octets (read_pdu octets)
-happens settings one (Ticks moment) = prints_now (record one { node = ticked one.node moment (is_up (accounts_up one.sessions)) }) []
+happens settings one (Ticks moment) = ticks one (ticked one.node moment (is_up (accounts_up one.sessions)))
 happens settings one (Grants id) = granted_unless one id (refusal_at one.node id)
-happens settings one Settles = prints_now (record one { owed = [] }) one.owed
+happens settings one Settles = settled one
 
 -- what events print, one after the other, and what they leave
 unfoldable pub happen : Settings → OneNode → List Event → Happened
@@ -149,7 +183,7 @@ happen settings one (event ∷ events) = record {
 }
 
 abbrev pub one_node : ℕ → OneNode
-one_node serial = record { node = new_table serial; sessions = []; owed = [] }
+one_node serial = record { node = new_table serial; sessions = []; waiting = []; owed = []; due = [] }
 
 -- what the events of a script print, and what they leave
 abbrev pub played : Play → Happened

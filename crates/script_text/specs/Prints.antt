@@ -1,10 +1,13 @@
 -- What a script prints, and its octets.
-use Rattle.std.specs.Prelude.{ℕ, List, [], ◌∷◌, ◌++◌, codes}
+use Rattle.std.specs.Prelude.{ℕ, Bool, List, [], ◌∷◌, ◌++◌, codes}
 use Rattle.std.specs.List.{flat_map}
 use Rattle.std.specs.Fmt.{decimal}
 use Rattle.hex.specs.Hex.{encode_lower}
 use Rattle.pdu_codec.specs.Pdu.{octets_of}
 use Rattle.pdu_bodies.specs.declared.pdu.Pdu.{Pdu}
+use Rattle.receipts.specs.Receipts.{receipt_message}
+use Rattle.receipts.specs.Texts.{Report}
+use Rattle.script_text.specs.Pushes.{deliver_sm}
 
 pub data Print : Type 0 where
   -- on this session a PDU goes out, in the step of what it answers
@@ -13,6 +16,9 @@ pub data Print : Type 0 where
   Late : ℕ → ℕ → Pdu → Print
   -- on this session a deliver_sm goes out
   Delivers : ℕ → Pdu → Print
+  -- On this session a deliver_sm goes out with this sequence_number, for an ESME that knows optional parameters or does not: the receipt of
+  -- this report.
+  Reports : ℕ → ℕ → Bool → Report → Print
   -- this session is gone
   Gone : ℕ → Print
   -- a settle has delivered as many packets as it may
@@ -29,6 +35,10 @@ octets_line session octets = codes "pdu 1 " ++ decimal session ++ codes " " ++ e
 -- the line of a PDU
 abbrev pub pdu_line : ℕ → Pdu → List ℕ
 pdu_line session pdu = octets_line session (octets_of pdu)
+
+-- the receipt of a report (SMPP 3.4, appendix B)
+abbrev pub report_pdu : ℕ → Bool → Report → Pdu
+report_pdu sequence optional report = deliver_sm sequence optional (receipt_message report)
 
 -- the line of a session that is gone
 abbrev pub gone_line : ℕ → List ℕ
@@ -48,6 +58,7 @@ abbrev pub line_of : Print → List ℕ
 line_of (AtOnce session pdu) = pdu_line session pdu
 line_of (Late session id pdu) = pdu_line session pdu
 line_of (Delivers session pdu) = pdu_line session pdu
+line_of (Reports session sequence optional report) = pdu_line session (report_pdu sequence optional report)
 line_of (Gone session) = gone_line session
 line_of Unsettled = unsettled_line
 line_of (Declined number) = declined_line number

@@ -6,8 +6,10 @@ use Rattle.std.specs.Ordering.{nat_cmp}
 use Rattle.std.specs.BTreeMap.{is_at}
 use Rattle.std.specs.Str.{bytes_eq}
 use Rattle.mc_model.specs.message.Submission.{Submission}
+use Rattle.pdu_bodies.specs.declared.pdu.Body.TheVariants.{DeliverSm}
+use Rattle.pdu_bodies.specs.declared.pdu.Message.{Message}
 use Rattle.pdu_bodies.specs.declared.pdu.Pdu.{Pdu}
-use Rattle.delivery.specs.Deliveries.{delivery_of}
+use Rattle.delivery.specs.Deliveries.{delivered_message}
 use Rattle.sessions.specs.Session.{Session}
 use Rattle.sessions.specs.States.{may_receive}
 use Rattle.sessions.specs.Steps.{on_push, on_tick, push_refusal}
@@ -58,13 +60,17 @@ target_in connected target = find (λ number. takes_for target (session_at conne
 abbrev pub knows_optional : Session → Bool
 knows_optional session = nat_le 0x34 session.interface_version
 
-abbrev pub with_optional : Bool → Submission → Submission
-with_optional true taken = taken
-with_optional false taken = record taken { passed = [] }
+abbrev pub with_optional : Bool → Message → Message
+with_optional true message = message
+with_optional false message = record message { tlvs = [] }
 
--- the deliver_sm that goes out next on a session, of what was taken
+-- a deliver_sm with a sequence_number, of this message, for an ESME that knows optional parameters or does not
+abbrev pub deliver_sm : ℕ → Bool → Message → Pdu
+deliver_sm sequence optional message = record { status = 0; sequence = sequence; body = DeliverSm (with_optional optional message) }
+
+-- that of an attempt that goes out next on a session, of what was taken
 abbrev pub delivery_on : Session → Submission → Pdu
-delivery_on session taken = delivery_of session.next_sequence (with_optional (knows_optional session) taken)
+delivery_on session taken = deliver_sm session.next_sequence (knows_optional session) (delivered_message taken)
 
 -- it is pushed at a moment, and waits for its answer
 abbrev pub pushed_on : List (ℕ × Session) → ℕ → ℕ → Delivery → Option Session → List (ℕ × Session)

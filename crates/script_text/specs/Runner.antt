@@ -1,5 +1,5 @@
 -- What the lines of a script do, by one node and the sessions with its ESMEs.
-use Rattle.std.specs.Prelude.{ℕ, zero, suc, nat_lt, ◌==◌, List, [], ◌∷◌, ◌++◌, find, map, Option, Some, None, Result, Ok, Err, if◌then◌else◌}
+use Rattle.std.specs.Prelude.{ℕ, zero, suc, nat_lt, ◌==◌, List, [], ◌∷◌, ◌++◌, find, map, is_none, Option, Some, None, Result, Ok, Err, if◌then◌else◌}
 use Rattle.std.specs.Ordering.{nat_cmp}
 use Rattle.std.specs.Map.{lookup, remove_entry, set_value}
 use Rattle.std.specs.BTreeMap.{is_at, insert_entry}
@@ -8,7 +8,7 @@ use Rattle.mc_model.specs.synod.Packet.{Packet, Slot}
 use Rattle.mc_model.specs.node.Grant.{GrantRefusal, refusal_number}
 use Rattle.mc_model.specs.node.Input.{Delivery, Grant, Input, Restart}
 use Rattle.mc_model.specs.node.Outcome.{Outcome}
-use Rattle.mc_model.specs.node.Outputs.{Reply}
+use Rattle.mc_model.specs.node.Outputs.{Receipt, Reply}
 use Rattle.node_model.specs.Attempts.{grant_refusal}
 use Rattle.node_model.specs.Granted.{known_slot}
 use Rattle.node_model.specs.Outputs.{Stepped}
@@ -39,13 +39,16 @@ use Rattle.script_text.specs.Node.{Node, awaiting, request_at, step_at, tick_at,
 use Rattle.script_text.specs.Responses.{refused_with, reply_pdu}
 use Rattle.script_text.specs.Pushes.{accounts_up, delivery_on, overdue_in, session_at, target_in, timely_in, with_push}
 use Rattle.script_text.specs.Attempts.{Went, all_given_up, concluded, delivered_so, submission_at, unanswered}
+use Rattle.script_text.specs.Receipts.{Mail, Posted, all_posted, posted_for_all, posted_for_any}
 use Rattle.script_text.specs.Prints.{Print, AtOnce, Late, Delivers, Gone, Unsettled, Declined, Ungranted}
 
--- The node; the sessions that are connected, by their numbers; and of each the octets of the PDU that has not come whole.
+-- The node; the sessions that are connected, by their numbers; of each the octets of the PDU that has not come whole; and the receipts that
+-- wait for a session, the oldest first.
 pub record Runner : Type 0 where
   pub node : Node
   pub sessions : List (ℕ × Session)
   pub streams : List (ℕ × List ℕ)
+  pub waiting : List Receipt
 
 -- ---- a PDU on a session
 
@@ -144,46 +147,6 @@ on_read settings number node session octets (Ok pdu) =
 on_read settings number node session octets (Err fault) =
     on_done settings number node nothing_came (on_fault session fault (requested_by (command_of (word_at 4 octets))) (word_at 12 octets))
 
--- the octets of one frame come on a session
-unfoldable pub on_frame : Settings → ℕ → Node → Session → List ℕ → Served
-on_frame settings number node session octets = on_read settings number node session octets (read_pdu octets)
-
--- ---- the octets of a session
-
--- what serving the octets of a session leaves, and the octets that wait for more
-pub record Streamed : Type 0 where
-  pub served : Served
-  pub held : List ℕ
-
--- Behind the last whole frame: a wrong length ends the session. Else the octets wait for more.
-abbrev pub on_rest : Settings → ℕ → Node → Session → List ℕ → Streamed
-on_rest settings number node session rest =
-    if begins_wrong rest then record { served = on_done settings number node nothing_came (on_wrong_length session); held = [] }
-    else record { served = unasked node session []; held = rest }
-
--- what was done first, and then this
-abbrev pub behind : Served → Streamed → Streamed
-behind first last = record {
-  served = record {
-    node = last.served.node;
-    session = last.served.session;
-    inputs = first.inputs ++ last.served.inputs;
-    prints = first.prints ++ last.served.prints;
-  };
-  held = last.held;
-}
-
--- Each frame in its turn, and then what stands behind them. Where a frame ends the session, the octets behind it are dropped.
-unfoldable pub on_frames : Settings → ℕ → Node → Session → List (List ℕ) → List ℕ → Streamed
-on_frames settings number node session [] rest = on_rest settings number node session rest
-on_frames settings number node session (frame ∷ frames) rest =
-    if is_gone (on_frame settings number node session frame).session.state then record { served = on_frame settings number node session frame; held = [] }
-    else behind (on_frame settings number node session frame)
-    (on_frames settings number (on_frame settings number node session frame).node (on_frame settings number node session frame).session frames rest)
-
-abbrev pub on_cut : Settings → ℕ → Node → Session → Cut → Streamed
-on_cut settings number node session stream = on_frames settings number node session stream.frames stream.rest
-
 -- ---- what a line does
 
 -- what a line leaves: the runner, what came to the node, and what was printed
@@ -191,6 +154,40 @@ pub record Acted : Type 0 where
   pub next : Runner
   pub inputs : List Input
   pub prints : List Print
+
+-- nothing is done
+abbrev pub rests : Runner → Acted
+rests runner = record { next = runner; inputs = []; prints = [] }
+
+-- what was done first, and then this
+abbrev pub followed_by : Acted → Acted → Acted
+followed_by first last = record { next = last.next; inputs = first.inputs ++ last.inputs; prints = first.prints ++ last.prints }
+
+-- ---- receipts
+
+abbrev pub mail_of : Runner → Mail
+mail_of runner = record { sessions = runner.sessions; waiting = runner.waiting }
+
+abbrev pub with_posted : Runner → Posted → Acted
+with_posted runner posted = record {
+  next = record runner { sessions = posted.mail.sessions; waiting = posted.mail.waiting };
+  inputs = [];
+  prints = posted.prints;
+}
+
+-- what waits for an account goes out
+abbrev pub posts_for : Runner → Option (List ℕ) → Acted
+posts_for runner account = with_posted runner (posted_for_any runner.node.kept.clock (mail_of runner) account)
+
+-- and what waits for each account of which a session may receive
+abbrev pub posts_for_all : Runner → Acted
+posts_for_all runner = with_posted runner (posted_for_all runner.node.kept.clock (mail_of runner) (accounts_up runner.sessions))
+
+-- receipts are due
+abbrev pub posts : Runner → List Receipt → Acted
+posts runner receipts = with_posted runner (all_posted runner.node.kept.clock (mail_of runner) receipts)
+
+-- ---- the octets of a session
 
 abbrev pub session_or_opened : Option Session → Session
 session_or_opened None = sessions.opened
@@ -208,37 +205,59 @@ or_nothing (Some octets) = octets
 abbrev pub held_in : List (ℕ × List ℕ) → ℕ → List ℕ
 held_in streams number = or_nothing (lookup (is_at (nat_cmp number)) streams)
 
--- the session is not connected
-abbrev pub without : Runner → ℕ → Runner
-without runner number = record runner {
-  sessions = remove_entry (is_at (nat_cmp number)) runner.sessions;
+-- the session takes its place; one that is gone is connected no longer: what comes next under its number begins another
+abbrev pub with_session : Runner → ℕ → Session → Runner
+with_session runner number session =
+    if is_gone session.state then record runner { sessions = remove_entry (is_at (nat_cmp number)) runner.sessions }
+    else record runner { sessions = insert_entry nat_cmp runner.sessions number session }
+
+abbrev pub served_at : Runner → ℕ → Served → Acted
+served_at runner number served = record {
+  next = with_session (record runner { node = served.node }) number served.session;
+  inputs = served.inputs;
+  prints = served.prints;
+}
+
+-- A session was served, and what waits for its account goes out.
+abbrev pub serves : Runner → ℕ → Served → Acted
+serves runner number served =
+    followed_by (served_at runner number served) (posts_for (served_at runner number served).next served.session.account)
+
+-- the octets of one frame come on a session
+unfoldable pub on_frame : Settings → ℕ → Runner → List ℕ → Acted
+on_frame settings number runner octets =
+    serves runner number (on_read settings number runner.node (session_in runner.sessions number) octets (read_pdu octets))
+
+-- these octets wait for more
+abbrev pub holds : Runner → ℕ → List ℕ → Acted
+holds runner number held = rests (record runner { streams = insert_entry nat_cmp runner.streams number held })
+
+-- Behind the last whole frame: a wrong length ends the session. Else the octets wait for more.
+abbrev pub on_rest : Settings → ℕ → Runner → List ℕ → Acted
+on_rest settings number runner rest =
+    if begins_wrong rest then serves runner number (on_done settings number runner.node nothing_came (on_wrong_length (session_in runner.sessions number)))
+    else holds runner number rest
+
+-- Each frame in its turn, and then what stands behind them. Where a frame ends the session, the octets behind it are dropped.
+unfoldable pub on_frames : Settings → ℕ → Runner → List (List ℕ) → List ℕ → Acted
+on_frames settings number runner [] rest = on_rest settings number runner rest
+on_frames settings number runner (frame ∷ frames) rest =
+    if is_none (session_at (on_frame settings number runner frame).next.sessions number) then on_frame settings number runner frame
+    else followed_by (on_frame settings number runner frame) (on_frames settings number (on_frame settings number runner frame).next frames rest)
+
+abbrev pub on_cut : Settings → ℕ → Runner → Cut → Acted
+on_cut settings number runner stream = on_frames settings number runner stream.frames stream.rest
+
+-- the session is connected, and its stream is at hand
+abbrev pub opened_at : Runner → ℕ → Runner
+opened_at runner number = record runner {
+  sessions = insert_entry nat_cmp runner.sessions number (session_in runner.sessions number);
   streams = remove_entry (is_at (nat_cmp number)) runner.streams;
-}
-
--- it is, and holds these octets
-abbrev pub holding : Runner → ℕ → Session → List ℕ → Runner
-holding runner number session held = record runner {
-  sessions = insert_entry nat_cmp runner.sessions number session;
-  streams = insert_entry nat_cmp runner.streams number held;
-}
-
--- a session that is gone is connected no longer: what comes next under its number begins another
-abbrev pub kept : Runner → ℕ → Streamed → Runner
-kept others number streamed =
-    if is_gone streamed.served.session.state then record others { node = streamed.served.node }
-    else holding (record others { node = streamed.served.node }) number streamed.served.session streamed.held
-
-abbrev pub acted : Runner → ℕ → Streamed → Acted
-acted others number streamed = record {
-  next = kept others number streamed;
-  inputs = streamed.served.inputs;
-  prints = streamed.served.prints;
 }
 
 -- the next octets of a session's stream
 unfoldable pub on_octets : Settings → Runner → ℕ → List ℕ → Acted
-on_octets settings runner number octets =
-    acted (without runner number) number (on_cut settings number runner.node (session_in runner.sessions number) (cut (held_in runner.streams number ++ octets)))
+on_octets settings runner number octets = on_cut settings number (opened_at runner number) (cut (held_in runner.streams number ++ octets))
 
 -- ---- replies
 
@@ -296,10 +315,6 @@ answered_by runner node input step = answered runner (with_step node step) input
 
 -- ---- a moment
 
--- what was done first, and then this
-abbrev pub followed_by : Acted → Acted → Acted
-followed_by first last = record { next = last.next; inputs = first.inputs ++ last.inputs; prints = first.prints ++ last.prints }
-
 -- the node is told of a moment, and of the accounts that have a session that may receive
 abbrev pub ticks_by : Runner → Input → Acted
 ticks_by runner tick = answered_by runner runner.node tick (step_at runner.node tick)
@@ -318,15 +333,19 @@ gives_up_by runner now went = record {
 abbrev pub gives_up : Runner → ℕ → Acted
 gives_up runner now = gives_up_by runner now (all_given_up runner.node (overdue_in runner.sessions now))
 
+-- and then what waits for the room that it leaves goes out
+abbrev pub makes_room : Runner → Acted
+makes_room runner = followed_by (gives_up runner runner.node.kept.clock) (posts_for_all (gives_up runner runner.node.kept.clock).next)
+
 -- a moment has come
 abbrev pub on_tick : Runner → ℕ → Acted
-on_tick runner moment = followed_by (ticked runner moment) (gives_up (ticked runner moment).next (ticked runner moment).next.node.kept.clock)
+on_tick runner moment = followed_by (ticked runner moment) (makes_room (ticked runner moment).next)
 
 -- ---- an attempt is asked for
 
 -- the deliver_sm goes out, and waits for its answer
 abbrev pub pushes : Runner → Slot → Submission → ℕ → Option Session → Acted
-pushes runner slot taken number None = record { next = runner; inputs = []; prints = [] }
+pushes runner slot taken number None = rests runner
 pushes runner slot taken number (Some session) = record {
   next = record runner { sessions = with_push runner.sessions number runner.node.kept.clock (Attempt slot) };
   inputs = [];
@@ -370,10 +389,10 @@ no_incarnation = 6
 abbrev pub gone_prints : List (ℕ × Session) → List Print
 gone_prints connected = map (λ entry. Gone entry.0) connected
 
--- no session is connected any more, and what the node keeps outlives its stop
+-- no session is connected any more, no receipt waits, and what the node keeps outlives its stop
 abbrev pub restarted : Runner → Acted
 restarted runner = record {
-  next = record { node = with_step runner.node (step_at runner.node (Restart 0)); sessions = []; streams = [] };
+  next = record { node = with_step runner.node (step_at runner.node (Restart 0)); sessions = []; streams = []; waiting = [] };
   inputs = Restart 0 ∷ [];
   prints = gone_prints runner.sessions;
 }
@@ -387,18 +406,19 @@ on_restart runner = if nat_lt runner.node.kept.incarnation last_incarnation then
 
 -- ---- settling
 
+-- a step of the node: its replies go out, and then its receipts
+abbrev pub reports_by : Runner → Node → Input → Stepped → Acted
+reports_by runner node input step =
+    followed_by (answered_by runner node input step) (posts (answered_by runner node input step).next step.outputs.receipts)
+
 -- a packet comes to the node, and these are still to come
 abbrev pub on_delivery : Runner → Packet → List Packet → Acted
 on_delivery runner packet others =
-    answered_by runner (awaiting runner.node others) (Delivery packet) (step_at (awaiting runner.node others) (Delivery packet))
+    reports_by runner (awaiting runner.node others) (Delivery packet) (step_at (awaiting runner.node others) (Delivery packet))
 
 -- how many packets a settle delivers at most (own)
 abbrev pub most_deliveries : ℕ
 most_deliveries = 100000
-
--- no packet is left
-abbrev pub rests : Runner → Acted
-rests runner = record { next = runner; inputs = []; prints = [] }
 
 abbrev pub unsettled : Runner → Acted
 unsettled runner = record { next = runner; inputs = []; prints = Unsettled ∷ [] }

@@ -10,7 +10,7 @@ use Rattle.script_text.specs.Runner.{Runner, Acted, on_grant, on_octets, on_rest
 
 -- what is there before the first line that says something: no session is connected
 abbrev pub opened : Settings → ℕ → Runner
-opened settings serial = record { node = node.opened settings.validity serial; sessions = []; streams = [] }
+opened settings serial = record { node = node.opened settings.validity serial; sessions = []; streams = []; waiting = [] }
 
 -- what is there before a line, and after it: nothing yet, or a runner
 abbrev pub Stage : Type 0
