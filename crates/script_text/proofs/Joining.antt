@@ -2,7 +2,7 @@
 use Rattle.std.specs.Prelude.{nat_lt, is_none}
 use Rattle.std.specs.Map.{remove_entry}
 use Rattle.std.specs.Ordering.{nat_cmp}
-use Rattle.std.specs.BTreeMap.{insert_entry, is_at}
+use Rattle.std.specs.BTreeMap.{is_at}
 use Rattle.std.proofs.Common.{◌≡◌, ℕ, zero, suc, Bool, true, false, cond, List, [], ◌∷◌, ◌++◌, Option, Some, None, Result, Ok, Err, refl, sym, ◌∙◌, ap, subst}
 use Rattle.script_lines.specs.Said.{Said, Skipped, Nodes, Octets, Tick, Grant, Settle, Restart, said_of}
 use Rattle.sessions.specs.Session.{Session}
@@ -37,7 +37,7 @@ use Rattle.script_text.specs.Node.{Node, awaiting, request_at, step_at, tick_at,
 use Rattle.script_text.specs.Prints.{Print}
 use Rattle.script_text.specs.Pushes.{accounts_up, overdue_in, session_at, target_in}
 use Rattle.script_text.specs.Attempts.{Went, all_given_up, concluded, delivered_so, given_up, rests_at, submission_at, unanswered, went}
-use Rattle.script_text.specs.Runner.{Runner, Acted, Served, Came, answered_by, came_by, declined, first_or, followed_by, gives_up, granted, granted_unless, held_in, holds, last_incarnation, makes_room, most_deliveries, no_incarnation, nothing_came, on_cut, on_delivery, on_done, on_frame, on_frames, on_grant, on_octets, on_reaction, on_read, on_request, on_rest, on_restart, on_settle, on_tick, opened_at, posts, posts_for, posts_for_all, pushes, restarted, rests, sent, sent_to, served_at, serves, session_in, settles, ticked, with_session}
+use Rattle.script_text.specs.Runner.{Runner, Acted, Served, Came, answered_by, came_by, declined, first_or, followed_by, gives_up, granted, granted_unless, held_in, holds, last_incarnation, makes_room, most_deliveries, no_incarnation, nothing_came, on_cut, on_delivery, on_done, on_frame, on_frames, on_grant, on_octets, on_reaction, on_read, on_request, on_rest, on_restart, on_settle, on_tick, opened_at, posts, posts_for, posts_for_all, pushes, put_at, restarted, rests, sent, sent_to, served_at, serves, session_in, settles, ticked, with_session}
 use Rattle.script_text.specs.Script.{Stage, Stepped, Joins, LineStep, after, bad_from, prints_from, step_by, step_of, stepped}
 use Rattle.script_text.specs.Laws.{GoesBy, kept_by}
 
@@ -151,7 +151,7 @@ served_node : (runner : Runner) (number : ℕ) (node : Node) (session : Session)
 served_node runner number node session = at_test (is_gone session.state)
   where
     at_test : (gone : Bool) → (cond {A = Runner} gone (record runner { node = node; sessions = remove_entry (is_at (nat_cmp number)) runner.sessions })
-        (record runner { node = node; sessions = insert_entry nat_cmp runner.sessions number session })).node ≡ node
+        (record runner { node = node; sessions = put_at runner.sessions number session })).node ≡ node
     at_test true = refl
     at_test false = refl
 

@@ -205,11 +205,15 @@ or_nothing (Some octets) = octets
 abbrev pub held_in : List (ℕ × List ℕ) → ℕ → List ℕ
 held_in streams number = or_nothing (lookup (is_at (nat_cmp number)) streams)
 
--- the session takes its place; one that is gone is connected no longer: what comes next under its number begins another
+-- the session of a number gives its place to this one
+abbrev pub put_at : List (ℕ × Session) → ℕ → Session → List (ℕ × Session)
+put_at connected number session = insert_entry nat_cmp (remove_entry (is_at (nat_cmp number)) connected) number session
+
+-- one that is gone is connected no longer: what comes next under its number begins another
 abbrev pub with_session : Runner → ℕ → Session → Runner
 with_session runner number session =
     if is_gone session.state then record runner { sessions = remove_entry (is_at (nat_cmp number)) runner.sessions }
-    else record runner { sessions = insert_entry nat_cmp runner.sessions number session }
+    else record runner { sessions = put_at runner.sessions number session }
 
 abbrev pub served_at : Runner → ℕ → Served → Acted
 served_at runner number served = record {
@@ -251,7 +255,7 @@ on_cut settings number runner stream = on_frames settings number runner stream.f
 -- the session is connected, and its stream is at hand
 abbrev pub opened_at : Runner → ℕ → Runner
 opened_at runner number = record runner {
-  sessions = insert_entry nat_cmp runner.sessions number (session_in runner.sessions number);
+  sessions = put_at runner.sessions number (session_in runner.sessions number);
   streams = remove_entry (is_at (nat_cmp number)) runner.streams;
 }
 
