@@ -236,11 +236,13 @@ on_frame settings number runner octets =
 abbrev pub holds : Runner → ℕ → List ℕ → Acted
 holds runner number held = rests (record runner { streams = insert_entry nat_cmp runner.streams number held })
 
--- Behind the last whole frame: a wrong length ends the session. Else the octets wait for more.
+-- a wrong length ends the session
+abbrev pub ends : Settings → ℕ → Runner → Acted
+ends settings number runner = serves runner number (on_done settings number runner.node nothing_came (on_wrong_length (session_in runner.sessions number)))
+
+-- Behind the last whole frame either a wrong length begins, or octets that wait for more.
 abbrev pub on_rest : Settings → ℕ → Runner → List ℕ → Acted
-on_rest settings number runner rest =
-    if begins_wrong rest then serves runner number (on_done settings number runner.node nothing_came (on_wrong_length (session_in runner.sessions number)))
-    else holds runner number rest
+on_rest settings number runner rest = if begins_wrong rest then ends settings number runner else holds runner number rest
 
 -- Each frame in its turn, and then what stands behind them. Where a frame ends the session, the octets behind it are dropped.
 unfoldable pub on_frames : Settings → ℕ → Runner → List (List ℕ) → List ℕ → Acted
