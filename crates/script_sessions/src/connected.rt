@@ -5,9 +5,14 @@ ghost use Rattle.std.specs.Option.{option_map};
 ghost use Rattle.std.specs.Ordering.{nat_cmp};
 ghost use Rattle.std.specs.Map.{remove_entry};
 ghost use Rattle.std.specs.BTreeMap.{is_at, insert_entry};
+ghost use Rattle.script_text.specs.Pushes.{accounts_up, overdue_in, timely_in};
 ghost use Rattle.script_text.specs.Runner.{owner_of, replied, session_in};
+ghost use Rattle.script_sessions.specs.Pushing.{IsPushed};
 
-use sessions::{OpenRequest, Session};
+use crate::{overdue, receiving};
+use mc_types::Moment;
+use pdu_codec::Text;
+use sessions::{Delivery, OpenRequest, Pushed, Session};
 use std::alloc::{AllocError, Global};
 use std::collections::BTreeMap;
 use std::marker::Model;
@@ -23,6 +28,15 @@ pub struct Connected {
 pub struct Owner {
     pub number: u8,
     pub request: OpenRequest,
+}
+
+/// Where a deliver_sm was pushed: the session, the sequence_number with which it is to be sent, and whether the ESME knows optional
+/// parameters.
+#[derive(Clone, Copy, Debug, PartialEq, Eq)]
+pub struct PushedOn {
+    pub number: u8,
+    pub sequence: u32,
+    pub knows_optional: bool,
 }
 
 impl Model for Connected {
@@ -82,6 +96,35 @@ impl Connected {
             let _ = session.on_reply(ticket);
         }
         Some(owner)
+    }
+
+    /// The account of each session that may receive, by the numbers of the sessions. An `Err` is want of memory.
+    pub fn accounts_up(&self, alloc: Global) -> Result<Vec<Text<16>>, AllocError>
+        ensures { IfOk result (λ up. up.items ≡ accounts_up self.now) }
+    {
+        receiving::accounts_up(alloc, &self.sessions)
+    }
+
+    /// Pushes a deliver_sm over the session with the lowest number that takes it for this account. `None` if none does; then nothing
+    /// changes. It takes no memory.
+    pub fn push(&mut self, target: &Text<16>, now: Moment, delivery: Delivery) -> Option<PushedOn>
+        ensures { IsPushed self.old target.now now delivery self.new result }
+    {
+        receiving::push(&mut self.sessions, target, now, delivery)
+    }
+
+    /// What was pushed and waits 30 seconds or more at this moment, by session. An `Err` is want of memory.
+    pub fn overdue(&self, alloc: Global, now: Moment) -> Result<Vec<Pushed>, AllocError>
+        ensures { IfOk result (λ overdue. overdue.items ≡ overdue_in self.now now) }
+    {
+        overdue::overdue(alloc, &self.sessions, now)
+    }
+
+    /// It leaves the windows of its sessions. It takes no memory.
+    pub fn let_go_overdue(&mut self, now: Moment)
+        ensures { self.new ≡ timely_in self.old now }
+    {
+        overdue::let_go_overdue(&mut self.sessions, now);
     }
 }
 

@@ -2,12 +2,16 @@
 #![tactic(auto)]
 
 mod connected;
+mod delivering;
 mod output;
+mod overdue;
+mod receiving;
 mod response;
 mod streams;
 
-pub use connected::{Connected, Owner};
+pub use connected::{Connected, Owner, PushedOn};
 pub use output::{
-    write_all_gone, write_declined, write_gone, write_outgoing, write_replies, write_unsettled,
+    write_all_gone, write_declined, write_delivery, write_gone, write_outgoing, write_replies,
+    write_ungranted, write_unsettled,
 };
 pub use streams::Streams;

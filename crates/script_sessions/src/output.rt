@@ -1,19 +1,25 @@
 //! The lines that are written.
 
-ghost use Rattle.std.specs.Prelude.{◌≡◌, ◌++◌, map, OnOk};
+ghost use Rattle.std.specs.Prelude.{◌≡◌, ◌++◌, map, Some, OnOk};
 ghost use Rattle.sessions.specs.Responses.{pdu_of};
-ghost use Rattle.script_text.specs.Prints.{declined_line, gone_line, octets_line, pdu_line, text_of_prints, unsettled_line};
+ghost use Rattle.mc_model.specs.message.Chain.{taken_in};
+ghost use Rattle.mc_model.specs.message.Submission.{Submission};
+ghost use Rattle.delivery.specs.Deliveries.{EndsInAttempt, delivery_of};
+ghost use Rattle.script_text.specs.Prints.{declined_line, gone_line, octets_line, pdu_line, text_of_prints, ungranted_line, unsettled_line};
+ghost use Rattle.script_text.specs.Pushes.{with_optional};
 ghost use Rattle.script_text.specs.Runner.{gone_prints, owner_of, replied, reply_prints, told};
 ghost use Rattle.requests.specs.Replying.{reply_given};
 ghost use Rattle.script_sessions.specs.Told.{AreTold};
 ghost use Rattle.hex.specs.Hex.{encode_lower};
 
-use crate::connected::Connected;
+use crate::connected::{Connected, PushedOn};
+use crate::delivering::delivery_pdu;
 use crate::response::reply_octets;
+use fate_chain::Chain;
 use itoa::Buffer;
 use pdu_codec::Text;
 use requests::Reply;
-use sessions::Outgoing;
+use sessions::{Outgoing, encoded};
 use std::alloc::{AllocError, Global};
 
 /// What of a line is no digit of an octet: the words, a session of three digits and the line feed.
@@ -66,6 +72,21 @@ fn write_reply(
     write_octets(text, owner.number, &octets)
 }
 
+/// Adds the line of the deliver_sm of the attempt in which a chain ends, on the session over which it is pushed.
+pub fn write_delivery(
+    alloc: Global,
+    text: &mut Vec<u8>,
+    pushed: PushedOn,
+    chain: &Chain,
+) -> Result<(), AllocError>
+    requires { EndsInAttempt chain.now.decrees }
+    ensures { OnOk result ((taken : Submission) → taken_in chain.now.decrees ≡ Some taken →
+        text.new.items ≡ text.old.items ++ pdu_line pushed.number (delivery_of pushed.sequence (with_optional pushed.knows_optional taken))) }
+{
+    let octets = encoded(alloc, delivery_pdu(alloc, pushed, chain)?)?;
+    write_octets(text, pushed.number, &octets)
+}
+
 /// Adds the line of a PDU of these octets. It makes room for the line once.
 fn write_octets(text: &mut Vec<u8>, session: u8, octets: &[u8]) -> Result<(), AllocError>
     ensures { OnOk result (text.new.items ≡ text.old.items ++ octets_line session octets.now) }
@@ -114,6 +135,16 @@ pub fn write_declined(text: &mut Vec<u8>, number: u8) -> Result<(), AllocError>
 {
     text.extend_from_slice(b"refused ")?;
     text.extend_from_slice(Buffer::new().format(number).as_bytes())?;
+    text.push(b'\n')?;
+    Ok(())
+}
+
+/// Adds the line that tells that an attempt is not granted, by the number of the reason.
+pub fn write_ungranted(text: &mut Vec<u8>, reason: u8) -> Result<(), AllocError>
+    ensures { OnOk result (text.new.items ≡ text.old.items ++ ungranted_line reason) }
+{
+    text.extend_from_slice(b"refused 3 ")?;
+    text.extend_from_slice(Buffer::new().format(reason).as_bytes())?;
     text.push(b'\n')?;
     Ok(())
 }
