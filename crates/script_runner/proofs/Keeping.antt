@@ -1,43 +1,108 @@
--- A session is taken out, served, and kept.
-use Rattle.std.proofs.Common.{◌≡◌, ℕ, Bool, true, false, List, ◌++◌, Result, Ok, Err, refl, sym, ap, ◌∙◌}
+-- A session is taken out, served, and put back, and what waits for its account goes out.
+use Rattle.std.proofs.Common.{◌≡◌, ℕ, Bool, true, false, cond, List, [], ◌++◌, length, Option, Some, None, Result, Ok, Err, refl, sym, ap, ◌∙◌, subst}
+use Rattle.std.proofs.lemmas.List.{append-nil}
 use Rattle.std.specs.declared.alloc.AllocError.{AllocError}
 use Rattle.std.specs.Prelude.{OnOk}
 use Rattle.std.specs.Ordering.{nat_cmp}
 use Rattle.std.specs.Map.{remove_entry}
-use Rattle.std.specs.BTreeMap.{is_at}
-use Rattle.pdu_frames.specs.Frames.{cut}
+use Rattle.std.specs.BTreeMap.{insert_entry, is_at}
+use Rattle.mc_model.specs.node.Outputs.{Receipt}
+use Rattle.pdu_codec.specs.Pdu.{read_pdu}
 use Rattle.sessions.specs.Session.{Session}
 use Rattle.sessions.specs.States.{is_gone}
+use Rattle.sessions.specs.Steps.{on_wrong_length}
 use Rattle.script_text.specs.Settings.{Settings}
 use Rattle.script_text.specs.Node.{Node}
 use Rattle.script_text.specs.Prints.{text_of_prints}
-use Rattle.script_text.specs.Runner.{Runner, Streamed, held_in, kept, on_cut, on_octets, session_in, without}
-use Rattle.script_runner.specs.Centre.{IsDone, IsStreamed, with_kept}
+use Rattle.script_text.specs.Receipts.{Mail, goes_out_up_to, posted_for_any, stays}
+use Rattle.script_text.specs.Runner.{Acted, Runner, Served, ends, mail_of, on_frame, on_read, posts_for, put_at, served_at, serves, session_in, with_posted, with_session}
+use Rattle.script_runner.specs.Centre.{IsDone, IsLeft, IsServed, keeps, put_back}
+use Rattle.script_runner.proofs.Serving.{left_served, served_by}
+use Rattle.script_runner.proofs.Settling.{in_turn}
 
--- what is kept is what serving left
-kept_so : (others : Runner) (number : ℕ) (streamed : Streamed) (node : Node) (session : Session) (rest : List ℕ)
-    → node ≡ streamed.served.node → session ≡ streamed.served.session → (is_gone session.state ≡ false → rest ≡ streamed.held)
-    → with_kept (record others { node = node }) number session rest ≡ kept others number streamed
-kept_so others number streamed node session rest nodes sessions held = rw (nodes) (by_state (is_gone session.state) refl)
+-- the runner without the session of a number, and with another node
+abbrev pub taken_out : Runner → ℕ → Node → Runner
+taken_out runner number node = record runner { node = node; sessions = remove_entry (is_at (nat_cmp number)) runner.sessions }
+
+put_back_so : (runner : Runner) (number : ℕ) (node : Node) (session : Session) → with_session (record runner { node = node }) number session ≡ put_back (taken_out runner number node) number session
+put_back_so runner number node session = by_test (is_gone session.state)
   where
-    by_state : (b : Bool) → is_gone session.state ≡ b → with_kept (record others { node = streamed.served.node }) number session rest ≡ kept others number streamed
-    by_state true e = rw (e, ap (λ (s : Session). is_gone s.state) (sym sessions) ∙ e) refl
-    by_state false e = rw (e, ap (λ (s : Session). is_gone s.state) (sym sessions) ∙ e, sessions, held e) refl
+    by_test : (gone : Bool) → cond {A = Runner} gone (taken_out runner number node) (record runner { node = node; sessions = put_at runner.sessions number session })
+        ≡ cond {A = Runner} gone (taken_out runner number node) (record runner { node = node; sessions = put_at runner.sessions number session })
+    by_test gone = refl
 
-pub octets_done : (settings : Settings) (old new : Runner) (number : ℕ) (octets before after : List ℕ) (node : Node) (remains : Session) (rest : List ℕ)
-    (sessions : List (ℕ × Session)) (streams : List (ℕ × List ℕ)) (session : Session) (held : List ℕ) (r : Result (Unit {0}) AllocError)
-    → session ≡ session_in old.sessions number → sessions ≡ remove_entry (is_at (nat_cmp number)) old.sessions
-    → held ≡ held_in old.streams number → streams ≡ remove_entry (is_at (nat_cmp number)) old.streams
-    → IsStreamed (on_cut settings number old.node session (cut (held ++ octets))) node remains rest before after
-    → OnOk r (new ≡ with_kept (record { node = node; sessions = sessions; streams = streams }) number remains rest)
-    → OnOk r (IsDone (on_octets settings old number octets) new before after)
-unfolding on_octets
-octets_done settings old new number octets before after node remains rest sessions streams session held (Err e) is left holds others served keeps = tt
-octets_done settings old new number octets before after node remains rest sessions streams session held (Ok u) is left holds others served keeps =
-    let here : on_cut settings number old.node session (cut (held ++ octets)) ≡ on_cut settings number old.node (session_in old.sessions number) (cut (held_in old.streams number ++ octets)) = rw (is, holds) refl in
+-- ---- a session is put back
+
+none_posted : (now : ℕ) (mail : Mail) (account : Option (List ℕ)) → mail.waiting ≡ [] → posted_for_any now mail account ≡ stays mail
+unfolding goes_out_up_to
+none_posted now mail None none = refl
+none_posted now mail (Some account) none = ap (λ (waiting : List Receipt). goes_out_up_to (length waiting) now account mail) none
+
+-- No receipt waits: nothing goes out.
+pub kept_idle_if : (r : Result (Unit {0}) AllocError) (runner left : Runner) (number : ℕ) (session : Session) (before : List ℕ)
+    → runner.waiting ≡ [] → OnOk r (left ≡ put_back runner number session) → OnOk r (IsDone (keeps runner number session) left before before)
+kept_idle_if (Err fault) runner left number session before none is = tt
+kept_idle_if (Ok done) runner left number session before none is =
+    let there = put_back runner number session in
+    let nothing : with_posted there (posted_for_any there.node.kept.clock (mail_of there) session.account) ≡ record { next = there; inputs = []; prints = [] } =
+    ap (with_posted there) (none_posted there.node.kept.clock (mail_of there) session.account (waits_still (is_gone session.state))) in
+    subst (λ (a : Acted). IsDone a left before before) (sym nothing) (record { next = is; text = sym (append-nil before) })
+  where
+    waits_still : (gone : Bool) → (cond {A = Runner} gone runner (record runner { sessions = insert_entry nat_cmp runner.sessions number session })).waiting ≡ []
+    waits_still true = none
+    waits_still false = none
+
+-- What waits for its account goes out.
+pub kept_posted_if : (r : Result (Unit {0}) AllocError) (runner there left : Runner) (number : ℕ) (session : Session) (account : Option (List ℕ)) (before after : List ℕ)
+    → account ≡ session.account → there ≡ put_back runner number session → OnOk r (IsDone (posts_for there account) left before after)
+    → OnOk r (IsDone (keeps runner number session) left before after)
+kept_posted_if (Err fault) runner there left number session account before after same is done = tt
+kept_posted_if (Ok fine) runner there left number session account before after same is done =
+    subst (λ (a : Acted). IsDone a left before after) (λ i. posts_for (is i) (same i)) done
+
+-- and if there is no account, nothing goes out
+pub kept_unbound : (runner there : Runner) (number : ℕ) (session : Session) (account : Option (List ℕ)) (before : List ℕ)
+    → account ≡ session.account → account ≡ None → there ≡ put_back runner number session → IsDone (keeps runner number session) there before before
+kept_unbound runner there number session account before same none is =
+    let nobody : posts_for (put_back runner number session) session.account ≡ posts_for (put_back runner number session) None = ap (posts_for (put_back runner number session)) (sym same ∙ none) in
+    subst (λ (a : Acted). IsDone a there before before) (sym nobody) (record { next = is; text = sym (append-nil before) })
+
+-- ---- a session is served
+
+-- It was served, and put back.
+served_then : (old left : Runner) (number : ℕ) (served : Served) (node : Node) (remains : Session) (before middle after : List ℕ)
+    → IsServed served node remains before middle → IsDone (keeps (taken_out old number node) number remains) left middle after → IsDone (serves old number served) left before after
+served_then old left number served node remains before middle after was kept =
+    let there : put_back (taken_out old number node) number remains ≡ (served_at old number served).next =
+    (λ i. put_back (taken_out old number (was.node i)) number (was.session i)) ∙ sym (put_back_so old number served.node served.session) in
+    let posts : keeps (taken_out old number node) number remains ≡ posts_for (served_at old number served).next served.session.account =
+    λ i. posts_for (there i) (was.session i).account in
+    let now = subst (λ (a : Acted). IsDone a left middle after) posts kept in
     record {
-      next = (rw (left, others) at keeps)
-          ∙ kept_so (without old number) number (on_cut settings number old.node session (cut (held ++ octets))) node remains rest served.served.node served.served.session served.held
-          ∙ ap (λ (streamed : Streamed). kept (without old number) number streamed) here;
-      text = served.served.text ∙ ap (λ (streamed : Streamed). before ++ text_of_prints streamed.served.prints) here;
+      next = now.next;
+      text = now.text ∙ ap (λ (t : List ℕ). t ++ text_of_prints (posts_for (served_at old number served).next served.session.account).prints) was.text
+          ∙ in_turn before served.prints (posts_for (served_at old number served).next served.session.account).prints;
     }
+
+-- The octets of one frame came.
+pub frame_done_if : (r : Result (Unit {0}) AllocError) (settings : Settings) (number : ℕ) (old left : Runner) (octets : List ℕ) (session : Session) (sessions : List (ℕ × Session)) (node : Node) (remains : Session) (before middle after : List ℕ)
+    → session ≡ session_in old.sessions number → sessions ≡ remove_entry (is_at (nat_cmp number)) old.sessions
+    → IsServed (served_by settings number old.node session octets) node remains before middle
+    → OnOk r (IsDone (keeps (record old { node = node; sessions = sessions }) number remains) left middle after) → OnOk r (IsDone (on_frame settings number old octets) left before after)
+unfolding on_frame
+frame_done_if (Err fault) settings number old left octets session sessions node remains before middle after is out was kept = tt
+frame_done_if (Ok done) settings number old left octets session sessions node remains before middle after is out was kept =
+    served_then old left number (served_by settings number old.node (session_in old.sessions number) octets) node remains before middle after
+    (subst (λ (s : Session). IsServed (served_by settings number old.node s octets) node remains before middle) is was)
+    (subst (λ (entries : List (ℕ × Session)). IsDone (keeps (record old { node = node; sessions = entries }) number remains) left middle after) out kept)
+
+-- A wrong length came.
+pub ended_done_if : (r : Result (Unit {0}) AllocError) (settings : Settings) (number : ℕ) (old left : Runner) (session : Session) (sessions : List (ℕ × Session)) (node : Node) (remains : Session) (before middle after : List ℕ)
+    → session ≡ session_in old.sessions number → sessions ≡ remove_entry (is_at (nat_cmp number)) old.sessions
+    → IsLeft settings number old.node (on_wrong_length session) node remains before middle
+    → OnOk r (IsDone (keeps (record old { node = node; sessions = sessions }) number remains) left middle after) → OnOk r (IsDone (ends settings number old) left before after)
+ended_done_if (Err fault) settings number old left session sessions node remains before middle after is out was kept = tt
+ended_done_if (Ok done) settings number old left session sessions node remains before middle after is out was kept =
+    let ended = subst (λ (s : Session). IsLeft settings number old.node (on_wrong_length s) node remains before middle) is was in
+    served_then old left number _ node remains before middle after (left_served settings number old.node node (on_wrong_length (session_in old.sessions number)) remains before middle ended)
+    (subst (λ (entries : List (ℕ × Session)). IsDone (keeps (record old { node = node; sessions = entries }) number remains) left middle after) out kept)

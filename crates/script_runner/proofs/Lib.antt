@@ -1,5 +1,8 @@
 pub mod Keeping
 pub mod Running
 pub mod Serving
+pub mod Streaming
 pub mod Settling
 pub mod Steps
+pub mod Ticking
+pub mod Granting

@@ -1,6 +1,6 @@
 -- What a line does, by what it says.
 use Rattle.std.proofs.Common.{◌≡◌, ◌↔◌, ℕ, true, List, Option, Some, None, refl, ap, ◌∙◌}
-use Rattle.script_lines.specs.Said.{Said, Skipped, Nodes, Octets, Tick, Settle, Restart, Spells, said_of}
+use Rattle.script_lines.specs.Said.{Said, Skipped, Nodes, Octets, Tick, Grant, Settle, Restart, Spells, said_of}
 use Rattle.script_text.specs.Settings.{Settings, script_settings}
 use Rattle.script_text.specs.Runner.{Runner}
 use Rattle.script_text.specs.Script.{Stage, opened, step_by, step_of}
@@ -21,6 +21,7 @@ number_fits spelled line Skipped e = tt
 number_fits spelled line (Nodes serial) e = let spells = (spelled line (Nodes serial)).0 e in (spells.wording.0, spells.wording.1)
 number_fits spelled line (Octets session octets) e = tt
 number_fits spelled line (Tick moment) e = ((spelled line (Tick moment)).0 e).wording.0
+number_fits spelled line (Grant id) e = tt
 number_fits spelled line Settle e = tt
 number_fits spelled line Restart e = tt
 

@@ -132,6 +132,13 @@ fn act(
                 Ok(true)
             }
         },
+        Line::Grant(id) => match stage {
+            None => Ok(false),
+            Some(centre) => {
+                centre.grant(alloc, id, text)?;
+                Ok(true)
+            }
+        },
         Line::Settle => match stage {
             None => Ok(false),
             Some(centre) => {

@@ -1,78 +1,46 @@
-//! Serving a session: what its octets do at the node, and what goes out.
+//! Serving a session: what one frame does at the node, and what goes out.
 
 ghost use Rattle.std.specs.Prelude.{◌≡◌, ◌++◌, None, option_map, IfOk, OnOk, IsErr};
-ghost use Rattle.pdu_frames.specs.Frames.{cut};
 ghost use Rattle.accounts.specs.Routes.{target_of};
+ghost use Rattle.pdu_codec.specs.Pdu.{read_pdu};
 ghost use Rattle.pdu_tables.specs.CommandCodes.{command_of};
 ghost use Rattle.pdu_tables.specs.StatusCodes.{status_code};
 ghost use Rattle.sessions.specs.Responses.{requested_by};
 ghost use Rattle.sessions.specs.Steps.{on_fault, on_pdu, on_wrong_length};
 ghost use Rattle.script_text.specs.Settings.{settings_of};
 ghost use Rattle.script_text.specs.Prints.{text_of_prints};
-ghost use Rattle.script_text.specs.Runner.{in_window, on_cut, on_done, on_frame, on_request, reaction_prints, refusal_prints, request_of};
-ghost use Rattle.script_runner.specs.Centre.{IsLeft, IsServed, IsStreamed};
+ghost use Rattle.script_text.specs.Runner.{came_by, in_window, on_done, on_read, on_request, refusal_prints, request_of};
+ghost use Rattle.script_runner.specs.Centre.{IsLeft, IsReacted, IsServed};
 ghost use Rattle.script_node.specs.Steps.{node_of};
 
 use accounts::Routes;
 use config::Config;
+use delivery::outcome_of;
 use desk::Request;
 use pdu_codec::{Body, Header, Pdu, PduFault, Text, decode, read_header};
-use pdu_frames::Framer;
 use pdu_tables::Status;
 use script_node::ScriptNode;
 use script_sessions::{write_gone, write_outgoing};
 use sessions::{OpenRequest, Outgoing, Reaction, Requested, Response, Session};
 use std::alloc::{AllocError, Global};
 
-/// The octets that a Framer of a session holds, and these behind them: each frame is served in its turn, until one ends the session.
-/// After an `Err`, which is want of memory, nothing is said.
-pub fn serve(
+/// A wrong length ends the session. After an `Err`, which is want of memory, nothing is said.
+pub fn wrong_length(
     alloc: Global,
     config: &Config,
     number: u8,
     node: &mut ScriptNode,
     session: &mut Session,
-    framer: &mut Framer,
-    octets: &[u8],
     text: &mut Vec<u8>,
 ) -> Result<(), AllocError>
-    ensures { OnOk result (IsStreamed (on_cut (settings_of config.now) number (node_of node.old) session.old (cut (framer.old ++ octets.now))) (node_of node.new) session.new framer.new text.old.items text.new.items) }
-{
-    let mut rest = octets;
-    loop {
-        let taken = match framer.feed(rest) {
-            Ok(count) => count,
-            Err(_) => return wrong_length(alloc, config, number, session, text),
-        };
-        rest = &rest[taken..];
-        match framer.frame() {
-            Ok(Some(frame)) => serve_frame(alloc, config, number, node, session, frame, text)?,
-            Ok(None) => return Ok(()),
-            Err(_) => return wrong_length(alloc, config, number, session, text),
-        }
-        if session.state().is_gone() {
-            return Ok(());
-        }
-        framer.let_go();
-    }
-}
-
-/// A wrong length ends the session.
-fn wrong_length(
-    alloc: Global,
-    config: &Config,
-    number: u8,
-    session: &mut Session,
-    text: &mut Vec<u8>,
-) -> Result<(), AllocError>
-    ensures { OnOk result (IsLeft (settings_of config.now) number (on_wrong_length session.old) session.new text.old.items text.new.items) }
+    ensures { OnOk result (IsLeft (settings_of config.now) number (node_of node.old) (on_wrong_length session.old) (node_of node.new) session.new text.old.items text.new.items) }
 {
     let reaction = session.on_wrong_length();
-    write_reaction(alloc, config, number, reaction, text)
+    react(alloc, config, number, node, reaction, text)
 }
 
-/// The octets of one frame came on a session.
-fn serve_frame(
+/// The octets of one frame came on a session. After an `Err`, which is want of memory, nothing is said.
+pub fn serve_frame(
     alloc: Global,
     config: &Config,
     number: u8,
@@ -81,14 +49,14 @@ fn serve_frame(
     octets: &[u8],
     text: &mut Vec<u8>,
 ) -> Result<(), AllocError>
-    ensures { OnOk result (IsServed (on_frame (settings_of config.now) number (node_of node.old) session.old octets.now) (node_of node.new) session.new text.old.items text.new.items) }
+    ensures { OnOk result (IsServed (on_read (settings_of config.now) number (node_of node.old) session.old octets.now (read_pdu octets.now)) (node_of node.new) session.new text.old.items text.new.items) }
 {
     let Some(header) = read_header(octets) else {
-        return wrong_length(alloc, config, number, session, text);
+        return wrong_length(alloc, config, number, node, session, text);
     };
     match decode(alloc, octets) {
         Ok(pdu) => serve_pdu(alloc, config, number, node, session, pdu, text),
-        Err(fault) => serve_fault(alloc, config, number, session, header, fault, text),
+        Err(fault) => serve_fault(alloc, config, number, node, session, header, fault, text),
     }
 }
 
@@ -97,19 +65,20 @@ fn serve_fault(
     alloc: Global,
     config: &Config,
     number: u8,
+    node: &mut ScriptNode,
     session: &mut Session,
     header: Header,
     fault: PduFault,
     text: &mut Vec<u8>,
 ) -> Result<(), AllocError>
-    ensures done { OnOk result (IsLeft (settings_of config.now) number (on_fault session.old fault (requested_by (command_of header.command)) header.sequence) session.new text.old.items text.new.items) }
+    ensures done { OnOk result (IsLeft (settings_of config.now) number (node_of node.old) (on_fault session.old fault (requested_by (command_of header.command)) header.sequence) (node_of node.new) session.new text.old.items text.new.items) }
     ensures memory { fault ≡ PduFault.Memory → IsErr result }
 {
     if let PduFault::Memory = fault {
         return Err(AllocError);
     }
     let reaction = session.on_fault(header, fault);
-    write_reaction(alloc, config, number, reaction, text)
+    react(alloc, config, number, node, reaction, text)
 }
 
 /// A PDU came on a session.
@@ -122,7 +91,7 @@ fn serve_pdu(
     pdu: Pdu,
     text: &mut Vec<u8>,
 ) -> Result<(), AllocError>
-    ensures { OnOk result (IsServed (on_done (settings_of config.now) number (node_of node.old) pdu.sequence (request_of (settings_of config.now) pdu.body) (on_pdu config.now.accounts session.old pdu)) (node_of node.new) session.new text.old.items text.new.items) }
+    ensures { OnOk result (IsServed (on_done (settings_of config.now) number (node_of node.old) (came_by (settings_of config.now) pdu) (on_pdu config.now.accounts session.old pdu)) (node_of node.new) session.new text.old.items text.new.items) }
 {
     let sequence = pdu.sequence;
     let Ok(reaction) = session.on_pdu(&config.accounts, &pdu) else {
@@ -135,9 +104,14 @@ fn serve_pdu(
                 alloc, config, number, node, session, requested, sequence, pdu.body, text,
             )
         }
+        Reaction::Answered(pushed, _) => {
+            let outcome = outcome_of(pushed.sequence, &pdu);
+            drop(pdu);
+            node.conclude_by(pushed.delivery, outcome)
+        }
         other => {
             drop(pdu);
-            write_reaction(alloc, config, number, other, text)
+            react(alloc, config, number, node, other, text)
         }
     }
 }
@@ -245,21 +219,24 @@ fn target(routes: &Routes, destination: &[u8]) -> Result<Option<Text<16>>, Alloc
     }
 }
 
-/// Adds the lines of what goes out by a reaction that is no request for the node.
-fn write_reaction(
+/// Adds the lines of what goes out by a reaction that is neither a request for the node nor an answer to it. What was open on a session
+/// that goes is given up.
+fn react(
     alloc: Global,
     config: &Config,
     number: u8,
+    node: &mut ScriptNode,
     reaction: Reaction,
     text: &mut Vec<u8>,
 ) -> Result<(), AllocError>
-    ensures { OnOk result (text.new.items ≡ text.old.items ++ text_of_prints (reaction_prints (settings_of config.now) number reaction)) }
+    ensures { OnOk result (IsReacted (settings_of config.now) number (node_of node.old) reaction (node_of node.new) text.old.items text.new.items) }
 {
     match reaction {
         Reaction::Respond(outgoing) => {
             write_outgoing(alloc, text, number, &config.system_id, outgoing)
         }
-        Reaction::Leave(outgoing, _) => {
+        Reaction::Leave(outgoing, abandoned) => {
+            node.give_up(abandoned.as_slice())?;
             write_outgoing(alloc, text, number, &config.system_id, outgoing)?;
             write_gone(text, number)
         }

@@ -5,3 +5,6 @@ pub mod Overdues
 pub mod Owners
 pub mod Receivers
 pub mod Telling
+pub mod Reporting
+pub mod Queued
+pub mod Going

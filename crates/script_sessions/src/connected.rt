@@ -1,11 +1,11 @@
 //! The sessions that are connected.
 
-ghost use Rattle.std.specs.Prelude.{◌≡◌, ◌==◌, [], find, IfOk, OnOk};
+ghost use Rattle.std.specs.Prelude.{◌≡◌, ◌==◌, [], find, is_some, IfOk, OnOk};
 ghost use Rattle.std.specs.Option.{option_map};
 ghost use Rattle.std.specs.Ordering.{nat_cmp};
 ghost use Rattle.std.specs.Map.{remove_entry};
 ghost use Rattle.std.specs.BTreeMap.{is_at, insert_entry};
-ghost use Rattle.script_text.specs.Pushes.{accounts_up, overdue_in, timely_in};
+ghost use Rattle.script_text.specs.Pushes.{accounts_up, overdue_in, session_at, timely_in};
 ghost use Rattle.script_text.specs.Runner.{owner_of, replied, session_in};
 ghost use Rattle.script_sessions.specs.Pushing.{IsPushed};
 
@@ -69,6 +69,13 @@ impl Connected {
             Some(session) => Ok(session),
             None => Session::make(alloc),
         }
+    }
+
+    /// Whether the session of a number is connected.
+    pub fn has(&self, number: u8) -> bool
+        ensures { result ≡ is_some (session_at self.now number) }
+    {
+        self.sessions.contains_key(&number)
     }
 
     /// The sessions, by their numbers.

@@ -1,15 +1,19 @@
-//! The deliver_sm of an attempt, as the ESME is to get it.
+//! The deliver_sm of an attempt and of a receipt, as the ESME is to get it.
 
-ghost use Rattle.std.specs.Prelude.{◌≡◌, ℕ, false, Some, IfOk};
+ghost use Rattle.std.specs.Prelude.{◌≡◌, true, Some, option_map, IfOk};
 ghost use Rattle.mc_model.specs.message.Chain.{taken_in};
 ghost use Rattle.mc_model.specs.message.Submission.{Submission};
-ghost use Rattle.delivery.specs.Deliveries.{EndsInAttempt, delivery_of};
-ghost use Rattle.script_text.specs.Pushes.{with_optional};
+ghost use Rattle.delivery.specs.Deliveries.{EndsInAttempt, delivered_message};
+ghost use Rattle.pdu_bodies.specs.declared.pdu.Message.{Message as Carried};
+ghost use Rattle.script_text.specs.Prints.{report_pdu};
+ghost use Rattle.script_text.specs.Pushes.{deliver_sm};
+ghost use Rattle.script_text.specs.Receipts.{reported_on};
 
 use crate::connected::PushedOn;
 use delivery::{DeliverFault, deliver_pdu};
 use fate_chain::Chain;
 use pdu_codec::{Body, Message, Pdu, Tlvs};
+use receipts::{ReceiptFault, receipt_pdu};
 use std::alloc::{AllocError, Global};
 
 /// The deliver_sm of the attempt in which a chain ends, for the session over which it is pushed. An `Err` is want of memory.
@@ -20,24 +24,38 @@ pub(crate) fn delivery_pdu(
 ) -> Result<Pdu, AllocError>
     requires { EndsInAttempt chain.now.decrees }
     ensures { IfOk result (λ pdu. (taken : Submission) → taken_in chain.now.decrees ≡ Some taken →
-        pdu ≡ delivery_of pushed.sequence (with_optional pushed.knows_optional taken)) }
+        pdu ≡ deliver_sm pushed.sequence pushed.knows_optional (delivered_message taken)) }
 {
     match deliver_pdu(alloc, chain, pushed.sequence) {
-        Ok(pdu) => {
-            if pushed.knows_optional {
-                return Ok(pdu);
-            }
-            Ok(without_optional(alloc, pdu))
-        }
+        Ok(pdu) => Ok(fitted(alloc, pushed, pdu)),
         Err(DeliverFault::Memory) => Err(AllocError),
         Err(DeliverFault::NoAttempt) => unreachable!(),
     }
 }
 
-/// The same deliver_sm without its optional parameters.
-fn without_optional(alloc: Global, pdu: Pdu) -> Pdu
-    ensures { (sequence : ℕ) (taken : Submission) → pdu ≡ delivery_of sequence taken → result ≡ delivery_of sequence (with_optional false taken) }
+/// The deliver_sm of the receipt by a chain, for the session over which it is pushed; none if the chain does not end in a fate, or if no
+/// receipt of it was asked. An `Err` is want of memory.
+pub(crate) fn receipt_for(
+    alloc: Global,
+    pushed: PushedOn,
+    chain: &Chain,
+) -> Result<Option<Pdu>, AllocError>
+    ensures { IfOk result (λ pdu. pdu ≡ option_map (report_pdu pushed.sequence pushed.knows_optional) (reported_on chain.now.id chain.now.decrees)) }
 {
+    match receipt_pdu(alloc, chain, pushed.sequence) {
+        Ok(pdu) => Ok(Some(fitted(alloc, pushed, pdu))),
+        Err(ReceiptFault::Memory) => Err(AllocError),
+        Err(ReceiptFault::NoFate | ReceiptFault::NotAsked) => Ok(None),
+    }
+}
+
+/// A deliver_sm as an ESME is to get it: without its optional parameters, if the ESME knows none.
+fn fitted(alloc: Global, pushed: PushedOn, pdu: Pdu) -> Pdu
+    ensures { (message : Carried) → pdu ≡ deliver_sm pushed.sequence true message → result ≡ deliver_sm pushed.sequence pushed.knows_optional message }
+{
+    if pushed.knows_optional {
+        return pdu;
+    }
     let Pdu {
         status,
         sequence,

@@ -5,13 +5,17 @@ mod connected;
 mod delivering;
 mod output;
 mod overdue;
+mod posting;
 mod receiving;
 mod response;
 mod streams;
+mod waiting;
 
 pub use connected::{Connected, Owner, PushedOn};
 pub use output::{
     write_all_gone, write_declined, write_delivery, write_gone, write_outgoing, write_replies,
     write_ungranted, write_unsettled,
 };
+pub use posting::{post_all, post_for, post_for_all};
 pub use streams::Streams;
+pub use waiting::Waiting;

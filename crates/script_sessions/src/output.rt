@@ -4,16 +4,18 @@ ghost use Rattle.std.specs.Prelude.{◌≡◌, ◌++◌, map, Some, OnOk};
 ghost use Rattle.sessions.specs.Responses.{pdu_of};
 ghost use Rattle.mc_model.specs.message.Chain.{taken_in};
 ghost use Rattle.mc_model.specs.message.Submission.{Submission};
-ghost use Rattle.delivery.specs.Deliveries.{EndsInAttempt, delivery_of};
+ghost use Rattle.delivery.specs.Deliveries.{EndsInAttempt, delivered_message};
 ghost use Rattle.script_text.specs.Prints.{declined_line, gone_line, octets_line, pdu_line, text_of_prints, ungranted_line, unsettled_line};
-ghost use Rattle.script_text.specs.Pushes.{with_optional};
+ghost use Rattle.script_text.specs.Pushes.{deliver_sm};
+ghost use Rattle.script_text.specs.Receipts.{reported_on};
+ghost use Rattle.script_sessions.specs.Posting.{report_prints};
 ghost use Rattle.script_text.specs.Runner.{gone_prints, owner_of, replied, reply_prints, told};
 ghost use Rattle.requests.specs.Replying.{reply_given};
 ghost use Rattle.script_sessions.specs.Told.{AreTold};
 ghost use Rattle.hex.specs.Hex.{encode_lower};
 
 use crate::connected::{Connected, PushedOn};
-use crate::delivering::delivery_pdu;
+use crate::delivering::{delivery_pdu, receipt_for};
 use crate::response::reply_octets;
 use fate_chain::Chain;
 use itoa::Buffer;
@@ -81,7 +83,7 @@ pub fn write_delivery(
 ) -> Result<(), AllocError>
     requires { EndsInAttempt chain.now.decrees }
     ensures { OnOk result ((taken : Submission) → taken_in chain.now.decrees ≡ Some taken →
-        text.new.items ≡ text.old.items ++ pdu_line pushed.number (delivery_of pushed.sequence (with_optional pushed.knows_optional taken))) }
+        text.new.items ≡ text.old.items ++ pdu_line pushed.number (deliver_sm pushed.sequence pushed.knows_optional (delivered_message taken))) }
 {
     let octets = encoded(alloc, delivery_pdu(alloc, pushed, chain)?)?;
     write_octets(text, pushed.number, &octets)
@@ -137,6 +139,22 @@ pub fn write_declined(text: &mut Vec<u8>, number: u8) -> Result<(), AllocError>
     text.extend_from_slice(Buffer::new().format(number).as_bytes())?;
     text.push(b'\n')?;
     Ok(())
+}
+
+/// Adds the line of the deliver_sm of the receipt by a chain, on the session over which it is pushed; nothing if there is no such receipt.
+pub(crate) fn write_receipt(
+    alloc: Global,
+    text: &mut Vec<u8>,
+    pushed: PushedOn,
+    chain: &Chain,
+) -> Result<(), AllocError>
+    ensures { OnOk result (text.new.items ≡ text.old.items ++ text_of_prints (report_prints pushed (reported_on chain.now.id chain.now.decrees))) }
+{
+    let Some(pdu) = receipt_for(alloc, pushed, chain)? else {
+        return Ok(());
+    };
+    let octets = encoded(alloc, pdu)?;
+    write_octets(text, pushed.number, &octets)
 }
 
 /// Adds the line that tells that an attempt is not granted, by the number of the reason.

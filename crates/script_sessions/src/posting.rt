@@ -1,0 +1,95 @@
+//! Receipts go out.
+
+ghost use Rattle.std.specs.Prelude.{◌≡◌, length, map, OnOk};
+ghost use Rattle.script_text.specs.Receipts.{all_posted, goes_out_up_to, posted, posted_for, posted_for_all};
+ghost use Rattle.script_sessions.specs.Posting.{IsPosted, mail, receipt_by};
+
+use crate::connected::Connected;
+use crate::output::write_receipt;
+use crate::waiting::Waiting;
+use fate_chain::Chain;
+use mc_types::Moment;
+use pdu_codec::Text;
+use sessions::Delivery;
+use std::alloc::{AllocError, Global};
+
+/// Adds the lines of the receipts that wait for an account and go out now, the oldest first, as far as its sessions take them.
+pub fn post_for(
+    alloc: Global,
+    text: &mut Vec<u8>,
+    connected: &mut Connected,
+    waiting: &mut Waiting,
+    now: Moment,
+    account: &Text<16>,
+) -> Result<(), AllocError>
+    ensures { OnOk result (IsPosted (posted_for now (mail connected.old waiting.old) account.now) connected.new waiting.new text.old.items text.new.items) }
+{
+    'receipts: loop {
+        let Some(id) = waiting.first_for(account) else {
+            return Ok(());
+        };
+        let Some(pushed) = connected.push(account, now, Delivery::Receipt(id)) else {
+            return Ok(());
+        };
+        let Some(chain) = waiting.take_for(account) else {
+            unreachable!();
+        };
+        write_receipt(alloc, text, pushed, &chain)?;
+    }
+}
+
+/// Adds the lines of the receipts that wait for these accounts and go out now, for one account after the other.
+pub fn post_for_all(
+    alloc: Global,
+    text: &mut Vec<u8>,
+    connected: &mut Connected,
+    waiting: &mut Waiting,
+    now: Moment,
+    accounts: &[Text<16>],
+) -> Result<(), AllocError>
+    ensures { OnOk result (IsPosted (posted_for_all now (mail connected.old waiting.old) accounts.now) connected.new waiting.new text.old.items text.new.items) }
+{
+    for account in accounts {
+        post_for(alloc, text, connected, waiting, now, account)?;
+    }
+    Ok(())
+}
+
+/// Receipts are due, by the chains of their messages: adds the lines of those that go out now, one after the other; the others wait.
+pub fn post_all(
+    alloc: Global,
+    text: &mut Vec<u8>,
+    connected: &mut Connected,
+    waiting: &mut Waiting,
+    now: Moment,
+    chains: Vec<Chain>,
+) -> Result<(), AllocError>
+    ensures { OnOk result (IsPosted (all_posted now (mail connected.old waiting.old) (map receipt_by chains.items)) connected.new waiting.new text.old.items text.new.items) }
+{
+    for chain in chains {
+        post(alloc, text, connected, waiting, now, chain)?;
+    }
+    Ok(())
+}
+
+/// A receipt is due: it waits for its account, and goes out if it can.
+fn post(
+    alloc: Global,
+    text: &mut Vec<u8>,
+    connected: &mut Connected,
+    waiting: &mut Waiting,
+    now: Moment,
+    chain: Chain,
+) -> Result<(), AllocError>
+    ensures { OnOk result (IsPosted (posted now (mail connected.old waiting.old) (receipt_by chain)) connected.new waiting.new text.old.items text.new.items) }
+{
+    let account = match chain.submission().submitter.copy() {
+        Ok(account) => account,
+        Err(fault) => {
+            drop(chain);
+            return Err(fault);
+        }
+    };
+    waiting.add(&account, chain)?;
+    post_for(alloc, text, connected, waiting, now, &account)
+}
