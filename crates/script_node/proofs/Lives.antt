@@ -16,10 +16,13 @@ use Rattle.node_core.specs.Keeping.{kept_of}
 use Rattle.node_core.specs.Nodes.{HasOpened, IsLifeOf, Standing}
 use Rattle.node_core.specs.Restarts.{ListsRecorded, OpensAsRestarted, next_life}
 use Rattle.node_core.specs.declared.life.Life.{Life}
-use Rattle.script_text.specs.Node.{alone, opened}
+use Rattle.script_text.specs.Node.{Node, alone, opened}
 use Rattle.script_text.specs.Runner.{last_incarnation}
 use Rattle.script_node.specs.Lives.{IsNew, Restarts, RestartsIf, StartsAnew, StartsIf}
-use Rattle.script_node.proofs.Stepping.{node_with}
+
+-- the node of a script by what a node of the code keeps, and the packets that are still to come
+abbrev pub node_with : {S : Type 0} → Standing S → List Packet → Node
+node_with n packets = record { setup = n.kept.setup; kept = kept_of n.kept; packets = map packet_of packets }
 
 -- ---- a new store
 

@@ -1,9 +1,15 @@
 -- Steps of the code's node, in the words of the text of a script.
-use Rattle.std.specs.Prelude.{◌≡◌, List, [], ◌∷◌, map, Option, Some, None, option_map}
+use Rattle.std.specs.Prelude.{◌≡◌, ℕ, List, [], ◌∷◌, map, Option, Some, None, option_map}
 use Rattle.std.specs.Global.{Vec}
-use Rattle.mc_model.specs.synod.Packet.{Packet}
-use Rattle.mc_model.specs.node.Input.{Delivery}
+use Rattle.mc_model.specs.message.Chain.{Chain}
+use Rattle.mc_model.specs.synod.Packet.{Packet, slot_of}
+use Rattle.mc_model.specs.node.Grant.{GrantRefusal, refusal_number}
+use Rattle.mc_model.specs.node.Input.{Delivery, Grant}
+use Rattle.node_model.specs.Attempts.{grant_refusal}
+use Rattle.node_model.specs.Granted.{known_slot}
+use Rattle.node_model.specs.Kept.{message_at}
 use Rattle.node_model.specs.Outputs.{Stepped}
+use Rattle.delivery.specs.Deliveries.{EndsInAttempt}
 use Rattle.pdu_tables.specs.StatusCodes.{status_code}
 use Rattle.requests.specs.Replying.{reply_given}
 use Rattle.requests.specs.declared.answer.Reply.{Reply}
@@ -11,6 +17,8 @@ use Rattle.script_text.specs.Node.{Node, awaiting, step_at, with_step}
 use Rattle.node_core.specs.Keeping.{kept_of}
 use Rattle.synod_acceptor.specs.Packets.{packet_of}
 use Rattle.script_node.specs.declared.node.Answers.{Answers}
+use Rattle.script_node.specs.declared.node.Granting.{Granting}
+use Rattle.script_node.specs.declared.node.Granting.TheVariants as grantings
 use Rattle.script_node.specs.declared.node.ScriptNode.{ScriptNode}
 
 -- what it keeps, and the packets that are still to come
@@ -39,3 +47,25 @@ pub record HasCome (before : Node) (replies : Vec Reply) (after : Node) : Type 0
 abbrev pub IsDelivered : Node → Option (Vec Reply) → Node → Type 0
 IsDelivered before None after = (before.packets ≡ []) × (after ≡ before)
 IsDelivered before (Some replies) after = HasCome before replies after
+
+-- ---- an attempt that is asked for
+
+-- The attempt of a message is granted: it is that in which the chain ends that is known of it.
+pub record GrantsChain (before : Node) (id : ℕ) (chain : Chain) (after : Node) : Type 0 where
+  pub allowed : grant_refusal before.setup before.kept id ≡ None
+  pub node : after ≡ with_step before (step_at before (Grant (known_slot before.kept id)))
+  pub about : chain.id ≡ id
+  pub known : (message_at before.kept id).known ≡ Some chain.decrees
+  pub ends : EndsInAttempt chain.decrees
+  pub slot : slot_of id chain.decrees ≡ known_slot before.kept id
+
+-- It is not granted, for the reason with this number, and nothing changed.
+pub record RefusesGrant (before : Node) (id number : ℕ) (after : Node) : Type 0 where
+  pub refusal : GrantRefusal
+  pub reason : grant_refusal before.setup before.kept id ≡ Some refusal
+  pub told : number ≡ refusal_number refusal
+  pub same : after ≡ before
+
+abbrev pub HasGranted : Node → ℕ → Granting → Node → Type 0
+HasGranted before id (grantings.Granted chain) after = GrantsChain before id chain after
+HasGranted before id (grantings.Refused number) after = RefusesGrant before id number after

@@ -1,10 +1,11 @@
 //! A node from one incarnation to the next.
 
-ghost use Rattle.std.specs.Prelude.{◌≡◌, IfOk};
+ghost use Rattle.std.specs.Prelude.{◌≡◌, IfErr, IfOk};
 ghost use Rattle.node_core.specs.Nodes.{HasTaken};
-ghost use Rattle.script_node.specs.Lives.{IsNew, StartsAnew};
+ghost use Rattle.script_node.specs.Lives.{IsNew, IsUntaken, StartsAnew};
 
-use node_core::{Input, Life, Node, Outputs, Setup, open_node, opens_as_restarted};
+use mc_types::Moment;
+use node_core::{Input, Life, Node, Outputs, Setup, StepFault, open_node, opens_as_restarted};
 use stable_store::ListStore;
 use std::alloc::{AllocError, Global};
 use std::marker::Model;
@@ -48,18 +49,29 @@ impl LiveNode {
         })
     }
 
-    /// Takes the step of an input: what it gives out. After an `Err`, which is want of memory, nothing is said of the node.
-    pub fn step(&mut self, input: Input) -> Result<Outputs, AllocError>
-        ensures { IfOk result (HasTaken self.old input self.new) }
+    /// Takes the step of an input: what it gives out. Grant, with the first reason that fits, if the attempt that is asked for is not
+    /// granted, and NotGranted if what came of an attempt comes that is not open; then nothing changes. Any other `Err` is Memory, which is
+    /// want of memory, also of a step before; then nothing is said of the node.
+    pub fn take(&mut self, input: Input) -> Result<Outputs, StepFault>
+        ensures taken { IfOk result (HasTaken self.old input self.new) }
+        ensures untaken { IfErr result (IsUntaken self.old input self.new) }
     {
-        let Ok(pending) = self.node.prepare_step(input) else {
-            return Err(AllocError);
-        };
+        if self.failed {
+            return Err(StepFault::Memory);
+        }
+        let pending = self.node.prepare_step(input)?;
         let Ok(outputs) = self.node.commit(pending) else {
             self.failed = true;
-            return Err(AllocError);
+            return Err(StepFault::Memory);
         };
         Ok(outputs)
+    }
+
+    /// The node's clock.
+    pub fn clock(&self) -> Moment
+        ensures { result ≡ self.now.kept.clock }
+    {
+        self.node.clock()
     }
 
     /// Starts the node anew, in its next incarnation, with what its store has and nothing else; `false`, and nothing changed, if there is no
