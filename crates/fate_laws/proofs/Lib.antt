@@ -5,8 +5,12 @@ pub mod Stepping
 pub mod Since
 pub mod Decided
 pub mod Replying
+pub mod Reporting
 pub mod Sound
 pub mod Concluding
 pub mod Telling
 pub mod Serving
+pub mod InOrder
+pub mod Posting
+pub mod Acting
 pub mod Printing

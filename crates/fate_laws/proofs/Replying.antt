@@ -64,7 +64,7 @@ module _ (node : ℕ) (w : World) (h : Holds w) (ticket id : ℕ) (answer : Answ
 
 -- ---- the replies of acts
 
-holds_then : (node : ℕ) (w : World) → Holds w → (acts : List Act) → IsRun w (by_node node acts) → Holds (reached w (by_node node acts))
+pub holds_then : (node : ℕ) (w : World) → Holds w → (acts : List Act) → IsRun w (by_node node acts) → Holds (reached w (by_node node acts))
 holds_then node w h [] run = h
 holds_then node w h (newest ∷ older) run = holds_after (reached w (by_node node older)) (holds_then node w h older run.1) node newest run.0
 

@@ -1,15 +1,12 @@
--- What is done with the octets that come on a session: the node goes on, and what is printed at once tells nothing of a fate.
-use Rattle.std.proofs.Common.{◌≡◌, ℕ, Bool, true, false, cond, List, [], ◌∷◌, ◌++◌, Option, Some, None, Result, Ok, Err, refl, sym, subst}
+-- What is done with a frame that comes on a session: the node goes on, and what is printed at once tells nothing of a fate.
+use Rattle.std.proofs.Common.{ℕ, List, [], Option, Some, None, Result, Ok, Err}
 use Rattle.std.specs.List.{AllByRecursion}
 use Rattle.mc_model.specs.cluster.World.{World}
 use Rattle.pdu_tables.specs.CommandCodes.{command_of}
 use Rattle.pdu_codec.specs.Grammar.{word_at}
-use Rattle.pdu_codec.specs.Pdu.{read_pdu}
 use Rattle.pdu_fields.specs.declared.fault.PduFault.{PduFault}
 use Rattle.pdu_bodies.specs.declared.pdu.Pdu.{Pdu}
-use Rattle.pdu_frames.specs.Frames.{Cut, cut, begins_wrong}
 use Rattle.sessions.specs.Session.{Session}
-use Rattle.sessions.specs.States.{is_gone}
 use Rattle.sessions.specs.Responses.{requested_by}
 use Rattle.sessions.specs.Steps.{Done, on_fault, on_pdu, on_wrong_length}
 use Rattle.sessions.specs.declared.reaction.Reaction.{Reaction}
@@ -19,24 +16,20 @@ use Rattle.desk.specs.declared.request.Request.{Request}
 use Rattle.script_text.specs.Settings.{Settings}
 use Rattle.script_text.specs.Node.{Node, request_at, step_at}
 use Rattle.script_text.specs.Prints.{Print}
-use Rattle.script_text.specs.Runner.{Came, Runner, Served, Streamed, behind, came_by, held_in, holding, kept, nothing_came, on_cut, on_done, on_frame, on_frames, on_octets, on_read, on_reaction, on_request, on_rest, refusal_prints, session_in, unasked, without}
-use Rattle.fate_laws.proofs.Sound.{IsSound, Leads, leads_still, leads_then, request_leads, world_of}
+use Rattle.script_text.specs.Runner.{Came, Served, came_by, nothing_came, on_done, on_read, on_reaction, on_request, refusal_prints, unasked}
+use Rattle.fate_laws.proofs.Sound.{IsSound, Leads, leads_still, request_leads, world_of}
 use Rattle.fate_laws.proofs.Concluding.{IsPossible, all_lead, delivered_leads, told_possible}
 use Rattle.fate_laws.proofs.Telling.{IsMute, gone_is_mute, refusal_is_mute, response_is_mute}
 
 abbrev pub AreMute : List Print → Type 0
 AreMute prints = AllByRecursion IsMute prints
 
-all_mute : (prints others : List Print) → AreMute prints → AreMute others → AreMute (prints ++ others)
-all_mute [] others mute more = more
-all_mute (print ∷ prints) others mute more = (mute.0, all_mute prints others mute.1 more)
-
 -- the node goes on, and these prints tell nothing of a fate
 pub record GoesOnMute (first : World) (last : Node) (prints : List Print) : Type 0 where
   pub leads : Leads first last
   pub mute : AreMute prints
 
-abbrev IsServed : World → Served → Type 0
+abbrev pub IsServed : World → Served → Type 0
 IsServed first served = GoesOnMute first served.node served.prints
 
 nothing_asked : (node : Node) (session : Session) (prints : List Print) (sound : IsSound node) → AreMute prints →
@@ -83,7 +76,7 @@ done_served : (settings : Settings) (number : ℕ) (node : Node) (came : Came) (
     IsServed (world_of node sound) (on_done settings number node came done)
 done_served settings number node came done possible sound = reaction_served settings number node came done.next done.reaction possible sound
 
-read_served : (settings : Settings) (number : ℕ) (node : Node) (session : Session) (octets : List ℕ) (read : Result Pdu PduFault) → (sound : IsSound node) →
+pub read_served : (settings : Settings) (number : ℕ) (node : Node) (session : Session) (octets : List ℕ) (read : Result Pdu PduFault) → (sound : IsSound node) →
     IsServed (world_of node sound) (on_read settings number node session octets read)
 read_served settings number node session octets (Ok pdu) sound =
     done_served settings number node (came_by settings pdu) (on_pdu settings.accounts session pdu) (λ sequence. told_possible sequence pdu) sound
@@ -91,66 +84,8 @@ read_served settings number node session octets (Err fault) sound =
     done_served settings number node nothing_came (on_fault session fault (requested_by (command_of (word_at 4 octets))) (word_at 12 octets))
     (λ sequence. tt) sound
 
-frame_served : (settings : Settings) (number : ℕ) (node : Node) (session : Session) (octets : List ℕ) → (sound : IsSound node) →
-    IsServed (world_of node sound) (on_frame settings number node session octets)
-unfolding on_frame
-frame_served settings number node session octets sound = read_served settings number node session octets (read_pdu octets) sound
-
--- ---- the frames of a line, and what stands behind them
-
-rest_served : (settings : Settings) (number : ℕ) (node : Node) (session : Session) (rest : List ℕ) → (sound : IsSound node) →
-    IsServed (world_of node sound) (on_rest settings number node session rest).served
-rest_served settings number node session rest sound = at_test (begins_wrong rest)
-  where
-    at_test : (wrong : Bool) → IsServed (world_of node sound) (cond {A = Streamed} wrong
-        (record { served = on_done settings number node nothing_came (on_wrong_length session); held = [] })
-        (record { served = unasked node session []; held = rest })).served
-    at_test true = done_served settings number node nothing_came (on_wrong_length session) (λ sequence. tt) sound
-    at_test false = nothing_asked node session [] sound tt
-
-frames_served : (settings : Settings) (number : ℕ) (node : Node) (session : Session) (frames : List (List ℕ)) (rest : List ℕ) → (sound : IsSound node) →
-    IsServed (world_of node sound) (on_frames settings number node session frames rest).served
-unfolding on_frames
-frames_served settings number node session [] rest sound = rest_served settings number node session rest sound
-frames_served settings number node session (frame ∷ frames) rest sound =
-    at_test (is_gone first.session.state) (frames_served settings number first.node first.session frames rest here.leads.sound)
-  where
-    first : Served
-    first = on_frame settings number node session frame
-
-    here : IsServed (world_of node sound) first
-    here = frame_served settings number node session frame sound
-
-    later : Streamed
-    later = on_frames settings number first.node first.session frames rest
-
-    at_test : (gone : Bool) → IsServed (world_of first.node here.leads.sound) later.served → IsServed (world_of node sound) (cond {A = Streamed} gone
-        (record { served = on_frame settings number node session frame; held = [] })
-        (behind (on_frame settings number node session frame) (on_frames settings number
-        (on_frame settings number node session frame).node (on_frame settings number node session frame).session frames rest))).served
-    at_test true others = here
-    at_test false others = record {
-      leads = leads_then (world_of node sound) first.node later.served.node here.leads others.leads;
-      mute = all_mute first.prints later.served.prints here.mute others.mute;
-    }
-
--- ---- the octets of a session
-
-kept_node : (others : Runner) (number : ℕ) (streamed : Streamed) → (kept others number streamed).node ≡ streamed.served.node
-kept_node others number streamed = at_test (is_gone streamed.served.session.state)
-  where
-    at_test : (gone : Bool) → (cond {A = Runner} gone (record others { node = streamed.served.node })
-        (holding (record others { node = streamed.served.node }) number streamed.served.session streamed.held)).node ≡ streamed.served.node
-    at_test true = refl
-    at_test false = refl
-
-pub octets_served : (settings : Settings) (runner : Runner) (number : ℕ) (octets : List ℕ) → (sound : IsSound runner.node) →
-    GoesOnMute (world_of runner.node sound) (on_octets settings runner number octets).next.node (on_octets settings runner number octets).prints
-unfolding on_octets
-octets_served settings runner number octets sound =
-    let streamed = on_cut settings number runner.node (session_in runner.sessions number) stream in
-    subst (λ (n : Node). GoesOnMute (world_of runner.node sound) n streamed.served.prints) (sym (kept_node (without runner number) number streamed))
-    (frames_served settings number runner.node (session_in runner.sessions number) stream.frames stream.rest sound)
-  where
-    stream : Cut
-    stream = cut (held_in runner.streams number ++ octets)
+-- a length is wrong
+pub wrong_length_served : (settings : Settings) (number : ℕ) (node : Node) (session : Session) → (sound : IsSound node) →
+    IsServed (world_of node sound) (on_done settings number node nothing_came (on_wrong_length session))
+wrong_length_served settings number node session sound =
+    done_served settings number node nothing_came (on_wrong_length session) (λ sequence. tt) sound

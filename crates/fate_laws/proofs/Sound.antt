@@ -8,7 +8,7 @@ use Rattle.mc_model.specs.synod.Packet.{Packet, Slot}
 use Rattle.mc_model.specs.node.Act.{Act}
 use Rattle.mc_model.specs.node.Input.{Delivery, Grant, Input, Response, Restart}
 use Rattle.mc_model.specs.node.Outcome.{IsOutcome, Outcome}
-use Rattle.mc_model.specs.node.Outputs.{Outputs, Reply, replies_in}
+use Rattle.mc_model.specs.node.Outputs.{Outputs, Reply, receipts_in, replies_in}
 use Rattle.mc_model.specs.node.Setup.{Setup}
 use Rattle.mc_model.specs.cluster.Steps.{AreSteps, Cluster, acts_in, by_node}
 use Rattle.mc_model.specs.cluster.World.{IsRun, World, reached, start}
@@ -25,13 +25,14 @@ use Rattle.node_model.specs.Stepped.{restarted, stepped}
 use Rattle.node_laws.specs.Clusters.{MayHappen, NodeInput, RunsTogether, WasSentBefore, kept_reached, step_outputs, world_at}
 use Rattle.node_laws.specs.Runs.{IsUpFor, MayCome}
 use Rattle.node_laws.proofs.Clustered.{OneMore, clustered, one_more}
-use Rattle.node_laws.proofs.Orders.{in_append, reverse_in}
+use Rattle.node_laws.proofs.Orders.{in_append, in_reverse, reverse_in}
 use Rattle.desk.specs.declared.request.Request.{Request}
 use Rattle.script_text.specs.Node.{Node, alone, awaiting, request_at, step_at, tick_at, with_step}
 use Rattle.fate_laws.proofs.Answering.{IsAsked}
 use Rattle.arrival_laws.proofs.Asking.{request_comes}
 use Rattle.arrival_laws.proofs.Attempts.{grant_comes, outcome_comes}
 use Rattle.fate_laws.proofs.Replying.{AreFit, Grows, fits_grow, replies_fit}
+use Rattle.fate_laws.proofs.Reporting.{AreDue, receipts_due}
 use Rattle.fate_laws.proofs.Decided.{IsDecided}
 use Rattle.arrival_laws.proofs.Comings.{ComesAbout, IsPlain}
 use Rattle.fate_laws.proofs.Stepping.{GoesOn, goes_on, up_for}
@@ -98,11 +99,12 @@ leads_still node sound = record { sound = sound; grows = λ id final is. is }
 pub leads_then : (first : World) (middle last : Node) (one : Leads first middle) → Leads (world_of middle one.sound) last → Leads first last
 leads_then first middle last one other = record { sound = other.sound; grows = λ id final is. other.grows id final (one.grows id final is) }
 
--- a step of the node leads there, whose replies tell what is decided
+-- a step of the node leads there, whose replies and receipts tell what is decided
 pub record StepsTo (first : World) (step : Stepped) (last : Node) : Type 0 where
   pub leads : Leads first last
   pub fit : AreFit 1 first step.outputs.replies (world_of last leads.sound)
   pub small : (reply : Reply) → In reply step.outputs.replies → reply.id < 2 ^ 64
+  pub due : AreDue 1 (world_of last leads.sound) step.outputs.receipts
 
 -- the ids of the replies are short numbers
 abbrev pub AreSmall : Stepped → Type 0
@@ -148,16 +150,24 @@ module _ (validity serial : ℕ) (past : List NodeInput) (fit : IsFit validity s
   last_is : last ≡ reached first (by_node 1 acts)
   last_is = ap (world_at cluster) more.steps ∙ reached_on (start 1 cluster.serials) (by_node 1 acts) (acts_in before.steps)
 
+  firsts_same : (one other : Outputs) (ones others : List Outputs) → one ∷ ones ≡ other ∷ others → one ≡ other
+  firsts_same one other ones others is = cc
+
   replies_are : step.outputs.replies ≡ reverse (replies_in acts)
   replies_are = ap (λ (outputs : Outputs). outputs.replies) (firsts_same _ _ _ _ (after.outputs ∙ ap (step_outputs cluster) more.steps))
-    where
-      firsts_same : (one other : Outputs) (ones others : List Outputs) → one ∷ ones ≡ other ∷ others → one ≡ other
-      firsts_same one other ones others is = cc
+
+  receipts_are : step.outputs.receipts ≡ reverse (receipts_in acts)
+  receipts_are = ap (λ (outputs : Outputs). outputs.receipts) (firsts_same _ _ _ _ (after.outputs ∙ ap (step_outputs cluster) more.steps))
 
   are_fit : AreFit 1 first step.outputs.replies last
   are_fit = subst (λ (replies : List Reply). AreFit 1 first replies last) (append-nil (reverse (replies_in acts)) ∙ sym replies_are)
       (replies_fit 1 first (world_holds cluster past before) acts run [] last
       (λ id final is. subst (λ (w : World). IsDecided 1 w id final) (sym last_is) is))
+
+  are_due : AreDue 1 last step.outputs.receipts
+  are_due receipt among =
+      subst (λ (w : World). AreDue 1 w (receipts_in acts)) (sym last_is) (receipts_due 1 first (world_holds cluster past before) acts run) receipt
+      (in_reverse receipt (receipts_in acts) (subst (In receipt) receipts_are among))
 
   then_is : kept_at validity serial (at_node input ∷ past) ≡ step.kept
   then_is = changed_here (kept_reached cluster past).kept 1 step.kept
@@ -181,6 +191,7 @@ module _ (validity serial : ℕ) (past : List NodeInput) (fit : IsFit validity s
     };
     fit = are_fit;
     small = small;
+    due = are_due;
   }
 
 -- what of its packets is still to come

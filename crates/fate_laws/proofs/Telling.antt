@@ -1,5 +1,5 @@
 -- What prints tell of the fates of messages.
-use Rattle.std.proofs.Common.{◌≡◌, ℕ, ◌<◌, ◌^◌, List, Option, Some, None, inl, inr, refl, sym, ◌∙◌, ap, subst, arith}
+use Rattle.std.proofs.Common.{◌≡◌, ℕ, ◌<◌, ◌^◌, Bool, List, Option, Some, None, inl, inr, refl, sym, ◌∙◌, ap, subst, arith}
 use Rattle.std.specs.Fmt.{decimal}
 use Rattle.std.proofs.lemmas.Fmt.{decimal_injective}
 use Rattle.mc_model.specs.message.Chain.{final_in}
@@ -13,7 +13,8 @@ use Rattle.pdu_tables.specs.StatusCodes.{status_code}
 use Rattle.pdu_tables.specs.declared.state.State.TheVariants as states
 use Rattle.pdu_tables.specs.declared.status.Status.TheVariants as statuses
 use Rattle.pdu_bodies.specs.declared.pdu.Body.{Body}
-use Rattle.pdu_bodies.specs.declared.pdu.Body.TheVariants.{QuerySmResp, CancelSmResp}
+use Rattle.pdu_bodies.specs.declared.pdu.Body.TheVariants.{QuerySmResp, CancelSmResp, DeliverSm}
+use Rattle.pdu_bodies.specs.declared.pdu.Message.{Message}
 use Rattle.pdu_bodies.specs.declared.pdu.Pdu.{Pdu}
 use Rattle.pdu_bodies.specs.declared.pdu.QueryAnswer.{QueryAnswer}
 use Rattle.sessions.specs.Session.{Session}
@@ -23,11 +24,12 @@ use Rattle.sessions.specs.declared.requested.Requested.TheVariants as requests
 use Rattle.sessions.specs.declared.response.Response.{Response}
 use Rattle.sessions.specs.declared.response.Response.TheVariants.{Nack, Refused, Bound, Unbound, Linked}
 use Rattle.sessions.specs.declared.response.Outgoing.{Outgoing}
-use Rattle.fate_chain.specs.States.{state_of}
+use Rattle.fate_chain.specs.States.{final_code, state_of}
+use Rattle.receipts.specs.Texts.{Report}
 use Rattle.script_text.specs.Responses.{refused_with, reply_pdu}
-use Rattle.script_text.specs.Prints.{Print, AtOnce, Declined, Delivers, Gone, Late, Ungranted, Unsettled}
+use Rattle.script_text.specs.Prints.{Print, AtOnce, Declined, Delivers, Gone, Late, Reports, Ungranted, Unsettled, report_pdu}
 use Rattle.script_text.specs.Pushes.{delivery_on}
-use Rattle.script_text.specs.Laws.{StatesFate, TellsDeletion, TellsState, pdu_in}
+use Rattle.script_text.specs.Laws.{StatesFate, TellsDeletion, TellsReceipt, TellsState, pdu_in}
 use Rattle.fate_laws.proofs.Replying.{Grows, IsFitAnswer}
 use Rattle.fate_laws.proofs.Decided.{IsDecided}
 
@@ -62,25 +64,34 @@ response_tells_none system_id sequence Linked answer is = cc
 pub record IsMute (print : Print) : Type 0 where
   pub state : (message_id : List ℕ) (state : ℕ) → TellsState print message_id state → ⊥
   pub deletion : (message_id : List ℕ) → TellsDeletion print message_id → ⊥
+  pub receipt : (message_id : List ℕ) (state : ℕ) → TellsReceipt print message_id state → ⊥
 
--- a PDU that tells none goes out, and answers no request that waited
-other_is_mute : (print : Print) (pdu : Pdu) → pdu_in print ≡ Some pdu → TellsNone pdu.body →
-    ((session id : ℕ) (other : Pdu) → print ≡ Late session id other → ⊥) → IsMute print
+-- it is neither the answer to a request that waited nor a receipt
+record IsNoAnswer (print : Print) : Type 0 where
+  late : (session id : ℕ) (other : Pdu) → print ≡ Late session id other → ⊥
+  receipt : (session sequence : ℕ) (optional : Bool) (report : Report) → print ≡ Reports session sequence optional report → ⊥
+
+-- a PDU that tells none goes out, and is neither
+other_is_mute : (print : Print) (pdu : Pdu) → pdu_in print ≡ Some pdu → TellsNone pdu.body → IsNoAnswer print → IsMute print
 other_is_mute print pdu is none never = record {
   state = λ message_id state tells.
       let same : pdu ≡ tells.pdu = some_is pdu tells.pdu (sym is ∙ tells.printed) in
       none tells.answer (ap (λ (p : Pdu). p.body) same ∙ tells.body);
-  deletion = λ message_id tells. never tells.session tells.id tells.pdu tells.printed;
+  deletion = λ message_id tells. never.late tells.session tells.id tells.pdu tells.printed;
+  receipt = λ message_id state tells. never.receipt tells.session tells.sequence tells.optional tells.report tells.printed;
 }
   where
     some_is : (one other : Pdu) → Some one ≡ Some other → one ≡ other
     some_is one other is = cc
 
 at_once_is_mute : (session : ℕ) (pdu : Pdu) → TellsNone pdu.body → IsMute (AtOnce session pdu)
-at_once_is_mute session pdu none = other_is_mute (AtOnce session pdu) pdu refl none (λ number id other is. not_late number id other is)
+at_once_is_mute session pdu none = other_is_mute (AtOnce session pdu) pdu refl none (record { late = not_late; receipt = no_receipt })
   where
     not_late : (number id : ℕ) (other : Pdu) → AtOnce session pdu ≡ Late number id other → ⊥
     not_late number id other is = cc
+
+    no_receipt : (number sequence : ℕ) (optional : Bool) (report : Report) → AtOnce session pdu ≡ Reports number sequence optional report → ⊥
+    no_receipt number sequence optional report is = cc
 
 pub refusal_is_mute : (session : ℕ) (requested : Requested) (sequence status : ℕ) → IsMute (AtOnce session (refused_with requested sequence status))
 refusal_is_mute session requested sequence status = at_once_is_mute session (refused_with requested sequence status) (refusal_tells_none requested)
@@ -89,20 +100,24 @@ pub response_is_mute : (session : ℕ) (system_id : List ℕ) (outgoing : Outgoi
 response_is_mute session system_id outgoing =
     at_once_is_mute session (pdu_of system_id outgoing) (response_tells_none system_id outgoing.sequence outgoing.response)
 
--- a deliver_sm goes out
+-- the deliver_sm of an attempt goes out
 pub delivery_is_mute : (number : ℕ) (session : Session) (taken : Submission) → IsMute (Delivers number (delivery_on session taken))
 delivery_is_mute number session taken =
     other_is_mute (Delivers number (delivery_on session taken)) (delivery_on session taken) refl (λ answer is. cc)
-    (λ other id pdu is. not_late (delivery_on session taken) other id pdu is)
+    (record { late = not_late (delivery_on session taken); receipt = no_receipt (delivery_on session taken) })
   where
     not_late : (pdu : Pdu) (other id : ℕ) (late : Pdu) → Delivers number pdu ≡ Late other id late → ⊥
     not_late pdu other id late is = cc
+
+    no_receipt : (pdu : Pdu) (other sequence : ℕ) (optional : Bool) (report : Report) → Delivers number pdu ≡ Reports other sequence optional report → ⊥
+    no_receipt pdu other sequence optional report is = cc
 
 -- no PDU goes out
 silent_is_mute : (print : Print) → pdu_in print ≡ None → IsMute print
 silent_is_mute print none = record {
   state = λ message_id state tells. none_is_some tells.pdu (sym none ∙ tells.printed);
   deletion = λ message_id tells. none_is_some tells.pdu (sym none ∙ ap (λ (p : Print). pdu_in p) tells.printed);
+  receipt = λ message_id state tells. none_is_some _ (sym none ∙ ap (λ (p : Print). pdu_in p) tells.printed);
 }
   where
     none_is_some : (pdu : Pdu) → None ≡ Some pdu → ⊥
@@ -137,6 +152,7 @@ pub record Removes (answer : Answer) : Type 0 where
 pub record IsTold (id : ℕ) (answer : Answer) (print : Print) : Type 0 where
   pub state : (message_id : List ℕ) (state : ℕ) → TellsState print message_id state → (decimal id ≡ message_id) × Shows answer state
   pub deletion : (message_id : List ℕ) → TellsDeletion print message_id → (decimal id ≡ message_id) × Removes answer
+  pub receipt : (message_id : List ℕ) (state : ℕ) → TellsReceipt print message_id state → ⊥
 
 late_pdu : (session number id other : ℕ) (one two : Pdu) → Late session id one ≡ Late number other two → (id ≡ other) × (one ≡ two)
 late_pdu session number id other one two is = (cc, cc)
@@ -182,8 +198,12 @@ reply_is_told session requested sequence id answer = record {
         ap decimal same.0 ∙ tells.message,
         pdu_deletes requested sequence id answer (ap (λ (p : Pdu). p.status) same.1 ∙ tells.status) (ap (λ (p : Pdu). p.body) same.1 ∙ tells.body),
       );
+  receipt = λ message_id state tells. no_receipt _ tells.session tells.sequence tells.optional tells.report tells.printed;
 }
   where
+    no_receipt : (pdu : Pdu) (other number : ℕ) (optional : Bool) (report : Report) → Late session id pdu ≡ Reports other number optional report → ⊥
+    no_receipt pdu other number optional report is = cc
+
     some_is : (one other : Pdu) → Some one ≡ Some other → one ≡ other
     some_is one other is = cc
 
@@ -207,7 +227,8 @@ TellsDeleted message_id print = (state : ℕ) → TellsState print message_id st
 
 pub mute_tells_fates : (w : World) (print : Print) → IsMute print → TellsFates w print
 mute_tells_fates w print mute message_id state (inl tells) = absurd (mute.state message_id state tells.0)
-mute_tells_fates w print mute message_id state (inr tells) = absurd (mute.deletion message_id tells.0)
+mute_tells_fates w print mute message_id state (inr (inl tells)) = absurd (mute.deletion message_id tells.0)
+mute_tells_fates w print mute message_id state (inr (inr tells)) = absurd (mute.receipt message_id state tells)
 
 pub mute_tells_deleted : (message_id : List ℕ) (print : Print) → IsMute print → TellsDeleted message_id print
 mute_tells_deleted message_id print mute state tells = absurd (mute.state message_id state tells)
@@ -236,7 +257,8 @@ reply_tells_fates w id answer print small told fits message_id state (inl tells)
       decided = fits.fated shows.chain final shows.answer_is is;
       state_is = sym shows.code_is ∙ ap (λ (f : Option Final). state_code (state_of f)) is;
     }
-reply_tells_fates w id answer print small told fits message_id state (inr tells) =
+reply_tells_fates w id answer print small told fits message_id state (inr (inr tells)) = absurd (told.receipt message_id state tells)
+reply_tells_fates w id answer print small told fits message_id state (inr (inl tells)) =
     let (message, removes) = told.deletion message_id tells.0 in
     record {
       id = id;
@@ -254,3 +276,46 @@ reply_tells_deleted w id about answer print small other_small deleted told fits 
     let here : about ≡ id = decimal_injective about id other_small small message in
     let ends = fits.shown shows.chain Deleted shows.answer_is (subst (λ (i : ℕ). IsDecided 1 w i Deleted) (sym here) deleted) in
     sym shows.code_is ∙ ap (λ (f : Option Final). state_code (state_of f)) ends
+
+-- ---- what a receipt tells
+
+-- it is not the answer to a query_sm or to a cancel_sm
+pub report_tells_no_state : (session sequence : ℕ) (optional : Bool) (report : Report) (message_id : List ℕ) (state : ℕ) →
+    TellsState (Reports session sequence optional report) message_id state → ⊥
+report_tells_no_state session sequence optional report message_id state tells =
+    no_answer _ tells.answer (ap (λ (p : Pdu). p.body) (some_is (report_pdu sequence optional report) tells.pdu tells.printed) ∙ tells.body)
+  where
+    some_is : (one other : Pdu) → Some one ≡ Some other → one ≡ other
+    some_is one other is = cc
+
+    no_answer : (message : Message) (answer : QueryAnswer) → DeliverSm message ≡ QuerySmResp (Some answer) → ⊥
+    no_answer message answer is = cc
+
+pub report_tells_no_deletion : (session sequence : ℕ) (optional : Bool) (report : Report) (message_id : List ℕ) →
+    TellsDeletion (Reports session sequence optional report) message_id → ⊥
+report_tells_no_deletion session sequence optional report message_id tells = not_late tells.session tells.id tells.pdu tells.printed
+  where
+    not_late : (other id : ℕ) (late : Pdu) → Reports session sequence optional report ≡ Late other id late → ⊥
+    not_late other id late is = cc
+
+-- the final state of its message
+pub report_tells_fates : (w : World) (session sequence : ℕ) (optional : Bool) (report : Report) → report.id < 2 ^ 64 →
+    IsDecided 1 w report.id report.final → TellsFates w (Reports session sequence optional report)
+report_tells_fates w session sequence optional report small decided message_id state (inl tells) =
+    absurd (report_tells_no_state session sequence optional report message_id state tells.0)
+report_tells_fates w session sequence optional report small decided message_id state (inr (inl tells)) =
+    absurd (report_tells_no_deletion session sequence optional report message_id tells.0)
+report_tells_fates w session sequence optional report small decided message_id state (inr (inr tells)) =
+    let same = report_is tells.session tells.sequence tells.optional tells.report tells.printed in
+    record {
+      id = report.id;
+      final = report.final;
+      small = small;
+      message = ap (λ (r : Report). decimal r.id) same ∙ tells.message;
+      decided = decided;
+      state_is = sym (ap (λ (r : Report). final_code r.final) same ∙ tells.state_is);
+    }
+  where
+    report_is : (other number : ℕ) (knows : Bool) (told : Report) → Reports session sequence optional report ≡ Reports other number knows told →
+        report ≡ told
+    report_is other number knows told is = cc
