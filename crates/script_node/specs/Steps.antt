@@ -16,7 +16,9 @@ use Rattle.requests.specs.declared.answer.Reply.{Reply}
 use Rattle.script_text.specs.Node.{Node, awaiting, step_at, with_step}
 use Rattle.node_core.specs.Keeping.{kept_of}
 use Rattle.synod_acceptor.specs.Packets.{packet_of}
+use Rattle.node_core.specs.Steps.{receipt_of}
 use Rattle.script_node.specs.declared.node.Answers.{Answers}
+use Rattle.script_node.specs.declared.node.Given.{Given}
 use Rattle.script_node.specs.declared.node.Granting.{Granting}
 use Rattle.script_node.specs.declared.node.Granting.TheVariants as grantings
 use Rattle.script_node.specs.declared.node.ScriptNode.{ScriptNode}
@@ -30,23 +32,28 @@ pub record HasReplied (step : Stepped) (before : Node) (replies : Vec Reply) (af
   pub node : after ≡ with_step before step
   pub given : map reply_given replies.items ≡ step.outputs.replies
 
+-- The same with its receipts.
+pub record HasGiven (step : Stepped) (before : Node) (given : Given) (after : Node) : Type 0 where
+  pub replied : HasReplied step before given.replies after
+  pub reported : map receipt_of given.receipts.items ≡ step.outputs.receipts
+
 -- The same with what was answered to the request that came.
 pub record HasStepped (step : Stepped) (before : Node) (answers : Answers) (after : Node) : Type 0 where
-  pub replied : HasReplied step before answers.replies after
+  pub gave : HasGiven step before answers.given after
   pub ticket : answers.ticket ≡ step.outputs.ticket
   pub refused : option_map status_code answers.refused ≡ step.outputs.refused
 
--- The first packet came, and led to these replies.
-pub record HasCome (before : Node) (replies : Vec Reply) (after : Node) : Type 0 where
+-- The first packet came, and this was given out.
+pub record HasCome (before : Node) (given : Given) (after : Node) : Type 0 where
   pub packet : Packet
   pub others : List Packet
   pub waited : before.packets ≡ packet ∷ others
-  pub replied : HasReplied (step_at (awaiting before others) (Delivery packet)) (awaiting before others) replies after
+  pub gave : HasGiven (step_at (awaiting before others) (Delivery packet)) (awaiting before others) given after
 
 -- Or there was none, and nothing changed.
-abbrev pub IsDelivered : Node → Option (Vec Reply) → Node → Type 0
+abbrev pub IsDelivered : Node → Option Given → Node → Type 0
 IsDelivered before None after = (before.packets ≡ []) × (after ≡ before)
-IsDelivered before (Some replies) after = HasCome before replies after
+IsDelivered before (Some given) after = HasCome before given after
 
 -- ---- an attempt that is asked for
 

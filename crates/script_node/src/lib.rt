@@ -4,4 +4,4 @@
 mod live_node;
 mod node;
 
-pub use node::{Answers, Granting, ScriptNode};
+pub use node::{Answers, Given, Granting, ScriptNode};

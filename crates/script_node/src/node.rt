@@ -30,13 +30,19 @@ pub struct ScriptNode {
     packets: VecDeque<Packet>,
 }
 
-/// What a step of the node answers: the ticket under which the request waits that came, or the status with which it is refused; and
-/// the replies to requests that waited.
+/// What a step of the node gives out: the replies to requests that waited, and for each receipt that is due the chain of its message.
+#[derive(Drop)]
+pub struct Given {
+    pub replies: Vec<Reply>,
+    pub receipts: Vec<Chain>,
+}
+
+/// The same with what is answered to the request that came: the ticket under which it waits, or the status with which it is refused.
 #[derive(Drop)]
 pub struct Answers {
     pub ticket: Option<u64>,
     pub refused: Option<Status>,
-    pub replies: Vec<Reply>,
+    pub given: Given,
 }
 
 /// What comes of asking for the attempt of a message.
@@ -77,7 +83,7 @@ impl ScriptNode {
         ensures { IfOk result (λ replies. HasReplied (step_at (node_of self.old) (tick_at moment up.items)) (node_of self.old) replies (node_of self.new)) }
     {
         let answers = self.step(Input::Tick(moment, up))?;
-        Ok(answers.replies)
+        Ok(answers.given.replies)
     }
 
     /// The node's clock.
@@ -89,14 +95,14 @@ impl ScriptNode {
 
     /// The packet that was sent first of those that are still to come comes to the node: the replies of that step; `None` if no packet
     /// is still to come. After an `Err`, which is want of memory, nothing is said of the node.
-    pub fn deliver_next(&mut self) -> Result<Option<Vec<Reply>>, AllocError>
-        ensures { IfOk result (λ replies. IsDelivered (node_of self.old) replies (node_of self.new)) }
+    pub fn deliver_next(&mut self) -> Result<Option<Given>, AllocError>
+        ensures { IfOk result (λ given. IsDelivered (node_of self.old) given (node_of self.new)) }
     {
         let Some(packet) = self.packets.pop_front() else {
             return Ok(None);
         };
         let answers = self.step(Input::Packet(packet))?;
-        Ok(Some(answers.replies))
+        Ok(Some(answers.given))
     }
 
     /// The attempt in which the chain of a message ends is asked for: that chain, or the first reason that fits why it is not granted, and
@@ -164,8 +170,8 @@ impl ScriptNode {
         Ok((ScriptNode { node, packets }, done))
     }
 
-    /// Takes the step of an input that a node never refuses: what it sends comes behind what it has sent before. Its receipts are dropped:
-    /// receipts are not sent yet. After an `Err`, which is want of memory, nothing is said of the node.
+    /// Takes the step of an input that a node never refuses: what it sends comes behind what it has sent before. After an `Err`, which is
+    /// want of memory, nothing is said of the node.
     fn step(&mut self, input: Input) -> Result<Answers, AllocError>
         requires { refused_by (node_of self.old).setup (node_of self.old).kept input ≡ None }
         ensures { IfOk result (λ answers. HasStepped (step_at (node_of self.old) (input_of (node_of self.old).setup (node_of self.old).kept input)) (node_of self.old) answers (node_of self.new)) }
@@ -179,7 +185,10 @@ impl ScriptNode {
         Ok(Answers {
             ticket: outputs.ticket,
             refused: outputs.refused,
-            replies: outputs.replies,
+            given: Given {
+                replies: outputs.replies,
+                receipts: outputs.receipts,
+            },
         })
     }
 

@@ -1,8 +1,6 @@
 -- What serving a session does: a frame, and the octets of a stream, frame by frame.
 use Rattle.std.proofs.Common.{◌≡◌, ℕ, ◌+◌, ◌-◌, ◌<◌, ◌≤◌, Bool, true, false, ◌⊎◌, inl, inr, List, [], ◌∷◌, ◌++◌, length, take, drop, Option, Some, None, Result, Ok, Err, refl, sym, ap, ◌∙◌, subst, arith, append_assoc}
 use Rattle.std.proofs.lemmas.Bool.{lt-ltb, cases_lt}
-use Rattle.std.proofs.lemmas.Grind.{flat_map-append}
-use Rattle.std.proofs.lemmas.List.{append-nil, length-append, length-take-le, length-drop, take_rest, take-append-drop, take_all}
 use Rattle.std.specs.declared.alloc.AllocError.{AllocError}
 use Rattle.std.specs.Prelude.{IsErr, OnOk}
 use Rattle.pdu_tables.specs.CommandCodes.{command_of}
@@ -11,9 +9,6 @@ use Rattle.pdu_codec.specs.Pdu.{Gives, read_pdu}
 use Rattle.pdu_bodies.specs.declared.pdu.Pdu.{Pdu}
 use Rattle.pdu_fields.specs.declared.fault.PduFault.{PduFault}
 use Rattle.pdu_fields.specs.declared.fault.PduFault.TheVariants as faults
-use Rattle.pdu_frames.specs.Frames.{IsFrame, IsPart, HasWrongLength, cut, is_pdu_length}
-use Rattle.pdu_frames.proofs.Fronts.{wrong_begins, part_begins, within_limits, length_of_front}
-use Rattle.pdu_frames.proofs.Streams.{frames_one, streams_cut}
 use Rattle.sessions.specs.Session.{Session}
 use Rattle.sessions.specs.States.{is_gone}
 use Rattle.sessions.specs.Responses.{requested_by}
@@ -27,8 +22,8 @@ use Rattle.script_text.specs.Settings.{Settings}
 use Rattle.script_text.specs.Node.{Node}
 use Rattle.script_text.specs.Attempts.{Went, delivered_so, rests_at}
 use Rattle.script_text.specs.Prints.{Print, line_of, text_of_prints}
-use Rattle.script_text.specs.Runner.{Came, Served, Streamed, behind, came_by, nothing_came, on_cut, on_done, on_frame, on_frames, on_reaction, on_read, on_request, reaction_prints, unasked}
-use Rattle.script_runner.specs.Centre.{IsLeft, IsReacted, IsServed, IsStreamed, node_by}
+use Rattle.script_text.specs.Runner.{Came, Served, came_by, nothing_came, on_done, on_reaction, on_read, on_request, reaction_prints, unasked}
+use Rattle.script_runner.specs.Centre.{IsLeft, IsReacted, IsServed, node_by}
 
 -- ---- a frame
 
@@ -63,7 +58,7 @@ served_so settings number node session (Answered pushed answer) = record {
 }
 
 -- a reaction that is neither a request for the node nor an answer to it is served alike, whatever came
-pub IsOwn : Reaction → Type 0
+abbrev pub IsOwn : Reaction → Type 0
 IsOwn (Ask requested) = ⊥
 IsOwn (Answered pushed answer) = ⊥
 IsOwn other = Unit {0}

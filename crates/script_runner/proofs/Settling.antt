@@ -1,5 +1,5 @@
 -- A step is taken and its replies go out, and packets come one after another.
-use Rattle.std.proofs.Common.{◌≡◌, ℕ, zero, suc, List, [], ◌∷◌, ◌++◌, map, Result, Ok, Err, refl, sym, ◌∙◌, ap, append_assoc}
+use Rattle.std.proofs.Common.{◌≡◌, ℕ, zero, suc, List, [], ◌∷◌, ◌++◌, map, Result, Ok, Err, refl, sym, ◌∙◌, ap, append_assoc, subst}
 use Rattle.std.proofs.lemmas.Grind.{flat_map-append}
 use Rattle.std.proofs.lemmas.List.{append-nil}
 use Rattle.std.specs.Global.{Vec}
@@ -13,14 +13,14 @@ use Rattle.requests.specs.Replying.{reply_given}
 use Rattle.requests.specs.declared.answer.Reply.{Reply as Sent}
 use Rattle.script_text.specs.Node.{Node, awaiting, step_at, with_step}
 use Rattle.script_text.specs.Prints.{Print, line_of, text_of_prints, unsettled_line}
-use Rattle.script_text.specs.Receipts.{Posted}
-use Rattle.script_text.specs.Runner.{Acted, Runner, Told, answered_by, followed_by, on_delivery, reports_by, rests, settles, told, unsettled, with_posted}
-use Rattle.script_sessions.specs.Posting.{IsPosted}
+use Rattle.script_text.specs.Receipts.{Posted, all_posted}
+use Rattle.script_text.specs.Runner.{Acted, Runner, Told, answered_by, followed_by, mail_of, on_delivery, posts, reports_by, rests, settles, told, unsettled, with_posted}
+use Rattle.script_sessions.specs.Posting.{IsPosted, receipt_by}
 use Rattle.script_sessions.specs.Told.{AreTold}
 use Rattle.script_node.specs.Steps.{HasCome, HasReplied}
 use Rattle.script_node.specs.declared.node.Given.{Given}
-use Rattle.node_core.specs.Steps.{receipt_of}
-use Rattle.script_runner.specs.Centre.{IsDone, tells}
+
+use Rattle.script_runner.specs.Centre.{IsDone, replies_to, tells}
 
 -- what was written, these prints and the prints behind them, in another order of joining
 pub in_turn : (text : List ℕ) (first others : List Print) → (text ++ text_of_prints first) ++ text_of_prints others ≡ text ++ text_of_prints (first ++ others)
@@ -59,6 +59,22 @@ posted_done_if (Ok done) runner left posted before after is node streams = recor
   text = is.text;
 }
 
+-- The replies of a step went out, and then its receipts.
+pub told_then_posted_if : (r : Result (Unit {0}) AllocError) (runner middle left : Runner) (replies : List Reply) (receipts : List Receipt) (now : ℕ) (before text after : List ℕ)
+    → AreTold (told runner.sessions replies) middle.sessions before text → middle.node ≡ runner.node → middle.streams ≡ runner.streams → middle.waiting ≡ runner.waiting
+    → now ≡ middle.node.kept.clock → OnOk r (IsPosted (all_posted now (mail_of middle) receipts) left.sessions left.waiting text after)
+    → left.node ≡ middle.node → left.streams ≡ middle.streams → OnOk r (IsDone (tells runner replies receipts) left before after)
+told_then_posted_if (Err fault) runner middle left replies receipts now before text after went_out node streams waiting clock posted node_left streams_left = tt
+told_then_posted_if (Ok fine) runner middle left replies receipts now before text after went_out node streams waiting clock posted node_left streams_left =
+    let first = replies_to runner (told runner.sessions replies) in
+    let one : IsDone first middle before text = record {
+      next = λ i. record { node = node i; sessions = went_out.sessions i; streams = streams i; waiting = waiting i };
+      text = went_out.text;
+    } in
+    let at_clock = subst (λ (moment : ℕ). IsPosted (all_posted moment (mail_of middle) receipts) left.sessions left.waiting text after) clock posted in
+    then_done first (λ (r : Runner). posts r receipts) middle left before text after one
+    (posted_done_if (Ok fine) middle left (all_posted middle.node.kept.clock (mail_of middle) receipts) text after at_clock node_left streams_left)
+
 -- ---- packets
 
 -- What was written, and what is still to be done, is all that was to be done; and it leaves the same runner.
@@ -86,16 +102,16 @@ reported_so runner middle left node input step replies receipts before after is 
 pub one_settled : (all : Acted) (left more : ℕ) (runner middle next : Runner) (given : Given) (before text after : List ℕ)
     → IsLeft all (settles left runner) before text → left ≡ suc more → HasCome runner.node given middle.node
     → middle.sessions ≡ runner.sessions → middle.streams ≡ runner.streams → middle.waiting ≡ runner.waiting
-    → IsDone (tells middle (map reply_given given.replies.items) (map receipt_of given.receipts.items)) next text after
+    → IsDone (tells middle (map reply_given given.replies.items) (map receipt_by given.receipts.items)) next text after
     → IsLeft all (settles more next) before after
 one_settled all left more runner middle next given before text after so is came sessions streams waiting told_so =
     let first = first_settled left more runner came.packet came.others is came.waited in
     let node = awaiting runner.node came.others in
     let delivered = on_delivery runner came.packet came.others in
     let there : middle ≡ record runner { node = with_step node (step_at node (Delivery came.packet)) } =
-    λ i. record { node = came.replied.node i; sessions = sessions i; streams = streams i; waiting = waiting i } in
+    λ i. record { node = came.gave.replied.node i; sessions = sessions i; streams = streams i; waiting = waiting i } in
     let done : IsDone delivered next text after =
-    reported_so runner middle next node (Delivery came.packet) (step_at node (Delivery came.packet)) _ _ text after there came.replied.given came.reported told_so in
+    reported_so runner middle next node (Delivery came.packet) (step_at node (Delivery came.packet)) _ _ text after there came.gave.replied.given came.gave.reported told_so in
     rw (done.next, done.text)
     (let later : IsLeft all (settles more delivered.next) before (text ++ text_of_prints delivered.prints) = record {
       next = ap (λ (a : Acted). a.next) (sym first) ∙ so.next;

@@ -1,8 +1,14 @@
 -- Receipts that wait, by their chains: the first that is for an account, and the others.
-use Rattle.std.proofs.Common.{◌≡◌, ℕ, suc, Bool, true, false, cond, List, [], ◌∷◌, map, filter, find, get_or, length, Option, Some, None, refl, sym, ap, ◌∙◌}
-use Rattle.std.specs.Prelude.{option_map}
+use Rattle.std.proofs.Common.{◌≡◌, ℕ, ◌<◌, ◌≤◌, Bool, true, false, cond, List, [], ◌∷◌, ◌++◌, map, filter, find, get_or, length, Option, Some, None, refl, sym, ap, ◌∙◌, arith}
+use Rattle.std.specs.Prelude.{nat_lt, option_map}
 use Rattle.std.specs.List.{position, remove}
+use Rattle.std.proofs.lemmas.Bool.Decides.{nat_tests}
+use Rattle.std.proofs.lemmas.List.{length-map, map-append}
+use Rattle.mc_model.specs.message.Chain.{Chain}
+use Rattle.mc_model.specs.node.Outputs.{Receipt}
 use Rattle.sessions.specs.Windows.{without_first}
+use Rattle.script_text.specs.Receipts.{is_for, most_waiting, waits_for}
+use Rattle.script_sessions.specs.Posting.{receipt_by}
 use Rattle.sessions.proofs.Firsts.{found_first, found_none, left_first, stays}
 
 module _ {A B : Type 0} (f : A → B) (test : B → Bool) where
@@ -52,3 +58,25 @@ module _ {A B : Type 0} (f : A → B) (test : B → Bool) where
 
     pub left_there : (i : ℕ) (x : A) → position tests xs ≡ Some i → map f (remove xs i) ≡ without_first test (map f xs)
     left_there i x stands = ap (map f) (sym (left_first tests xs i x stands)) ∙ without_mapped xs
+
+-- ---- one more
+
+pub counted : (account : List ℕ) (chains : List Chain) → length (filter (λ chain. is_for account (receipt_by chain)) chains) ≡ length (filter (is_for account) (map receipt_by chains))
+counted account chains =
+    sym (length-map (filter (λ chain. is_for account (receipt_by chain)) chains) receipt_by) ∙ ap length (filter_mapped receipt_by (is_for account) chains)
+
+-- as many wait as may
+pub full : (account : List ℕ) (waiting : List Receipt) (receipt : Receipt) → 10000 ≤ length (filter (is_for account) waiting) → waiting ≡ waits_for account waiting receipt
+full account waiting receipt over =
+    let test : nat_lt (length (filter (is_for account) waiting)) most_waiting ≡ false = grind (arith, nat_tests) in
+    ap (λ (b : Bool). cond b (waiting ++ receipt ∷ []) waiting) (sym test)
+
+pub has_room : (account : List ℕ) (waiting : List Receipt) (receipt : Receipt) → length (filter (is_for account) waiting) < 10000
+    → waiting ++ receipt ∷ [] ≡ waits_for account waiting receipt
+has_room account waiting receipt below =
+    let test : nat_lt (length (filter (is_for account) waiting)) most_waiting ≡ true = grind (arith, nat_tests) in
+    ap (λ (b : Bool). cond b (waiting ++ receipt ∷ []) waiting) (sym test)
+
+-- by their chains
+pub one_more : (chains : List Chain) (chain : Chain) → map receipt_by (chains ++ chain ∷ []) ≡ map receipt_by chains ++ receipt_by chain ∷ []
+one_more chains chain = map-append receipt_by chains (chain ∷ [])

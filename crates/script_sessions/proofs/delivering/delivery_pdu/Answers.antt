@@ -1,10 +1,7 @@
-use Rattle.std.proofs.Common.{ap, sym, ◌∙◌}
-use Rattle.delivery.specs.Deliveries.{delivery_of}
-use Rattle.script_text.specs.Pushes.{with_optional}
+use Rattle.delivery.specs.Deliveries.{delivered_message}
 use Rattle.script_sessions.proofs.Deliveries.{of_taken}
 use Rattle.script_sessions.proofs.delivering.delivery_pdu.Goals as goal
 
-pub returns-else-pushed : goal.returns-else-pushed
-returns-else-pushed c = λ taken found.
-    c.without_optional.ensures c.args.pushed.sequence taken (of_taken c.args.chain.now.decrees c.args.pushed.sequence c.in-Ok.pdu taken c.in-Ok.ensures.pdu found)
-    ∙ ap (λ knows. delivery_of c.args.pushed.sequence (with_optional knows taken)) (sym c.if-pushed.false)
+pub returns-in-Ok : goal.returns-in-Ok
+returns-in-Ok c = λ taken found.
+    c.fitted.ensures (delivered_message taken) (of_taken c.args.chain.now.decrees c.args.pushed.sequence c.in-Ok.pdu taken c.in-Ok.ensures.pdu found)
