@@ -7,18 +7,17 @@ use Rattle.pdu_frames.specs.Frames.{IsFrame, AreFrames, begins_wrong, cut}
 use Rattle.pdu_frames.proofs.Streams.{streams_cut}
 use Rattle.sessions.specs.Session.{Session}
 use Rattle.sessions.specs.States.{is_gone}
-use Rattle.sessions.specs.declared.request.OpenRequest.{OpenRequest}
 use Rattle.script_text.specs.Settings.{Settings}
 use Rattle.script_text.specs.Node.{Node}
 use Rattle.script_text.specs.Prints.{Print}
-use Rattle.script_text.specs.Runner.{Owned, Streamed, on_frame, on_frames}
+use Rattle.script_text.specs.Runner.{Owned, Streamed, on_frame, on_frames, session_in}
 use Rattle.script_text.specs.Events.{Event, Comes}
 use Rattle.script_text.specs.OneNode.{OneNode, account_at, happen, happens}
 use Rattle.script_text.specs.Calm.{are_calm, event_stir, may_happen, quiet_after, quiet_by, read_stir}
-use Rattle.calm_laws.proofs.Reacting.{like}
 use Rattle.calm_laws.proofs.Came.{Came}
 use Rattle.calm_laws.proofs.Coming.{frame_comes}
 use Rattle.calm_laws.proofs.NoLength.{whole_frame}
+use Rattle.calm_laws.proofs.Plain.{IsPlain, holding, state_of}
 use Rattle.calm_laws.proofs.Standing.{Agree, IsQuiet, requests_at}
 
 -- ---- frames
@@ -29,20 +28,23 @@ pub record Went (settings : Settings) (first number : ℕ) (one : OneNode) (owne
   pub next : OneNode
   pub quiet : Bool
   pub holds : Option Owned
-  pub version : ℕ
   pub agree : Agree settings first (length later) next holds streamed.served.node
-  pub session : streamed.served.session ≡ like (account_at next number) version (requests_at holds number)
+  pub session : streamed.served.session ≡ holding (session_in next.sessions number) (requests_at holds number)
   pub held : streamed.held ≡ rest
   pub ends : (happen settings one all).next ≡ (happen settings next later).next
   pub prints : (happen settings one all).prints ≡ streamed.served.prints ++ (happen settings next later).prints
-  pub accounts : (other : ℕ) → (number ≡ other → ⊥) → account_at next other ≡ account_at one other
+  pub others : (other : ℕ) → (number ≡ other → ⊥) → session_in next.sessions other ≡ session_in one.sessions other
   pub requests : (other : ℕ) → (number ≡ other → ⊥) → requests_at holds other ≡ requests_at owned other
   pub still : IsQuiet quiet holds streamed.served.node
   pub calm : are_calm settings next quiet later ≡ true
 
-pub like_stays : (account : Option (List ℕ)) (version : ℕ) (requests : List OpenRequest) → is_gone (like account version requests).state ≡ false
-like_stays None version requests = refl
-like_stays (Some name) version requests = refl
+-- a session of the one node is never gone
+pub plain_stays : (session : Session) → IsPlain session → is_gone session.state ≡ false
+plain_stays session plain = ap is_gone plain.state ∙ by_account session.account
+  where
+    by_account : (account : Option (List ℕ)) → is_gone (state_of account) ≡ false
+    by_account None = refl
+    by_account (Some name) = refl
 
 module _ (settings : Settings) (first number : ℕ) (rest : List ℕ) (later : List Event) (right : begins_wrong rest ≡ false) where
   -- what happens by frames, and then
@@ -50,62 +52,60 @@ module _ (settings : Settings) (first number : ℕ) (rest : List ℕ) (later : L
   events_of frames = map (Comes number) frames ++ later
 
   -- a session as the one node has it
-  abbrev IsSession : OneNode → Option Owned → ℕ → Session → Type 0
-  IsSession one owned version session = session ≡ like (account_at one number) version (requests_at owned number)
+  abbrev IsSession : OneNode → Option Owned → Session → Type 0
+  IsSession one owned session = session ≡ holding (session_in one.sessions number) (requests_at owned number)
 
   abbrev quiet_then : Bool → OneNode → List ℕ → Bool
   quiet_then quiet one frame = quiet_by quiet (read_stir settings.accounts (account_at one number) (read_pdu frame))
 
-  one_frame : (quiet : Bool) (one : OneNode) (owned : Option Owned) (node : Node) (session : Session) (version : ℕ) (frame : List ℕ) (frames : List (List ℕ)) →
+  one_frame : (quiet : Bool) (one : OneNode) (owned : Option Owned) (node : Node) (session : Session) (frame : List ℕ) (frames : List (List ℕ)) →
       IsFrame frame →
       Agree settings first (length (events_of (frame ∷ frames))) one owned node → IsQuiet quiet owned node →
       may_happen quiet (event_stir settings one (Comes number frame)) ≡ true →
-      IsSession one owned version session →
+      IsSession one owned session →
       Came settings first (length (events_of frames)) number (quiet_then quiet one frame) one owned (on_frame settings number node session frame)
       (happens settings one (Comes number frame))
-  one_frame quiet one owned node session version frame frames whole agree still may is =
+  one_frame quiet one owned node session frame frames whole agree still may is =
       subst
       (λ (s : Session). Came settings first (length (events_of frames)) number (quiet_then quiet one frame) one owned (on_frame settings number node s frame)
       (happens settings one (Comes number frame)))
       (sym is)
-      (frame_comes settings first (length (events_of frames)) number one owned node version agree quiet still frame (whole_frame frame whole) may)
+      (frame_comes settings first (length (events_of frames)) number one owned node agree quiet still frame (whole_frame frame whole) may)
 
-  pub frames_go : (quiet : Bool) (one : OneNode) (owned : Option Owned) (node : Node) (session : Session) (version : ℕ) (frames : List (List ℕ)) →
+  pub frames_go : (quiet : Bool) (one : OneNode) (owned : Option Owned) (node : Node) (session : Session) (frames : List (List ℕ)) →
       AllByRecursion IsFrame frames → Agree settings first (length (events_of frames)) one owned node → IsQuiet quiet owned node →
-      are_calm settings one quiet (events_of frames) ≡ true → IsSession one owned version session →
+      are_calm settings one quiet (events_of frames) ≡ true → IsSession one owned session →
       Went settings first number one owned (on_frames settings number node session frames rest) later (events_of frames) rest
   unfolding on_frames are_calm happen
-  frames_go quiet one owned node session version [] all agree still calm is = rw right (record {
+  frames_go quiet one owned node session [] all agree still calm is = rw right (record {
     next = one;
     quiet = quiet;
     holds = owned;
-    version = version;
     agree = agree;
     session = is;
     held = refl;
     ends = refl;
     prints = refl;
-    accounts = λ other differ. refl;
+    others = λ other differ. refl;
     requests = λ other differ. refl;
     still = still;
     calm = calm;
   })
-  frames_go quiet one owned node session version (frame ∷ frames) all agree still calm is =
+  frames_go quiet one owned node session (frame ∷ frames) all agree still calm is =
       let event = Comes number frame in
       let next = (happens settings one event).next in
       let parts = and_parts (may_happen quiet (event_stir settings one event))
       (are_calm settings next (quiet_after settings one quiet event) (events_of frames)) calm in
-      let came = one_frame quiet one owned node session version frame frames all.0 agree still parts.0 is in
+      let came = one_frame quiet one owned node session frame frames all.0 agree still parts.0 is in
       let served = on_frame settings number node session frame in
-      let went = frames_go (quiet_then quiet one frame) next came.holds served.node served.session came.version frames all.1 came.agree came.still parts.1 came.session in
+      let went = frames_go (quiet_then quiet one frame) next came.holds served.node served.session frames all.1 came.agree came.still parts.1 came.session in
       let stays : is_gone (on_frame settings number node session frame).session.state ≡ false =
-      ap (λ (s : Session). is_gone s.state) came.session ∙ like_stays (account_at next number) came.version (requests_at came.holds number) in
+      ap (λ (s : Session). is_gone s.state) came.session ∙ plain_stays (session_in next.sessions number) (came.agree.fit.plain number) in
       let printed : List Print = (happen settings next (events_of frames)).prints in
       rw stays (record {
         next = went.next;
         quiet = went.quiet;
         holds = went.holds;
-        version = went.version;
         agree = went.agree;
         session = went.session;
         held = went.held;
@@ -113,7 +113,7 @@ module _ (settings : Settings) (first number : ℕ) (rest : List ℕ) (later : L
         prints = ap (λ (prints : List Print). prints ++ printed) (sym came.prints)
             ∙ ap (λ (prints : List Print). served.prints ++ prints) went.prints
             ∙ sym (append_assoc served.prints _ _);
-        accounts = λ other differ. went.accounts other differ ∙ came.accounts other differ;
+        others = λ other differ. went.others other differ ∙ came.others other differ;
         requests = λ other differ. went.requests other differ ∙ came.requests other differ;
         still = went.still;
         calm = went.calm;

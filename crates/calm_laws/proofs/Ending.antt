@@ -11,24 +11,21 @@ use Rattle.calm_laws.proofs.Connected.{AreConnected}
 use Rattle.calm_laws.proofs.Replying.{owed_told}
 use Rattle.calm_laws.proofs.Running.{Runs}
 use Rattle.calm_laws.proofs.Settling.{Goes, runner_at, settle_goes}
-use Rattle.calm_laws.proofs.Standing.{rests}
-use Rattle.calm_laws.proofs.Tables.{as_long, table_of}
+use Rattle.calm_laws.proofs.Standing.{fit_owing, rests}
 
 pub settle_leaves : (settings : Settings) (first left : ℕ) (quiet : Bool) (one : OneNode) (streams : List (ℕ × List ℕ)) (runner : Runner) →
-    length one.table ≤ 10000 →
+    length one.node.table ≤ 10000 →
     Runs settings first (suc left) quiet one streams runner →
     Runs settings first left true (record one { owed = [] }) streams (on_settle runner).next × ((on_settle runner).prints ≡ one.owed)
 settle_leaves settings first left quiet one streams runner small runs = (
   subst (Runs settings first left true (record one { owed = [] }) streams) (sym next_is) (record {
     holds = None;
     agree = record {
-      ticket = runs.agree.ticket;
-      table = runs.agree.table;
       replies = [];
-      is_table = runs.agree.is_table;
+      fit = fit_owing one [] runs.agree.fit;
       room = let room = runs.agree.room in omega (arith, room);
       setup = runs.agree.setup;
-      settles = rests runner.node.setup now (table_of one.clock one.serial runs.agree.ticket runs.agree.table) runs.agree.settles.resting;
+      settles = rests runner.node.setup now one.node runs.agree.settles.resting;
       owes = (refl, refl);
     };
     still = (refl, refl);
@@ -43,20 +40,20 @@ settle_leaves settings first left quiet one streams runner small runs = (
 
     few : runs.agree.settles.deliveries < most_deliveries
     few =
-        let chains : length one.table ≡ length runs.agree.table = sym (ap length runs.agree.is_table.chains_are) ∙ as_long runs.agree.table in
         let most = runs.agree.settles.few in
-        omega (arith, chains, most, small)
+        omega (arith, most, small)
 
     goes : Goes runner.node.setup runner.streams runs.agree.settles.deliveries (settling runner.node.kept runner.node.packets [] []) runner.sessions
         (on_settle runner)
     goes =
-        settle_goes runner.node.setup runner.streams runs.agree.settles.deliveries most_deliveries runner.node.kept runner.node.packets [] [] runner.sessions few runs.agree.settles.left
+        settle_goes runner.node.setup runner.streams runs.agree.settles.deliveries most_deliveries runner.node.kept runner.node.packets [] []
+        runner.sessions few runs.agree.settles.left
 
     replies_are : goes.replies ≡ runs.agree.replies
     replies_are = sym goes.replies_are ∙ runs.agree.settles.replies_are
 
-    settled : AreConnected one.bound None (told runner.sessions runs.agree.replies).sessions × ((told runner.sessions runs.agree.replies).prints ≡ one.owed)
-    settled = owed_told one.bound runner.sessions runs.agree.replies runs.holds one.owed runs.agree.owes runs.sessions
+    settled : AreConnected one.sessions None (told runner.sessions runs.agree.replies).sessions × ((told runner.sessions runs.agree.replies).prints ≡ one.owed)
+    settled = owed_told one.sessions runner.sessions runs.agree.replies runs.holds one.owed runs.agree.owes runs.sessions
 
     next_is : (on_settle runner).next ≡ runner_at runner.node.setup runner.streams now [] (told runner.sessions runs.agree.replies).sessions
     next_is = goes.next ∙ ap (λ (replies : List Reply). runner_at runner.node.setup runner.streams now [] (told runner.sessions replies).sessions) replies_are

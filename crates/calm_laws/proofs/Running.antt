@@ -7,13 +7,16 @@ use Rattle.std.proofs.lemmas.Bool.{cases_eq}
 use Rattle.node_model.proofs.Places.{elsewhere, here}
 use Rattle.sessions.specs.Session.{Session}
 use Rattle.sessions.specs.States.{is_gone}
+use Rattle.sessions.specs.declared.request.OpenRequest.{OpenRequest}
 use Rattle.script_text.specs.Settings.{Settings}
-use Rattle.script_text.specs.Runner.{Owned, Runner, Streamed, held_in, holding, kept, or_nothing, without}
+use Rattle.script_text.specs.Runner.{Owned, Runner, Streamed, held_in, kept, or_nothing, session_in, without}
+use Rattle.script_text.specs.Runner as runners
 use Rattle.script_text.specs.Events.{Event}
-use Rattle.script_text.specs.OneNode.{OneNode, account_at}
-use Rattle.calm_laws.proofs.Calming.{Went, like_stays}
-use Rattle.calm_laws.proofs.Connected.{AreConnected, one_served}
+use Rattle.script_text.specs.OneNode.{OneNode}
+use Rattle.calm_laws.proofs.Calming.{Went, plain_stays}
+use Rattle.calm_laws.proofs.Connected.{AreConnected, one_served, ours_at}
 use Rattle.calm_laws.proofs.Entries.{remove_elsewhere}
+use Rattle.calm_laws.proofs.Plain.{holding}
 use Rattle.calm_laws.proofs.Standing.{Agree, IsQuiet, requests_at}
 
 -- The sessions are as the one node has them, and so is the node, and of each session the same octets wait for more.
@@ -22,7 +25,7 @@ pub record Runs (settings : Settings) (first left : ℕ) (quiet : Bool) (one : O
   pub agree : Agree settings first left one holds runner.node
   pub still : IsQuiet quiet holds runner.node
   pub held : (number : ℕ) → held_in runner.streams number ≡ held_in streams number
-  pub sessions : AreConnected one.bound holds runner.sessions
+  pub sessions : AreConnected one.sessions holds runner.sessions
 
 -- ---- the octets of a line
 
@@ -32,12 +35,12 @@ module _ (settings : Settings) (first left : ℕ) (quiet : Bool) (one : OneNode)
     (went : Went settings first number one runs.holds streamed later all rest) where
   -- the session is connected again
   abbrev pub served : Runner
-  served = holding (record (without runner number) { node = streamed.served.node }) number streamed.served.session streamed.held
+  served = runners.holding (record (without runner number) { node = streamed.served.node }) number streamed.served.session streamed.held
 
   pub kept_is : kept (without runner number) number streamed ≡ served
   kept_is =
       let stays : is_gone streamed.served.session.state ≡ false =
-      ap (λ (s : Session). is_gone s.state) went.session ∙ like_stays (account_at went.next number) went.version (requests_at went.holds number) in
+      ap (λ (s : Session). is_gone s.state) went.session ∙ plain_stays (session_in went.next.sessions number) (went.agree.fit.plain number) in
       ap (λ (gone : Bool). cond gone (record (without runner number) { node = streamed.served.node }) served) stays
 
   abbrev others : List (ℕ × List ℕ)
@@ -57,6 +60,12 @@ module _ (settings : Settings) (first left : ℕ) (quiet : Bool) (one : OneNode)
       ∙ runs.held other
       ∙ sym (ap or_nothing (elsewhere number rest other not_it streams))
 
+  -- another session is as it was
+  as_before : (other : ℕ) → (number ≡ other → ⊥) → ours_at one.sessions runs.holds other ≡ ours_at went.next.sessions went.holds other
+  as_before other differ =
+      ap (λ (s : Session). holding s (requests_at runs.holds other)) (sym (went.others other differ))
+      ∙ ap (λ (waiting : List OpenRequest). holding (session_in went.next.sessions other) waiting) (sym (went.requests other differ))
+
   pub octets_leave : Runs settings first (length later) went.quiet went.next (insert_entry nat_cmp streams number rest) served
   octets_leave = record {
     holds = went.holds;
@@ -67,5 +76,5 @@ module _ (settings : Settings) (first left : ℕ) (quiet : Bool) (one : OneNode)
       | inr differ ↦ held_elsewhere other differ
     ];
     sessions =
-        one_served one.bound went.next.bound runs.holds went.holds runner.sessions number streamed.served.session went.version went.session went.accounts went.requests runs.sessions;
+        one_served one.sessions went.next.sessions runs.holds went.holds runner.sessions number streamed.served.session went.session as_before runs.sessions;
   }

@@ -9,15 +9,16 @@ use Rattle.node_model.specs.Outputs.{Stepped}
 use Rattle.alone_laws.specs.Alone.{alone}
 use Rattle.alone_laws.specs.Resting.{IsResting}
 use Rattle.alone_laws.specs.Settling.{Settling, SettlesOn, begins_with, delivered, most_deliveries}
-use Rattle.alone_laws.specs.Tables.{Table, TableNode}
+use Rattle.alone_laws.specs.Tables.{TableNode}
 use Rattle.alone_laws.proofs.Leading.{nothing_more, settling}
 use Rattle.sessions.specs.declared.request.OpenRequest.{OpenRequest}
 use Rattle.script_text.specs.Settings.{Settings}
-use Rattle.script_text.specs.Node.{Node}
+use Rattle.script_text.specs.Node.{Node, with_step}
 use Rattle.script_text.specs.Prints.{Print}
-use Rattle.script_text.specs.Runner.{Owned, reply_prints}
+use Rattle.script_text.specs.Runner.{Owned, reply_prints, session_in}
 use Rattle.script_text.specs.OneNode.{OneNode}
-use Rattle.calm_laws.proofs.Tables.{IsTableOf, table_of}
+use Rattle.calm_laws.proofs.Plain.{IsPlain}
+use Rattle.calm_laws.proofs.Windows.{AreWaiting}
 
 -- ---- a node that settles
 
@@ -51,6 +52,18 @@ pub rests_now : (setup : Setup) (k : Kept) (t : TableNode) (replies : List Reply
 rests_now setup k t replies settles =
     subst (λ (s : Settling). IsResting s.kept t) (nothing_more setup (settling k [] [] []) refl settles.deliveries) settles.resting
 
+-- ---- the one node by itself
+
+-- Serials begin at 1, its sessions are plain, and in their windows attempts wait alone.
+pub record IsFit (one : OneNode) : Type 0 where
+  pub least : 1 ≤ one.node.serial
+  pub plain : (number : ℕ) → IsPlain (session_in one.sessions number)
+  pub waiting : AreWaiting one.node.table one.sessions
+
+-- what it owes is no matter
+pub fit_owing : (one : OneNode) (owed : List Print) → IsFit one → IsFit (record one { owed = owed })
+fit_owing one owed fit = record { least = fit.least; plain = fit.plain; waiting = fit.waiting }
+
 -- ---- the runner's node, and the one node
 
 -- what a session holds of the request that waits, if one does
@@ -65,13 +78,11 @@ Owes replies (Some owned) owed = (reply : Reply) × (replies ≡ reply ∷ []) �
 
 -- The node settles on the table of the one node, and there are tickets for so many events more.
 pub record Agree (settings : Settings) (first left : ℕ) (one : OneNode) (owned : Option Owned) (node : Node) : Type 0 where
-  pub ticket : ℕ
-  pub table : Table
   pub replies : List Reply
-  pub is_table : IsTableOf one.serial one.table table
-  pub room : ticket + left < 2 ^ 64
+  pub fit : IsFit one
+  pub room : one.node.ticket + left < 2 ^ 64
   pub setup : node.setup ≡ alone first settings.validity
-  pub settles : SettlesTo node.setup node.kept node.packets (table_of one.clock one.serial ticket table) replies
+  pub settles : SettlesTo node.setup node.kept node.packets one.node replies
   pub owes : Owes replies owned one.owed
 
 -- if it is quiet nothing waits
@@ -82,10 +93,8 @@ IsQuiet false owned node = Unit {0}
 pub fewer : (settings : Settings) (first left : ℕ) (one : OneNode) (owned : Option Owned) (node : Node) →
     Agree settings first (suc left) one owned node → Agree settings first left one owned node
 fewer settings first left one owned node agree = record {
-  ticket = agree.ticket;
-  table = agree.table;
   replies = agree.replies;
-  is_table = agree.is_table;
+  fit = agree.fit;
   room = let room = agree.room in omega (arith, room);
   setup = agree.setup;
   settles = agree.settles;
@@ -96,40 +105,46 @@ fewer settings first left one owned node agree = record {
 abbrev pub node_of : Settings → ℕ → Kept → Node
 node_of settings first k = record { setup = alone first settings.validity; kept = k; packets = [] }
 
-pub rested : (settings : Settings) (first left ticket : ℕ) (one : OneNode) (k : Kept) (table : Table) → IsTableOf one.serial one.table table →
-    ticket + left < 2 ^ 64 →
-    IsResting k (table_of one.clock one.serial ticket table) → one.owed ≡ [] → Agree settings first left one None (node_of settings first k)
-rested settings first left ticket one k table is_table room resting owed = record {
-  ticket = ticket;
-  table = table;
+pub rested : (settings : Settings) (first left : ℕ) (one : OneNode) (k : Kept) → IsFit one → one.node.ticket + left < 2 ^ 64 →
+    IsResting k one.node → one.owed ≡ [] → Agree settings first left one None (node_of settings first k)
+rested settings first left one k fit room resting owed = record {
   replies = [];
-  is_table = is_table;
+  fit = fit;
   room = room;
   setup = refl;
-  settles = rests (alone first settings.validity) k (table_of one.clock one.serial ticket table) resting;
+  settles = rests (alone first settings.validity) k one.node resting;
+  owes = (refl, owed);
+}
+
+-- a node at rest takes a step that answers nobody
+pub stepped_on : (settings : Settings) (first left : ℕ) (one : OneNode) (k : Kept) (step : Stepped) (receipts : List Receipt) → IsFit one →
+    one.node.ticket + left < 2 ^ 64 → SettlesOn (alone first settings.validity) step one.node [] receipts → one.owed ≡ [] →
+    Agree settings first left one None (with_step (node_of settings first k) step)
+stepped_on settings first left one k step receipts fit room on owed = record {
+  replies = [];
+  fit = fit;
+  room = room;
+  setup = refl;
+  settles = settles_so (alone first settings.validity) step one.node [] receipts on;
   owes = (refl, owed);
 }
 
 -- what the nodes have while it is quiet
 pub record AreQuiet (settings : Settings) (first left : ℕ) (one : OneNode) (node : Node) : Type 0 where
-  pub ticket : ℕ
-  pub table : Table
   pub node_is : node ≡ node_of settings first node.kept
-  pub is_table : IsTableOf one.serial one.table table
-  pub room : ticket + left < 2 ^ 64
-  pub resting : IsResting node.kept (table_of one.clock one.serial ticket table)
+  pub fit : IsFit one
+  pub room : one.node.ticket + left < 2 ^ 64
+  pub resting : IsResting node.kept one.node
   pub owed : one.owed ≡ []
 
 pub quiet_now : (settings : Settings) (first left : ℕ) (one : OneNode) (owned : Option Owned) (node : Node) →
     Agree settings first left one owned node → IsQuiet true owned node → AreQuiet settings first left one node
 quiet_now settings first left one owned node agree quiet = record {
-  ticket = agree.ticket;
-  table = agree.table;
   node_is = λ i. record { setup = agree.setup i; kept = node.kept; packets = quiet.1 i };
-  is_table = agree.is_table;
+  fit = agree.fit;
   room = agree.room;
   resting =
-      rests_now node.setup node.kept (table_of one.clock one.serial agree.ticket agree.table) agree.replies
-      (subst (λ (packets : List Packet). SettlesTo node.setup node.kept packets (table_of one.clock one.serial agree.ticket agree.table) agree.replies) quiet.1 agree.settles);
+      rests_now node.setup node.kept one.node agree.replies
+      (subst (λ (packets : List Packet). SettlesTo node.setup node.kept packets one.node agree.replies) quiet.1 agree.settles);
   owed = (subst (λ (o : Option Owned). Owes agree.replies o one.owed) quiet.0 agree.owes).1;
 }
