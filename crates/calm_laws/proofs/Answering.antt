@@ -16,8 +16,8 @@ use Rattle.script_text.specs.Settings.{Settings}
 use Rattle.script_text.specs.Attempts.{Went, delivered_so, rests_at}
 use Rattle.script_text.specs.Runner.{Served, gone_on, on_done, on_reaction, session_in}
 use Rattle.script_text.specs.Runner as runner
-use Rattle.script_text.specs.OneNode.{Happened, OneNode, answered, done_by, prints_now, reacted, with_session}
-use Rattle.calm_laws.proofs.Came.{Came}
+use Rattle.script_text.specs.OneNode.{Happened, OneNode, answered, prints_now, reacted, with_session}
+use Rattle.calm_laws.proofs.Came.{Came, reacted_by}
 use Rattle.calm_laws.proofs.Concluding.{outcome_comes}
 use Rattle.calm_laws.proofs.Plain.{IsBut, IsPlain, each_but, holding, like, put_but}
 use Rattle.calm_laws.proofs.Standing.{Agree, AreQuiet, IsFit, node_of, rested}
@@ -57,7 +57,7 @@ module _ (settings : Settings) (first left number : ℕ) (one : OneNode) (k : Ke
   next = like account version (without_first test pushed) following []
 
   abbrev LeftAlike : Served → Happened → Type 0
-  LeftAlike served happened = Came settings first left number false one None served happened
+  LeftAlike served happened = Came settings first left number false one None served happened account
 
   room_left : one.node.ticket + left < 2 ^ 64
   room_left = let room = quiet.room in omega (arith, room)
@@ -68,11 +68,13 @@ module _ (settings : Settings) (first left number : ℕ) (one : OneNode) (k : Ke
       (reacted settings one number came next (answers_to None answer))
   nothing_answered none = record {
     holds = None;
-    agree = rested settings first left one k quiet.fit room_left quiet.resting quiet.owed;
+    agree = rested settings first left one k quiet.fit room_left quiet.resting quiet.owed quiet.due;
     session = ap (λ (ps : List Pushed). like account version ps following []) (none_left test pushed none) ∙ ap (λ (s : Session). holding s []) is;
+    bound = refl;
     prints = refl;
     others = λ other differ. refl;
     requests = λ other differ. refl;
+    waiting = refl;
     still = tt;
   }
 
@@ -100,30 +102,32 @@ module _ (settings : Settings) (first left number : ℕ) (one : OneNode) (k : Ke
         (left_waits one.node.table one.sessions now quiet.fit.waiting number next but test it was_found was_left)
 
     -- the node goes on so
-    went_so : (went : Went) (last : OneNode) → last.sessions ≡ now → Agree settings first left last None went.node →
+    went_so : (went : Went) (last : OneNode) → last.sessions ≡ now → last.waiting ≡ one.waiting → Agree settings first left last None went.node →
         LeftAlike (gone_on next went []) (prints_now last [])
-    went_so went last same agree = record {
+    went_so went last same waiting agree = record {
       holds = None;
       agree = agree;
       session = ap (λ (s : Session). holding s []) (sym but.it) ∙ ap (λ (ss : List (ℕ × Session)). holding (session_in ss number) []) (sym same);
+      bound = refl;
       prints = refl;
       others = λ other differ. ap (λ (ss : List (ℕ × Session)). session_in ss other) same ∙ but.others other differ;
       requests = λ other differ. refl;
+      waiting = waiting;
       still = tt;
     }
 
     agree_then : Agree settings first left then None (node_of settings first k)
-    agree_then = rested settings first left then k fit_then room_left quiet.resting quiet.owed
+    agree_then = rested settings first left then k fit_then room_left quiet.resting quiet.owed quiet.due
 
     delivered : (delivery : Delivery) (outcome : Option Outcome) → it.delivery ≡ delivery →
         LeftAlike (gone_on next (delivered_so (node_of settings first k) delivery outcome) []) (prints_now (answered then delivery outcome) [])
     delivered (Attempt slot) (Some outcome) delivery =
         let waited = it_waits one.node.table one.sessions now quiet.fit.waiting number next but test it was_found was_left slot delivery in
         let off = others_are_off one.node.table one.sessions now quiet.fit.waiting number next but test it was_found was_left slot delivery in
-        went_so (delivered_so (node_of settings first k) (Attempt slot) (Some outcome)) (answered then (Attempt slot) (Some outcome)) refl
-        (outcome_comes settings first left then k fit_then room_left quiet.resting quiet.owed slot outcome waited.0 off)
-    delivered (Attempt slot) None delivery = went_so (rests_at (node_of settings first k)) then refl agree_then
-    delivered (Receipt id) outcome delivery = went_so (rests_at (node_of settings first k)) then refl agree_then
+        went_so (delivered_so (node_of settings first k) (Attempt slot) (Some outcome)) (answered then (Attempt slot) (Some outcome)) refl refl
+        (outcome_comes settings first left then k fit_then room_left quiet.resting quiet.owed quiet.due slot outcome waited.0 off)
+    delivered (Attempt slot) None delivery = went_so (rests_at (node_of settings first k)) then refl refl agree_then
+    delivered (Receipt id) outcome delivery = went_so (rests_at (node_of settings first k)) then refl refl agree_then
 
   by_found : (found : Option Pushed) → find test pushed ≡ found →
       LeftAlike (on_reaction settings number (node_of settings first k) came next (answers_to found answer))
@@ -132,5 +136,5 @@ module _ (settings : Settings) (first left number : ℕ) (one : OneNode) (k : Ke
   by_found (Some it) found = delivered it found it.delivery (came.outcome it.sequence) refl
 
   pub answer_comes : LeftAlike (on_done settings number (node_of settings first k) came (on_answer session sequence answer))
-      (done_by settings one number came (on_answer session sequence answer))
+      (reacted_by settings one number came (on_answer session sequence answer))
   answer_comes = by_found (find test pushed) refl

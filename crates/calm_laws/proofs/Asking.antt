@@ -1,5 +1,5 @@
 -- A request of an account, for a node at rest: the runner and the one node do alike.
-use Rattle.std.proofs.Common.{◌≡◌, ℕ, suc, ◌≤◌, Bool, true, false, cond, List, [], ◌∷◌, ◌++◌, Some, None, Result, Ok, Err, refl, sym, ◌∙◌, ap, subst, arith}
+use Rattle.std.proofs.Common.{◌≡◌, ℕ, suc, ◌≤◌, Bool, true, false, cond, List, [], ◌∷◌, ◌++◌, Option, Some, None, Result, Ok, Err, refl, sym, ◌∙◌, ap, subst, arith}
 use Rattle.std.specs.Prelude.{◌==◌}
 use Rattle.std.proofs.lemmas.Bool.{and_parts}
 use Rattle.std.proofs.lemmas.Bool.Decides.{nat_tests}
@@ -9,6 +9,7 @@ use Rattle.mc_model.specs.message.Ids.{IsSerial, id_of}
 use Rattle.mc_model.specs.node.Actor.{Cancel, Query, Request, Submit}
 use Rattle.mc_model.specs.node.Effect.{next_serial}
 use Rattle.mc_model.specs.node.Input.{Arrival, Input, Refusal}
+use Rattle.mc_model.specs.node.Outputs.{Receipt}
 use Rattle.mc_model.specs.node.Setup.{Setup}
 use Rattle.node_model.specs.Kept.{Kept}
 use Rattle.node_model.specs.Outputs.{Stepped}
@@ -24,6 +25,7 @@ use Rattle.alone_laws.proofs.Submits.{none_if_not_given}
 use Rattle.pdu_tables.specs.StatusCodes.{status_code}
 use Rattle.pdu_tables.specs.declared.status.Status.{Status}
 use Rattle.sessions.specs.Session.{Session}
+use Rattle.sessions.specs.Steps.{can_wait}
 use Rattle.sessions.specs.declared.pushed.Pushed.{Pushed}
 use Rattle.sessions.specs.declared.request.OpenRequest.{OpenRequest}
 use Rattle.sessions.specs.declared.requested.Requested.{Requested}
@@ -39,7 +41,7 @@ use Rattle.script_text.specs.OneNode.{Happened, OneNode, asked, asked_so, door_o
 use Rattle.calm_laws.proofs.Admitting.{may_come, request_is}
 use Rattle.calm_laws.proofs.Came.{Came}
 use Rattle.calm_laws.proofs.Plain.{holding, like}
-use Rattle.calm_laws.proofs.Standing.{AreQuiet, IsFit, node_of, requests_at, rested, settles_so}
+use Rattle.calm_laws.proofs.Standing.{AreQuiet, IsFit, SettlesTo, node_of, requests_at, rested, settles_so}
 use Rattle.calm_laws.proofs.Windows.{AreWaiting, IsUnderway, off_unless, waiting_with}
 
 pub not_here : (number other : ℕ) → (number ≡ other → ⊥) → (number == other) ≡ false
@@ -98,7 +100,7 @@ module _ (settings : Settings) (first left number : ℕ) (one : OneNode) (k : Ke
 
   -- what comes to the node, and what happens, leave both alike
   abbrev LeftAlike : Served → Happened → Type 0
-  LeftAlike served happened = Came settings first left number false one None served happened
+  LeftAlike served happened = Came settings first left number false one None served happened (Some name)
 
   abbrev Comes : Input → Happened → Type 0
   Comes input happened = LeftAlike (on_input number (node_of settings first k) session kind sequence input) happened
@@ -112,11 +114,13 @@ module _ (settings : Settings) (first left number : ℕ) (one : OneNode) (k : Ke
       (sym refused)
       (record {
         holds = None;
-        agree = let room = quiet.room in rested settings first left one k quiet.fit (omega (arith, room)) quiet.resting quiet.owed;
+        agree = let room = quiet.room in rested settings first left one k quiet.fit (omega (arith, room)) quiet.resting quiet.owed quiet.due;
         session = ap (λ (s : Session). holding s []) is;
+        bound = refl;
         prints = refl;
         others = λ other differ. refl;
         requests = λ other differ. refl;
+        waiting = refl;
         still = tt;
       })
 
@@ -136,7 +140,7 @@ module _ (settings : Settings) (first left number : ℕ) (one : OneNode) (k : Ke
     owes = late number kind sequence (reply_to t request)
 
     abbrev then : OneNode
-    then = record one { node = requested t request; owed = one.owed ++ owes ∷ [] }
+    then = record one { node = requested t request; owed = one.owed ++ owes ∷ []; due = one.due ++ receipts_by t request }
 
     unrefused : step.outputs.refused ≡ None
     unrefused = let up = quiet.resting.up in rw up (refl {a = None})
@@ -146,6 +150,17 @@ module _ (settings : Settings) (first left number : ℕ) (one : OneNode) (k : Ke
         ap (in_window session kind sequence) (ticket_given first settings.validity k t quiet.resting request)
         ∙ ap (λ (test : Bool). like (Some name) version pushed next (cond test (waits ∷ []) [])) (sym (eqb_self number))
         ∙ ap (λ (s : Session). holding s (requests_at (Some owned) number)) is
+
+    window_bound : (ticket : Option ℕ) → (in_window session kind sequence ticket).account ≡ Some name
+    window_bound None = refl
+    window_bound (Some given) = by_room (can_wait session)
+      where
+        by_room : (room : Bool) →
+            (cond {A = Session} room
+            (record session { requests = session.requests ++ record { ticket = given; requested = kind; sequence = sequence } ∷ [] }) session).account
+            ≡ Some name
+        by_room true = refl
+        by_room false = refl
 
     fit_then : IsFit then
     fit_then = record {
@@ -163,14 +178,18 @@ module _ (settings : Settings) (first left number : ℕ) (one : OneNode) (k : Ke
         room = let room = quiet.room in omega (arith, room);
         setup = refl;
         settles =
-            settles_so setup step (requested t request) (reply_to t request ∷ []) (receipts_by t request)
-            (request_settles first settings.validity k t quiet.resting request may);
+            subst (SettlesTo setup step.kept step.outputs.packets (requested t request) (reply_to t request ∷ []))
+            (sym (ap (λ (receipts : List Receipt). receipts ++ receipts_by t request) quiet.due))
+            (settles_so setup step (requested t request) (reply_to t request ∷ []) (receipts_by t request)
+            (request_settles first settings.validity k t quiet.resting request may));
         owes = (reply_to t request, refl, refl, ap (λ (prints : List Print). prints ++ owes ∷ []) quiet.owed);
       };
       session = waits_so;
+      bound = window_bound step.outputs.ticket;
       prints = ap (refusal_prints number kind sequence) unrefused;
       others = λ other differ. refl;
       requests = λ other differ. ap (λ (test : Bool). cond test (waits ∷ []) []) (not_here number other differ);
+      waiting = refl;
       still = tt;
     }
 

@@ -17,7 +17,7 @@ use Rattle.pdu_bodies.specs.declared.pdu.Body.TheVariants as bodies
 use Rattle.pdu_bodies.specs.declared.pdu.Pdu.{Pdu}
 use Rattle.sessions.specs.Session.{Session}
 use Rattle.sessions.specs.Responses.{requested_by}
-use Rattle.sessions.specs.Steps.{Done, on_pdu}
+use Rattle.sessions.specs.Steps.{Done, on_fault, on_pdu}
 use Rattle.sessions.specs.declared.pushed.Pushed.{Pushed}
 use Rattle.sessions.specs.declared.reaction.EsmeAnswer.TheVariants as answers
 use Rattle.sessions.specs.declared.request.OpenRequest.{OpenRequest}
@@ -26,33 +26,22 @@ use Rattle.sessions.specs.declared.response.Outgoing.{Outgoing}
 use Rattle.desk.specs.declared.request.Request.TheVariants as asked
 use Rattle.script_text.specs.Settings.{Settings}
 use Rattle.script_text.specs.Node.{Node}
-use Rattle.script_text.specs.Runner.{Owned, came_by, nothing_came, on_done, on_frame, on_read, session_in}
+use Rattle.script_text.specs.Runner.{Owned, Runner, came_by, nothing_came, on_done, on_frame, on_read, serves, session_in}
 use Rattle.script_text.specs.Runner as runner
 use Rattle.script_text.specs.Events.{Comes}
-use Rattle.script_text.specs.OneNode.{OneNode, account_at, came, done_by, happens}
+use Rattle.script_text.specs.OneNode.{OneNode, account_at, came, happens}
 use Rattle.script_text.specs.Calm.{Stir, Still, Stirs, Never, body_stir, may_happen, quiet_by, read_stir, stirs_if}
 use Rattle.calm_laws.proofs.Answering.{answer_comes, fit_session}
 use Rattle.calm_laws.proofs.Asking.{request_comes}
-use Rattle.calm_laws.proofs.Came.{Came}
+use Rattle.calm_laws.proofs.Came.{Came, reacted_by}
 use Rattle.calm_laws.proofs.Plain.{holding, like, plain_is, put_but}
 use Rattle.calm_laws.proofs.Reacting.{AreAlike, IsForNode, fault_alike, out_of, pdu_alike}
-use Rattle.calm_laws.proofs.Standing.{Agree, AreQuiet, IsFit, IsQuiet, fewer, node_of, quiet_now, requests_at}
+use Rattle.calm_laws.proofs.Running.{Runs}
+use Rattle.calm_laws.proofs.Serving.{AreServed, serve_leaves}
+use Rattle.calm_laws.proofs.Standing.{Agree, AreQuiet, IsQuiet, fewer, node_of, quiet_now, refit, requests_at}
 use Rattle.calm_laws.proofs.Windows.{same_waits}
 
 -- ---- what is answered at once
-
--- other sessions are no matter of the node
-refit : (settings : Settings) (first left : ℕ) (one : OneNode) (owned : Option Owned) (node : Node) (sessions : List (ℕ × Session)) →
-    Agree settings first left one owned node → IsFit (record one { sessions = sessions }) →
-    Agree settings first left (record one { sessions = sessions }) owned node
-refit settings first left one owned node sessions agree fit = record {
-  replies = agree.replies;
-  fit = fit;
-  room = agree.room;
-  setup = agree.setup;
-  settles = agree.settles;
-  owes = agree.owes;
-}
 
 module _ (settings : Settings) (first left number : ℕ) (one : OneNode) (quiet : Bool) (owned : Option Owned) (node : Node)
     (agree : Agree settings first left one owned node) (still : IsQuiet quiet owned node) (came : runner.Came) where
@@ -65,7 +54,8 @@ module _ (settings : Settings) (first left number : ℕ) (one : OneNode) (quiet 
   -- what a session does here and there leaves both alike
   abbrev LeaveAlike : Done → Done → Type 0
   LeaveAlike ours theirs =
-      Came settings first left number quiet one owned (on_done settings number node came ours) (done_by settings one number came theirs)
+      Came settings first left number quiet one owned (on_done settings number node came ours) (reacted_by settings one number came theirs)
+      theirs.next.account
 
   abbrev ours_of : Session → Option Outgoing → Done
   ours_of next out = record { next = holding next waiting; reaction = out_of out }
@@ -79,9 +69,11 @@ module _ (settings : Settings) (first left number : ℕ) (one : OneNode) (quiet 
     holds = owned;
     agree = agree;
     session = ap (λ (s : Session). holding s waiting) (silent refl);
+    bound = refl;
     prints = refl;
     others = λ other differ. refl;
     requests = λ other differ. refl;
+    waiting = refl;
     still = still;
   }
   out_comes ours theirs alike (Some outgoing) silent =
@@ -90,13 +82,15 @@ module _ (settings : Settings) (first left number : ℕ) (one : OneNode) (quiet 
       record {
         holds = owned;
         agree =
-            refit settings first left one owned node now agree
+            refit settings first left one owned node now one.waiting agree
             (fit_session one number alike.next agree.fit alike.plain
             (same_waits one.node.table one.sessions now agree.fit.waiting number alike.next but alike.pushed));
         session = ap (λ (s : Session). holding s waiting) (sym but.it);
+        bound = refl;
         prints = refl;
         others = but.others;
         requests = λ other differ. refl;
+        waiting = refl;
         still = still;
       }
 
@@ -146,7 +140,8 @@ module _ (settings : Settings) (first left number : ℕ) (one : OneNode) where
       Came settings first left number quiet one owned
       (on_done settings number node (came_by settings (record pdu { body = body }))
       (on_pdu settings.accounts (holding session (requests_at owned number)) (record pdu { body = body })))
-      (done_by settings one number (came_by settings (record pdu { body = body })) (on_pdu settings.accounts session (record pdu { body = body })))
+      (reacted_by settings one number (came_by settings (record pdu { body = body })) (on_pdu settings.accounts session (record pdu { body = body })))
+      (on_pdu settings.accounts session (record pdu { body = body })).next.account
 
   -- ---- it is for the node
 
@@ -212,24 +207,49 @@ module _ (settings : Settings) (first left number : ℕ) (one : OneNode) where
         | inr is_for ↦ for_comes quiet pdu is_quiet is_for may
       ]
 
-      -- what octets that are read so come to
-      abbrev ReadComes : List ℕ → Result Pdu PduFault → Type 0
-      ReadComes octets read =
-          Came settings first left number (quiet_by quiet (read_stir settings.accounts (account_at one number) read)) one owned
-          (on_read settings number node (holding session_now (requests_at owned number)) octets read) (came settings one number octets read)
+-- ---- one frame
 
-      read_comes : (octets : List ℕ) (read : Result Pdu PduFault) → (read ≡ Err faults.Length → ⊥) →
-          may_happen quiet (read_stir settings.accounts (account_at one number) read) ≡ true → ReadComes octets read
-      read_comes octets (Ok pdu) whole may = pdu_comes pdu may
-      read_comes octets (Err fault) whole may =
-          let requested = requested_by (command_of (word_at 4 octets)) in
-          done_comes settings first left number one quiet owned node fewer_left is_quiet nothing_came _ _
-          (fault_alike session_now (agree.fit.plain number) (requests_at owned number) fault requested (word_at 12 octets) (λ is. whole (ap Err is)))
+module _ (settings : Settings) (first left number : ℕ) (quiet : Bool) (one : OneNode) (streams : List (ℕ × List ℕ)) (runner : Runner)
+    (runs : Runs settings first (suc left) quiet one streams runner) where
+  abbrev its_session : Session
+  its_session = session_in one.sessions number
 
-      -- a frame comes
-      pub frame_comes : (octets : List ℕ) → (read_pdu octets ≡ Err faults.Length → ⊥) →
-          may_happen quiet (read_stir settings.accounts (account_at one number) (read_pdu octets)) ≡ true →
-          Came settings first left number (quiet_by quiet (read_stir settings.accounts (account_at one number) (read_pdu octets))) one owned
-          (on_frame settings number node (holding session_now (requests_at owned number)) octets) (happens settings one (Comes number octets))
-      unfolding on_frame happens
-      frame_comes octets whole may = read_comes octets (read_pdu octets) whole may
+  abbrev its_requests : List OpenRequest
+  its_requests = requests_at runs.holds number
+
+  -- what octets that are read so come to
+  abbrev ReadLeaves : Session → List ℕ → Result Pdu PduFault → Type 0
+  ReadLeaves session octets read =
+      AreServed settings first left number (quiet_by quiet (read_stir settings.accounts (account_at one number) read)) streams
+      (serves runner number (on_read settings number runner.node session octets read)) (came settings one number octets read)
+
+  read_leaves : (octets : List ℕ) (read : Result Pdu PduFault) → (read ≡ Err faults.Length → ⊥) →
+      may_happen quiet (read_stir settings.accounts (account_at one number) read) ≡ true →
+      ReadLeaves (holding its_session its_requests) octets read
+  read_leaves octets (Ok pdu) whole may =
+      serve_leaves settings first left number (quiet_by quiet (body_stir settings.accounts its_session.account pdu.body)) one streams runner runs.holds
+      runs.sessions runs.held runs.waiting
+      (on_done settings number runner.node (came_by settings pdu) (on_pdu settings.accounts (holding its_session its_requests) pdu))
+      (reacted_by settings one number (came_by settings pdu) (on_pdu settings.accounts its_session pdu))
+      (on_pdu settings.accounts its_session pdu).next.account
+      (pdu_comes settings first left number one runs.holds runner.node runs.agree quiet runs.still pdu may)
+  read_leaves octets (Err fault) whole may =
+      let requested = requested_by (command_of (word_at 4 octets)) in
+      let sequence = word_at 12 octets in
+      serve_leaves settings first left number quiet one streams runner runs.holds runs.sessions runs.held runs.waiting
+      (on_done settings number runner.node nothing_came (on_fault (holding its_session its_requests) fault requested sequence))
+      (reacted_by settings one number nothing_came (on_fault its_session fault requested sequence))
+      (on_fault its_session fault requested sequence).next.account
+      (done_comes settings first left number one quiet runs.holds runner.node
+      (fewer settings first left one runs.holds runner.node runs.agree) runs.still nothing_came _ _
+      (fault_alike its_session (runs.agree.fit.plain number) its_requests fault requested sequence (λ is. whole (ap Err is))))
+
+  -- a frame comes
+  pub frame_comes : (octets : List ℕ) → (read_pdu octets ≡ Err faults.Length → ⊥) →
+      may_happen quiet (read_stir settings.accounts (account_at one number) (read_pdu octets)) ≡ true →
+      AreServed settings first left number (quiet_by quiet (read_stir settings.accounts (account_at one number) (read_pdu octets))) streams
+      (on_frame settings number runner octets) (happens settings one (Comes number octets))
+  unfolding on_frame happens
+  frame_comes octets whole may =
+      subst (λ (session : Session). ReadLeaves session octets (read_pdu octets)) (sym (runs.sessions.each number))
+      (read_leaves octets (read_pdu octets) whole may)

@@ -1,8 +1,9 @@
 -- What came of an attempt, for a node at rest: the runner and the one node do alike.
-use Rattle.std.proofs.Common.{◌≡◌, ℕ, ◌+◌, ◌<◌, ◌^◌, Bool, true, cond, List, [], ◌∷◌, length, None, refl, sym, ◌∙◌, ap, subst, arith}
+use Rattle.std.proofs.Common.{◌≡◌, ℕ, ◌+◌, ◌<◌, ◌^◌, Bool, true, cond, List, [], ◌∷◌, ◌++◌, length, None, refl, sym, ◌∙◌, ap, subst, arith}
 use Rattle.mc_model.specs.message.Decree.{Decree}
 use Rattle.mc_model.specs.node.Input.{Response}
 use Rattle.mc_model.specs.node.Outcome.{Outcome, decree_of}
+use Rattle.mc_model.specs.node.Outputs.{Receipt}
 use Rattle.mc_model.specs.node.Setup.{Setup}
 use Rattle.mc_model.specs.synod.Packet.{Slot}
 use Rattle.node_model.specs.Granted.{is_open}
@@ -25,7 +26,7 @@ some_underway [] underway = absurd underway
 some_underway (newest ∷ older) underway = omega arith
 
 module _ (settings : Settings) (first left : ℕ) (one : OneNode) (k : Kept) (fit : IsFit one) (room : one.node.ticket + left < 2 ^ 64)
-    (resting : IsResting k one.node) (owed : one.owed ≡ []) (slot : Slot) (outcome : Outcome) (newest : IsNewest (entry_at one.node.table slot.id) slot)
+    (resting : IsResting k one.node) (owed : one.owed ≡ []) (due : one.due ≡ []) (slot : Slot) (outcome : Outcome) (newest : IsNewest (entry_at one.node.table slot.id) slot)
     (off : AreOff slot.id one.sessions) where
   abbrev setup : Setup
   setup = alone first settings.validity
@@ -74,4 +75,4 @@ module _ (settings : Settings) (first left : ℕ) (one : OneNode) (k : Kept) (fi
       (cond b (went (node_of settings first k) (Response slot outcome)) (rests_at (node_of settings first k))).node)
       (sym open_now)
       (stepped_on settings first left (concludes one slot.id outcome) k (stepped setup k (Response slot outcome)) (receipts_on t slot.id outcome) fit_then
-      room settles owed)
+      room settles owed (ap (λ (receipts : List Receipt). receipts ++ receipts_on t slot.id outcome) due))

@@ -6,6 +6,7 @@ use Rattle.mc_model.specs.message.Submission.{Submission}
 use Rattle.std.specs.Prelude.{◌==◌, not}
 use Rattle.mc_model.specs.node.Grant.{AlreadyGranted, GrantRefusal, NotMine, OlderIncarnation}
 use Rattle.mc_model.specs.node.Input.{Grant}
+use Rattle.mc_model.specs.node.Outputs.{Receipt}
 use Rattle.mc_model.specs.node.Setup.{Setup}
 use Rattle.mc_model.specs.synod.Packet.{Slot, slot_at}
 use Rattle.node_model.specs.Attempts.{grant_refusal, on_grant as given_out}
@@ -35,37 +36,38 @@ use Rattle.script_text.specs.OneNode as one_node
 use Rattle.calm_laws.proofs.Concluding.{outcome_comes}
 use Rattle.calm_laws.proofs.Connected.{AreConnected}
 use Rattle.calm_laws.proofs.Pushing.{IsTarget, push_connected, push_fit, target_alike, target_found}
-use Rattle.calm_laws.proofs.Running.{Runs}
+use Rattle.calm_laws.proofs.Running.{AreDone, Runs}
 use Rattle.calm_laws.proofs.Standing.{AreQuiet, IsFit, node_of, quiet_now, rested, rests_now, settles_so}
 use Rattle.calm_laws.proofs.Windows.{AreOff, IsNewest, IsUnderway, off_unless, waiting_with}
 
--- ---- what was done here and there leaves both alike, and prints alike
+-- ---- it goes out, or fails
 
 module _ (settings : Settings) (first left : ℕ) (streams : List (ℕ × List ℕ)) where
-  abbrev AreDone : Acted → Happened → Type 0
-  AreDone acted happened = Runs settings first left false happened.next streams acted.next × (acted.prints ≡ happened.prints)
+  abbrev AreGiven : Acted → Happened → Type 0
+  AreGiven acted happened = AreDone settings first left false streams acted happened
 
   -- ---- an attempt is granted, and no attempt of its message waits
 
-  module _ (one : OneNode) (k : Kept) (connected : List (ℕ × Session)) (held : List (ℕ × List ℕ)) (id : ℕ) (fit : IsFit one)
-      (room : one.node.ticket + left < 2 ^ 64) (resting : IsResting k one.node) (owed : one.owed ≡ []) (were : AreConnected one.sessions None connected)
-      (same : (number : ℕ) → held_in held number ≡ held_in streams number)
+  module _ (one : OneNode) (k : Kept) (connected : List (ℕ × Session)) (held : List (ℕ × List ℕ)) (waits : List Receipt) (id : ℕ) (fit : IsFit one)
+      (room : one.node.ticket + left < 2 ^ 64) (resting : IsResting k one.node) (owed : one.owed ≡ []) (due : one.due ≡ []) (were : AreConnected one.sessions None connected)
+      (same : (number : ℕ) → held_in held number ≡ held_in streams number) (waiting : waits ≡ one.waiting)
       (newest : IsNewest (entry_at one.node.table id) (newest_slot one.node id)) (off : AreOff id one.sessions) where
     abbrev now : Runner
-    now = record { node = node_of settings first k; sessions = connected; streams = held }
+    now = record { node = node_of settings first k; sessions = connected; streams = held; waiting = waits }
 
     abbrev slot : Slot
     slot = newest_slot one.node id
 
     -- it fails
-    fails : AreDone (fails_by now (concluded now.node slot unanswered)) (prints_now (concludes one id unanswered) [])
+    fails : AreGiven (fails_by now (concluded now.node slot unanswered)) (prints_now (concludes one id unanswered) [])
     fails = (
       record {
         holds = None;
-        agree = outcome_comes settings first left one k fit room resting owed slot unanswered newest off;
+        agree = outcome_comes settings first left one k fit room resting owed due slot unanswered newest off;
         still = tt;
         held = same;
         sessions = were;
+        waiting = waiting;
       },
       refl,
     )
@@ -89,32 +91,33 @@ module _ (settings : Settings) (first left : ℕ) (streams : List (ℕ × List �
             ap (λ (s : Session). delivery_on s taken) it.mine_is
             ∙ ap (λ (o : Option Session). delivery_on (session_or_opened o) taken) (sym it.found)
 
-        goes_out : AreDone (pushes now slot taken number (Some it.mine)) (sent_over one id taken (Some number))
+        goes_out : AreGiven (pushes now slot taken number (Some it.mine)) (sent_over one id taken (Some number))
         goes_out =
-            subst (λ (moment : ℕ). AreDone (pushed_at moment) (sent_over one id taken (Some number))) (sym resting.clock) (
+            subst (λ (moment : ℕ). AreGiven (pushed_at moment) (sent_over one id taken (Some number))) (sym resting.clock) (
               record {
                 holds = None;
                 agree =
                     rested settings first left next k
-                    (push_fit one None connected were number it one.node.clock slot fit newest off) room resting owed;
+                    (push_fit one.node one.sessions None connected were number it one.node.clock fit slot newest off) room resting owed due;
                 still = tt;
                 held = same;
                 sessions = push_connected one.sessions None connected were number it one.node.clock (deliveries.Attempt slot);
+                waiting = waiting;
               },
               ap (λ pdu. Delivers number pdu ∷ []) delivered_so,
             )
 
-      over_alike : (target : Option ℕ) → target_in one.sessions taken.target ≡ target → AreDone (sent_to now slot taken target) (sent_over one id taken target)
+      over_alike : (target : Option ℕ) → target_in one.sessions taken.target ≡ target → AreGiven (sent_to now slot taken target) (sent_over one id taken target)
       over_alike None is = fails
       over_alike (Some number) is =
           let it = target_found one.sessions None connected were taken.target number is in
-          subst (λ (found : Option Session). AreDone (pushes now slot taken number found) (sent_over one id taken (Some number))) (sym it.mine_found)
+          subst (λ (found : Option Session). AreGiven (pushes now slot taken number found) (sent_over one id taken (Some number))) (sym it.mine_found)
           (goes_out number it)
 
-    sent_alike : (taken : Option Submission) → AreDone (runners.sent now slot taken) (one_node.sent one id taken)
+    sent_alike : (taken : Option Submission) → AreGiven (runners.sent now slot taken) (one_node.sent one id taken)
     sent_alike None = fails
     sent_alike (Some taken) =
-        subst (λ (target : Option ℕ). AreDone (sent_to now slot taken target) (one_node.sent one id (Some taken)))
+        subst (λ (target : Option ℕ). AreGiven (sent_to now slot taken target) (one_node.sent one id (Some taken)))
         (sym (target_alike one.sessions None connected were taken.target)) (over_alike taken (target_in one.sessions taken.target) refl)
 
 -- ---- what the table says
@@ -153,10 +156,11 @@ taken_known (newest ∷ older) = refl
 -- ---- a grant
 
 module _ (settings : Settings) (first left : ℕ) (streams : List (ℕ × List ℕ)) (one : OneNode) (k : Kept) (connected : List (ℕ × Session))
-    (held : List (ℕ × List ℕ)) (id : ℕ) (quiet : AreQuiet settings first (suc left) one (node_of settings first k))
-    (were : AreConnected one.sessions None connected) (same : (number : ℕ) → held_in held number ≡ held_in streams number) where
+    (held : List (ℕ × List ℕ)) (waits : List Receipt) (id : ℕ) (quiet : AreQuiet settings first (suc left) one (node_of settings first k))
+    (were : AreConnected one.sessions None connected) (same : (number : ℕ) → held_in held number ≡ held_in streams number)
+    (waiting : waits ≡ one.waiting) where
   abbrev runner : Runner
-  runner = record { node = node_of settings first k; sessions = connected; streams = held }
+  runner = record { node = node_of settings first k; sessions = connected; streams = held; waiting = waits }
 
   abbrev setup : Setup
   setup = alone first settings.validity
@@ -170,15 +174,16 @@ module _ (settings : Settings) (first left : ℕ) (streams : List (ℕ × List �
   room_left : t.ticket + left < 2 ^ 64
   room_left = let room = quiet.room in omega (arith, room)
 
-  not_granted : (refusal : GrantRefusal) → AreDone settings first left streams (runners.granted_unless runner id (newest_slot t id) (Some refusal))
+  not_granted : (refusal : GrantRefusal) → AreDone settings first left false streams (runners.granted_unless runner id (newest_slot t id) (Some refusal))
       (one_node.granted_unless one id (Some refusal))
   not_granted refusal = (
     record {
       holds = None;
-      agree = rested settings first left one k quiet.fit room_left quiet.resting quiet.owed;
+      agree = rested settings first left one k quiet.fit room_left quiet.resting quiet.owed quiet.due;
       still = tt;
       held = same;
       sessions = were;
+      waiting = waiting;
     },
     refl,
   )
@@ -223,9 +228,9 @@ module _ (settings : Settings) (first left : ℕ) (streams : List (ℕ × List �
 
     rests_then : IsResting step.kept once_granted.node
     rests_then =
-        rests_now setup step.kept once_granted.node []
+        (rests_now setup step.kept once_granted.node [] []
         (settles_so setup step once_granted.node [] []
-        (subst (λ (s : Stepped). SettlesOn setup s once_granted.node [] []) begun (grant_settles first settings.validity k t id quiet.resting allowed)))
+        (subst (λ (s : Stepped). SettlesOn setup s once_granted.node [] []) begun (grant_settles first settings.validity k t id quiet.resting allowed)))).0
 
     -- the node goes on by this step, and the attempt in this slot is sent
     abbrev goes_on : Stepped → Slot → Option Submission → Acted
@@ -235,7 +240,7 @@ module _ (settings : Settings) (first left : ℕ) (streams : List (ℕ × List �
         (runners.sent (record runner { node = with_step runner.node by }) place taken)
 
     abbrev AreGranted : Stepped → Slot → Option Submission → Type 0
-    AreGranted by place taken = AreDone settings first left streams (goes_on by place taken) (one_node.granted_unless one id None)
+    AreGranted by place taken = AreDone settings first left false streams (goes_on by place taken) (one_node.granted_unless one id None)
 
     slot_is : newest_slot once_granted.node id ≡ newest_slot t id
     slot_is = ap (λ (e : Entry). slot_at id (pred (length e.chain))) entry_is
@@ -243,29 +248,29 @@ module _ (settings : Settings) (first left : ℕ) (streams : List (ℕ × List �
     submission_is : submission_at runner.node id ≡ taken_in entry.chain
     submission_is = ap taken_on (quiet.resting.message id).ready.known ∙ taken_known entry.chain
 
-    granted_so : AreDone settings first left streams (runners.granted_unless runner id (newest_slot t id) None) (one_node.granted_unless one id None)
+    granted_so : AreDone settings first left false streams (runners.granted_unless runner id (newest_slot t id) None) (one_node.granted_unless one id None)
     granted_so =
         subst (λ (by : Stepped). AreGranted by (newest_slot t id) (submission_at runner.node id)) (sym begun)
         (subst (AreGranted step (newest_slot t id)) (sym submission_is)
         (subst (λ (place : Slot). AreGranted step place (taken_in entry.chain)) slot_is
-        (sent_alike settings first left streams once_granted step.kept connected held id fit_then room_left rests_then quiet.owed were same newest_then off
+        (sent_alike settings first left streams once_granted step.kept connected held waits id fit_then room_left rests_then quiet.owed quiet.due were same waiting newest_then off
         (taken_in entry.chain))))
 
   by_refusal : (refusal : Option GrantRefusal) → refusal_at t id ≡ refusal →
-      AreDone settings first left streams (runners.granted_unless runner id (newest_slot t id) refusal) (one_node.granted_unless one id refusal)
+      AreDone settings first left false streams (runners.granted_unless runner id (newest_slot t id) refusal) (one_node.granted_unless one id refusal)
   by_refusal None allowed = granted_so allowed
   by_refusal (Some refusal) refused = not_granted refusal
 
-  grant_quiet : AreDone settings first left streams (on_grant runner id) (one_node.granted_unless one id (refusal_at t id))
+  grant_quiet : AreDone settings first left false streams (on_grant runner id) (one_node.granted_unless one id (refusal_at t id))
   grant_quiet =
       let slot_is : known_slot k id ≡ newest_slot t id =
       ap (λ (known : Option (List Decree)). slot_at id (known_place known)) (quiet.resting.message id).ready.known ∙ slot_known id entry.chain in
       subst
-      (λ (slot : Slot). AreDone settings first left streams (runners.granted_unless runner id slot (grant_refusal setup k id))
+      (λ (slot : Slot). AreDone settings first left false streams (runners.granted_unless runner id slot (grant_refusal setup k id))
       (one_node.granted_unless one id (refusal_at t id)))
       (sym slot_is)
       (subst
-      (λ (refusal : Option GrantRefusal). AreDone settings first left streams (runners.granted_unless runner id (newest_slot t id) refusal)
+      (λ (refusal : Option GrantRefusal). AreDone settings first left false streams (runners.granted_unless runner id (newest_slot t id) refusal)
       (one_node.granted_unless one id (refusal_at t id)))
       (sym (grant_refused first settings.validity k t id quiet.resting))
       (by_refusal (refusal_at t id) refl))
@@ -277,9 +282,9 @@ pub grant_leaves : (settings : Settings) (first left : ℕ) (one : OneNode) (str
 grant_leaves settings first left one streams runner id runs =
     let quiet = quiet_now settings first (suc left) one runs.holds runner.node runs.agree runs.still in
     subst
-    (λ (node : Node). AreDone settings first left streams (on_grant (record runner { node = node }) id)
+    (λ (node : Node). AreDone settings first left false streams (on_grant (record runner { node = node }) id)
     (one_node.granted_unless one id (refusal_at one.node id)))
     (sym quiet.node_is)
-    (grant_quiet settings first left streams one runner.node.kept runner.sessions runner.streams id
+    (grant_quiet settings first left streams one runner.node.kept runner.sessions runner.streams runner.waiting id
     (subst (AreQuiet settings first (suc left) one) quiet.node_is quiet)
-    (subst (λ (o : Option Owned). AreConnected one.sessions o runner.sessions) runs.still.0 runs.sessions) runs.held)
+    (subst (λ (o : Option Owned). AreConnected one.sessions o runner.sessions) runs.still.0 runs.sessions) runs.held runs.waiting)

@@ -14,16 +14,16 @@ use Rattle.script_lines.proofs.SaidLemmas.{spelled_so}
 use Rattle.script_text.specs.Settings.{Settings, script_settings}
 use Rattle.script_text.specs.Prints.{Print, text_of_prints}
 use Rattle.script_text.specs.Pushes.{accounts_up, is_up}
-use Rattle.script_text.specs.Runner.{Runner, Streamed, held_in, kept, on_cut, on_grant, on_octets, on_settle, on_tick, session_in, without}
+use Rattle.script_text.specs.Runner.{Runner, held_in, on_grant, on_octets, on_settle, on_tick}
 use Rattle.script_text.specs.Events.{Event, Heard, Comes, Ticks, Grants, Settles, Play, and_then, events_from, heard_by, play_from, play_of_lines}
-use Rattle.script_text.specs.OneNode.{OneNode, granted_unless, happen, happens, one_node, one_node_text, played, prints_if}
+use Rattle.script_text.specs.OneNode.{OneNode, granted_unless, happen, happens, one_node, one_node_text, played, prints_if, settled, ticks}
 use Rattle.script_text.specs.Calm.{IsCalm, are_calm, may_happen, pushed_in, tick_stir}
 use Rattle.script_text.specs.Script.{Stage, Stepped, after, bad_from, bad_line, opened, prints_from, step_by, step_of, text_of}
-use Rattle.calm_laws.proofs.Calming.{Went, cut_whole, frames_go}
+use Rattle.calm_laws.proofs.Calming.{octets_leave}
 use Rattle.calm_laws.proofs.Ending.{settle_leaves}
 use Rattle.calm_laws.proofs.Granting.{grant_leaves}
 use Rattle.calm_laws.proofs.Growing.{events_grow}
-use Rattle.calm_laws.proofs.Running.{Runs, kept_is, octets_leave, served}
+use Rattle.calm_laws.proofs.Running.{Runs}
 use Rattle.calm_laws.proofs.Standing.{IsFit, rested}
 use Rattle.calm_laws.proofs.Ticking.{tick_leaves}
 
@@ -73,49 +73,15 @@ module _ (settings : Settings) (first : ℕ) (lines : List (List ℕ)) (behind :
     abbrev stream : Cut
     stream = cut (held_in streams number ++ octets)
 
-    abbrev all_events : List Event → List Event
-    all_events tail = map (Comes number) stream.frames ++ tail
-
-    module _ (tail : List Event) (runs : Runs settings first (length (all_events tail)) quiet one streams runner) where
-      abbrev streamed : Streamed
-      streamed = on_cut settings number runner.node (session_in runner.sessions number) stream
-
-      -- what this leaves and prints
-      abbrev StreamPrints : List Print → Runner → Type 0
-      StreamPrints prints next =
-          Prints settings one (all_events tail) (prints ++ prints_from settings (Some next) lines) (bad_from settings (Some next) (suc line) lines)
-
-      went : begins_wrong stream.rest ≡ false → are_calm settings one quiet (all_events tail) ≡ true →
-          Went settings first number one runs.holds streamed tail (all_events tail) stream.rest
-      went right calm =
-          frames_go settings first number stream.rest tail right quiet one runs.holds runner.node (session_in runner.sessions number) stream.frames
-          (cut_whole (held_in streams number ++ octets)) runs.agree runs.still calm (runs.sessions.each number)
-
-      went_prints : Went settings first number one runs.holds streamed tail (all_events tail) stream.rest →
-          events_from (insert_entry nat_cmp streams number stream.rest) lines ≡ Some tail →
-          IsSmall settings one (all_events tail) → StreamPrints streamed.served.prints (kept (without runner number) number streamed)
-      unfolding LinesCalm
-      went_prints gone tail_is small =
-          let next = served settings first (length (all_events tail)) quiet one streams runner number streamed tail (all_events tail) stream.rest runs gone in
-          let leaves = octets_leave settings first (length (all_events tail)) quiet one streams runner number streamed tail
-          (all_events tail) stream.rest runs gone in
-          let few = subst (λ (left : OneNode). length left.node.table ≤ 10000) gone.ends small in
-          let later = behind (insert_entry nat_cmp streams number stream.rest) gone.quiet gone.next next tail (suc line) leaves tail_is gone.calm few in
-          subst (StreamPrints streamed.served.prints)
-          (sym (kept_is settings first (length (all_events tail)) quiet one streams runner number streamed tail (all_events tail) stream.rest runs gone))
-          (ap (λ (prints : List Print). streamed.served.prints ++ prints) later.0 ∙ sym gone.prints, later.1)
-
     octets_calm : (tail : List Event) → begins_wrong stream.rest ≡ false → events_from (insert_entry nat_cmp streams number stream.rest) lines ≡ Some tail →
-        SaidCalm (Some (Octets number octets)) (all_events tail)
-    unfolding on_octets
+        SaidCalm (Some (Octets number octets)) (map (Comes number) stream.frames ++ tail)
+    unfolding LinesCalm
     octets_calm tail right tail_is runs calm small =
-        let same : stream ≡ cut (held_in runner.streams number ++ octets) = ap (λ (held : List ℕ). cut (held ++ octets)) (sym (runs.held number)) in
-        subst
-        (λ (c : Cut).
-        let done = on_cut settings number runner.node (session_in runner.sessions number) c in
-        StreamPrints tail runs done.served.prints (kept (without runner number) number done))
-        same
-        (went_prints tail runs (went tail runs right calm) tail_is small)
+        let acted = on_octets settings runner number octets in
+        let gone = octets_leave settings first number quiet one streams runner octets tail right runs calm in
+        let few = subst (λ (left : OneNode). length left.node.table ≤ 10000) gone.ends small in
+        let later = behind (insert_entry nat_cmp streams number stream.rest) gone.quiet gone.next acted.next tail (suc line) gone.runs tail_is gone.calm few in
+        (ap (λ (prints : List Print). acted.prints ++ prints) later.0 ∙ sym gone.prints, later.1)
 
     abbrev heard : Heard
     heard = record { events = map (Comes number) stream.frames; streams = insert_entry nat_cmp streams number stream.rest }
@@ -132,11 +98,14 @@ module _ (settings : Settings) (first : ℕ) (lines : List (List ℕ)) (behind :
   tick_calm : (moment : ℕ) (tail : List Event) → events_from streams lines ≡ Some tail → SaidCalm (Some (Tick moment)) (Ticks moment ∷ tail)
   unfolding LinesCalm are_calm happen happens
   tick_calm moment tail tail_is runs calm small =
-      let next = record one { node = ticked one.node moment (is_up (accounts_up one.sessions)) } in
-      let parts = and_parts (may_happen quiet (tick_stir (pushed_in one))) (are_calm settings next false tail) calm in
+      let happened = ticks one (ticked one.node moment (is_up (accounts_up one.sessions))) in
+      let parts = and_parts (may_happen quiet (tick_stir (pushed_in one))) (are_calm settings happened.next false tail) calm in
       let (leaves, prints) = tick_leaves settings first (length tail) quiet one streams runner moment parts.0 runs in
-      let later = behind streams false next (on_tick runner moment).next tail (suc line) leaves tail_is parts.1 small in
-      (ap (λ (printed : List Print). printed ++ prints_from settings (Some (on_tick runner moment).next) lines) prints ∙ later.0, later.1)
+      let later = behind streams false happened.next (on_tick runner moment).next tail (suc line) leaves tail_is parts.1 small in (
+        ap (λ (printed : List Print). printed ++ prints_from settings (Some (on_tick runner moment).next) lines) prints
+            ∙ ap (λ (others : List Print). happened.prints ++ others) later.0,
+        later.1,
+      )
 
   -- ---- a grant
 
@@ -158,13 +127,13 @@ module _ (settings : Settings) (first : ℕ) (lines : List (List ℕ)) (behind :
   settle_calm : (tail : List Event) → events_from streams lines ≡ Some tail → SaidCalm (Some Settle) (Settles ∷ tail)
   unfolding LinesCalm are_calm happen happens
   settle_calm tail tail_is runs calm small =
-      let next = record one { owed = [] } in
+      let next = (settled one).next in
       let grown = events_grow settings next tail in
       let (leaves, prints) = settle_leaves settings first (length tail) quiet one streams runner (omega (arith, grown, small)) runs in
       let later = behind streams true next (on_settle runner).next tail (suc line) leaves tail_is
       (and_parts true (are_calm settings next true tail) calm).1 small in (
         ap (λ (printed : List Print). printed ++ prints_from settings (Some (on_settle runner).next) lines) prints
-            ∙ ap (λ (others : List Print). one.owed ++ others) later.0,
+            ∙ ap (λ (others : List Print). (settled one).prints ++ others) later.0,
         later.1,
       )
 
@@ -216,10 +185,11 @@ opened_runs serial events least few = record {
   holds = None;
   agree =
       rested script_settings serial (length events) (one_node serial) (opened script_settings serial).node.kept (opened_fit serial least)
-      (omega (arith, few)) (new_rests serial script_settings.validity) refl;
+      (omega (arith, few)) (new_rests serial script_settings.validity) refl refl;
   still = (refl, refl);
   held = λ number. refl;
   sessions = record { each = λ number. refl; entries = tt; distinct = tt };
+  waiting = refl;
 }
 
 -- what is asked of the play of a calm script

@@ -16,7 +16,9 @@ pub mod Growing
 pub mod Connected
 pub mod Replying
 pub mod Pushing
+pub mod Posting
 pub mod Running
+pub mod Serving
 pub mod Granting
 pub mod Ticking
 pub mod Ending

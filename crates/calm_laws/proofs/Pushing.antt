@@ -8,22 +8,21 @@ use Rattle.std.specs.BTreeMap.{is_at}
 use Rattle.std.proofs.Math.Path.{fun_ext}
 use Rattle.std.proofs.lemmas.Bool.{and_parts}
 use Rattle.mc_model.specs.synod.Packet.{Slot}
-use Rattle.alone_laws.specs.Tables.{entry_at}
+use Rattle.alone_laws.specs.Tables.{TableNode, entry_at}
 use Rattle.pdu_codec.proofs.PduSpelling.{find-passes}
 use Rattle.sessions.specs.Session.{Session}
 use Rattle.sessions.specs.Steps.{on_push, push_refusal, pushed_unless}
 use Rattle.sessions.specs.declared.pushed.Delivery.{Delivery}
-use Rattle.sessions.specs.declared.pushed.Delivery.TheVariants.{Attempt}
+use Rattle.sessions.specs.declared.pushed.Delivery.TheVariants.{Attempt, Receipt}
 use Rattle.sessions.specs.declared.pushed.Pushed.{Pushed}
 use Rattle.sessions.specs.declared.pushed.PushRefusal.{PushRefusal}
 use Rattle.sessions.specs.declared.request.OpenRequest.{OpenRequest}
 use Rattle.script_text.specs.Pushes.{accounts_up, is_of, pushed_on, receiver_of, session_at, session_numbers, takes_for, target_in, with_push}
 use Rattle.script_text.specs.Runner.{Owned, session_in, session_or_opened}
-use Rattle.script_text.specs.OneNode.{OneNode}
 use Rattle.calm_laws.proofs.Connected.{AreConnected, one_set}
 use Rattle.calm_laws.proofs.Plain.{IsBut, IsPlain, each_but, holding, set_but}
-use Rattle.calm_laws.proofs.Standing.{IsFit, requests_at}
-use Rattle.calm_laws.proofs.Windows.{AreOff, IsNewest, new_waits}
+use Rattle.calm_laws.proofs.Standing.{AreFit, requests_at}
+use Rattle.calm_laws.proofs.Windows.{AreOff, AreWaiting, IsNewest, new_waits, note_waits}
 
 -- ---- one session
 
@@ -148,43 +147,57 @@ module _ (theirs : List (ℕ × Session)) (holds : Option Owned) (connected : Li
 
 -- ---- the one node
 
--- an attempt is pushed that was granted, and of whose message none waits
-module _ (one : OneNode) (holds : Option Owned) (connected : List (ℕ × Session)) (were : AreConnected one.sessions holds connected) (number : ℕ)
-    (it : IsTarget one.sessions holds connected were number) (now : ℕ) (slot : Slot) (fit : IsFit one)
-    (newest : IsNewest (entry_at one.node.table slot.id) slot) (off : AreOff slot.id one.sessions) where
-  abbrev then : Session
-  then = on_push it.session now (Attempt slot)
+module _ (node : TableNode) (theirs : List (ℕ × Session)) (holds : Option Owned) (connected : List (ℕ × Session))
+    (were : AreConnected theirs holds connected) (number : ℕ) (it : IsTarget theirs holds connected were number) (now : ℕ)
+    (fit : AreFit node theirs) where
+  module _ (delivery : Delivery) where
+    abbrev then : Session
+    then = on_push it.session now delivery
 
-  abbrev pushed : Pushed
-  pushed = record { sequence = it.session.next_sequence; since = now; delivery = Attempt slot }
+    abbrev pushed : Pushed
+    pushed = record { sequence = it.session.next_sequence; since = now; delivery = delivery }
 
-  abbrev changed : List (ℕ × Session)
-  changed = set_value (is_at (nat_cmp number)) one.sessions then
+    abbrev changed : List (ℕ × Session)
+    changed = set_value (is_at (nat_cmp number)) theirs then
 
-  but : IsBut number one.sessions changed then
-  but = push_but one.sessions holds connected were number it now (Attempt slot)
+    but : IsBut number theirs changed then
+    but = push_but theirs holds connected were number it now delivery
 
-  then_is : then ≡ pushed_unless None it.session now (Attempt slot)
-  then_is = pushed_is one.sessions holds connected were number it now (Attempt slot)
+    then_is : then ≡ pushed_unless None it.session now delivery
+    then_is = pushed_is theirs holds connected were number it now delivery
 
-  was : session_in one.sessions number ≡ it.session
-  was = ap session_or_opened it.found
+    was : session_in theirs number ≡ it.session
+    was = ap session_or_opened it.found
 
-  plain_was : IsPlain it.session
-  plain_was = subst IsPlain was (fit.plain number)
+    plain_was : IsPlain it.session
+    plain_was = subst IsPlain was (fit.plain number)
 
-  grown : then.pushed ≡ ((session_in one.sessions number).pushed ++ pushed ∷ [])
-  grown = ap (λ (s : Session). s.pushed) then_is ∙ ap (λ (s : Session). s.pushed ++ pushed ∷ []) (sym was)
+    grown : then.pushed ≡ ((session_in theirs number).pushed ++ pushed ∷ [])
+    grown = ap (λ (s : Session). s.pushed) then_is ∙ ap (λ (s : Session). s.pushed ++ pushed ∷ []) (sym was)
 
-  pub push_fit : IsFit (record one { sessions = with_push one.sessions number now (Attempt slot) })
-  push_fit =
-      subst (λ (sessions : List (ℕ × Session)). IsFit (record one { sessions = sessions }))
-      (sym (push_is one.sessions holds connected were number it now (Attempt slot)))
-      (record {
-        least = fit.least;
-        plain =
-            each_but (λ n session. IsPlain session) number one.sessions changed then but
-            (subst IsPlain (sym then_is) (record { state = plain_was.state; idle = plain_was.idle })) (λ other differ. fit.plain other);
-        waiting =
-            new_waits one.node.table one.sessions changed fit.waiting number then but slot it.session.next_sequence now newest off grown;
-      })
+    -- it waits
+    pushed_fit : AreWaiting node.table changed → AreFit node (with_push theirs number now delivery)
+    pushed_fit waits =
+        subst (AreFit node) (sym (push_is theirs holds connected were number it now delivery))
+        (record {
+          least = fit.least;
+          plain =
+              each_but (λ n session. IsPlain session) number theirs changed then but
+              (subst IsPlain (sym then_is) (record { state = plain_was.state; idle = plain_was.idle })) (λ other differ. fit.plain other);
+          waiting = waits;
+        })
+
+  -- an attempt is pushed that was granted, and of whose message none waits
+  pub push_fit : (slot : Slot) → IsNewest (entry_at node.table slot.id) slot → AreOff slot.id theirs →
+      AreFit node (with_push theirs number now (Attempt slot))
+  push_fit slot newest off =
+      pushed_fit (Attempt slot)
+      (new_waits node.table theirs (changed (Attempt slot)) fit.waiting number (then (Attempt slot)) (but (Attempt slot)) slot it.session.next_sequence now
+      newest off (grown (Attempt slot)))
+
+  -- a receipt is pushed
+  pub note_fit : (id : ℕ) → AreFit node (with_push theirs number now (Receipt id))
+  note_fit id =
+      pushed_fit (Receipt id)
+      (note_waits node.table theirs (changed (Receipt id)) fit.waiting number (then (Receipt id)) (but (Receipt id)) id it.session.next_sequence now
+      (grown (Receipt id)))

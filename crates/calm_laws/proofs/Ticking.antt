@@ -22,12 +22,14 @@ use Rattle.script_text.specs.Settings.{Settings}
 use Rattle.script_text.specs.Attempts.{all_given_up}
 use Rattle.script_text.specs.Node.{Node, tick_at, with_step}
 use Rattle.script_text.specs.Pushes.{accounts_up, is_up, overdue_in, timely_in}
-use Rattle.script_text.specs.Runner.{Acted, Owned, Runner, Told, answered, followed_by, gives_up, gives_up_by, on_tick, rests, session_in, session_or_opened, told}
-use Rattle.script_text.specs.OneNode.{OneNode}
+use Rattle.script_text.specs.Receipts.{posted_for_all}
+use Rattle.script_text.specs.Runner.{Acted, Owned, Runner, Told, answered, followed_by, gives_up, gives_up_by, mail_of, makes_room, on_tick, posts_for_all, rests, session_in, session_or_opened, told, with_posted}
+use Rattle.script_text.specs.OneNode.{OneNode, ticks}
 use Rattle.script_text.specs.Calm.{may_happen, pushed_in, tick_stir}
 use Rattle.calm_laws.proofs.Connected.{AreConnected, EntryIs}
+use Rattle.calm_laws.proofs.Posting.{for_all_alike}
 use Rattle.calm_laws.proofs.Pushing.{up_alike}
-use Rattle.calm_laws.proofs.Running.{Runs}
+use Rattle.calm_laws.proofs.Running.{AreDone, Runs, posts_leave}
 use Rattle.calm_laws.proofs.Standing.{AreQuiet, IsFit, node_of, quiet_now, stepped_on}
 use Rattle.calm_laws.proofs.Windows.{AreDistinct, AreWaiting, Waits}
 
@@ -89,15 +91,6 @@ waits_none table sessions none = record {
 
 -- ---- a tick
 
--- the one node after a tick
-abbrev ticked_one : OneNode → ℕ → OneNode
-ticked_one one moment = record one { node = ticked one.node moment (is_up (accounts_up one.sessions)) }
-
--- a runner and the one node then: the tick prints nothing
-abbrev Ticked : Settings → ℕ → ℕ → OneNode → List (ℕ × List ℕ) → Acted → ℕ → Type 0
-Ticked settings first left one streams acted moment =
-    Runs settings first left false (ticked_one one moment) streams acted.next × (acted.prints ≡ [])
-
 module _ (settings : Settings) (first left : ℕ) (one : OneNode) (streams : List (ℕ × List ℕ)) (runner : Runner) (moment : ℕ)
     (runs : Runs settings first (suc left) true one streams runner)
     (quiet : AreQuiet settings first (suc left) one (node_of settings first runner.node.kept)) (none : pushed_in one ≡ []) where
@@ -106,6 +99,17 @@ module _ (settings : Settings) (first left : ℕ) (one : OneNode) (streams : Lis
 
   abbrev t : TableNode
   t = one.node
+
+  abbrev then : TableNode
+  then = ticked t moment (is_up (accounts_up one.sessions))
+
+  -- the one node, before what waits goes out
+  abbrev ticked_one : OneNode
+  ticked_one = record one { node = then; due = one.due ++ receipts_between t.table then.table }
+
+  -- a runner and the one node then
+  abbrev Ticked : Acted → Type 0
+  Ticked acted = AreDone settings first left false streams acted (ticks one then)
 
   abbrev now : Runner
   now = record runner { node = node_of settings first runner.node.kept }
@@ -122,17 +126,17 @@ module _ (settings : Settings) (first left : ℕ) (one : OneNode) (streams : Lis
   abbrev now_receipts : List (List ℕ) → List Receipt
   now_receipts up = receipts_between t.table (ticked t moment (is_up up)).table
 
-  on : SettlesOn setup step (ticked_one one moment).node [] (now_receipts (accounts_up one.sessions))
+  on : SettlesOn setup step then [] (now_receipts (accounts_up one.sessions))
   on =
       subst (λ (up : List (List ℕ)). SettlesOn setup step (ticked t moment (is_up up)) [] (now_receipts up))
       (up_alike one.sessions None runner.sessions were)
       (tick_settles first settings.validity runner.node.kept t moment (is_up (accounts_up runner.sessions)) quiet.resting)
 
-  fit_then : IsFit (ticked_one one moment)
+  fit_then : IsFit ticked_one
   fit_then = record {
     least = quiet.fit.least;
     plain = quiet.fit.plain;
-    waiting = waits_none (ticked_one one moment).node.table one.sessions empty;
+    waiting = waits_none then.table one.sessions empty;
   }
 
   abbrev next : Node
@@ -145,19 +149,35 @@ module _ (settings : Settings) (first left : ℕ) (one : OneNode) (streams : Lis
   room_left : t.ticket + left < 2 ^ 64
   room_left = let room = quiet.room in omega (arith, room)
 
-  told_runs : Runs settings first left false (ticked_one one moment) streams tells.next
+  told_runs : Runs settings first left false ticked_one streams tells.next
   told_runs = record {
     holds = None;
-    agree = stepped_on settings first left (ticked_one one moment) runner.node.kept step _ fit_then room_left on quiet.owed;
+    agree =
+        stepped_on settings first left ticked_one runner.node.kept step (receipts_between t.table then.table) fit_then room_left on quiet.owed
+        (ap (λ (receipts : List Receipt). receipts ++ receipts_between t.table then.table) quiet.due);
     still = tt;
     held = runs.held;
     sessions = were;
+    waiting = runs.waiting;
   }
 
-  abbrev then : Acted → Acted
-  then acted = followed_by acted (gives_up acted.next acted.next.node.kept.clock)
+  -- what waits goes out to these accounts
+  abbrev posts_to : List (List ℕ) → Acted
+  posts_to accounts =
+      with_posted tells.next (posted_for_all tells.next.node.kept.clock (mail_of tells.next) accounts)
 
-  quiet_ticks : Ticked settings first left one streams (on_tick now moment) moment
+  posted : Ticked (followed_by tells (posts_to (accounts_up one.sessions)))
+  posted =
+      (posts_leave settings first left false ticked_one streams tells.next (λ moment before. posted_for_all moment before (accounts_up one.sessions))
+      told_runs (λ moment. for_all_alike moment then told_runs.holds (accounts_up one.sessions))).done
+
+  abbrev room_made : Acted → Acted
+  room_made acted = followed_by acted (posts_for_all acted.next)
+
+  abbrev goes_on : Acted → Acted
+  goes_on acted = followed_by acted (makes_room acted.next)
+
+  quiet_ticks : Ticked (on_tick now moment)
   unfolding told
   quiet_ticks =
       let silent : told runner.sessions step.outputs.replies ≡ record { sessions = runner.sessions; prints = [] } =
@@ -165,18 +185,20 @@ module _ (settings : Settings) (first left : ℕ) (one : OneNode) (streams : Lis
       let clock = tells.next.node.kept.clock in
       let nothing = gives_nothing_up tells.next clock (none_overdue one.sessions empty None clock runner.sessions were.entries)
       (all_timely one.sessions empty None clock runner.sessions were.entries) in
-      subst (λ (t : Told). Ticked settings first left one streams (then (answered now next (tick_at moment (accounts_up runner.sessions)) t)) moment)
-      (sym silent)
-      (subst (λ (last : Acted). Ticked settings first left one streams (followed_by tells last) moment) (sym nothing) (told_runs, refl))
+      subst (λ (t : Told). Ticked (goes_on (answered now next (tick_at moment (accounts_up runner.sessions)) t))) (sym silent)
+      (subst (λ (last : Acted). Ticked (followed_by tells (room_made last))) (sym nothing)
+      (subst (λ (up : List (List ℕ)). Ticked (followed_by tells (posts_to up))) (sym (up_alike one.sessions None runner.sessions were)) posted))
 
 pub tick_leaves : (settings : Settings) (first left : ℕ) (quiet : Bool) (one : OneNode) (streams : List (ℕ × List ℕ)) (runner : Runner) (moment : ℕ) →
     may_happen quiet (tick_stir (pushed_in one)) ≡ true → Runs settings first (suc left) quiet one streams runner →
-    Runs settings first left false (record one { node = ticked one.node moment (is_up (accounts_up one.sessions)) }) streams (on_tick runner moment).next
-    × ((on_tick runner moment).prints ≡ [])
+    AreDone settings first left false streams (on_tick runner moment) (ticks one (ticked one.node moment (is_up (accounts_up one.sessions))))
 tick_leaves settings first left quiet one streams runner moment may runs =
     let parts = tick_quiet quiet (pushed_in one) may in
     let runs_quiet : Runs settings first (suc left) true one streams runner =
     subst (λ (q : Bool). Runs settings first (suc left) q one streams runner) parts.0 runs in
     let nodes = quiet_now settings first (suc left) one runs_quiet.holds runner.node runs_quiet.agree runs_quiet.still in
-    subst (λ (node : Node). Ticked settings first left one streams (on_tick (record runner { node = node }) moment) moment) (sym nodes.node_is)
+    subst
+    (λ (node : Node). AreDone settings first left false streams (on_tick (record runner { node = node }) moment)
+    (ticks one (ticked one.node moment (is_up (accounts_up one.sessions)))))
+    (sym nodes.node_is)
     (quiet_ticks settings first left one streams runner moment runs_quiet (subst (AreQuiet settings first (suc left) one) nodes.node_is nodes) parts.1)

@@ -247,3 +247,27 @@ module _ (table : Table) (before now : List (ℕ × Session)) (waiting : AreWait
           each_but (λ n session. AreDistinct session.pushed) number before now next but
           (subst AreDistinct (sym grown) (distinct_with old (off number) (waiting.distinct number))) (λ other differ. waiting.distinct other);
     }
+
+  -- ---- a receipt is pushed
+
+  module _ (id sequence since : ℕ) where
+    abbrev note : Pushed
+    note = record { sequence = sequence; since = since; delivery = Receipt id }
+
+    is_other : (first : Delivery) → Differ first (Receipt id)
+    is_other (Attempt slot) = tt
+    is_other (Receipt other) = tt
+
+    distinct_behind : (pushed : List Pushed) → AreDistinct pushed → AreDistinct (pushed ++ note ∷ [])
+    distinct_behind [] distinct = (tt, tt)
+    distinct_behind (first ∷ others) distinct = (
+      all_with (λ other. Differ first.delivery other.delivery) others note distinct.0 (is_other first.delivery),
+      distinct_behind others distinct.1,
+    )
+
+    pub note_waits : next.pushed ≡ (old ++ note ∷ []) → AreWaiting table now
+    note_waits grown =
+        part_waits
+        (subst (λ (ps : List Pushed). AllByRecursion (λ pushed. Waits table waiting.holder number pushed.delivery) ps) (sym grown)
+        (all_with (λ pushed. Waits table waiting.holder number pushed.delivery) old note (waiting.each number) tt))
+        (subst AreDistinct (sym grown) (distinct_behind old (waiting.distinct number)))
