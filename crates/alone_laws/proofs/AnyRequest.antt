@@ -1,5 +1,5 @@
 -- Each request that may come settles.
-use Rattle.std.proofs.Common.{refl, arith, ℕ, [], ◌∷◌, sym, subst, ◌∙◌, ◌≡◌, Some}
+use Rattle.std.proofs.Common.{refl, arith, ℕ, [], ◌∷◌, sym, subst, ◌∙◌, ◌≡◌, Some, inl}
 use Rattle.mc_model.specs.message.Ids.{IsSerial, id_of}
 use Rattle.mc_model.specs.node.Actor.{Cancel, Query, Request, Submit}
 use Rattle.mc_model.specs.node.Input.{Arrival, Refusal}
@@ -32,7 +32,7 @@ pub refusal_settles : (first validity : ℕ) (k : Kept) (t : TableNode) → IsRe
     SettlesOn (alone first validity) (stepped (alone first validity) k (Refusal status)) t [] []
 refusal_settles first validity k t resting status =
     let begun : stepped (alone first validity) k (Refusal status) ≡ refused_with k status = rw resting.up refl in
-    settles_after (alone first validity) _ _ t [] [] begun refl refl (record { kept = k; leads = leads_same (alone first validity) _ _ refl; resting = resting })
+    settles_after (alone first validity) _ _ t [] [] begun refl refl (inl refl) (record { kept = k; leads = leads_same (alone first validity) _ _ refl; resting = resting })
     (few_enough t (omega arith))
 
 pub refusal_given : (first validity : ℕ) (k : Kept) (t : TableNode) → IsResting k t → (status : ℕ) →

@@ -1,5 +1,5 @@
 -- A cancel_sm comes to a node by itself, which settles.
-use Rattle.std.proofs.Common.{◌≡◌, ℕ, Bool, true, false, List, [], ◌∷◌, length, max, Option, Some, None, refl, sym, ap, subst, ◌∙◌, arith}
+use Rattle.std.proofs.Common.{◌≡◌, ℕ, Bool, true, false, List, [], ◌∷◌, length, max, Option, Some, None, refl, sym, ap, subst, ◌∙◌, inl, inr, arith}
 use Rattle.std.specs.Prelude.{◌&&◌, ◌||◌, if◌then◌else◌}
 use Rattle.std.proofs.lemmas.Bool.{and_parts, true≢false}
 use Rattle.mc_model.specs.message.Decree.{Attempt, Decree, Deleted, Delivered, Expired, Failed, Fate, Kind, Rejected, Taken, Undeliverable}
@@ -29,7 +29,7 @@ use Rattle.alone_laws.proofs.Frames.{eqb_self, entry_here}
 use Rattle.alone_laws.proofs.Leading.{Leads, leads_on, leads_sending, leads_then, settling, few_enough}
 use Rattle.alone_laws.proofs.Deliveries.{ask_delivered}
 use Rattle.alone_laws.proofs.Carrying.{ballot, round_starts, start, tried}
-use Rattle.alone_laws.proofs.Ending.{AllAnswered, ends_after, round_ends, settles_after}
+use Rattle.alone_laws.proofs.Ending.{AllAnswered, ends_after, round_ends, round_orderly, settles_after}
 use Rattle.alone_laws.proofs.Calm.{IsCalm, arrived, calm_arrived, held_arrived, newcomer, noted, rests_still, calm_with, calm_but}
 use Rattle.alone_laws.proofs.Asking.{IsReachedBy, answer_given, name, tell_delivered, told_is_reached}
 use Rattle.alone_laws.proofs.Queries.{no_receipt}
@@ -164,7 +164,7 @@ module _ (first validity : ℕ) (k : Kept) (t : TableNode) (id : ℕ) (account s
   kept not_deleted =
       subst (SettlesOn setup (stepped setup k (Arrival request)) (noted t request) (reply_for old ∷ []))
       (sym (no_receipt id old))
-      (settles_after setup _ _ (noted t request) (reply_for old ∷ []) [] begun_is refl refl (record {
+      (settles_after setup _ _ (noted t request) (reply_for old ∷ []) [] begun_is refl refl (inr (inl refl)) (record {
         kept = record k0 { held = [] };
         leads = asked (record k0 { held = [] }) [] (reply_for old ∷ []) (told_is
             ∙ (answer_given setup k0 known new heard held (cancelled account source destination old (taken_in old)) (held_arrived k t request resting) refl
@@ -235,6 +235,8 @@ module _ (first validity : ℕ) (k : Kept) (t : TableNode) (id : ℕ) (account s
     deleted_then =
         settles_after setup _ _ (record (noted t request) { table = with_entry t.table id (extended old decree) }) (reply_for (decree ∷ old) ∷ [])
         (receipts_of 1 id (known_as old) (decree ∷ old)) begun_is refl refl
+        (inr (inr (round_orderly first validity k1 (noted t request) id decree (held ∷ []) (reply_for (decree ∷ old) ∷ [])
+        (calm_but id k1 (noted t request) calm_then) (calm_then.message id).ready held_is taken_then answered _ (asked _ _ [] told_then))))
         (ends_after setup _ _ (record (noted t request) { table = with_entry t.table id (extended old decree) }) (reply_for (decree ∷ old) ∷ []) (receipts_of 1 id (known_as old) (decree ∷ old))
         (asked _ _ [] told_then)
         (round_ends first validity k1 (noted t request) id decree (held ∷ []) (reply_for (decree ∷ old) ∷ []) (calm_but id k1 (noted t request) calm_then) (calm_then.message id).ready held_is taken_then answered))

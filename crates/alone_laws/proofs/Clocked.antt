@@ -209,6 +209,7 @@ module _ (first validity : ℕ) (k : Kept) (t0 : TableNode) (moment : ℕ) (up :
       (begun_is ∙ ap (λ (p : Prepared). sends p.kept p.packets [] []) begun.prepared)
       refl
       refl
+      (inl refl)
       (record {
         kept = ended.new;
         leads = leads_then setup _ _ _ ended.leads (leads_same setup _ _ (λ i. settling ended.new [] [] (receipts_are t up first validity (ballot first validity t up) ids i)));

@@ -1,5 +1,5 @@
 -- A round of a node by itself, from its start to its end, at which whoever waits is answered.
-use Rattle.std.proofs.Common.{◌≡◌, ℕ, List, [], ◌∷◌, length, map, filter, Some, None, refl, sym, ap, subst, ◌∙◌, Bool, false, Option, ◌+◌, ◌≤◌}
+use Rattle.std.proofs.Common.{◌≡◌, ℕ, suc, List, [], ◌∷◌, length, map, filter, Some, None, refl, sym, ap, subst, ◌∙◌, Bool, false, Option, ◌+◌, ◌≤◌, arith}
 use Rattle.std.specs.Prelude.{true, ◌&&◌, if◌then◌else◌}
 use Rattle.mc_model.specs.message.Decree.{Decree, Fate, Deleted}
 use Rattle.mc_model.specs.message.Submission.{Submission}
@@ -19,9 +19,9 @@ use Rattle.node_model.specs.Stepped.{stepped}
 use Rattle.alone_laws.specs.Alone.{alone}
 use Rattle.alone_laws.specs.Tables.{TableNode, chain_at, extended, known_as, with_entry}
 use Rattle.alone_laws.specs.Resting.{IsReady, IsResting, IsTaken}
-use Rattle.alone_laws.specs.Settling.{Settling, SettlesOn, begins_with, most_deliveries}
+use Rattle.alone_laws.specs.Settling.{IsOrderly, Settling, SettlesOn, begins_with, delivered, first_delivered, goes_on, most_deliveries}
 use Rattle.alone_laws.proofs.Frames.{given_as, same_then}
-use Rattle.alone_laws.proofs.Leading.{Leads, leads_on, leads_then, settles_on, settling, leads_most}
+use Rattle.alone_laws.proofs.Leading.{HasOrder, Leads, goes_on_by_one, leads_on, orderly_last, leads_then, settles_on, settling, leads_most}
 use Rattle.alone_laws.proofs.Stages.{known_rests, known_same, known_with, settled_held, vote_ends, IsUnderWay}
 use Rattle.alone_laws.proofs.Carrying.{Carried, ballot, round_carried, tried, vote}
 use Rattle.alone_laws.proofs.Calm.{IsCalmBut, rests_with}
@@ -91,10 +91,12 @@ pub ends_after : (setup : Setup) {m n : ℕ} (s u : Settling) (t : TableNode) (r
 ends_after setup s u t replies receipts leads ends = record { kept = ends.kept; leads = leads_then setup s u _ leads ends.leads; resting = ends.resting }
 
 pub settles_after : (setup : Setup) {n : ℕ} (step begun : Stepped) (t : TableNode) (replies : List Reply) (receipts : List Receipt) → step ≡ begun →
-    begun.outputs.replies ≡ [] → begun.outputs.receipts ≡ [] → Ends setup n (begins_with begun) t replies receipts → n ≤ most_deliveries t → SettlesOn setup step t replies receipts
-settles_after setup step begun t replies receipts is no_replies no_receipts ends within =
+    begun.outputs.replies ≡ [] → begun.outputs.receipts ≡ [] → HasOrder setup (begins_with begun) replies receipts →
+    Ends setup n (begins_with begun) t replies receipts → n ≤ most_deliveries t → SettlesOn setup step t replies receipts
+settles_after setup step begun t replies receipts is no_replies no_receipts order ends within =
     subst (λ (s : Stepped). SettlesOn setup s t replies receipts) (sym is)
-    (settles_on setup begun (settling ends.kept [] replies receipts) t no_replies no_receipts (leads_most setup (most_deliveries t) _ _ within ends.leads) refl ends.resting)
+    (settles_on setup begun (settling ends.kept [] replies receipts) t no_replies no_receipts order
+    (leads_most setup (most_deliveries t) _ _ within ends.leads) refl ends.resting)
 
 module _ (first validity : ℕ) (k : Kept) (t : TableNode) (id : ℕ) (decree : Decree) (held : List Held) (replies : List Reply) (calm : IsCalmBut id k t) (ready : IsReady k id (chain_at t.table id))
     (held_is : k.held ≡ held) (taken : IsTaken k id (decree ∷ chain_at t.table id))
@@ -144,3 +146,18 @@ module _ (first validity : ℕ) (k : Kept) (t : TableNode) (id : ℕ) (decree : 
   pub round_ends : Ends setup 4 (settling (with_message k id (tried first validity id old decree k)) (Prepare 1 (slot_at id (length old)) b ∷ []) [] [])
       (record t { table = with_entry t.table id (extended old decree) }) replies receipts
   round_ends = record { kept = end; leads = round_leads; resting = round_rests }
+
+  -- Where nothing was given out before, the round gives out all with its last delivery.
+  pub round_orderly : {m : ℕ} (s : Settling) →
+      Leads setup m s (settling (with_message k id (tried first validity id old decree k)) (Prepare 1 (slot_at id (length old)) b ∷ []) [] []) →
+      IsOrderly setup s replies
+  round_orderly s before =
+      let leads = leads_then setup s _ _ before (carried.leads [] []) in
+      let one_more : suc leads.deliveries ≡ leads.deliveries + 1 = omega arith in
+      let last : delivered setup (suc leads.deliveries) s ≡ settling end [] replies receipts =
+      ap (λ (n : ℕ). delivered setup n s) one_more
+      ∙ goes_on_by_one setup s leads.deliveries
+      ∙ ap (λ (t : Settling). first_delivered setup t t.packets) leads.reached
+      ∙ ap (goes_on (settling voted (Voted 1 (slot_at id (length old)) (vote first validity id old decree k) ∷ []) [] []) []) last_step in
+      orderly_last setup s leads.deliveries replies (ap (λ (t : Settling). t.receipts) leads.reached) (ap (λ (t : Settling). t.packets) last)
+      (ap (λ (t : Settling). t.replies) last)

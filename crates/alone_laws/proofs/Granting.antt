@@ -104,7 +104,7 @@ module _ (first validity : ℕ) (k : Kept) (t : TableNode) (id : ℕ) (resting :
     grant_then : SettlesOn setup (stepped setup k (Grant (newest_slot t id))) (granted_at t id) [] []
     grant_then =
         let begun : stepped setup k (Grant (newest_slot t id)) ≡ on_grant k (newest_slot t id) = rw resting.up refl in
-        settles_after setup _ _ (granted_at t id) [] [] begun refl refl (record {
+        settles_after setup _ _ (granted_at t id) [] [] begun refl refl (inl refl) (record {
           kept = after_grant;
           leads = leads_same setup _ _ refl;
           resting = rests_with k after_grant t id (record entry { granted = true }) (calm_but id k t (calm_at_rest k t resting)) (same_with k id given k.held) resting.waits granted_rests;
@@ -172,6 +172,7 @@ module _ (first validity : ℕ) (k : Kept) (t : TableNode) (id : ℕ) (resting :
           ∙ ap concluded_then (round_starts first validity id old decree closed ground.ready)))
           refl
           refl
+          (inl refl)
           (round_ends first validity closed t id decree [] [] calm_then ground.ready resting.waits
           (taken_more closed id decree old (record { message = taken.message; taken = taken.taken; given = taken.given }))
           (none_answered first validity id decree old))

@@ -1,6 +1,7 @@
 pub mod Frames
 pub mod Deliveries
 pub mod Leading
+pub mod Unmoved
 pub mod Stages
 pub mod Carrying
 pub mod Calm

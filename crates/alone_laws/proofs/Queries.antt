@@ -1,5 +1,5 @@
 -- A query_sm comes to a node by itself, which settles.
-use Rattle.std.proofs.Common.{◌≡◌, ℕ, Bool, true, false, List, [], ◌∷◌, Option, Some, None, is_none, refl, sym, ap, subst, ◌∙◌, arith}
+use Rattle.std.proofs.Common.{◌≡◌, ℕ, Bool, true, false, List, [], ◌∷◌, Option, Some, None, is_none, refl, sym, ap, subst, ◌∙◌, inl, inr, arith}
 use Rattle.std.specs.Prelude.{◌==◌, ◌&&◌, not, if◌then◌else◌}
 use Rattle.mc_model.specs.message.Decree.{Decree, Final}
 use Rattle.mc_model.specs.message.Chain.{final_in, taken_in}
@@ -114,7 +114,7 @@ module _ (first validity : ℕ) (k : Kept) (t : TableNode) (id : ℕ) (account s
   pub query_settles : SettlesOn setup (stepped setup k (Arrival request)) (requested t request) (reply_to t request ∷ []) (receipts_by t request)
   query_settles =
       subst (SettlesOn setup (stepped setup k (Arrival request)) (requested t request) (reply_to t request ∷ [])) (sym (no_receipt id old))
-      (settles_after setup _ _ (requested t request) (reply_to t request ∷ []) [] begun_is refl refl (record {
+      (settles_after setup _ _ (requested t request) (reply_to t request ∷ []) [] begun_is refl refl (inr (inl refl)) (record {
         kept = end;
         leads =
             leads_then setup _ _ _ (leads_sending setup k0 (Ask 1 id named) [] [] [] k0 (Tell 1 named told ∷ []) (ask_delivered first validity k0 calm.up id named))

@@ -1,5 +1,5 @@
 -- One round that starts at a node by itself.
-use Rattle.std.proofs.Common.{ℕ, [], ◌∷◌, refl, ap, arith}
+use Rattle.std.proofs.Common.{ℕ, [], ◌∷◌, refl, ap, inl, arith}
 use Rattle.mc_model.specs.message.Decree.{Decree}
 use Rattle.node_model.specs.Answers.{receipts_of}
 use Rattle.node_model.specs.Attempts.{concluded_then}
@@ -21,5 +21,6 @@ round_settles first validity k t resting id decree taken =
     (ap concluded_then (round_starts first validity id (chain_at t.table id) decree k (resting.message id).ready))
     refl
     refl
+    (inl refl)
     (round_ends first validity k t id decree [] [] (calm_but id k t (calm_at_rest k t resting)) (resting.message id).ready resting.waits taken (none_answered first validity id decree (chain_at t.table id)))
     (few_enough (record t { table = with_entry t.table id (extended (chain_at t.table id) decree) }) (omega arith))

@@ -1,5 +1,5 @@
 -- A node by itself settles: each packet that it sends is delivered once, to itself, in the order of sending (own).
-use Rattle.std.specs.Prelude.{◌≡◌, ℕ, zero, suc, List, [], ◌∷◌, ◌++◌, length, Some, ◌+◌, ◌*◌, ◌≤◌}
+use Rattle.std.specs.Prelude.{◌≡◌, ◌⊎◌, ℕ, zero, suc, List, [], ◌∷◌, ◌++◌, length, Some, ◌+◌, ◌*◌, ◌≤◌}
 use Rattle.mc_model.specs.message.Decree.{Decree}
 use Rattle.mc_model.specs.synod.Packet.{Packet}
 use Rattle.mc_model.specs.node.Input.{Delivery}
@@ -51,8 +51,12 @@ delivered setup (suc more) s = delivered setup more (first_delivered setup s s.p
 abbrev pub most_deliveries : TableNode → ℕ
 most_deliveries t = 6 + 4 * length t.table
 
+-- No reply comes behind a receipt: after each number of deliveries no receipt was given out yet, or all of these replies were.
+abbrev pub IsOrderly : Setup → Settling → List Reply → Type 0
+IsOrderly setup s replies = (n : ℕ) → ((delivered setup n s).receipts ≡ []) ⊎ ((delivered setup n s).replies ≡ replies)
+
 -- After a step, which by itself answers nobody and gives out no receipt, a node settles on a table: after so many deliveries no packet
--- is left, it is at rest on that table, and it gave out these replies and receipts.
+-- is left, it is at rest on that table, and it gave out these replies and receipts, and no reply behind a receipt.
 pub record SettlesOn (setup : Setup) (step : Stepped) (t : TableNode) (replies : List Reply) (receipts : List Receipt) : Type 0 where
   pub replies_later : step.outputs.replies ≡ []
   pub receipts_later : step.outputs.receipts ≡ []
@@ -62,6 +66,7 @@ pub record SettlesOn (setup : Setup) (step : Stepped) (t : TableNode) (replies :
   pub resting : IsResting (delivered setup deliveries (begins_with step)).kept t
   pub replies_are : (delivered setup deliveries (begins_with step)).replies ≡ replies
   pub receipts_are : (delivered setup deliveries (begins_with step)).receipts ≡ receipts
+  pub ordered : IsOrderly setup (begins_with step) replies
 
 -- a round starts for the next decree on a chain
 abbrev pub round_begun : Setup → Kept → ℕ → Decree → List Decree → Stepped

@@ -1,123 +1,112 @@
 -- The frames of a line of a calm script, the line, and all its lines.
-use Rattle.std.proofs.Common.{◌≡◌, ℕ, Bool, true, false, List, [], ◌∷◌, ◌++◌, length, map, Option, Some, None, refl, sym, ◌∙◌, ap, subst, append_assoc}
+use Rattle.std.proofs.Common.{◌≡◌, ℕ, Bool, true, false, cond, List, [], ◌∷◌, ◌++◌, length, map, inl, inr, refl, sym, ◌∙◌, ap, subst, append_assoc}
 use Rattle.std.specs.List.{AllByRecursion}
-use Rattle.std.proofs.lemmas.Bool.{and_parts}
+use Rattle.std.specs.Ordering.{nat_cmp}
+use Rattle.std.specs.Map.{remove_entry}
+use Rattle.std.specs.BTreeMap.{insert_entry, is_at}
+use Rattle.std.proofs.lemmas.Bool.{and_parts, cases_eq}
+use Rattle.node_model.proofs.Places.{elsewhere, here}
 use Rattle.pdu_codec.specs.Pdu.{read_pdu}
-use Rattle.pdu_frames.specs.Frames.{IsFrame, AreFrames, begins_wrong, cut}
+use Rattle.pdu_frames.specs.Frames.{AreFrames, Cut, IsFrame, begins_wrong, cut}
 use Rattle.pdu_frames.proofs.Streams.{streams_cut}
-use Rattle.sessions.specs.Session.{Session}
-use Rattle.sessions.specs.States.{is_gone}
-use Rattle.sessions.specs.declared.request.OpenRequest.{OpenRequest}
 use Rattle.script_text.specs.Settings.{Settings}
-use Rattle.script_text.specs.Node.{Node}
 use Rattle.script_text.specs.Prints.{Print}
-use Rattle.script_text.specs.Runner.{Owned, Streamed, on_frame, on_frames}
+use Rattle.script_text.specs.Runner.{Acted, Runner, followed_by, held_in, on_cut, on_frame, on_frames, on_octets, opened_at, or_nothing, session_in}
 use Rattle.script_text.specs.Events.{Event, Comes}
 use Rattle.script_text.specs.OneNode.{OneNode, account_at, happen, happens}
 use Rattle.script_text.specs.Calm.{are_calm, event_stir, may_happen, quiet_after, quiet_by, read_stir}
-use Rattle.calm_laws.proofs.Reacting.{like}
-use Rattle.calm_laws.proofs.Came.{Came}
 use Rattle.calm_laws.proofs.Coming.{frame_comes}
+use Rattle.calm_laws.proofs.Connected.{one_served}
+use Rattle.calm_laws.proofs.Entries.{remove_elsewhere}
 use Rattle.calm_laws.proofs.NoLength.{whole_frame}
-use Rattle.calm_laws.proofs.Standing.{Agree, IsQuiet, requests_at}
+use Rattle.calm_laws.proofs.Running.{Runs}
 
 -- ---- frames
 
--- frames of a session left both alike, and the events behind them are calm
-pub record Went (settings : Settings) (first number : ℕ) (one : OneNode) (owned : Option Owned) (streamed : Streamed) (later all : List Event) (rest : List ℕ)
-    : Type 0 where
+-- the octets of a line left both alike, and the events behind them are calm
+pub record Went (settings : Settings) (first : ℕ) (one : OneNode) (streams : List (ℕ × List ℕ)) (acted : Acted) (later all : List Event) : Type 0 where
   pub next : OneNode
   pub quiet : Bool
-  pub holds : Option Owned
-  pub version : ℕ
-  pub agree : Agree settings first (length later) next holds streamed.served.node
-  pub session : streamed.served.session ≡ like (account_at next number) version (requests_at holds number)
-  pub held : streamed.held ≡ rest
+  pub runs : Runs settings first (length later) quiet next streams acted.next
   pub ends : (happen settings one all).next ≡ (happen settings next later).next
-  pub prints : (happen settings one all).prints ≡ streamed.served.prints ++ (happen settings next later).prints
-  pub accounts : (other : ℕ) → (number ≡ other → ⊥) → account_at next other ≡ account_at one other
-  pub requests : (other : ℕ) → (number ≡ other → ⊥) → requests_at holds other ≡ requests_at owned other
-  pub still : IsQuiet quiet holds streamed.served.node
+  pub prints : (happen settings one all).prints ≡ acted.prints ++ (happen settings next later).prints
   pub calm : are_calm settings next quiet later ≡ true
 
-pub like_stays : (account : Option (List ℕ)) (version : ℕ) (requests : List OpenRequest) → is_gone (like account version requests).state ≡ false
-like_stays None version requests = refl
-like_stays (Some name) version requests = refl
-
-module _ (settings : Settings) (first number : ℕ) (rest : List ℕ) (later : List Event) (right : begins_wrong rest ≡ false) where
+module _ (settings : Settings) (first number : ℕ) (rest : List ℕ) (later : List Event) (right : begins_wrong rest ≡ false)
+    (streams held : List (ℕ × List ℕ)) (same : (other : ℕ) → (number ≡ other → ⊥) → held_in held other ≡ held_in streams other) where
   -- what happens by frames, and then
   abbrev events_of : List (List ℕ) → List Event
   events_of frames = map (Comes number) frames ++ later
 
-  -- a session as the one node has it
-  abbrev IsSession : OneNode → Option Owned → ℕ → Session → Type 0
-  IsSession one owned version session = session ≡ like (account_at one number) version (requests_at owned number)
-
   abbrev quiet_then : Bool → OneNode → List ℕ → Bool
   quiet_then quiet one frame = quiet_by quiet (read_stir settings.accounts (account_at one number) (read_pdu frame))
 
-  one_frame : (quiet : Bool) (one : OneNode) (owned : Option Owned) (node : Node) (session : Session) (version : ℕ) (frame : List ℕ) (frames : List (List ℕ)) →
-      IsFrame frame →
-      Agree settings first (length (events_of (frame ∷ frames))) one owned node → IsQuiet quiet owned node →
-      may_happen quiet (event_stir settings one (Comes number frame)) ≡ true →
-      IsSession one owned version session →
-      Came settings first (length (events_of frames)) number (quiet_then quiet one frame) one owned (on_frame settings number node session frame)
-      (happens settings one (Comes number frame))
-  one_frame quiet one owned node session version frame frames whole agree still may is =
-      subst
-      (λ (s : Session). Came settings first (length (events_of frames)) number (quiet_then quiet one frame) one owned (on_frame settings number node s frame)
-      (happens settings one (Comes number frame)))
-      (sym is)
-      (frame_comes settings first (length (events_of frames)) number one owned node version agree quiet still frame (whole_frame frame whole) may)
+  -- what is left of the stream waits for more
+  module _ (runner : Runner) (were : (other : ℕ) → held_in runner.streams other ≡ held_in held other) where
+    abbrev AreHeld : ℕ → Type 0
+    AreHeld other = held_in (insert_entry nat_cmp runner.streams number rest) other ≡ held_in (insert_entry nat_cmp streams number rest) other
 
-  pub frames_go : (quiet : Bool) (one : OneNode) (owned : Option Owned) (node : Node) (session : Session) (version : ℕ) (frames : List (List ℕ)) →
-      AllByRecursion IsFrame frames → Agree settings first (length (events_of frames)) one owned node → IsQuiet quiet owned node →
-      are_calm settings one quiet (events_of frames) ≡ true → IsSession one owned version session →
-      Went settings first number one owned (on_frames settings number node session frames rest) later (events_of frames) rest
+    held_here : AreHeld number
+    held_here = ap or_nothing (here number rest runner.streams) ∙ sym (ap or_nothing (here number rest streams))
+
+    held_elsewhere : (other : ℕ) → (number ≡ other → ⊥) → AreHeld other
+    held_elsewhere other differ =
+        let not_it = λ (is : other ≡ number). differ (sym is) in
+        ap or_nothing (elsewhere number rest other not_it runner.streams)
+        ∙ were other
+        ∙ same other differ
+        ∙ sym (ap or_nothing (elsewhere number rest other not_it streams))
+
+    are_held : (other : ℕ) → AreHeld other
+    are_held other = elim (cases_eq number other) [
+      | inl is ↦ subst AreHeld is held_here
+      | inr differ ↦ held_elsewhere other differ
+    ]
+
+  abbrev Leaves : OneNode → Acted → List (List ℕ) → Type 0
+  Leaves one acted frames = Went settings first one (insert_entry nat_cmp streams number rest) acted later (events_of frames)
+
+  pub frames_go : (quiet : Bool) (one : OneNode) (runner : Runner) (frames : List (List ℕ)) → AllByRecursion IsFrame frames →
+      Runs settings first (length (events_of frames)) quiet one held runner → are_calm settings one quiet (events_of frames) ≡ true →
+      Leaves one (on_frames settings number runner frames rest) frames
   unfolding on_frames are_calm happen
-  frames_go quiet one owned node session version [] all agree still calm is = rw right (record {
+  frames_go quiet one runner [] all runs calm = rw right (record {
     next = one;
     quiet = quiet;
-    holds = owned;
-    version = version;
-    agree = agree;
-    session = is;
-    held = refl;
+    runs = record {
+      holds = runs.holds;
+      agree = runs.agree;
+      still = runs.still;
+      held = are_held runner runs.held;
+      sessions = runs.sessions;
+      waiting = runs.waiting;
+    };
     ends = refl;
     prints = refl;
-    accounts = λ other differ. refl;
-    requests = λ other differ. refl;
-    still = still;
     calm = calm;
   })
-  frames_go quiet one owned node session version (frame ∷ frames) all agree still calm is =
+  frames_go quiet one runner (frame ∷ frames) all runs calm =
       let event = Comes number frame in
       let next = (happens settings one event).next in
       let parts = and_parts (may_happen quiet (event_stir settings one event))
       (are_calm settings next (quiet_after settings one quiet event) (events_of frames)) calm in
-      let came = one_frame quiet one owned node session version frame frames all.0 agree still parts.0 is in
-      let served = on_frame settings number node session frame in
-      let went = frames_go (quiet_then quiet one frame) next came.holds served.node served.session came.version frames all.1 came.agree came.still parts.1 came.session in
-      let stays : is_gone (on_frame settings number node session frame).session.state ≡ false =
-      ap (λ (s : Session). is_gone s.state) came.session ∙ like_stays (account_at next number) came.version (requests_at came.holds number) in
+      let acted = on_frame settings number runner frame in
+      let came = frame_comes settings first (length (events_of frames)) number quiet one held runner runs frame (whole_frame frame all.0) parts.0 in
+      let went = frames_go (quiet_then quiet one frame) next acted.next frames all.1 came.done.0 parts.1 in
       let printed : List Print = (happen settings next (events_of frames)).prints in
-      rw stays (record {
+      let behind = on_frames settings number acted.next frames rest in
+      subst (λ (gone : Bool). Leaves one (cond {A = Acted} gone acted (followed_by acted behind)) (frame ∷ frames)) (sym came.connected) (record {
         next = went.next;
         quiet = went.quiet;
-        holds = went.holds;
-        version = went.version;
-        agree = went.agree;
-        session = went.session;
-        held = went.held;
+        runs = went.runs;
         ends = went.ends;
-        prints = ap (λ (prints : List Print). prints ++ printed) (sym came.prints)
-            ∙ ap (λ (prints : List Print). served.prints ++ prints) went.prints
-            ∙ sym (append_assoc served.prints _ _);
-        accounts = λ other differ. went.accounts other differ ∙ came.accounts other differ;
-        requests = λ other differ. went.requests other differ ∙ came.requests other differ;
-        still = went.still;
+        prints = ap (λ (prints : List Print). prints ++ printed) (sym came.done.1)
+            ∙ ap (λ (prints : List Print). acted.prints ++ prints) went.prints
+            ∙ sym (append_assoc acted.prints behind.prints _);
         calm = went.calm;
       })
+
+-- ---- a line
 
 are_whole : (stream : List ℕ) (frames : List (List ℕ)) (rest : List ℕ) → AreFrames stream frames rest → AllByRecursion IsFrame frames
 are_whole stream [] rest are = tt
@@ -125,3 +114,36 @@ are_whole stream (frame ∷ frames) rest are = (are.0, are_whole are.1.0 frames 
 
 pub cut_whole : (stream : List ℕ) → AllByRecursion IsFrame (cut stream).frames
 cut_whole stream = are_whole stream (cut stream).frames (cut stream).rest (streams_cut stream)
+
+-- the session is connected, as it was or anew
+opened_runs : (settings : Settings) (first left number : ℕ) (quiet : Bool) (one : OneNode) (streams : List (ℕ × List ℕ)) (runner : Runner) →
+    Runs settings first left quiet one streams runner →
+    Runs settings first left quiet one (remove_entry (is_at (nat_cmp number)) runner.streams) (opened_at runner number)
+opened_runs settings first left number quiet one streams runner runs = record {
+  holds = runs.holds;
+  agree = runs.agree;
+  still = runs.still;
+  held = λ other. refl;
+  sessions =
+      one_served one.sessions one.sessions runs.holds runs.holds runner.sessions number (session_in runner.sessions number) (runs.sessions.each number)
+      (λ other differ. refl) runs.sessions;
+  waiting = runs.waiting;
+}
+
+pub octets_leave : (settings : Settings) (first number : ℕ) (quiet : Bool) (one : OneNode) (streams : List (ℕ × List ℕ)) (runner : Runner)
+    (octets : List ℕ) (later : List Event) →
+    let stream = cut (held_in streams number ++ octets) in
+    let all = map (Comes number) stream.frames ++ later in
+    begins_wrong stream.rest ≡ false → Runs settings first (length all) quiet one streams runner → are_calm settings one quiet all ≡ true →
+    Went settings first one (insert_entry nat_cmp streams number stream.rest) (on_octets settings runner number octets) later all
+unfolding on_octets
+octets_leave settings first number quiet one streams runner octets later right runs calm =
+    let stream : Cut = cut (held_in streams number ++ octets) in
+    let all = map (Comes number) stream.frames ++ later in
+    subst
+    (λ (held : List ℕ). Went settings first one (insert_entry nat_cmp streams number stream.rest)
+    (on_cut settings number (opened_at runner number) (cut (held ++ octets))) later all)
+    (sym (runs.held number))
+    (frames_go settings first number stream.rest later right streams (remove_entry (is_at (nat_cmp number)) runner.streams)
+    (λ other differ. ap or_nothing (remove_elsewhere runner.streams number other differ) ∙ runs.held other) quiet one (opened_at runner number)
+    stream.frames (cut_whole (held_in streams number ++ octets)) (opened_runs settings first (length all) number quiet one streams runner runs) calm)

@@ -1,62 +1,92 @@
--- A settle of a calm script: one reply goes out at most, and the runner and the one node stay alike.
-use Rattle.std.proofs.Common.{◌≡◌, ℕ, suc, ◌≤◌, ◌<◌, Bool, true, List, [], length, None, refl, sym, ◌∙◌, ap, subst, arith}
-use Rattle.mc_model.specs.node.Outputs.{Reply}
+-- A settle of a calm script: one reply goes out at most, then the receipts that are due, and the runner and the one node stay alike.
+use Rattle.std.proofs.Common.{◌≡◌, ℕ, suc, ◌≤◌, ◌<◌, Bool, true, List, [], ◌++◌, length, None, refl, sym, ◌∙◌, ap, subst, arith}
 use Rattle.node_model.specs.Kept.{Kept}
 use Rattle.alone_laws.specs.Settling.{delivered}
 use Rattle.alone_laws.proofs.Leading.{settling}
 use Rattle.script_text.specs.Settings.{Settings}
-use Rattle.script_text.specs.Runner.{Runner, most_deliveries, on_settle, told}
-use Rattle.script_text.specs.OneNode.{OneNode}
+use Rattle.script_text.specs.Prints.{Print}
+use Rattle.script_text.specs.Receipts.{Mail, Posted, all_posted}
+use Rattle.script_text.specs.Runner.{Runner, Told, mail_of, most_deliveries, on_settle, told}
+use Rattle.script_text.specs.OneNode.{OneNode, settled}
+use Rattle.script_text.specs.OneNode as one_node
 use Rattle.calm_laws.proofs.Connected.{AreConnected}
+use Rattle.calm_laws.proofs.Posting.{ArePosted, all_alike}
 use Rattle.calm_laws.proofs.Replying.{owed_told}
-use Rattle.calm_laws.proofs.Running.{Runs}
-use Rattle.calm_laws.proofs.Settling.{Goes, runner_at, settle_goes}
-use Rattle.calm_laws.proofs.Standing.{rests}
-use Rattle.calm_laws.proofs.Tables.{as_long, table_of}
+use Rattle.calm_laws.proofs.Running.{AreDone, Runs}
+use Rattle.calm_laws.proofs.Settling.{Goes, handed, runner_at, settle_goes}
+use Rattle.calm_laws.proofs.Standing.{clock_is, rests}
 
-pub settle_leaves : (settings : Settings) (first left : ℕ) (quiet : Bool) (one : OneNode) (streams : List (ℕ × List ℕ)) (runner : Runner) →
-    length one.table ≤ 10000 →
-    Runs settings first (suc left) quiet one streams runner →
-    Runs settings first left true (record one { owed = [] }) streams (on_settle runner).next × ((on_settle runner).prints ≡ one.owed)
-settle_leaves settings first left quiet one streams runner small runs = (
-  subst (Runs settings first left true (record one { owed = [] }) streams) (sym next_is) (record {
+module _ (settings : Settings) (first left : ℕ) (quiet : Bool) (one : OneNode) (streams : List (ℕ × List ℕ)) (runner : Runner)
+    (small : length one.node.table ≤ 10000) (runs : Runs settings first (suc left) quiet one streams runner) where
+  abbrev clock : ℕ
+  clock = one.node.clock
+
+  abbrev now : Kept
+  now = (delivered runner.node.setup runs.agree.settles.deliveries (settling runner.node.kept runner.node.packets [] [])).kept
+
+  few : runs.agree.settles.deliveries < most_deliveries
+  few =
+      let most = runs.agree.settles.few in
+      omega (arith, most, small)
+
+  goes : Goes runner.node.setup runner.streams clock runs.agree.settles.deliveries (settling runner.node.kept runner.node.packets [] []) (mail_of runner)
+      (on_settle runner)
+  goes =
+      settle_goes runner.node.setup runner.streams clock runs.agree.settles.deliveries most_deliveries runner.node.kept runner.node.packets []
+      runs.agree.replies [] (mail_of runner) few (clock_is settings first (suc left) one runs.holds runner.node runs.agree) runs.agree.settles.left
+      runs.agree.settles.replies_are runs.agree.settles.ordered
+
+  replies_are : goes.replies ≡ runs.agree.replies
+  replies_are = sym goes.replies_are ∙ runs.agree.settles.replies_are
+
+  receipts_are : goes.receipts ≡ one.due
+  receipts_are = sym goes.receipts_are ∙ runs.agree.settles.receipts_are
+
+  handed_is : handed clock (mail_of runner) goes.replies goes.receipts ≡ handed clock (mail_of runner) runs.agree.replies one.due
+  handed_is = λ i. handed clock (mail_of runner) (replies_are i) (receipts_are i)
+
+  -- what was owed is told
+  abbrev after : Told
+  after = told runner.sessions runs.agree.replies
+
+  owed : AreConnected one.sessions None after.sessions × (after.prints ≡ one.owed)
+  owed = owed_told one.sessions runner.sessions runs.agree.replies runs.holds one.owed runs.agree.owes runs.sessions
+
+  abbrev mail : Mail
+  mail = record { sessions = after.sessions; waiting = runner.waiting }
+
+  -- and what is due is posted
+  posted : ArePosted clock one.node None mail (all_posted clock (one_node.mail_of one) one.due) (all_posted clock mail one.due)
+  posted =
+      all_alike clock one.node None one.due (one_node.mail_of one) mail
+      (record { connected = owed.0; fit = runs.agree.fit; waiting = runs.waiting })
+
+  abbrev ended : Runner
+  ended = runner_at runner.node.setup runner.streams clock now [] (all_posted clock mail one.due).mail
+
+  ends : Runs settings first left true (settled one).next streams ended
+  ends = record {
     holds = None;
     agree = record {
-      ticket = runs.agree.ticket;
-      table = runs.agree.table;
       replies = [];
-      is_table = runs.agree.is_table;
+      fit = posted.mailed.fit;
       room = let room = runs.agree.room in omega (arith, room);
       setup = runs.agree.setup;
-      settles = rests runner.node.setup now (table_of one.clock one.serial runs.agree.ticket runs.agree.table) runs.agree.settles.resting;
+      settles = rests runner.node.setup now one.node runs.agree.settles.resting;
       owes = (refl, refl);
     };
     still = (refl, refl);
     held = runs.held;
-    sessions = settled.0;
-  }),
-  goes.prints ∙ ap (λ (replies : List Reply). (told runner.sessions replies).prints) replies_are ∙ settled.1,
-)
-  where
-    now : Kept
-    now = (delivered runner.node.setup runs.agree.settles.deliveries (settling runner.node.kept runner.node.packets [] [])).kept
+    sessions = posted.mailed.connected;
+    waiting = posted.mailed.waiting;
+  }
 
-    few : runs.agree.settles.deliveries < most_deliveries
-    few =
-        let chains : length one.table ≡ length runs.agree.table = sym (ap length runs.agree.is_table.chains_are) ∙ as_long runs.agree.table in
-        let most = runs.agree.settles.few in
-        omega (arith, chains, most, small)
-
-    goes : Goes runner.node.setup runner.streams runs.agree.settles.deliveries (settling runner.node.kept runner.node.packets [] []) runner.sessions
-        (on_settle runner)
-    goes =
-        settle_goes runner.node.setup runner.streams runs.agree.settles.deliveries most_deliveries runner.node.kept runner.node.packets [] [] runner.sessions few runs.agree.settles.left
-
-    replies_are : goes.replies ≡ runs.agree.replies
-    replies_are = sym goes.replies_are ∙ runs.agree.settles.replies_are
-
-    settled : AreConnected one.bound None (told runner.sessions runs.agree.replies).sessions × ((told runner.sessions runs.agree.replies).prints ≡ one.owed)
-    settled = owed_told one.bound runner.sessions runs.agree.replies runs.holds one.owed runs.agree.owes runs.sessions
-
-    next_is : (on_settle runner).next ≡ runner_at runner.node.setup runner.streams now [] (told runner.sessions runs.agree.replies).sessions
-    next_is = goes.next ∙ ap (λ (replies : List Reply). runner_at runner.node.setup runner.streams now [] (told runner.sessions replies).sessions) replies_are
+  pub settle_leaves : AreDone settings first left true streams (on_settle runner) (settled one)
+  settle_leaves = (
+    subst (Runs settings first left true (settled one).next streams)
+        (sym (goes.next ∙ ap (λ (p : Posted). runner_at runner.node.setup runner.streams clock now [] p.mail) handed_is)) ends,
+    goes.prints
+        ∙ ap (λ (p : Posted). p.prints) handed_is
+        ∙ ap (λ (prints : List Print). prints ++ (all_posted clock mail one.due).prints) owed.1
+        ∙ ap (λ (prints : List Print). one.owed ++ prints) posted.prints,
+  )

@@ -1,26 +1,30 @@
 -- Line after line of a calm script, the runner goes as the one node does, and prints what it prints.
-use Rattle.std.proofs.Common.{◌≡◌, ℕ, suc, ◌<◌, ◌≤◌, ◌-◌, ◌^◌, max, Bool, true, false, cond, List, [], ◌∷◌, ◌++◌, length, map, Option, Some, None, refl, sym, ◌∙◌, ap, subst, arith}
+use Rattle.std.proofs.Common.{◌≡◌, ℕ, suc, ◌<◌, ◌≤◌, ◌-◌, ◌^◌, Bool, true, false, cond, List, [], ◌∷◌, ◌++◌, length, map, Option, Some, None, refl, sym, ◌∙◌, ap, subst, arith}
 use Rattle.std.specs.Option.{option_map}
 use Rattle.std.specs.Ordering.{nat_cmp}
 use Rattle.std.specs.BTreeMap.{insert_entry}
 use Rattle.std.proofs.lemmas.Bool.{and_parts}
+use Rattle.alone_laws.specs.Attempts.{refusal_at}
+use Rattle.alone_laws.specs.Ticks.{ticked}
 use Rattle.alone_laws.proofs.Opening.{new_rests}
 use Rattle.pdu_frames.specs.Frames.{Cut, begins_wrong, cut}
 use Rattle.script_lines.specs.Lines.{lines_of}
-use Rattle.script_lines.specs.Said.{Said, Skipped, Nodes, Octets, Tick, Settle, Restart, said_of}
+use Rattle.script_lines.specs.Said.{Said, Skipped, Nodes, Octets, Tick, Grant, Settle, Restart, said_of}
 use Rattle.script_lines.proofs.SaidLemmas.{spelled_so}
 use Rattle.script_text.specs.Settings.{Settings, script_settings}
 use Rattle.script_text.specs.Prints.{Print, text_of_prints}
-use Rattle.script_text.specs.Runner.{Runner, Streamed, held_in, kept, on_cut, on_octets, on_settle, on_tick, session_in, without}
-use Rattle.script_text.specs.Events.{Event, Heard, Comes, Ticks, Settles, Play, and_then, events_from, heard_by, play_from, play_of_lines}
-use Rattle.script_text.specs.OneNode.{OneNode, at_clock, happen, happens, one_node, one_node_text, played, prints_if}
-use Rattle.script_text.specs.Calm.{IsCalm, are_calm}
+use Rattle.script_text.specs.Pushes.{accounts_up, is_up}
+use Rattle.script_text.specs.Runner.{Runner, held_in, on_grant, on_octets, on_settle, on_tick}
+use Rattle.script_text.specs.Events.{Event, Heard, Comes, Ticks, Grants, Settles, Play, and_then, events_from, heard_by, play_from, play_of_lines}
+use Rattle.script_text.specs.OneNode.{OneNode, granted_unless, happen, happens, one_node, one_node_text, played, prints_if, settled, ticks}
+use Rattle.script_text.specs.Calm.{IsCalm, are_calm, may_happen, pushed_in, tick_stir}
 use Rattle.script_text.specs.Script.{Stage, Stepped, after, bad_from, bad_line, opened, prints_from, step_by, step_of, text_of}
-use Rattle.calm_laws.proofs.Calming.{Went, cut_whole, frames_go}
+use Rattle.calm_laws.proofs.Calming.{octets_leave}
 use Rattle.calm_laws.proofs.Ending.{settle_leaves}
+use Rattle.calm_laws.proofs.Granting.{grant_leaves}
 use Rattle.calm_laws.proofs.Growing.{events_grow}
-use Rattle.calm_laws.proofs.Running.{Runs, kept_is, octets_leave, served}
-use Rattle.calm_laws.proofs.Standing.{rested}
+use Rattle.calm_laws.proofs.Running.{Runs}
+use Rattle.calm_laws.proofs.Standing.{IsFit, rested}
 use Rattle.calm_laws.proofs.Ticking.{tick_leaves}
 
 -- ---- lines
@@ -37,7 +41,7 @@ LinePrints settings one events lines number step =
 
 -- few messages are there in the end
 abbrev IsSmall : Settings → OneNode → List Event → Type 0
-IsSmall settings one events = length (happen settings one events).next.table ≤ 10000
+IsSmall settings one events = length (happen settings one events).next.node.table ≤ 10000
 
 LinesCalm : Settings → ℕ → List (List ℕ) → Type 0
 LinesCalm settings first lines =
@@ -69,50 +73,15 @@ module _ (settings : Settings) (first : ℕ) (lines : List (List ℕ)) (behind :
     abbrev stream : Cut
     stream = cut (held_in streams number ++ octets)
 
-    abbrev all_events : List Event → List Event
-    all_events tail = map (Comes number) stream.frames ++ tail
-
-    module _ (tail : List Event) (runs : Runs settings first (length (all_events tail)) quiet one streams runner) where
-      abbrev streamed : Streamed
-      streamed = on_cut settings number runner.node (session_in runner.sessions number) stream
-
-      -- what this leaves and prints
-      abbrev StreamPrints : List Print → Runner → Type 0
-      StreamPrints prints next =
-          Prints settings one (all_events tail) (prints ++ prints_from settings (Some next) lines) (bad_from settings (Some next) (suc line) lines)
-
-      went : begins_wrong stream.rest ≡ false → are_calm settings one quiet (all_events tail) ≡ true →
-          Went settings first number one runs.holds streamed tail (all_events tail) stream.rest
-      went right calm =
-          let mine = runs.sessions.each number in
-          frames_go settings first number stream.rest tail right quiet one runs.holds runner.node (session_in runner.sessions number) mine.0 stream.frames
-          (cut_whole (held_in streams number ++ octets)) runs.agree runs.still calm mine.1
-
-      went_prints : Went settings first number one runs.holds streamed tail (all_events tail) stream.rest →
-          events_from (insert_entry nat_cmp streams number stream.rest) lines ≡ Some tail →
-          IsSmall settings one (all_events tail) → StreamPrints streamed.served.prints (kept (without runner number) number streamed)
-      unfolding LinesCalm
-      went_prints gone tail_is small =
-          let next = served settings first (length (all_events tail)) quiet one streams runner number streamed tail (all_events tail) stream.rest runs gone in
-          let leaves = octets_leave settings first (length (all_events tail)) quiet one streams runner number streamed tail
-          (all_events tail) stream.rest runs gone in
-          let few = subst (λ (left : OneNode). length left.table ≤ 10000) gone.ends small in
-          let later = behind (insert_entry nat_cmp streams number stream.rest) gone.quiet gone.next next tail (suc line) leaves tail_is gone.calm few in
-          subst (StreamPrints streamed.served.prints)
-          (sym (kept_is settings first (length (all_events tail)) quiet one streams runner number streamed tail (all_events tail) stream.rest runs gone))
-          (ap (λ (prints : List Print). streamed.served.prints ++ prints) later.0 ∙ sym gone.prints, later.1)
-
     octets_calm : (tail : List Event) → begins_wrong stream.rest ≡ false → events_from (insert_entry nat_cmp streams number stream.rest) lines ≡ Some tail →
-        SaidCalm (Some (Octets number octets)) (all_events tail)
-    unfolding on_octets
+        SaidCalm (Some (Octets number octets)) (map (Comes number) stream.frames ++ tail)
+    unfolding LinesCalm
     octets_calm tail right tail_is runs calm small =
-        let same : stream ≡ cut (held_in runner.streams number ++ octets) = ap (λ (held : List ℕ). cut (held ++ octets)) (sym (runs.held number)) in
-        subst
-        (λ (c : Cut).
-        let done = on_cut settings number runner.node (session_in runner.sessions number) c in
-        StreamPrints tail runs done.served.prints (kept (without runner number) number done))
-        same
-        (went_prints tail runs (went tail runs right calm) tail_is small)
+        let acted = on_octets settings runner number octets in
+        let gone = octets_leave settings first number quiet one streams runner octets tail right runs calm in
+        let few = subst (λ (left : OneNode). length left.node.table ≤ 10000) gone.ends small in
+        let later = behind (insert_entry nat_cmp streams number stream.rest) gone.quiet gone.next acted.next tail (suc line) gone.runs tail_is gone.calm few in
+        (ap (λ (prints : List Print). acted.prints ++ prints) later.0 ∙ sym gone.prints, later.1)
 
     abbrev heard : Heard
     heard = record { events = map (Comes number) stream.frames; streams = insert_entry nat_cmp streams number stream.rest }
@@ -129,25 +98,42 @@ module _ (settings : Settings) (first : ℕ) (lines : List (List ℕ)) (behind :
   tick_calm : (moment : ℕ) (tail : List Event) → events_from streams lines ≡ Some tail → SaidCalm (Some (Tick moment)) (Ticks moment ∷ tail)
   unfolding LinesCalm are_calm happen happens
   tick_calm moment tail tail_is runs calm small =
-      let next = at_clock one (max one.clock moment) in
-      let parts = and_parts quiet (are_calm settings next false tail) calm in
-      let (leaves, prints) = tick_leaves settings first (length tail) one streams runner moment
+      let happened = ticks one (ticked one.node moment (is_up (accounts_up one.sessions))) in
+      let parts = and_parts (may_happen quiet (tick_stir (pushed_in one))) (are_calm settings happened.next false tail) calm in
+      let (leaves, prints) = tick_leaves settings first (length tail) quiet one streams runner moment parts.0 runs in
+      let later = behind streams false happened.next (on_tick runner moment).next tail (suc line) leaves tail_is parts.1 small in (
+        ap (λ (printed : List Print). printed ++ prints_from settings (Some (on_tick runner moment).next) lines) prints
+            ∙ ap (λ (others : List Print). happened.prints ++ others) later.0,
+        later.1,
+      )
+
+  -- ---- a grant
+
+  grant_calm : (id : ℕ) (tail : List Event) → events_from streams lines ≡ Some tail → SaidCalm (Some (Grant id)) (Grants id ∷ tail)
+  unfolding LinesCalm are_calm happen happens
+  grant_calm id tail tail_is runs calm small =
+      let happened = granted_unless one id (refusal_at one.node id) in
+      let parts = and_parts quiet (are_calm settings happened.next false tail) calm in
+      let (leaves, prints) = grant_leaves settings first (length tail) one streams runner id
       (subst (λ (q : Bool). Runs settings first (suc (length tail)) q one streams runner) parts.0 runs) in
-      let later = behind streams false next (on_tick runner moment).next tail (suc line) leaves tail_is parts.1 small in
-      (ap (λ (printed : List Print). printed ++ prints_from settings (Some (on_tick runner moment).next) lines) prints ∙ later.0, later.1)
+      let later = behind streams false happened.next (on_grant runner id).next tail (suc line) leaves tail_is parts.1 small in (
+        ap (λ (printed : List Print). printed ++ prints_from settings (Some (on_grant runner id).next) lines) prints
+            ∙ ap (λ (others : List Print). happened.prints ++ others) later.0,
+        later.1,
+      )
 
   -- ---- a settle
 
   settle_calm : (tail : List Event) → events_from streams lines ≡ Some tail → SaidCalm (Some Settle) (Settles ∷ tail)
   unfolding LinesCalm are_calm happen happens
   settle_calm tail tail_is runs calm small =
-      let next = record one { owed = [] } in
+      let next = (settled one).next in
       let grown = events_grow settings next tail in
       let (leaves, prints) = settle_leaves settings first (length tail) quiet one streams runner (omega (arith, grown, small)) runs in
       let later = behind streams true next (on_settle runner).next tail (suc line) leaves tail_is
       (and_parts true (are_calm settings next true tail) calm).1 small in (
         ap (λ (printed : List Print). printed ++ prints_from settings (Some (on_settle runner).next) lines) prints
-            ∙ ap (λ (others : List Print). one.owed ++ others) later.0,
+            ∙ ap (λ (others : List Print). (settled one).prints ++ others) later.0,
         later.1,
       )
 
@@ -164,6 +150,7 @@ module _ (settings : Settings) (first : ℕ) (lines : List (List ℕ)) (behind :
       (λ tail tail_is runs calm small. behind streams quiet one runner tail (suc line) runs tail_is calm small) is
   said_calm events (Some (Tick moment)) is =
       tail_of (SaidCalm (Some (Tick moment))) (Ticks moment ∷ []) (events_from streams lines) events (tick_calm moment) is
+  said_calm events (Some (Grant id)) is = tail_of (SaidCalm (Some (Grant id))) (Grants id ∷ []) (events_from streams lines) events (grant_calm id) is
   said_calm events (Some Settle) is = tail_of (SaidCalm (Some Settle)) (Settles ∷ []) (events_from streams lines) events settle_calm is
   said_calm events (Some (Octets number octets)) is = octets_said number octets events (begins_wrong (stream number octets).rest) refl is
 
@@ -185,23 +172,30 @@ PlayPrints play prints bad = (prints ≡ (played play).prints) × (bad ≡ None)
 abbrev StagePrints : Play → Stage → ℕ → List (List ℕ) → Type 0
 StagePrints play stage number lines = PlayPrints play (prints_from script_settings stage lines) (bad_from script_settings stage number lines)
 
+opened_fit : (serial : ℕ) → 1 ≤ serial → IsFit (one_node serial)
+opened_fit serial least = record {
+  least = least;
+  plain = λ number. record { state = refl; idle = refl };
+  waiting = record { holder = λ id. 0; each = λ number. tt; distinct = λ number. tt };
+}
+
 opened_runs : (serial : ℕ) (events : List Event) → 1 ≤ serial → length events < 2 ^ 64 - 1 →
     Runs script_settings serial (length events) true (one_node serial) [] (opened script_settings serial)
 opened_runs serial events least few = record {
   holds = None;
   agree =
-      rested script_settings serial (length events) 1 (one_node serial) (opened script_settings serial).node.kept []
-      (record { chains_are = refl; none = tt; least = least })
-      (omega (arith, few)) (new_rests serial script_settings.validity) refl;
+      rested script_settings serial (length events) (one_node serial) (opened script_settings serial).node.kept (opened_fit serial least)
+      (omega (arith, few)) (new_rests serial script_settings.validity) refl refl;
   still = (refl, refl);
   held = λ number. refl;
-  sessions = record { each = λ number. (0, refl); entries = tt; distinct = tt };
+  sessions = record { each = λ number. refl; entries = tt; distinct = tt };
+  waiting = refl;
 }
 
 -- what is asked of the play of a calm script
 record IsCalmPlay (play : Play) : Type 0 where
   calm : are_calm script_settings (one_node play.serial) true play.events ≡ true
-  small : length (played play).next.table ≤ 10000
+  small : length (played play).next.node.table ≤ 10000
   few : length play.events < 2 ^ 64 - 1
 
 module _ (lines : List (List ℕ)) (play : Play) (number : ℕ) (calm : IsCalmPlay play) where
@@ -227,6 +221,7 @@ module _ (lines : List (List ℕ)) (play : Play) (number : ℕ) (calm : IsCalmPl
   first_said line (Some (Nodes serial)) said later is = nodes_calm serial (events_from [] lines) ((spelled_so line (Nodes serial)).0 said).wording.0 refl is
   first_said line (Some (Octets session octets)) said later is = absurd cc
   first_said line (Some (Tick moment)) said later is = absurd cc
+  first_said line (Some (Grant id)) said later is = absurd cc
   first_said line (Some Settle) said later is = absurd cc
   first_said line (Some Restart) said later is = absurd cc
 

@@ -1,71 +1,68 @@
--- A runner, and the one node: they stay alike with the octets of a line.
-use Rattle.std.proofs.Common.{◌≡◌, ℕ, Bool, false, cond, List, length, Option, inl, inr, sym, ◌∙◌, ap, subst}
-use Rattle.std.specs.Ordering.{nat_cmp}
-use Rattle.std.specs.Map.{remove_entry}
-use Rattle.std.specs.BTreeMap.{insert_entry, is_at}
-use Rattle.std.proofs.lemmas.Bool.{cases_eq}
-use Rattle.node_model.proofs.Places.{elsewhere, here}
-use Rattle.sessions.specs.Session.{Session}
-use Rattle.sessions.specs.States.{is_gone}
+-- A runner, and the one node: they stay alike as receipts go out.
+use Rattle.std.proofs.Common.{◌≡◌, ℕ, Bool, List, Option, sym, subst}
+use Rattle.std.specs.Prelude.{is_none}
 use Rattle.script_text.specs.Settings.{Settings}
-use Rattle.script_text.specs.Runner.{Owned, Runner, Streamed, held_in, holding, kept, or_nothing, without}
-use Rattle.script_text.specs.Events.{Event}
-use Rattle.script_text.specs.OneNode.{OneNode, account_at}
-use Rattle.calm_laws.proofs.Calming.{Went, like_stays}
-use Rattle.calm_laws.proofs.Connected.{AreConnected, one_served}
-use Rattle.calm_laws.proofs.Entries.{remove_elsewhere}
-use Rattle.calm_laws.proofs.Standing.{Agree, IsQuiet, requests_at}
+use Rattle.script_text.specs.Pushes.{session_at}
+use Rattle.script_text.specs.Receipts.{Mail, Posted}
+use Rattle.script_text.specs.Runner.{Acted, Owned, Runner, held_in}
+use Rattle.script_text.specs.Runner as runners
+use Rattle.script_text.specs.OneNode.{Happened, OneNode}
+use Rattle.script_text.specs.OneNode as one_node
+use Rattle.calm_laws.proofs.Connected.{AreConnected}
+use Rattle.calm_laws.proofs.Posting.{ArePosted, PostsAlike}
+use Rattle.calm_laws.proofs.Standing.{Agree, IsQuiet, clock_is, refit}
 
--- The sessions are as the one node has them, and so is the node, and of each session the same octets wait for more.
+-- The sessions are as the one node has them, and so is the node, of each session the same octets wait for more, and the same receipts wait.
 pub record Runs (settings : Settings) (first left : ℕ) (quiet : Bool) (one : OneNode) (streams : List (ℕ × List ℕ)) (runner : Runner) : Type 0 where
   pub holds : Option Owned
   pub agree : Agree settings first left one holds runner.node
   pub still : IsQuiet quiet holds runner.node
   pub held : (number : ℕ) → held_in runner.streams number ≡ held_in streams number
-  pub sessions : AreConnected one.bound holds runner.sessions
+  pub sessions : AreConnected one.sessions holds runner.sessions
+  pub waiting : runner.waiting ≡ one.waiting
 
--- ---- the octets of a line
+-- what was done here and there leaves both alike, and prints alike
+abbrev pub AreDone : Settings → ℕ → ℕ → Bool → List (ℕ × List ℕ) → Acted → Happened → Type 0
+AreDone settings first left quiet streams acted happened =
+    Runs settings first left quiet happened.next streams acted.next × (acted.prints ≡ happened.prints)
 
-module _ (settings : Settings) (first left : ℕ) (quiet : Bool) (one : OneNode) (streams : List (ℕ × List ℕ)) (runner : Runner) (number : ℕ)
-    (streamed : Streamed)
-    (later all : List Event) (rest : List ℕ) (runs : Runs settings first left quiet one streams runner)
-    (went : Went settings first number one runs.holds streamed later all rest) where
-  -- the session is connected again
-  abbrev pub served : Runner
-  served = holding (record (without runner number) { node = streamed.served.node }) number streamed.served.session streamed.held
+-- and the same sessions are connected
+pub record HavePosted (settings : Settings) (first left : ℕ) (quiet : Bool) (streams : List (ℕ × List ℕ)) (before : Runner) (acted : Acted)
+    (happened : Happened) : Type 0 where
+  pub done : AreDone settings first left quiet streams acted happened
+  pub stay : (number : ℕ) → is_none (session_at acted.next.sessions number) ≡ is_none (session_at before.sessions number)
 
-  pub kept_is : kept (without runner number) number streamed ≡ served
-  kept_is =
-      let stays : is_gone streamed.served.session.state ≡ false =
-      ap (λ (s : Session). is_gone s.state) went.session ∙ like_stays (account_at went.next number) went.version (requests_at went.holds number) in
-      ap (λ (gone : Bool). cond gone (record (without runner number) { node = streamed.served.node }) served) stays
-
-  abbrev others : List (ℕ × List ℕ)
-  others = remove_entry (is_at (nat_cmp number)) runner.streams
-
-  -- the octets of a session that wait are the same
-  abbrev AreHeld : ℕ → Type 0
-  AreHeld other = held_in (insert_entry nat_cmp others number streamed.held) other ≡ held_in (insert_entry nat_cmp streams number rest) other
-
-  held_here : AreHeld number
-  held_here = ap or_nothing (here number streamed.held others) ∙ went.held ∙ sym (ap or_nothing (here number rest streams))
-
-  held_elsewhere : (other : ℕ) → (number ≡ other → ⊥) → AreHeld other
-  held_elsewhere other differ =
-      let not_it = λ (same : other ≡ number). differ (sym same) in
-      ap or_nothing (elsewhere number streamed.held other not_it others ∙ remove_elsewhere runner.streams number other differ)
-      ∙ runs.held other
-      ∙ sym (ap or_nothing (elsewhere number rest other not_it streams))
-
-  pub octets_leave : Runs settings first (length later) went.quiet went.next (insert_entry nat_cmp streams number rest) served
-  octets_leave = record {
-    holds = went.holds;
-    agree = went.agree;
-    still = went.still;
-    held = λ other. elim (cases_eq number other) [
-      | inl same ↦ subst AreHeld same held_here
-      | inr differ ↦ held_elsewhere other differ
-    ];
-    sessions =
-        one_served one.bound went.next.bound runs.holds went.holds runner.sessions number streamed.served.session went.version went.session went.accounts went.requests runs.sessions;
-  }
+pub posts_leave : (settings : Settings) (first left : ℕ) (quiet : Bool) (one : OneNode) (streams : List (ℕ × List ℕ)) (runner : Runner)
+    (post : ℕ → Mail → Posted) (runs : Runs settings first left quiet one streams runner) →
+    ((now : ℕ) → PostsAlike now one.node runs.holds (post now)) →
+    HavePosted settings first left quiet streams runner
+    (runners.with_posted runner (post runner.node.kept.clock (runners.mail_of runner)))
+    (one_node.with_posted one (post one.node.clock (one_node.mail_of one)))
+posts_leave settings first left quiet one streams runner post runs alike =
+    subst
+    (λ (now : ℕ). HavePosted settings first left quiet streams runner (runners.with_posted runner (post now (runners.mail_of runner)))
+    (one_node.with_posted one (post one.node.clock (one_node.mail_of one))))
+    (sym (clock_is settings first left one runs.holds runner.node runs.agree))
+    (at_moment (alike one.node.clock (one_node.mail_of one) (runners.mail_of runner)
+    (record { connected = runs.sessions; fit = runs.agree.fit; waiting = runs.waiting })))
+  where
+    at_moment : (posted : ArePosted one.node.clock one.node runs.holds (runners.mail_of runner) (post one.node.clock (one_node.mail_of one))
+        (post one.node.clock (runners.mail_of runner))) →
+        HavePosted settings first left quiet streams runner (runners.with_posted runner (post one.node.clock (runners.mail_of runner)))
+        (one_node.with_posted one (post one.node.clock (one_node.mail_of one)))
+    at_moment posted = record {
+      done = (
+        record {
+          holds = runs.holds;
+          agree =
+              refit settings first left one runs.holds runner.node (post one.node.clock (one_node.mail_of one)).mail.sessions
+              (post one.node.clock (one_node.mail_of one)).mail.waiting runs.agree posted.mailed.fit;
+          still = runs.still;
+          held = runs.held;
+          sessions = posted.mailed.connected;
+          waiting = posted.mailed.waiting;
+        },
+        posted.prints,
+      );
+      stay = posted.stay;
+    }

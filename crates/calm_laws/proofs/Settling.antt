@@ -1,5 +1,5 @@
 -- What the settle of a script delivers and prints, by what the settle of a node by itself delivers.
-use Rattle.std.proofs.Common.{◌≡◌, ℕ, zero, suc, ◌<◌, List, [], ◌∷◌, ◌++◌, refl, sym, ◌∙◌, ap, append_assoc, arith}
+use Rattle.std.proofs.Common.{◌≡◌, ◌⊎◌, ℕ, zero, suc, ◌<◌, List, [], ◌∷◌, ◌++◌, inl, inr, refl, sym, ◌∙◌, ap, subst, append_assoc, arith}
 use Rattle.std.proofs.lemmas.List.{append-nil}
 use Rattle.mc_model.specs.synod.Packet.{Packet}
 use Rattle.mc_model.specs.node.Input.{Delivery}
@@ -8,11 +8,14 @@ use Rattle.mc_model.specs.node.Setup.{Setup}
 use Rattle.node_model.specs.Kept.{Kept}
 use Rattle.node_model.specs.Outputs.{Stepped}
 use Rattle.node_model.specs.Stepped.{stepped}
-use Rattle.alone_laws.specs.Settling.{Settling, delivered}
+use Rattle.alone_laws.specs.Settling.{IsOrderly, Settling, delivered}
 use Rattle.alone_laws.proofs.Leading.{settling}
+use Rattle.alone_laws.proofs.Unmoved.{delivery_unmoved}
 use Rattle.sessions.specs.Session.{Session}
 use Rattle.script_text.specs.Prints.{Print}
-use Rattle.script_text.specs.Runner.{Acted, Runner, Told, in_front, owner_of, replied, reply_prints, settles, told}
+use Rattle.script_text.specs.Receipts.{Mail, Posted, all_posted, then_posted}
+use Rattle.script_text.specs.Runner.{Acted, Runner, Told, followed_by, in_front, owner_of, replied, reply_prints, settles, told}
+use Rattle.calm_laws.proofs.Posting.{posted_behind}
 
 -- replies go out one after the other
 pub told_behind : (connected : List (ℕ × Session)) (replies others : List Reply) →
@@ -26,39 +29,165 @@ told_behind connected (reply ∷ replies) others =
     ∙ ap (λ (prints : List Print). record { sessions = (told (told next replies).sessions others).sessions; prints = prints })
     (sym (append_assoc (reply_prints reply owner) (told next replies).prints (told (told next replies).sessions others).prints))
 
-module _ (setup : Setup) (streams : List (ℕ × List ℕ)) where
-  abbrev pub runner_at : Kept → List Packet → List (ℕ × Session) → Runner
-  runner_at k packets connected = record { node = record { setup = setup; kept = k; packets = packets }; sessions = connected; streams = streams }
+-- ---- what a delivery gives out
 
-  -- After so many deliveries the node is as it is then by itself, and what it replied in them has gone out.
-  pub record Goes (deliveries : ℕ) (s : Settling) (connected : List (ℕ × Session)) (acted : Acted) : Type 0 where
+-- the sessions after replies
+abbrev after_told : Mail → List Reply → Mail
+after_told mail replies = record { sessions = (told mail.sessions replies).sessions; waiting = mail.waiting }
+
+-- replies go out, and then receipts
+abbrev pub handed : ℕ → Mail → List Reply → List Receipt → Posted
+handed now mail replies receipts = record {
+  mail = (all_posted now (after_told mail replies) receipts).mail;
+  prints = (told mail.sessions replies).prints ++ (all_posted now (after_told mail replies) receipts).prints;
+}
+
+-- if no reply comes behind a receipt, all replies may go out first
+handed_behind : (now : ℕ) (mail : Mail) (replies others : List Reply) (receipts later : List Receipt) → (receipts ≡ []) ⊎ (others ≡ []) →
+    then_posted (handed now mail replies receipts) (handed now (handed now mail replies receipts).mail others later)
+    ≡ handed now mail (replies ++ others) (receipts ++ later)
+unfolding told all_posted
+handed_behind now mail replies others receipts later (inl none) =
+    subst
+    (λ (rs : List Receipt). then_posted (handed now mail replies rs) (handed now (handed now mail replies rs).mail others later)
+    ≡ handed now mail (replies ++ others) (rs ++ later))
+    (sym none)
+    (reordered ∙ ap with_told (sym (told_behind mail.sessions replies others)))
+  where
+    with_told : Told → Posted
+    with_told t = record {
+      mail = (all_posted now (record { sessions = t.sessions; waiting = mail.waiting }) later).mail;
+      prints = t.prints ++ (all_posted now (record { sessions = t.sessions; waiting = mail.waiting }) later).prints;
+    }
+
+    first : Told
+    first = told mail.sessions replies
+
+    last : Posted
+    last = all_posted now (after_told (after_told mail replies) others) later
+
+    reordered : then_posted (handed now mail replies []) (handed now (handed now mail replies []).mail others later)
+        ≡ with_told (in_front first.prints (told first.sessions others))
+    reordered = λ i. record {
+      mail = last.mail;
+      prints =
+          (ap (λ (prints : List Print). prints ++ ((told first.sessions others).prints ++ last.prints)) (append-nil first.prints)
+          ∙ sym (append_assoc first.prints (told first.sessions others).prints last.prints)) i;
+    }
+handed_behind now mail replies others receipts later (inr none) =
+    subst
+    (λ (rs : List Reply). then_posted (handed now mail replies receipts) (handed now (handed now mail replies receipts).mail rs later)
+    ≡ handed now mail (replies ++ rs) (receipts ++ later))
+    (sym none)
+    (reordered ∙ ap (λ (rs : List Reply). handed now mail rs (receipts ++ later)) (sym (append-nil replies)))
+  where
+    first : Told
+    first = told mail.sessions replies
+
+    with_posts : Posted → Posted
+    with_posts posts = record { mail = posts.mail; prints = first.prints ++ posts.prints }
+
+    middle : Posted
+    middle = all_posted now (after_told mail replies) receipts
+
+    last : Posted
+    last = all_posted now middle.mail later
+
+    reordered : then_posted (handed now mail replies receipts) (handed now (handed now mail replies receipts).mail [] later)
+        ≡ handed now mail replies (receipts ++ later)
+    reordered =
+        (λ i. record { mail = last.mail; prints = append_assoc first.prints middle.prints last.prints i })
+        ∙ ap with_posts (sym (posted_behind now (after_told mail replies) receipts later))
+
+-- nothing stands behind a list that is the whole
+none_behind : {A : Type 0} (front others : List A) → front ≡ front ++ others → others ≡ []
+none_behind [] others is = sym is
+none_behind (x ∷ front) others is = none_behind front others cc
+
+-- ---- a settle
+
+module _ (setup : Setup) (streams : List (ℕ × List ℕ)) (now : ℕ) where
+  abbrev pub runner_at : Kept → List Packet → Mail → Runner
+  runner_at k packets mail = record {
+    node = record { setup = setup; kept = k; packets = packets };
+    sessions = mail.sessions;
+    streams = streams;
+    waiting = mail.waiting;
+  }
+
+  -- After so many deliveries the node is as it is then by itself, and what it gave out in them has gone out.
+  pub record Goes (deliveries : ℕ) (s : Settling) (mail : Mail) (acted : Acted) : Type 0 where
     pub replies : List Reply
+    pub receipts : List Receipt
     pub replies_are : (delivered setup deliveries s).replies ≡ s.replies ++ replies
-    pub next : acted.next ≡ runner_at (delivered setup deliveries s).kept [] (told connected replies).sessions
-    pub prints : acted.prints ≡ (told connected replies).prints
+    pub receipts_are : (delivered setup deliveries s).receipts ≡ s.receipts ++ receipts
+    pub next : acted.next ≡ runner_at (delivered setup deliveries s).kept [] (handed now mail replies receipts).mail
+    pub prints : acted.prints ≡ (handed now mail replies receipts).prints
 
-  pub settle_goes : (deliveries most : ℕ) (k : Kept) (packets : List Packet) (replies : List Reply) (receipts : List Receipt) (connected : List (ℕ × Session)) →
-      deliveries < most → (delivered setup deliveries (settling k packets replies receipts)).packets ≡ [] →
-      Goes deliveries (settling k packets replies receipts) connected (settles most (runner_at k packets connected))
-  unfolding settles told
-  settle_goes deliveries zero k packets replies receipts connected few left = absurd (omega arith)
-  settle_goes zero (suc more) k [] replies receipts connected few left =
-      record { replies = []; replies_are = sym (append-nil replies); next = refl; prints = refl }
-  settle_goes zero (suc more) k (packet ∷ others) replies receipts connected few left = absurd cc
-  settle_goes (suc deliveries) (suc more) k [] replies receipts connected few left =
-      let rest = settle_goes deliveries (suc more) k [] replies receipts connected (omega arith) left in
-      record { replies = rest.replies; replies_are = rest.replies_are; next = rest.next; prints = rest.prints }
-  settle_goes (suc deliveries) (suc more) k (packet ∷ others) replies receipts connected few left =
-      let step : Stepped = stepped setup k (Delivery packet) in
-      let first : Told = told connected step.outputs.replies in
-      let rest = settle_goes deliveries more step.kept (others ++ step.outputs.packets) (replies ++ step.outputs.replies)
-      (receipts ++ step.outputs.receipts) first.sessions (omega arith) left in
-      let behind = told_behind connected step.outputs.replies rest.replies in
+  goes_nowhere : (s : Settling) (mail : Mail) → Goes zero s mail (record { next = runner_at s.kept [] mail; inputs = []; prints = [] })
+  unfolding told all_posted
+  goes_nowhere s mail = record {
+    replies = [];
+    receipts = [];
+    replies_are = sym (append-nil s.replies);
+    receipts_are = sym (append-nil s.receipts);
+    next = refl;
+    prints = refl;
+  }
+
+  pub settle_goes : (deliveries most : ℕ) (k : Kept) (packets : List Packet) (replies all : List Reply) (receipts : List Receipt) (mail : Mail) →
+      deliveries < most → k.clock ≡ now → (delivered setup deliveries (settling k packets replies receipts)).packets ≡ [] →
+      (delivered setup deliveries (settling k packets replies receipts)).replies ≡ all →
+      IsOrderly setup (settling k packets replies receipts) all →
+      Goes deliveries (settling k packets replies receipts) mail (settles most (runner_at k packets mail))
+  unfolding settles
+  settle_goes deliveries zero k packets replies all receipts mail few clock left ends ordered = absurd (omega arith)
+  settle_goes zero (suc more) k [] replies all receipts mail few clock left ends ordered = goes_nowhere (settling k [] replies receipts) mail
+  settle_goes zero (suc more) k (packet ∷ others) replies all receipts mail few clock left ends ordered = absurd cc
+  settle_goes (suc deliveries) (suc more) k [] replies all receipts mail few clock left ends ordered =
+      let rest = settle_goes deliveries (suc more) k [] replies all receipts mail (omega arith) clock left ends (λ n. ordered (suc n)) in
       record {
+        replies = rest.replies;
+        receipts = rest.receipts;
+        replies_are = rest.replies_are;
+        receipts_are = rest.receipts_are;
+        next = rest.next;
+        prints = rest.prints;
+      }
+  settle_goes (suc deliveries) (suc more) k (packet ∷ others) replies all receipts mail few clock left ends ordered =
+      let step : Stepped = stepped setup k (Delivery packet) in
+      let clock_then : step.kept.clock ≡ now = delivery_unmoved setup k packet ∙ clock in
+      let first : Posted = handed now mail step.outputs.replies step.outputs.receipts in
+      let rest = settle_goes deliveries more step.kept (others ++ step.outputs.packets) (replies ++ step.outputs.replies) all
+      (receipts ++ step.outputs.receipts) first.mail (omega arith) clock_then left ends (λ n. ordered (suc n)) in
+      let order : (step.outputs.receipts ≡ []) ⊎ (rest.replies ≡ []) = elim (ordered 1) [
+        | inl none ↦ inl (behind_empty receipts step.outputs.receipts none)
+        | inr told_all ↦ inr (none_behind (replies ++ step.outputs.replies) rest.replies (told_all ∙ sym ends ∙ rest.replies_are))
+      ] in
+      let behind = handed_behind now mail step.outputs.replies rest.replies step.outputs.receipts rest.receipts order in
+      let end = (delivered setup (suc deliveries) (settling k (packet ∷ others) replies receipts)).kept in
+      subst
+      (λ (moment : ℕ). Goes (suc deliveries) (settling k (packet ∷ others) replies receipts) mail
+      (followed_by (delivers moment mail step packet (others ++ step.outputs.packets))
+      (settles more (delivers moment mail step packet (others ++ step.outputs.packets)).next)))
+      (sym clock_then)
+      (record {
         replies = step.outputs.replies ++ rest.replies;
+        receipts = step.outputs.receipts ++ rest.receipts;
         replies_are = rest.replies_are ∙ append_assoc replies step.outputs.replies rest.replies;
-        next =
-            rest.next
-            ∙ ap (λ (t : Told). runner_at (delivered setup (suc deliveries) (settling k (packet ∷ others) replies receipts)).kept [] t.sessions) (sym behind);
-        prints = ap (λ (prints : List Print). first.prints ++ prints) rest.prints ∙ ap (λ (t : Told). t.prints) (sym behind);
+        receipts_are = rest.receipts_are ∙ append_assoc receipts step.outputs.receipts rest.receipts;
+        next = rest.next ∙ ap (λ (p : Posted). runner_at end [] p.mail) behind;
+        prints = ap (λ (prints : List Print). first.prints ++ prints) rest.prints ∙ ap (λ (p : Posted). p.prints) behind;
+      })
+    where
+      behind_empty : {A : Type 0} (front others : List A) → front ++ others ≡ [] → others ≡ []
+      behind_empty [] others none = none
+      behind_empty (x ∷ front) others none = absurd cc
+
+      -- what the delivery of a packet leaves and prints, at this moment
+      delivers : ℕ → Mail → Stepped → Packet → List Packet → Acted
+      delivers moment before step packet packets = record {
+        next = runner_at step.kept packets (handed moment before step.outputs.replies step.outputs.receipts).mail;
+        inputs = Delivery packet ∷ [];
+        prints = (handed moment before step.outputs.replies step.outputs.receipts).prints;
       }
