@@ -1,5 +1,6 @@
 -- A session is taken out, served, and put back, and what waits for its account goes out.
-use Rattle.std.proofs.Common.{◌≡◌, ℕ, Bool, true, false, cond, List, [], ◌++◌, length, Option, Some, None, Result, Ok, Err, refl, sym, ap, ◌∙◌, subst}
+use Rattle.std.proofs.Common.{◌≡◌, ℕ, suc, ◌==◌, Bool, true, false, cond, List, [], ◌∷◌, ◌++◌, length, Option, Some, None, Result, Ok, Err, refl, sym, ap, ◌∙◌, subst, arith}
+use Rattle.std.proofs.lemmas.Bool.{eqb-true}
 use Rattle.std.proofs.lemmas.List.{append-nil}
 use Rattle.std.specs.declared.alloc.AllocError.{AllocError}
 use Rattle.std.specs.Prelude.{OnOk}
@@ -38,9 +39,13 @@ unfolding goes_out_up_to
 none_posted now mail None none = refl
 none_posted now mail (Some account) none = ap (λ (waiting : List Receipt). goes_out_up_to (length waiting) now account mail) none
 
+none_there : (waiting : List Receipt) → true ≡ (length waiting == 0) → waiting ≡ []
+none_there [] none = refl
+none_there (receipt ∷ waiting) none = absurd (let some : suc (length waiting) ≡ 0 = eqb-true _ _ (sym none) in omega arith)
+
 -- No receipt waits: nothing goes out.
 pub kept_idle_if : (r : Result (Unit {0}) AllocError) (runner left : Runner) (number : ℕ) (session : Session) (before : List ℕ)
-    → runner.waiting ≡ [] → OnOk r (left ≡ put_back runner number session) → OnOk r (IsDone (keeps runner number session) left before before)
+    → true ≡ (length runner.waiting == 0) → OnOk r (left ≡ put_back runner number session) → OnOk r (IsDone (keeps runner number session) left before before)
 kept_idle_if (Err fault) runner left number session before none is = tt
 kept_idle_if (Ok done) runner left number session before none is =
     let there = put_back runner number session in
@@ -49,23 +54,8 @@ kept_idle_if (Ok done) runner left number session before none is =
     subst (λ (a : Acted). IsDone a left before before) (sym nothing) (record { next = is; text = sym (append-nil before) })
   where
     waits_still : (gone : Bool) → (cond {A = Runner} gone runner (record runner { sessions = insert_entry nat_cmp runner.sessions number session })).waiting ≡ []
-    waits_still true = none
-    waits_still false = none
-
--- What waits for its account goes out.
-pub kept_posted_if : (r : Result (Unit {0}) AllocError) (runner there left : Runner) (number : ℕ) (session : Session) (account : Option (List ℕ)) (before after : List ℕ)
-    → account ≡ session.account → there ≡ put_back runner number session → OnOk r (IsDone (posts_for there account) left before after)
-    → OnOk r (IsDone (keeps runner number session) left before after)
-kept_posted_if (Err fault) runner there left number session account before after same is done = tt
-kept_posted_if (Ok fine) runner there left number session account before after same is done =
-    subst (λ (a : Acted). IsDone a left before after) (λ i. posts_for (is i) (same i)) done
-
--- and if there is no account, nothing goes out
-pub kept_unbound : (runner there : Runner) (number : ℕ) (session : Session) (account : Option (List ℕ)) (before : List ℕ)
-    → account ≡ session.account → account ≡ None → there ≡ put_back runner number session → IsDone (keeps runner number session) there before before
-kept_unbound runner there number session account before same none is =
-    let nobody : posts_for (put_back runner number session) session.account ≡ posts_for (put_back runner number session) None = ap (posts_for (put_back runner number session)) (sym same ∙ none) in
-    subst (λ (a : Acted). IsDone a there before before) (sym nobody) (record { next = is; text = sym (append-nil before) })
+    waits_still true = none_there runner.waiting none
+    waits_still false = none_there runner.waiting none
 
 -- ---- a session is served
 

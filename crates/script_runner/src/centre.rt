@@ -1,7 +1,6 @@
 //! The centre: one node, the sessions with its ESMEs, and the receipts that wait for one.
 
 ghost use Rattle.std.specs.Prelude.{◌≡◌, ◌≤◌, map, Some, IfOk, OnOk};
-ghost use Rattle.std.specs.Option.{option_copied};
 ghost use Rattle.mc_model.specs.message.Chain.{taken_in};
 ghost use Rattle.mc_model.specs.synod.Packet.{slot_of};
 ghost use Rattle.delivery.specs.Deliveries.{EndsInAttempt};
@@ -156,12 +155,12 @@ impl Centre {
         if self.waiting.is_empty() {
             return self.put_back(number, session);
         }
-        let account = copied(session.account())?;
+        let Some(account) = session.account() else {
+            return self.put_back(number, session);
+        };
+        let account = account.copy()?;
         self.put_back(number, session)?;
-        match account {
-            Some(account) => self.post_for(alloc, &account, text),
-            None => Ok(()),
-        }
+        self.post_for(alloc, &account, text)
     }
 
     /// Puts a session back that was taken out, unless it is gone.
@@ -343,15 +342,5 @@ impl Centre {
             now,
             receipts,
         )
-    }
-}
-
-/// A copy of an account, if there is one. An `Err` is want of memory.
-fn copied(account: Option<&Text<16>>) -> Result<Option<Text<16>>, AllocError>
-    ensures { IfOk result (λ copy. option_copied account ≡ copy) }
-{
-    match account {
-        Some(account) => Ok(Some(account.copy()?)),
-        None => Ok(None),
     }
 }
