@@ -1,9 +1,9 @@
 -- The octets of a session's stream: frame by frame, and what stands behind the last one.
-use Rattle.std.proofs.Common.{◌≡◌, ℕ, ◌+◌, ◌-◌, ◌<◌, ◌≤◌, Bool, true, false, ◌⊎◌, inl, inr, List, [], ◌∷◌, ◌++◌, length, take, drop, Result, Ok, Err, refl, sym, ap, ◌∙◌, subst, arith, append_assoc}
+use Rattle.std.proofs.Common.{◌≡◌, ℕ, ◌+◌, ◌-◌, ◌<◌, ◌≤◌, Bool, true, false, ◌⊎◌, inl, inr, List, [], ◌∷◌, ◌++◌, length, take, drop, Option, Some, None, Result, Ok, Err, refl, sym, ap, ◌∙◌, subst, arith, append_assoc}
 use Rattle.std.proofs.lemmas.Grind.{flat_map-append}
 use Rattle.std.proofs.lemmas.List.{append-nil, length-append, length-take-le, length-drop, take_rest, take-append-drop, take_all}
 use Rattle.std.specs.declared.alloc.AllocError.{AllocError}
-use Rattle.std.specs.Prelude.{OnOk, is_none}
+use Rattle.std.specs.Prelude.{OnOk, is_none, is_some}
 use Rattle.std.specs.Ordering.{nat_cmp}
 use Rattle.std.specs.BTreeMap.{insert_entry}
 use Rattle.pdu_frames.specs.Frames.{IsFrame, IsPart, HasWrongLength, cut, is_pdu_length}
@@ -149,3 +149,13 @@ wrong_in_front front after wrong = record {
 -- all of the piece was taken
 pub all_taken : (held piece mid : List ℕ) (count : ℕ) → mid ≡ held ++ take count piece → count ≡ length piece → mid ≡ held ++ piece
 all_taken held piece mid count taken all = taken ∙ ap (λ s. held ++ s) (ap (λ n. take n piece) all ∙ take_all (length piece) piece (omega arith))
+
+-- ---- whether the session is still connected
+
+pub not_there : {A : Type 0} (found : Option A) (has : Bool) → has ≡ is_some found → has ≡ false → is_none found ≡ true
+not_there None has is lacks = refl
+not_there (Some x) has is lacks = absurd (let clash = sym is ∙ lacks in cc)
+
+pub is_there : {A : Type 0} (found : Option A) (has : Bool) → has ≡ is_some found → has ≡ true → is_none found ≡ false
+is_there None has is holds = absurd (let clash = sym is ∙ holds in cc)
+is_there (Some x) has is holds = refl
