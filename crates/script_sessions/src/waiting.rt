@@ -81,10 +81,7 @@ impl Waiting {
 fn count_for(chains: &[Chain], account: &Text<16>) -> usize
     ensures { result ≡ length (filter (λ chain. is_for account.now (receipt_by chain)) chains.now) }
 {
-    chains
-        .iter()
-        .filter(|chain| is_for(account, chain))
-        .count()
+    chains.iter().filter(|chain| is_for(account, chain)).count()
 }
 
 /// Where the first of these receipts stands that is for an account.
