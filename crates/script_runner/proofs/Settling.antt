@@ -19,7 +19,6 @@ use Rattle.script_sessions.specs.Posting.{IsPosted, receipt_by}
 use Rattle.script_sessions.specs.Told.{AreTold}
 use Rattle.script_node.specs.Steps.{HasCome, HasReplied}
 use Rattle.script_node.specs.declared.node.Given.{Given}
-
 use Rattle.script_runner.specs.Centre.{IsDone, replies_to, tells}
 
 -- what was written, these prints and the prints behind them, in another order of joining

@@ -239,12 +239,7 @@ impl Centre {
 
     /// The attempt of a message is asked for: adds the line of its deliver_sm, or the line that tells why it is not granted. After an `Err`,
     /// which is want of memory, nothing is said of the centre.
-    pub fn grant(
-        &mut self,
-        alloc: Global,
-        id: MsgId,
-        text: &mut Vec<u8>,
-    ) -> Result<(), AllocError>
+    pub fn grant(&mut self, alloc: Global, id: MsgId, text: &mut Vec<u8>) -> Result<(), AllocError>
         ensures { OnOk result (IsDone (on_grant (runner_of self.old) id) (runner_of self.new) text.old.items text.new.items) }
     {
         match self.node.grant(id)? {
@@ -255,12 +250,7 @@ impl Centre {
 
     /// The attempt in which a chain ends goes out over a session of the account of its message; if none takes it, it has failed.
     /// After an `Err`, which is want of memory, nothing is said of the centre.
-    fn send(
-        &mut self,
-        alloc: Global,
-        chain: &Chain,
-        text: &mut Vec<u8>,
-    ) -> Result<(), AllocError>
+    fn send(&mut self, alloc: Global, chain: &Chain, text: &mut Vec<u8>) -> Result<(), AllocError>
         requires { EndsInAttempt chain.now.decrees }
         ensures { OnOk result (IsDone (sent (runner_of self.old) (slot_of chain.now.id chain.now.decrees) (taken_in chain.now.decrees)) (runner_of self.new) text.old.items text.new.items) }
     {
