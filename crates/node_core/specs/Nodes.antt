@@ -1,12 +1,12 @@
 -- A node of the code, and its steps.
-use Rattle.std.specs.Prelude.{◌≡◌, ◌≢◌, ◌⊎◌, ℕ, ◌+◌, Bool, true, false, ◌||◌, List, Option, Some, None, if◌then◌else◌}
+use Rattle.std.specs.Prelude.{◌≡◌, ◌≢◌, ◌⊎◌, ℕ, ◌+◌, ◌≤◌, Bool, true, false, ◌||◌, List, Option, Some, None, if◌then◌else◌}
 use Rattle.mc_model.specs.synod.Lists.{In}
 use Rattle.mc_model.specs.synod.Packet.{Slot}
 use Rattle.mc_model.specs.synod.Acceptor.{Records, blank}
 use Rattle.mc_model.specs.node.Setup.{Setup}
 use Rattle.node_model.specs.Recorded.{AreRecorded}
 use Rattle.node_model.specs.Stepped.{opened_over, stepped}
-use Rattle.stable_store.specs.Stored.{AreSame}
+use Rattle.stable_store.specs.Stored.{AreSame, HasFailed}
 use Rattle.stable_store.specs.declared.fault.StoreFault.{StoreFault}
 use Rattle.stable_store.specs.declared.fault.StoreFault.TheVariants as faults
 use Rattle.synod_acceptor.specs.declared.packet.Packet.{Packet}
@@ -126,6 +126,13 @@ IsRaised faults.Device old new = (new ≡ old) ⊎ (new ≡ old + 1)
 IsRaised faults.Damaged old new = (new ≡ old) ⊎ (new ≡ old + 1)
 IsRaised faults.Incarnations old new = new ≡ old
 IsRaised faults.Memory old new = new ≡ old
+
+-- why a node did not open: the device failed, what is stored is damaged, or all incarnations were used; else for want of memory
+abbrev pub IsCaused : StoreFault → ℕ → ℕ → Bool → ℕ → Type 0
+IsCaused faults.Device before after damaged started = HasFailed before after
+IsCaused faults.Damaged before after damaged started = damaged ≡ true
+IsCaused faults.Incarnations before after damaged started = 9999 ≤ started
+IsCaused faults.Memory before after damaged started = Unit {0}
 
 -- a fault of the store itself leaves the node broken
 abbrev pub breaks : StoreFault → Bool

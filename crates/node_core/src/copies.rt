@@ -5,7 +5,7 @@ ghost use Rattle.std.specs.Prelude.{◌≡◌, IfOk};
 use fate_chain::Chain;
 use requests::{Answer, Reply};
 use std::alloc::AllocError;
-use synod_acceptor::{Packet, Vote};
+use synod_acceptor::Packet;
 
 /// The same packets once more.
 pub fn packets_copied(packets: &Vec<Packet>) -> Result<Vec<Packet>, AllocError>
@@ -13,7 +13,7 @@ pub fn packets_copied(packets: &Vec<Packet>) -> Result<Vec<Packet>, AllocError>
 {
     let mut copies = Vec::with_capacity(*packets.allocator(), packets.len())?;
     for packet in packets {
-        copies.push(packet_copied(packet)?)?;
+        copies.push(packet.copy()?)?;
     }
     Ok(copies)
 }
@@ -38,67 +38,6 @@ pub fn chains_copied(chains: &Vec<Chain>) -> Result<Vec<Chain>, AllocError>
         copies.push(chain.copy()?)?;
     }
     Ok(copies)
-}
-
-/// The same packet once more.
-fn packet_copied(packet: &Packet) -> Result<Packet, AllocError>
-    ensures { IfOk result (λ copy. copy ≡ packet.now) }
-{
-    match packet {
-        Packet::Prepare { from, slot, ballot } => Ok(Packet::Prepare {
-            from: *from,
-            slot: *slot,
-            ballot: *ballot,
-        }),
-        Packet::Promise {
-            from,
-            ballot,
-            report,
-        } => Ok(Packet::Promise {
-            from: *from,
-            ballot: *ballot,
-            report: report.copy()?,
-        }),
-        Packet::Propose { from, vote } => Ok(Packet::Propose {
-            from: *from,
-            vote: vote.copy()?,
-        }),
-        Packet::Voted { from, vote } => Ok(Packet::Voted {
-            from: *from,
-            vote: vote.copy()?,
-        }),
-        Packet::Refused {
-            from,
-            slot,
-            ballot,
-            promised,
-        } => Ok(Packet::Refused {
-            from: *from,
-            slot: *slot,
-            ballot: *ballot,
-            promised: *promised,
-        }),
-        Packet::Ask { from, id, name } => Ok(Packet::Ask {
-            from: *from,
-            id: *id,
-            name: *name,
-        }),
-        Packet::Tell { from, name, told } => Ok(Packet::Tell {
-            from: *from,
-            name: *name,
-            told: told_copied(told)?,
-        }),
-    }
-}
-
-/// The same vote once more, if there is one.
-fn told_copied(told: &Option<Vote>) -> Result<Option<Vote>, AllocError>
-    ensures { IfOk result (λ copy. copy ≡ told.now) }
-{
-    match told {
-        Some(vote) => Ok(Some(vote.copy()?)),
-        None => Ok(None),
-    }
 }
 
 /// The same reply once more.

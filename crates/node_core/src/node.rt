@@ -4,7 +4,7 @@ ghost use Rattle.std.specs.Prelude.{◌≡◌, ◌≢◌, ◌↔◌, ◌⊎◌, 
 ghost use Rattle.mc_model.specs.message.Ids.{IsIncarnation, IsNode};
 ghost use Rattle.node_core.specs.declared.fault.StepFault.TheVariants.{Broken, Device, Memory};
 ghost use Rattle.std.specs.Option.{option_copied};
-ghost use Rattle.stable_store.specs.Stored.{AreSame};
+ghost use Rattle.stable_store.specs.Stored.{AreSame, HasFailed};
 ghost use Rattle.node_core.specs.Idling.{FindsNothing};
 ghost use Rattle.node_core.specs.Keeping.{kept_of, records_of};
 ghost use Rattle.node_core.specs.Messages.{changed_by};
@@ -14,7 +14,7 @@ ghost use Rattle.node_core.specs.Steps.{IsFault};
 ghost use Rattle.node_core.specs.Stops.{IsTold};
 ghost use Rattle.node_core.specs.Pendings.{packet_in};
 ghost use Rattle.node_core.specs.Permits.{is_life_of};
-ghost use Rattle.node_core.specs.Nodes.{HasOpened, HasStopped, HasTaken, IsAwaited, IsLeft, IsLifeOf, IsStored, IsUnmoved, breaks, fault_in, seen};
+ghost use Rattle.node_core.specs.Nodes.{HasOpened, HasStopped, HasTaken, IsAwaited, IsCaused, IsLeft, IsLifeOf, IsStored, IsUnmoved, breaks, fault_in, seen};
 
 use crate::fault::StepFault;
 use crate::input::Input;
@@ -111,8 +111,8 @@ impl<S: StableStore> Node<S> {
 
     /// Does what was prepared, if the node is as it was then: it saves what is to be saved, and then keeps what is to be kept and gives
     /// out what is to be given out. It takes no memory but what its store takes. Broken exactly if a save failed before; it changes nothing,
-    /// and nor does Memory, which is from the store. At Device, which comes at the step of a packet alone, the change is saved or not, and the
-    /// node is Broken.
+    /// and nor does Memory, which is from the store. At Device, which comes at the step of a packet alone and only if the device failed, the change
+    /// is saved or not, and the node is Broken.
     pub fn commit(&mut self, pending: Pending) -> Result<Outputs, StepFault>
         requires { pending.was ≡ self.old.kept }
         ensures ok { IfOk result (HasTaken self.old pending.input self.new) }
@@ -121,6 +121,7 @@ impl<S: StableStore> Node<S> {
         ensures memory { IsErrOf result Memory → IsUnmoved (seen S.records S.started self.old) (seen S.records S.started self.new) }
         ensures device { IsErrOf result Device → HasStopped (seen S.records S.started self.old) pending.input (seen S.records S.started self.new) }
         ensures faults { IfErr result (λ fault. (fault ≡ Broken) ⊎ (fault ≡ Device) ⊎ (fault ≡ Memory)) }
+        ensures rose { IsErrOf result Device → HasFailed (S.failed self.old.store) (S.failed self.new.store) }
         ensures started { S.started self.new.store ≡ S.started self.old.store }
     {
         self.judge()?;
@@ -185,6 +186,7 @@ impl<S: StableStore> Node<S> {
         ensures finished { OnOk result (self.new.unfinished ≡ None) }
         ensures err { IfErr result (λ failed. IsLeft (seen S.records S.started self.old) failed.0 (seen S.records S.started self.new)) }
         ensures life { IfErr result (λ failed. failed.1 ≡ life) }
+        ensures cause { IfErr result (λ failed. IsCaused failed.0 (S.failed self.old.store) (S.failed self.new.store) (S.is_damaged self.old.store) (S.started self.old.store)) }
     {
         let setup = self.kept.setup();
         match begin(self.kept.alloc(), &mut self.store, setup) {
@@ -264,6 +266,7 @@ fn save<S: StableStore>(store: &mut S, change: &Option<Change>) -> Result<(), St
         ⊎ AreSame (S.records store.new) (changed_by change.now (S.records store.old))) }
     ensures started { S.started store.new ≡ S.started store.old }
     ensures faults { IfErr result (λ fault. (fault ≡ Device) ⊎ (fault ≡ Memory)) }
+    ensures rose { IsErrOf result Device → HasFailed (S.failed store.old) (S.failed store.new) }
     ensures change { OnErr result (change.now ≢ None) }
 {
     let Some(change) = change else {

@@ -32,7 +32,7 @@ pub fn take<S: StableStore>(node: &mut Node<S>, input: Input) -> Result<Outputs,
 }
 
 /// What a proof takes of an input: it may come to the node, unless it is refused. The call does nothing.
-fn may_come<S: StableStore>(node: &Node<S>, input: &Input)
+pub fn may_come<S: StableStore>(node: &Node<S>, input: &Input)
     ensures { refused_by node.now.kept.setup (kept_of node.now.kept) input.now ≡ None → may_come_to node.now input.now }
 {
     node.bounds();
@@ -51,7 +51,7 @@ fn is_sound(input: &Input)
 }
 
 /// What a proof takes of a packet: the chain in it is a permitted one.
-fn is_well_made(packet: &Packet)
+pub fn is_well_made(packet: &Packet)
     ensures { IsWellMade (packet_of packet.now) }
 {
     match packet {

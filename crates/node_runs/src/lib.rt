@@ -4,5 +4,5 @@
 mod coming;
 mod laws;
 
-pub use coming::take;
+pub use coming::{is_well_made, may_come, take};
 pub use laws::a_node_is_one_actor;

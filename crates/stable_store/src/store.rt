@@ -34,6 +34,7 @@ pub trait StableStore {
         ensures loaded { IfOk result (λ loaded. AreSame (record_at (entries_of loaded.items)) (records self.old)) }
         ensures records { AreSame (records self.new) (records self.old) }
         ensures started { started self.new ≡ started self.old }
+        ensures damage { is_damaged self.new ≡ is_damaged self.old }
         ensures rises { failed self.old ≤ failed self.new }
         ensures device { IsErrOf result Device → HasFailed (failed self.old) (failed self.new) }
         ensures damaged { IsErrOf result Damaged → is_damaged self.old ≡ true }

@@ -1,7 +1,10 @@
 //! What nodes send to one another.
 
+ghost use Rattle.std.specs.Prelude.{◌≡◌, IfOk};
+
 use crate::vote::{Report, Vote};
 use mc_types::{Ballot, Incarnation, MsgId, NodeNo, Slot};
+use std::alloc::AllocError;
 use std::marker::Model;
 
 /// By what the questions of one request are known: the node and the incarnation in which it waits, and its ticket there.
@@ -67,4 +70,67 @@ pub enum Packet {
         name: Name,
         told: Option<Vote>,
     },
+}
+
+impl Packet {
+    /// The same packet once more. An `Err` is want of memory, which votes need.
+    pub fn copy(&self) -> Result<Packet, AllocError>
+        ensures { IfOk result (λ copy. copy ≡ self.now) }
+    {
+        match self {
+            Packet::Prepare { from, slot, ballot } => Ok(Packet::Prepare {
+                from: *from,
+                slot: *slot,
+                ballot: *ballot,
+            }),
+            Packet::Promise {
+                from,
+                ballot,
+                report,
+            } => Ok(Packet::Promise {
+                from: *from,
+                ballot: *ballot,
+                report: report.copy()?,
+            }),
+            Packet::Propose { from, vote } => Ok(Packet::Propose {
+                from: *from,
+                vote: vote.copy()?,
+            }),
+            Packet::Voted { from, vote } => Ok(Packet::Voted {
+                from: *from,
+                vote: vote.copy()?,
+            }),
+            Packet::Refused {
+                from,
+                slot,
+                ballot,
+                promised,
+            } => Ok(Packet::Refused {
+                from: *from,
+                slot: *slot,
+                ballot: *ballot,
+                promised: *promised,
+            }),
+            Packet::Ask { from, id, name } => Ok(Packet::Ask {
+                from: *from,
+                id: *id,
+                name: *name,
+            }),
+            Packet::Tell { from, name, told } => Ok(Packet::Tell {
+                from: *from,
+                name: *name,
+                told: told_copied(told)?,
+            }),
+        }
+    }
+}
+
+/// The same vote once more, if there is one.
+fn told_copied(told: &Option<Vote>) -> Result<Option<Vote>, AllocError>
+    ensures { IfOk result (λ copy. copy ≡ told.now) }
+{
+    match told {
+        Some(vote) => Ok(Some(vote.copy()?)),
+        None => Ok(None),
+    }
 }

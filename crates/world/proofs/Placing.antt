@@ -1,0 +1,79 @@
+-- One node of a world changed, or none did.
+use Rattle.std.proofs.Common.{◌≡◌, ◌⊎◌, ℕ, suc, ◌<◌, Bool, true, false, List, get_or, length, Option, Some, None, Result, Ok, Err, refl, sym, ap, subst, ◌∙◌, inl, inr}
+use Rattle.std.specs.Prelude.{IfErr, OnErr}
+use Rattle.std.specs.List.{slice_get}
+use Rattle.std.proofs.Math.ListN.{set}
+use Rattle.std.proofs.lemmas.List.{length-set}
+use Rattle.std.proofs.lemmas.Option.{get_or_from_slice_get, slice_get-get_or}
+use Rattle.mc_model.specs.synod.Packet.{Packet}
+use Rattle.node_laws.specs.Clusters.{NodeInput}
+use Rattle.node_core.specs.declared.input.Input.{Input}
+use Rattle.sim_net.proofs.Numbers.{set_get}
+use Rattle.world.specs.declared.given.Given.{Given}
+use Rattle.world.specs.Members.{HasTaken, IsKept, IsSentIn, IsUnmoved, Keeps}
+use Rattle.world.specs.Runs.{IsAt, IsSomewhere, IsWorld}
+use Rattle.world.specs.Scenes.{Placed, Scene}
+use Rattle.world.proofs.Going.{stays}
+use Rattle.world.proofs.Leading.{IsTaken, taken}
+
+pub unmoved : (m : Placed) → IsUnmoved m m
+unmoved m = record { kept = refl; up = refl; stored = record { each = λ slot. refl } }
+
+pub keeps_one : (old : Scene) (place : ℕ) (m new : Placed) (after : Scene) → slice_get old.members place ≡ Some m → IsUnmoved m new →
+    after.members ≡ set old.members place new → after.packets ≡ old.packets → after.fresh ≡ old.fresh → Keeps old after
+keeps_one old place m new after found same members packets fresh = record {
+  members = λ k other is.
+      elim (set_get old.members place k new other (subst (λ (ms : List Placed). slice_get ms k ≡ Some other) members is)) [
+        | inl both ↦ record {
+          was = m;
+          found = subst (λ (n : ℕ). slice_get old.members n ≡ Some m) (sym both.0) found;
+          unmoved = subst (IsUnmoved m) (sym both.1) same;
+        }
+        | inr there ↦ record { was = other; found = there.1; unmoved = unmoved other }
+      ];
+  nodes = ap length members ∙ length-set old.members place new;
+  packets = packets;
+  fresh = fresh;
+}
+
+pub keeps_all : (old : Scene) → Keeps old old
+keeps_all old = record {
+  members = λ k m is. record { was = m; found = is; unmoved = unmoved m };
+  nodes = refl;
+  packets = refl;
+  fresh = refl;
+}
+
+pub kept_world : (old new : Scene) (before after : ℕ) → Keeps old new → IsWorld old before → after ≡ before → IsWorld new after
+kept_world old new before after keeps is same = record {
+  somewhere = record {
+    cluster = is.somewhere.cluster;
+    behind = is.somewhere.behind;
+    inputs = is.somewhere.inputs;
+    at = stays is.somewhere.cluster is.somewhere.behind is.somewhere.inputs old is.somewhere.at new keeps;
+  };
+  between = same ∙ is.between ∙ sym keeps.nodes;
+}
+
+-- where it stands then
+pub stood : (new : Scene) → IsSomewhere new → (before after : ℕ) (old : Scene) → IsWorld old before → after ≡ before → length new.members ≡ length old.members → IsWorld new after
+stood new somewhere before after old is same nodes = record { somewhere = somewhere; between = same ∙ is.between ∙ sym nodes }
+
+pub taken_world : (old new : Scene) (node : ℕ) (input : Input) (gives : Given) (before after : ℕ) → IsSentIn old input → HasTaken old node input gives new →
+    IsWorld old before → after ≡ before → IsWorld new after
+taken_world old new node input gives before after sent has is same =
+    let at = is.somewhere in
+    let took = taken at.cluster at.behind at.inputs old at.at node input gives new sent has in
+    stood new (record { cluster = at.cluster; behind = at.behind; inputs = _; at = took.at_then }) before after old is same
+    (ap length has.changed.members ∙ length-set old.members has.place has.after)
+
+-- the node that stands at a place is the one that was called
+pub same_member : (old : Scene) (items : List Placed) (place : ℕ) (m called : Placed) → items ≡ old.members → slice_get old.members place ≡ Some m →
+    called ≡ get_or items place called → called ≡ m
+same_member old items place m called same found is =
+    is ∙ get_or_from_slice_get items place m called (subst (λ (ms : List Placed). slice_get ms place ≡ Some m) (sym same) found)
+
+pub found_member : (old : Scene) (items : List Placed) (place : ℕ) (called : Placed) → items ≡ old.members → place < length items →
+    called ≡ get_or items place called → slice_get old.members place ≡ Some called
+found_member old items place called same inside is =
+    subst (λ (ms : List Placed). slice_get ms place ≡ Some called) same (slice_get-get_or items place called inside ∙ ap Some (sym is))

@@ -1,0 +1,14 @@
+//! A world of up to nine nodes, and the packets between them.
+#![tactic(auto)]
+
+mod fault;
+mod given;
+mod member;
+mod step;
+mod world;
+
+pub use fault::{StartFault, WorldFault};
+pub use given::Given;
+pub use member::Member;
+pub use step::Step;
+pub use world::World;

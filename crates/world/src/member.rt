@@ -1,0 +1,157 @@
+//! One node of a world.
+
+ghost use Rattle.std.specs.Prelude.{◌≡◌, ◌↔◌, ◌⊎◌, ◌≤◌, true, IfErr, IfOk, IsErrOf, OnErr, OnOk};
+ghost use Rattle.node_core.specs.Keeping.{kept_of};
+ghost use Rattle.node_core.specs.Nodes.{HasTaken};
+ghost use Rattle.node_core.specs.Steps.{IsFault, refused_by};
+ghost use Rattle.node_core.specs.Stops.{is_after};
+ghost use Rattle.node_core.specs.declared.fault.StepFault.TheVariants.{Memory};
+ghost use Rattle.stable_store.specs.declared.fault.StoreFault.TheVariants as stores;
+ghost use Rattle.world.specs.Members.{HasCrashed, HasRestarted, HasSaved, HasSent, IsUnmoved};
+
+use crate::given::Given;
+use node_core::{Found, Input, Life, Node, Outputs, Pending, StepFault, opens_as_restarted};
+use node_runs::{is_well_made, may_come};
+use sim_net::Packets;
+use stable_store::{ListStore, StoreFault};
+use std::marker::Model;
+use synod_acceptor::Packet;
+
+/// The last incarnation of a node.
+const LAST_INCARNATION: u16 = 9999;
+
+/// One node of a world, over a store in memory, and whether it is up.
+#[derive(Drop)]
+pub struct Member {
+    node: Node<ListStore>,
+    // None only while the node opens again.
+    life: Option<Life>,
+    up: bool,
+}
+
+impl Model for Member {
+    ghost use Rattle.world.specs.Scenes.{Placed};
+
+    ghost Value = { Placed };
+
+    ghost use Rattle.world.specs.Members.{IsSound};
+
+    ghost view = { λ m. record { node = m.node; up = m.up } };
+
+    ghost invariant = { λ m. IsSound m.node m.life };
+}
+
+impl Member {
+    /// Whether it is up.
+    pub(crate) fn is_up(&self) -> bool
+        ensures { result ≡ self.now.up }
+    {
+        self.up
+    }
+
+    /// Takes the step of an input, and sends its packets. Grant and NotGranted exactly as `Node::prepare_step` says; else an `Err` is want of
+    /// memory. Then nothing changes.
+    pub(crate) fn take(
+        &mut self,
+        input: Input,
+        packets: &mut Packets,
+    ) -> Result<Given, StepFault>
+        requires { self.old.up ≡ true }
+        ensures taken { IfOk result (λ given. HasSent self.old input packets.old.sent given self.new packets.new.sent) }
+        ensures faults { IfErr result (IsFault (refused_by self.old.node.kept.setup (kept_of self.old.node.kept) input)) }
+        ensures stays { OnErr result (IsUnmoved self.old self.new) }
+        ensures sent { OnErr result (packets.new.sent ≡ packets.old.sent) }
+        ensures nodes { packets.new.nodes ≡ packets.old.nodes }
+    {
+        self.node.bounds();
+        may_come(&self.node, &input);
+        let pending = self.node.prepare_step(input)?;
+        let Ok(()) = packets.make_room(pending.outputs().packets.len()) else {
+            drop(pending);
+            return Err(StepFault::Memory);
+        };
+        let outputs = self.commit(pending)?;
+        Ok(Given::send(outputs, packets))
+    }
+
+    /// Commits what was prepared, if the node is as it was then. A store in memory does not fail, so an `Err` is want of memory; then nothing
+    /// changes.
+    fn commit(&mut self, pending: Pending) -> Result<Outputs, StepFault>
+        requires { pending.was ≡ self.old.node.kept }
+        ensures taken { IfOk result (HasTaken self.old.node pending.input self.new.node) }
+        ensures faults { IfErr result (λ fault. fault ≡ Memory) }
+        ensures stays { OnErr result (IsUnmoved self.old self.new) }
+        ensures up { self.new.up ≡ self.old.up }
+    {
+        self.node.commit(pending)
+    }
+
+    /// Stops as a packet comes, before the save of its step or after it. An `Err` is want of memory; then nothing changes.
+    pub(crate) fn crash(&mut self, packet: &Packet, found: Found) -> Result<(), StepFault>
+        requires { self.old.up ≡ true }
+        ensures crashed { OnOk result (HasCrashed self.old packet.now (is_after found) self.new) }
+        ensures faults { IfErr result (λ fault. fault ≡ Memory) }
+        ensures stays { OnErr result (IsUnmoved self.old self.new) }
+    {
+        // What the proof takes of the node and the packet; none of the calls does anything.
+        self.node.lists();
+        self.node.bounds();
+        is_well_made(packet);
+        match found {
+            Found::Before => {
+                self.up = false;
+                Ok(())
+            }
+            Found::After => {
+                self.save(packet)?;
+                self.up = false;
+                Ok(())
+            }
+        }
+    }
+
+    /// Takes the step of a packet, of which nothing is sent.
+    fn save(&mut self, packet: &Packet) -> Result<(), StepFault>
+        requires { self.old.up ≡ true }
+        ensures saved { OnOk result (HasSaved self.old packet.now self.new) }
+        ensures faults { IfErr result (λ fault. fault ≡ Memory) }
+        ensures stays { OnErr result (IsUnmoved self.old self.new) }
+    {
+        let pending = self.node.prepare_step(Input::Packet(packet.copy()?))?;
+        drop(self.commit(pending)?);
+        self.node.lists();
+        Ok(())
+    }
+
+    /// Starts anew, in its next incarnation, with what its store has and nothing else. Incarnations exactly if it has begun its last one;
+    /// else an `Err` is want of memory. Then nothing changes.
+    pub(crate) fn restart(&mut self) -> Result<(), StoreFault>
+        ensures restarted { OnOk result (HasRestarted self.old self.new) }
+        ensures spent { IsErrOf result stores.Incarnations ↔ (9999 ≤ self.old.node.kept.incarnation) }
+        ensures faults { IfErr result (λ fault. (fault ≡ stores.Incarnations) ⊎ (fault ≡ stores.Memory)) }
+        ensures stays { OnErr result (IsUnmoved self.old self.new) }
+    {
+        let Some(life) = self.life.take() else {
+            unreachable!();
+        };
+        if life.incarnation().number() >= LAST_INCARNATION {
+            self.life = Some(life);
+            return Err(StoreFault::Incarnations);
+        }
+        // What the proof takes of the node and of a start; none of the calls does anything.
+        self.node.lists();
+        self.node.bounds();
+        opens_as_restarted::<ListStore>();
+        match self.node.reopen(life) {
+            Ok(life) => {
+                self.life = Some(life);
+                self.up = true;
+                Ok(())
+            }
+            Err((fault, life)) => {
+                self.life = Some(life);
+                Err(fault)
+            }
+        }
+    }
+}

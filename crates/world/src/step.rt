@@ -1,0 +1,44 @@
+//! What happens in a world.
+
+use delivery::Outcome;
+use desk::Request;
+use mc_types::{Moment, MsgId, NodeNo, Slot};
+use node_core::Found;
+use pdu_codec::Text;
+
+/// What happens in a world: one step of one node.
+#[derive(Debug, Drop)]
+pub enum Step {
+    /// The packet with this number comes to a node.
+    Deliver { number: u64, node: NodeNo },
+    /// A request of an account comes to a node: a submit_sm, with the account that a route leads to, if one does, a query_sm or a
+    /// cancel_sm.
+    Request {
+        node: NodeNo,
+        account: Text<16>,
+        request: Request,
+    },
+    /// Time passes at a node: the moment, and the accounts of which a session may receive there.
+    Tick {
+        node: NodeNo,
+        moment: Moment,
+        up: Vec<Text<16>>,
+    },
+    /// The attempt in which the known chain of a message ends is asked for at a node.
+    Grant { node: NodeNo, id: MsgId },
+    /// What came of the attempt in a slot.
+    Answered {
+        node: NodeNo,
+        slot: Slot,
+        outcome: Outcome,
+    },
+    /// The packet with this number comes to a node, which stops in the save of that step: before it, or after it; if it saves nothing, at
+    /// the end of the step. Nothing is sent, and the node is down.
+    Crash {
+        node: NodeNo,
+        number: u64,
+        found: Found,
+    },
+    /// A node starts anew, in its next incarnation, with its stable records and nothing else.
+    Restart { node: NodeNo },
+}

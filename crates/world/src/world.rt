@@ -1,0 +1,205 @@
+//! A world: its nodes, and the packets between them.
+
+ghost use Rattle.std.specs.Prelude.{◌≡◌, ◌+◌, ◌<◌, ◌≤◌, length, IfErr, IfOk, OnErr, Some};
+ghost use Rattle.mc_model.specs.synod.Lists.{In};
+ghost use Rattle.node_core.specs.Stops.{is_after};
+ghost use Rattle.world.specs.Members.{CantBegin, DoesNotTake, HasBegun, HasStopped, HasTaken, IsAddressed, IsSentIn, IsUpAt, Keeps, RefusesTo, away_in, undelivered_in};
+ghost use Rattle.world.specs.Runs.{IsFault, Leads};
+ghost use Rattle.world.specs.declared.fault.WorldFault.TheVariants.{Memory};
+ghost use Rattle.world.specs.declared.step.Step.TheVariants as steps;
+
+use crate::fault::WorldFault;
+use crate::given::Given;
+use crate::member::Member;
+use crate::step::Step;
+use mc_types::NodeNo;
+use node_core::{Found, Input};
+use sim_net::Packets;
+use std::alloc::Global;
+use std::marker::Model;
+use synod_acceptor::Packet;
+
+/// Up to nine nodes, each over a store in memory, and all packets that they sent. Any packet that was sent may come to any node that is up, any
+/// number of times and in any order, or never; nodes may stop in any save and start anew. Whatever is asked of it, it stands somewhere in a run of
+/// the model's cluster.
+#[derive(Drop)]
+pub struct World {
+    alloc: Global,
+    // Node n stands at the place n - 1.
+    members: Vec<Member>,
+    packets: Packets,
+    // No step was taken yet, since all stores were new.
+    fresh: bool,
+}
+
+impl Model for World {
+    ghost use Rattle.world.specs.Scenes.{Scene};
+
+    ghost Value = { Scene };
+
+    ghost use Rattle.world.specs.Runs.{IsWorld};
+
+    ghost view = { λ w. record { members = w.members.items; packets = w.packets.sent; fresh = w.fresh } };
+
+    ghost invariant = { λ w. IsWorld (record { members = w.members.items; packets = w.packets.sent; fresh = w.fresh }) w.packets.nodes };
+}
+
+impl World {
+    /// Takes a step. Of several refusals the one with the lowest number is told, but that a node is down before why an attempt is not granted;
+    /// Memory is want of memory. A step that is refused changes nothing.
+    pub fn step(&mut self, step: Step) -> Result<Given, WorldFault>
+        ensures { Leads self.old step result self.new }
+    {
+        match step {
+            Step::Deliver { number, node } => self.deliver(number, node),
+            Step::Request {
+                node,
+                account,
+                request,
+            } => self.take(node, Input::Request(account, request)),
+            Step::Tick { node, moment, up } => self.take(node, Input::Tick(moment, up)),
+            Step::Grant { node, id } => self.take(node, Input::Grant(id)),
+            Step::Answered {
+                node,
+                slot,
+                outcome,
+            } => self.take(node, Input::Answered(slot, outcome)),
+            Step::Crash {
+                node,
+                number,
+                found,
+            } => self.crash(node, number, found),
+            Step::Restart { node } => self.restart(node),
+        }
+    }
+
+    /// The packet with this number comes to a node.
+    pub fn deliver(&mut self, number: u64, node: NodeNo) -> Result<Given, WorldFault>
+        ensures { Leads self.old (steps.Deliver number node) result self.new }
+    {
+        match self.addressed(number, node) {
+            Ok((place, packet)) => self.take_at(node, place, Input::Packet(packet)),
+            Err(fault) => Err(fault),
+        }
+    }
+
+    /// A node stops in the save of the step of the packet with this number, before it or after it; if it saves nothing, at the end of that step.
+    pub fn crash(&mut self, node: NodeNo, number: u64, found: Found) -> Result<Given, WorldFault>
+        ensures { Leads self.old (steps.Crash node number found) result self.new }
+    {
+        match self.addressed(number, node) {
+            Ok((place, packet)) => self.crash_at(place, &packet, found),
+            Err(fault) => Err(fault),
+        }
+    }
+
+    /// A node starts anew, in its next incarnation, with its stable records and nothing else.
+    pub fn restart(&mut self, node: NodeNo) -> Result<Given, WorldFault>
+        ensures { Leads self.old (steps.Restart node) result self.new }
+    {
+        let place = node.number() as usize - 1;
+        if place >= self.members.len() {
+            return Err(WorldFault::NoSuchNode);
+        }
+        self.restart_at(place)
+    }
+
+    /// The place of a node that is up, and the packet with this number.
+    fn addressed(&self, number: u64, node: NodeNo) -> Result<(usize, Packet), WorldFault>
+        ensures found { IfOk result (λ found. IsAddressed self.now number node found.0 found.1) }
+        ensures fault { IfErr result (IsFault (undelivered_in self.now number node)) }
+        ensures least { 1 ≤ node }
+    {
+        let packet = self.packets.get(number, node)?;
+        let place = self.place_up(node)?;
+        Ok((place, packet.copy()?))
+    }
+
+    /// An input comes to a node, which takes its step if it is up.
+    fn take(&mut self, node: NodeNo, input: Input) -> Result<Given, WorldFault>
+        requires { IsSentIn self.old input }
+        ensures taken { IfOk result (λ given. HasTaken self.old node input given self.new) }
+        ensures refused { IfErr result (DoesNotTake self.old node input) }
+        ensures least { 1 ≤ node }
+        ensures stays { OnErr result (Keeps self.old self.new) }
+    {
+        let place = self.place_up(node)?;
+        self.take_at(node, place, input)
+    }
+
+    /// The node at this place, which is up, takes the step of an input.
+    fn take_at(
+        &mut self,
+        node: NodeNo,
+        place: usize,
+        input: Input,
+    ) -> Result<Given, WorldFault>
+        requires up { IsUpAt self.old node place }
+        requires sent { IsSentIn self.old input }
+        ensures taken { IfOk result (λ given. HasTaken self.old node input given self.new) }
+        ensures refused { IfErr result (RefusesTo self.old node input) }
+        ensures stays { OnErr result (Keeps self.old self.new) }
+    {
+        match self.members[place].take(input, &mut self.packets) {
+            Ok(given) => {
+                self.fresh = false;
+                Ok(given)
+            }
+            Err(fault) => Err(WorldFault::from(fault)),
+        }
+    }
+
+    /// The node at this place, which is up, stops as a packet comes.
+    fn crash_at(
+        &mut self,
+        place: usize,
+        packet: &Packet,
+        found: Found,
+    ) -> Result<Given, WorldFault>
+        requires up { IsUpAt self.old (place + 1) place }
+        requires sent { In packet.now self.old.packets }
+        ensures stopped { IfOk result (λ given. HasStopped self.old place packet.now (is_after found) given self.new) }
+        ensures fault { IfErr result (λ fault. fault ≡ Memory) }
+        ensures stays { OnErr result (Keeps self.old self.new) }
+    {
+        match self.members[place].crash(packet, found) {
+            Ok(()) => {
+                self.fresh = false;
+                Ok(Given::nothing(self.alloc))
+            }
+            Err(_) => Err(WorldFault::Memory),
+        }
+    }
+
+    /// The node at this place starts anew.
+    fn restart_at(&mut self, place: usize) -> Result<Given, WorldFault>
+        requires { place < length self.old.members }
+        ensures begun { IfOk result (λ given. HasBegun self.old place given self.new) }
+        ensures refused { IfErr result (CantBegin self.old place) }
+        ensures stays { OnErr result (Keeps self.old self.new) }
+    {
+        match self.members[place].restart() {
+            Ok(()) => {
+                self.fresh = false;
+                Ok(Given::nothing(self.alloc))
+            }
+            Err(fault) => Err(WorldFault::from(fault)),
+        }
+    }
+
+    /// The place of a node that is up.
+    fn place_up(&self, node: NodeNo) -> Result<usize, WorldFault>
+        ensures place { IfOk result (λ place. IsUpAt self.now node place) }
+        ensures fault { IfErr result (λ fault. away_in self.now node ≡ Some fault) }
+        ensures least { 1 ≤ node }
+    {
+        let place = node.number() as usize - 1;
+        let Some(member) = self.members.get(place) else {
+            return Err(WorldFault::NoSuchNode);
+        };
+        if !member.is_up() {
+            return Err(WorldFault::Down);
+        }
+        Ok(place)
+    }
+}
