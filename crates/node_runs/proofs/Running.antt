@@ -34,7 +34,7 @@ no_members : (ids : List ℕ) → ((id : ℕ) → In id ids → ⊥) → ids ≡
 no_members [] none = refl
 no_members (id ∷ ids) none = absurd (none id (inl refl))
 
-opened_so : {S : Type 0} (setup : Setup) (first : Standing S) → OpensNew setup first → kept_of first.kept ≡ opened_new setup
+pub opened_so : {S : Type 0} (setup : Setup) (first : Standing S) → OpensNew setup first → kept_of first.kept ≡ opened_new setup
 opened_so setup first opens =
     let blanks : opens.stored ≡ (λ slot. blank) = fun_ext opens.none.each in
     let ids : opens.opened.ids ≡ [] = no_members opens.opened.ids (λ id among. let is = opens.opened.listed.each id among in is.2 (opens.none.each _)) in

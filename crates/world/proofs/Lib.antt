@@ -5,3 +5,4 @@ pub mod Leading
 pub mod Placing
 pub mod Answering
 pub mod Ending
+pub mod Starting

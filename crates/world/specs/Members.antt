@@ -6,7 +6,8 @@ use Rattle.mc_model.specs.synod.Lists.{In}
 use Rattle.mc_model.specs.node.Input.{Restart}
 use Rattle.node_model.specs.Kept.{Kept}
 use Rattle.node_model.specs.Outputs.{Stepped, nothing}
-use Rattle.node_model.specs.Stepped.{stepped, stopped}
+use Rattle.mc_model.specs.node.Setup.{Setup}
+use Rattle.node_model.specs.Stepped.{opened_new, stepped, stopped}
 use Rattle.node_laws.specs.Runs.{IsOneOf}
 use Rattle.node_laws.specs.Steps.{IsWellMade}
 use Rattle.stable_store.specs.Stored.{AreSame, Listed}
@@ -23,6 +24,7 @@ use Rattle.node_core.specs.declared.life.Life.{Life}
 use Rattle.node_core.specs.Keeping.{kept_of}
 use Rattle.node_core.specs.Nodes.{IsLifeOf, Standing}
 use Rattle.node_core.specs.Restarts.{ListsRecorded}
+use Rattle.node_core.specs.Setups.{setup_of}
 use Rattle.node_core.specs.Steps.{IsFault as IsStepFault, input_of, refused_by}
 use Rattle.node_runs.specs.Runs.{may_come_to}
 use Rattle.sim_net.specs.declared.fault.NetFault.{NetFault}
@@ -66,6 +68,12 @@ pub record IsSound (node : Standing Listed) (life : Option Life) : Type 0 where
   pub works : node.broken ≡ false
   pub started : node.store.started ≡ node.kept.incarnation
   pub lives : IsLived node life
+
+-- it opened over a new store
+pub record IsOpened (setup : Setup) (m : Placed) : Type 0 where
+  pub up : m.up ≡ true
+  pub setup_is : m.node.kept.setup ≡ setup
+  pub kept : kept_of m.node.kept ≡ opened_new setup
 
 -- nothing of it changed
 pub record IsUnmoved (old new : Placed) : Type 0 where
@@ -228,3 +236,8 @@ pub record CantBegin (old : Scene) (place : ℕ) (fault : WorldFault) : Type 0 w
   pub member : Placed
   pub is : IsPlace old (place + 1) place member
   pub why : ((fault ≡ faults.Spent) × (9999 ≤ member.node.kept.incarnation)) ⊎ ((fault ≡ faults.Memory) × (member.node.kept.incarnation < 9999))
+
+-- the first of so many nodes opened, each over a new store
+pub record AreOpened (nodes serial validity count : ℕ) (members : List Placed) : Type 0 where
+  pub count_is : length members ≡ count
+  pub each : (place : ℕ) (m : Placed) → slice_get members place ≡ Some m → IsOpened (setup_of (place + 1) nodes serial validity) m

@@ -1,5 +1,5 @@
 -- The steps of a world of nodes of the code, as a run of a cluster of nodes by what they keep (own).
-use Rattle.std.specs.Prelude.{◌≡◌, ℕ, ◌+◌, ◌≤◌, nat_lt, nat_le, ◌&&◌, Bool, true, false, List, [], ◌∷◌, ◌++◌, length, map, reverse, option_map, Option, Some, None, Result, Ok, Err, if◌then◌else◌}
+use Rattle.std.specs.Prelude.{◌≡◌, ℕ, ◌+◌, ◌≤◌, nat_lt, nat_le, ◌&&◌, not, Bool, true, false, List, [], ◌∷◌, ◌++◌, length, map, reverse, option_map, Option, Some, None, Result, Ok, Err, if◌then◌else◌}
 use Rattle.mc_model.specs.synod.Packet.{Packet}
 use Rattle.mc_model.specs.synod.Acceptor.{blank}
 use Rattle.mc_model.specs.node.Input.{Crash, Delivery, Grant, Input, Response, Restart, Tick}
@@ -26,6 +26,8 @@ use Rattle.node_core.specs.Restarts.{ListsRecorded}
 use Rattle.node_core.specs.Steps.{granted_of, receipt_of}
 use Rattle.node_core.specs.Stops.{is_after}
 use Rattle.sim_net.specs.Network.{numbered}
+use Rattle.world.specs.declared.fault.StartFault.{StartFault}
+use Rattle.world.specs.declared.fault.StartFault.TheVariants as starts
 use Rattle.world.specs.declared.fault.WorldFault.{WorldFault}
 use Rattle.world.specs.declared.fault.WorldFault.TheVariants as faults
 use Rattle.world.specs.declared.given.Given.{Given}
@@ -135,6 +137,21 @@ pub record IsAt (cluster : Cluster) (behind : List Packet) (inputs : List NodeIn
   pub members : (node : ℕ) (m : Placed) → numbered w.members node ≡ Some m → IsMember (setup_of cluster node) ((kept_reached cluster inputs).kept node) m
   pub packets : (kept_reached cluster inputs).packets ≡ reverse (map packet_of w.packets) ++ behind
   pub fresh : w.fresh ≡ true → (inputs ≡ []) × (behind ≡ [])
+
+-- a cluster of so many nodes with the same serial of their first messages and the same validity
+abbrev pub cluster_with : ℕ → ℕ → ℕ → Cluster
+cluster_with nodes serial validity = record { nodes = nodes; serials = λ node. serial; validities = λ node. validity }
+
+-- why no world starts with so many nodes and this serial (own)
+abbrev pub start_refusal : ℕ → ℕ → Option StartFault
+start_refusal nodes serial =
+    if not (nat_le 1 nodes && nat_le nodes 9) then Some starts.Nodes
+    else if not (nat_le 1 serial && nat_le serial 99999) then Some starts.Serial
+    else None
+
+abbrev pub IsStartFault : Option StartFault → StartFault → Type 0
+IsStartFault None fault = fault ≡ starts.Memory
+IsStartFault (Some refusal) fault = fault ≡ refusal
 
 -- each world stands somewhere in a run
 pub record IsSomewhere (w : Scene) : Type 0 where

@@ -7,13 +7,16 @@ ghost use Rattle.node_core.specs.Steps.{IsFault, refused_by};
 ghost use Rattle.node_core.specs.Stops.{is_after};
 ghost use Rattle.node_core.specs.declared.fault.StepFault.TheVariants.{Memory};
 ghost use Rattle.stable_store.specs.declared.fault.StoreFault.TheVariants as stores;
-ghost use Rattle.world.specs.Members.{HasCrashed, HasRestarted, HasSaved, HasSent, IsUnmoved};
+ghost use Rattle.world.specs.Members.{HasCrashed, HasRestarted, HasSaved, HasSent, IsOpened, IsUnmoved};
 
 use crate::given::Given;
-use node_core::{Found, Input, Life, Node, Outputs, Pending, StepFault, opens_as_restarted};
+use node_core::{
+    Found, Input, Life, Node, Outputs, Pending, Setup, StepFault, open_node, opens_as_restarted,
+};
 use node_runs::{is_well_made, may_come};
 use sim_net::Packets;
 use stable_store::{ListStore, StoreFault};
+use std::alloc::{AllocError, Global};
 use std::marker::Model;
 use synod_acceptor::Packet;
 
@@ -42,6 +45,20 @@ impl Model for Member {
 }
 
 impl Member {
+    /// A node over a new store. An `Err` is want of memory.
+    pub(crate) fn open(alloc: Global, setup: Setup) -> Result<Member, AllocError>
+        ensures { IfOk result (IsOpened setup) }
+    {
+        match open_node(alloc, ListStore::make(alloc), setup) {
+            Ok((node, life)) => Ok(Member {
+                node,
+                life: Some(life),
+                up: true,
+            }),
+            Err(_) => Err(AllocError),
+        }
+    }
+
     /// Whether it is up.
     pub(crate) fn is_up(&self) -> bool
         ensures { result ≡ self.now.up }

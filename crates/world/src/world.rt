@@ -1,21 +1,22 @@
 //! A world: its nodes, and the packets between them.
 
-ghost use Rattle.std.specs.Prelude.{◌≡◌, ◌+◌, ◌<◌, ◌≤◌, length, IfErr, IfOk, OnErr, Some};
+ghost use Rattle.std.specs.Prelude.{◌≡◌, ◌+◌, ◌<◌, ◌≤◌, [], true, length, IfErr, IfOk, OnErr, Some};
 ghost use Rattle.mc_model.specs.synod.Lists.{In};
 ghost use Rattle.node_core.specs.Stops.{is_after};
-ghost use Rattle.world.specs.Members.{CantBegin, DoesNotTake, HasBegun, HasStopped, HasTaken, IsAddressed, IsSentIn, IsUpAt, Keeps, RefusesTo, away_in, undelivered_in};
-ghost use Rattle.world.specs.Runs.{IsFault, Leads};
+ghost use Rattle.mc_model.specs.message.Ids.{IsSerial};
+ghost use Rattle.world.specs.Members.{AreOpened, CantBegin, DoesNotTake, HasBegun, HasStopped, HasTaken, IsAddressed, IsSentIn, IsUpAt, Keeps, RefusesTo, away_in, undelivered_in};
+ghost use Rattle.world.specs.Runs.{IsAt, IsFault, IsStartFault, Leads, cluster_with, start_refusal};
 ghost use Rattle.world.specs.declared.fault.WorldFault.TheVariants.{Memory};
 ghost use Rattle.world.specs.declared.step.Step.TheVariants as steps;
 
-use crate::fault::WorldFault;
+use crate::fault::{StartFault, WorldFault};
 use crate::given::Given;
 use crate::member::Member;
 use crate::step::Step;
 use mc_types::NodeNo;
-use node_core::{Found, Input};
+use node_core::{Found, Input, Setup};
 use sim_net::Packets;
-use std::alloc::Global;
+use std::alloc::{AllocError, Global};
 use std::marker::Model;
 use synod_acceptor::Packet;
 
@@ -45,6 +46,33 @@ impl Model for World {
 }
 
 impl World {
+    /// So many nodes, each over a new store in memory, with this serial of the first message of each of its incarnations; a message that asks for
+    /// no time is valid for so many seconds. Nodes exactly if they are not 1 to 9; then Serial exactly if the serial is not 1 to 99,999; else an
+    /// `Err` is want of memory.
+    pub fn start(
+        alloc: Global,
+        nodes: u8,
+        first_serial: u32,
+        default_validity: u32,
+    ) -> Result<World, StartFault>
+        ensures stands { IfOk result (IsAt (cluster_with nodes first_serial default_validity) [] []) }
+        ensures fresh { IfOk result (λ world. world.fresh ≡ true) }
+        ensures refused { IfErr result (IsStartFault (start_refusal nodes first_serial)) }
+    {
+        if nodes < 1 || nodes > 9 {
+            return Err(StartFault::Nodes);
+        }
+        if first_serial < 1 || first_serial > 99_999 {
+            return Err(StartFault::Serial);
+        }
+        Ok(World {
+            alloc,
+            members: opened(alloc, nodes, first_serial, default_validity)?,
+            packets: Packets::make(alloc, nodes),
+            fresh: true,
+        })
+    }
+
     /// Takes a step. Of several refusals the one with the lowest number is told, but that a node is down before why an attempt is not granted;
     /// Memory is want of memory. A step that is refused changes nothing.
     pub fn step(&mut self, step: Step) -> Result<Given, WorldFault>
@@ -202,4 +230,29 @@ impl World {
         }
         Ok(place)
     }
+}
+
+/// Nodes 1 to so many, each over a new store. An `Err` is want of memory.
+fn opened(
+    alloc: Global,
+    nodes: u8,
+    first_serial: u32,
+    default_validity: u32,
+) -> Result<Vec<Member>, AllocError>
+    requires most { nodes ≤ 9 }
+    requires serial { IsSerial first_serial }
+    ensures { IfOk result (λ members. AreOpened nodes first_serial default_validity nodes members.items) }
+{
+    let mut members = Vec::with_capacity(alloc, nodes as usize)?;
+    for place in 0..nodes {
+        let setup = Setup::make(
+            NodeNo::of(place + 1),
+            nodes,
+            first_serial,
+            default_validity,
+        )
+        .unwrap();
+        members.push(Member::open(alloc, setup)?)?;
+    }
+    Ok(members)
 }

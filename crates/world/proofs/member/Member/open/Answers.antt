@@ -1,0 +1,9 @@
+use Rattle.std.proofs.Common.{true, refl}
+use Rattle.world.specs.Scenes.{Placed}
+use Rattle.world.proofs.Starting.{is_opened}
+use Rattle.world.proofs.member.Member.open.Goals as goal
+
+pub returns-in-Ok : goal.returns-in-Ok
+returns-in-Ok c =
+    let new : Placed = record { node = c.in-Ok.node; up = true } in
+    is_opened c.args.setup c.make.result.entries c.make.result.started new c.in-Ok.life c.make.ensures.entries c.make.ensures.started refl c.in-Ok.ensures.ok
