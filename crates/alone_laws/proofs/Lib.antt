@@ -23,5 +23,3 @@ pub mod Mapped
 pub mod Clocked
 pub mod Granting
 pub mod AnyEvent
-pub mod NobodyUp
-pub mod Chained

@@ -5,6 +5,5 @@ pub mod Resting
 pub mod Settling
 pub mod Ticks
 pub mod Attempts
-pub mod Chains
 pub mod Events
 pub mod Examples

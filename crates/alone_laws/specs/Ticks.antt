@@ -1,5 +1,5 @@
 -- What a tick makes of the table of a node by itself: each message gets the decree that is due (own).
-use Rattle.std.specs.Prelude.{◌≡◌, ℕ, ◌+◌, ◌*◌, max, Bool, false, ◌==◌, ◌&&◌, not, nat_le, nat_lt, List, [], ◌∷◌, flat_map, map, Option, Some, None, if◌then◌else◌}
+use Rattle.std.specs.Prelude.{ℕ, ◌+◌, ◌*◌, max, Bool, ◌==◌, ◌&&◌, not, nat_le, nat_lt, List, [], ◌∷◌, flat_map, map, Option, Some, None, if◌then◌else◌}
 use Rattle.std.specs.Option.{option_or}
 use Rattle.std.specs.Map.{keys_of}
 use Rattle.mc_model.specs.message.Submission.{Submission}
@@ -9,7 +9,6 @@ use Rattle.mc_model.specs.message.Chain.{attempts_in, taken_in}
 use Rattle.mc_model.specs.node.Outcome.{no_session_error, older_incarnation_error}
 use Rattle.mc_model.specs.node.Outputs.{Receipt}
 use Rattle.node_model.specs.Answers.{receipts_of}
-use Rattle.node_model.specs.Starts.{is_idle}
 use Rattle.alone_laws.specs.Tables.{Entry, Table, TableNode, chain_at, decree_by, extended, known_as, moment_behind}
 
 abbrev pub due_if : Bool → Kind → Option Kind
@@ -82,18 +81,3 @@ ticked t moment up = each_due (at_clock t moment) up
 abbrev pub receipts_between : Table → Table → List Receipt
 receipts_between before now =
     flat_map (λ id. receipts_of 1 id (known_as (chain_at before id)) (chain_at now id)) (keys_of before)
-
--- ---- while nobody is up
-
-abbrev pub nobody_up : List ℕ → Bool
-nobody_up account = false
-
--- a message without an attempt can only expire, while it is idle
-abbrev pub expiry_of : TableNode → List Decree → Option Submission → Option Kind
-expiry_of t [] taken = None
-expiry_of t (newest ∷ older) None = None
-expiry_of t (newest ∷ older) (Some message) =
-    due_if (is_idle newest.kind && nat_le message.expiry (moment_behind t.clock (newest ∷ older))) (Fate Expired 0)
-
-abbrev pub HasNoAttempt : List Decree → Type 0
-HasNoAttempt chain = attempts_in chain ≡ 0

@@ -1,13 +1,12 @@
 //! A tick comes to a node by itself.
 
 ghost use Rattle.std.specs.Prelude.{◌≡◌, ℕ, Bool, List, []};
-ghost use Rattle.mc_model.specs.message.Chain.{taken_in};
 ghost use Rattle.mc_model.specs.node.Input.{Tick};
 ghost use Rattle.node_model.specs.Kept.{Kept};
 ghost use Rattle.node_model.specs.Stepped.{stepped};
 ghost use Rattle.alone_laws.specs.Alone.{alone};
-ghost use Rattle.alone_laws.specs.Tables.{Entry, TableNode};
-ghost use Rattle.alone_laws.specs.Ticks.{HasNoAttempt, due, entry_then, expiry_of, nobody_up, receipts_between, ticked};
+ghost use Rattle.alone_laws.specs.Tables.{TableNode};
+ghost use Rattle.alone_laws.specs.Ticks.{receipts_between, ticked};
 ghost use Rattle.alone_laws.specs.Resting.{IsResting};
 ghost use Rattle.alone_laws.specs.Settling.{SettlesOn};
 
@@ -19,11 +18,4 @@ pub fn a_tick_settles()
     ensures { (first_serial default_validity : ℕ) (k : Kept) (t : TableNode) → IsResting k t → (moment : ℕ) (up : List ℕ → Bool) →
         SettlesOn (alone first_serial default_validity) (stepped (alone first_serial default_validity) k (Tick moment up)) (ticked t moment up)
         [] (receipts_between t.table (ticked t moment up).table) }
-{}
-
-/// While nobody is up, all that is due for a message that was never attempted is that it expires, and that while it is idle; and it is still
-/// never attempted then.
-pub fn messages_expire_while_nobody_is_up()
-    ensures due { (t : TableNode) (entry : Entry) → HasNoAttempt entry.chain → due t nobody_up entry ≡ expiry_of t entry.chain (taken_in entry.chain) }
-    ensures still { (t : TableNode) (entry : Entry) → HasNoAttempt entry.chain → HasNoAttempt (entry_then t nobody_up entry).chain }
 {}

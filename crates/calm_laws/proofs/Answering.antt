@@ -11,7 +11,6 @@ use Rattle.sessions.specs.Windows.{without_first}
 use Rattle.sessions.specs.declared.pushed.Delivery.{Delivery}
 use Rattle.sessions.specs.declared.pushed.Delivery.TheVariants.{Attempt, Receipt}
 use Rattle.sessions.specs.declared.pushed.Pushed.{Pushed}
-use Rattle.sessions.specs.declared.reaction.EsmeAnswer.{EsmeAnswer}
 use Rattle.script_text.specs.Settings.{Settings}
 use Rattle.script_text.specs.Attempts.{Went, delivered_so, rests_at}
 use Rattle.script_text.specs.Runner.{Served, gone_on, on_done, on_reaction, session_in}
@@ -46,7 +45,7 @@ none_left test (x ∷ xs) none = by_test (test x) (none_left test xs) none
 
 module _ (settings : Settings) (first left number : ℕ) (one : OneNode) (k : Kept) (quiet : AreQuiet settings first (suc left) one (node_of settings first k))
     (account : Option (List ℕ)) (version following : ℕ) (pushed : List Pushed) (is : like account version pushed following [] ≡ session_in one.sessions number)
-    (came : runner.Came) (sequence : ℕ) (answer : EsmeAnswer) where
+    (came : runner.Came) (sequence : ℕ) where
   abbrev test : Pushed → Bool
   test one_pushed = one_pushed.sequence == sequence
 
@@ -64,8 +63,8 @@ module _ (settings : Settings) (first left number : ℕ) (one : OneNode) (k : Ke
 
   -- ---- nothing that was pushed is answered
 
-  nothing_answered : find test pushed ≡ None → LeftAlike (on_reaction settings number (node_of settings first k) came next (answers_to None answer))
-      (reacted settings one number came next (answers_to None answer))
+  nothing_answered : find test pushed ≡ None → LeftAlike (on_reaction settings number (node_of settings first k) came next (answers_to None))
+      (reacted settings one number came next (answers_to None))
   nothing_answered none = record {
     holds = None;
     agree = rested settings first left one k quiet.fit room_left quiet.resting quiet.owed quiet.due;
@@ -130,11 +129,11 @@ module _ (settings : Settings) (first left number : ℕ) (one : OneNode) (k : Ke
     delivered (Receipt id) outcome delivery = went_so (rests_at (node_of settings first k)) then refl refl agree_then
 
   by_found : (found : Option Pushed) → find test pushed ≡ found →
-      LeftAlike (on_reaction settings number (node_of settings first k) came next (answers_to found answer))
-      (reacted settings one number came next (answers_to found answer))
+      LeftAlike (on_reaction settings number (node_of settings first k) came next (answers_to found))
+      (reacted settings one number came next (answers_to found))
   by_found None none = nothing_answered none
   by_found (Some it) found = delivered it found it.delivery (came.outcome it.sequence) refl
 
-  pub answer_comes : LeftAlike (on_done settings number (node_of settings first k) came (on_answer session sequence answer))
-      (reacted_by settings one number came (on_answer session sequence answer))
+  pub answer_comes : LeftAlike (on_done settings number (node_of settings first k) came (on_answer session sequence))
+      (reacted_by settings one number came (on_answer session sequence))
   answer_comes = by_found (find test pushed) refl

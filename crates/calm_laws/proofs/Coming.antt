@@ -19,7 +19,6 @@ use Rattle.sessions.specs.Session.{Session}
 use Rattle.sessions.specs.Responses.{requested_by}
 use Rattle.sessions.specs.Steps.{Done, on_fault, on_pdu}
 use Rattle.sessions.specs.declared.pushed.Pushed.{Pushed}
-use Rattle.sessions.specs.declared.reaction.EsmeAnswer.TheVariants as answers
 use Rattle.sessions.specs.declared.request.OpenRequest.{OpenRequest}
 use Rattle.sessions.specs.declared.requested.Requested.TheVariants as requests
 use Rattle.sessions.specs.declared.response.Outgoing.{Outgoing}
@@ -157,16 +156,16 @@ module _ (settings : Settings) (first left number : ℕ) (one : OneNode) where
         request_comes settings first left number one k quiet name version next pushed is requests.CancelSm pdu.sequence (asked.Cancel cancel)
     for_node None is (bodies.DeliverSmResp id) is_for =
         answer_comes settings first left number one k quiet None version next pushed is (came_by settings (record pdu { body = bodies.DeliverSmResp id }))
-        pdu.sequence (answers.DeliverSmResp pdu.status)
+        pdu.sequence
     for_node (Some name) is (bodies.DeliverSmResp id) is_for =
         answer_comes settings first left number one k quiet (Some name) version next pushed is
-        (came_by settings (record pdu { body = bodies.DeliverSmResp id })) pdu.sequence (answers.DeliverSmResp pdu.status)
+        (came_by settings (record pdu { body = bodies.DeliverSmResp id })) pdu.sequence
     for_node None is bodies.GenericNack is_for =
         answer_comes settings first left number one k quiet None version next pushed is (came_by settings (record pdu { body = bodies.GenericNack }))
-        pdu.sequence (answers.GenericNack pdu.status)
+        pdu.sequence
     for_node (Some name) is bodies.GenericNack is_for =
         answer_comes settings first left number one k quiet (Some name) version next pushed is (came_by settings (record pdu { body = bodies.GenericNack }))
-        pdu.sequence (answers.GenericNack pdu.status)
+        pdu.sequence
     for_node account is other is_for = absurd is_for
 
   -- ---- any PDU, and octets that are none

@@ -32,7 +32,8 @@ use Rattle.desk.specs.Admissions.{admitted}
 use Rattle.desk.specs.declared.request.Request.{Request as Asked}
 use Rattle.script_text.specs.Settings.{Settings}
 use Rattle.script_text.specs.Attempts.{unanswered}
-use Rattle.script_text.specs.Pushes.{accounts_up, is_up, target_in}
+use Rattle.script_text.specs.Pushes.{accounts_up, target_in}
+use Rattle.delivery.specs.Targets.{is_up}
 use Rattle.script_text.specs.Runner.{came_by, nothing_came, session_in}
 use Rattle.script_text.specs.Runner as runner
 use Rattle.script_text.specs.Events.{Comes, Event, Grants, Settles, Ticks}
@@ -95,7 +96,7 @@ module _ (settings : Settings) (one : OneNode) (number : ℕ) where
   reacted_grows : (from : runner.Came) (next : Session) (reaction : Reaction) → Grows one (reacted settings one number from next reaction).next
   reacted_grows from next (reactions.Respond outgoing) = same_length one.node.table
   reacted_grows from next (reactions.Ask kind) = asked_grows kind from.sequence next.account from.request
-  reacted_grows from next (reactions.Answered pushed answer) =
+  reacted_grows from next (reactions.Answered pushed) =
       answered_grows (with_session one number next) pushed.delivery (from.outcome pushed.sequence)
   reacted_grows from next reactions.Nothing = same_length one.node.table
   reacted_grows from next (reactions.Leave outgoing abandoned) = same_length one.node.table

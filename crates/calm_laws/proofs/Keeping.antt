@@ -13,7 +13,8 @@ use Rattle.script_lines.specs.Said.{Said, Skipped, Nodes, Octets, Tick, Grant, S
 use Rattle.script_lines.proofs.SaidLemmas.{spelled_so}
 use Rattle.script_text.specs.Settings.{Settings, script_settings}
 use Rattle.script_text.specs.Prints.{Print, text_of_prints}
-use Rattle.script_text.specs.Pushes.{accounts_up, is_up}
+use Rattle.script_text.specs.Pushes.{accounts_up}
+use Rattle.delivery.specs.Targets.{is_up}
 use Rattle.script_text.specs.Runner.{Runner, held_in, on_grant, on_octets, on_settle, on_tick}
 use Rattle.script_text.specs.Events.{Event, Heard, Comes, Ticks, Grants, Settles, Play, and_then, events_from, heard_by, play_from, play_of_lines}
 use Rattle.script_text.specs.OneNode.{OneNode, granted_unless, happen, happens, one_node, one_node_text, played, prints_if, settled, ticks}

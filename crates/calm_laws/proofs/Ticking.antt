@@ -21,7 +21,8 @@ use Rattle.sessions.specs.declared.pushed.Pushed.{Pushed}
 use Rattle.script_text.specs.Settings.{Settings}
 use Rattle.script_text.specs.Attempts.{all_given_up}
 use Rattle.script_text.specs.Node.{Node, tick_at, with_step}
-use Rattle.script_text.specs.Pushes.{accounts_up, is_up, overdue_in, timely_in}
+use Rattle.script_text.specs.Pushes.{accounts_up, overdue_in, timely_in}
+use Rattle.delivery.specs.Targets.{is_up}
 use Rattle.script_text.specs.Receipts.{posted_for_all}
 use Rattle.script_text.specs.Runner.{Acted, Owned, Runner, Told, answered, followed_by, gives_up, gives_up_by, mail_of, makes_room, on_tick, posts_for_all, rests, session_in, session_or_opened, told, with_posted}
 use Rattle.script_text.specs.OneNode.{OneNode, ticks}

@@ -1,3 +1,4 @@
+pub mod Targets
 pub mod Due
 pub mod Kept
 pub mod Outcomes

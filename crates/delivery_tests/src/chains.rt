@@ -85,6 +85,13 @@ pub const FAILURES: [Step; 16] = [
     Step::Failed(1680, 100),
 ];
 
+/// The same, and the end of the message.
+pub fn undelivered() -> [Step; 17] {
+    let mut steps = [Step::Fate(1680, UNDELIVERABLE, 100); 17];
+    steps[..16].copy_from_slice(&FAILURES);
+    steps
+}
+
 /// The codes of final states.
 pub const DELIVERED: u8 = 2;
 

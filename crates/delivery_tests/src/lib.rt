@@ -2,6 +2,8 @@
 #![tactic(auto)]
 
 #[cfg(test)]
+mod asked;
+#[cfg(test)]
 mod chains;
 #[cfg(test)]
 mod decisions;
@@ -11,5 +13,9 @@ mod due;
 mod outcomes;
 #[cfg(test)]
 mod pdus;
+#[cfg(test)]
+mod receipt_vectors;
+#[cfg(test)]
+mod registered;
 #[cfg(test)]
 mod texts;

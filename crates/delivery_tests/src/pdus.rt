@@ -1,22 +1,18 @@
 //! The octets of deliver_sms, from what was asked of this message centre.
 
 use crate::chains::*;
+use crate::receipt_vectors::*;
 use delivery::{DeliverFault, deliver_pdu};
 use fate_chain::Chain;
 use pdu_codec::{Pdu, encode};
 use receipts::{ReceiptFault, receipt_pdu};
 use std::alloc::Global;
+use std::process::Abort;
 use std::test::Fail;
 
 /// The deliver_sm of an attempt, sequence_number 1: from 144 to 155 with the text Hi.
 const DELIVERY: &[u8] = b"\0\0\0\x29\0\0\0\x05\0\0\0\0\0\0\0\x01\
 \0\x01\x01144\0\x01\x01155\0\0\0\0\0\0\0\0\0\0\x02Hi";
-
-/// The deliver_sm of the receipt, sequence_number 2.
-const RECEIPT: &[u8] = b"\0\0\0\xa3\0\0\0\x05\0\0\0\0\0\0\0\x02\
-\0\x01\x01155\0\x01\x01144\0\x04\0\0\0\0\0\0\0\0\x68\
-id:1000100001 sub:001 dlvrd:001 submit date:2401310000 done date:2401310000 stat:DELIVRD err:000 text:Hi\
-\0\x1e\0\x0b1000100001\0\x04\x27\0\x01\x02";
 
 /// The octets of the deliver_sm of the attempt after these decrees, with the sequence_number 1; none if it is refused.
 fn delivery(alloc: Global, steps: &[Step]) -> Result<Option<Vec<u8>>, Fail> {
@@ -83,12 +79,28 @@ fn what_is_no_attempt_is_not_delivered(rt: HostRuntime) -> Result<(), Fail> {
     Ok(())
 }
 
-#[test]
-fn a_receipt_goes_back(rt: HostRuntime) -> Result<(), Fail> {
-    let steps = [Step::Attempt(0, 1), Step::Fate(0, DELIVERED, 0)];
-    let octets = receipt(rt.alloc(), &steps)?.ok_or("octets")?;
-    assert_eq!(rt; octets.as_slice(), RECEIPT);
+/// That the octets of the receipt after these decrees are these.
+fn goes_back(rt: &impl Abort, alloc: Global, steps: &[Step], expected: &[u8]) -> Result<(), Fail> {
+    let octets = receipt(alloc, steps)?.ok_or("octets")?;
+    assert_eq!(rt; octets.as_slice(), expected);
     Ok(())
+}
+
+#[test]
+fn a_receipt_of_each_final_state_goes_back(rt: HostRuntime) -> Result<(), Fail> {
+    let alloc = rt.alloc();
+    let delivered = [Step::Attempt(0, 1), Step::Fate(0, DELIVERED, 0)];
+    let rejected = [Step::Attempt(0, 1), Step::Fate(0, REJECTED, 102)];
+    goes_back(&rt, alloc, &delivered, DELIVERED_RECEIPT)?;
+    goes_back(
+        &rt,
+        alloc,
+        &[Step::Fate(259200, EXPIRED, 0)],
+        EXPIRED_RECEIPT,
+    )?;
+    goes_back(&rt, alloc, &[Step::Fate(0, DELETED, 0)], DELETED_RECEIPT)?;
+    goes_back(&rt, alloc, &undelivered(), UNDELIVERABLE_RECEIPT)?;
+    goes_back(&rt, alloc, &rejected, REJECTED_RECEIPT)
 }
 
 #[test]

@@ -30,9 +30,7 @@ fn a_message_expires(rt: HostRuntime) -> Result<(), Fail> {
 
 #[test]
 fn eight_attempts_fail(rt: HostRuntime) -> Result<(), Fail> {
-    let mut steps = [Step::Fate(1680, UNDELIVERABLE, 100); 17];
-    steps[..16].copy_from_slice(&FAILURES);
-    let told = text(rt.alloc(), 1, &steps)??;
+    let told = text(rt.alloc(), 1, &undelivered())??;
     let wanted =
         b"before id:1000100001 sub:001 dlvrd:000 submit date:2401310000 done date:2401310028 stat:UNDELIV err:100 text:Hi";
     assert_eq!(rt; told.as_slice(), wanted.as_slice());
@@ -58,27 +56,41 @@ fn a_message_is_deleted(rt: HostRuntime) -> Result<(), Fail> {
     Ok(())
 }
 
-/// Bits 1 and 0 of registered_delivery: 00 asks for no receipt, 01 for one on every final state, 10 for one on every one but
-/// DELIVERED; the other bits say nothing. (11 is refused to the submit_sm, and asks for none.)
-#[test]
-fn receipts_are_asked_for(rt: HostRuntime) -> Result<(), Fail> {
-    let delivered = [Step::Attempt(0, 1), Step::Fate(0, DELIVERED, 0)];
-    let deleted = [Step::Fate(0, DELETED, 0)];
-    for registered_delivery in 0..=255 {
-        let bits = registered_delivery & 3;
-        let first = is_asked(rt.alloc(), registered_delivery, &delivered)?;
-        assert_eq!(rt; first, bits == 1);
-        let second = is_asked(rt.alloc(), registered_delivery, &deleted)?;
-        assert_eq!(rt; second, bits == 1 || bits == 2);
+/// The receipt of appendix B of SMPP 3.4, label by label: a `#` is a digit, a `@` a capital letter. The last label is in lower case
+/// here, and up to 20 octets of the message follow it.
+const PATTERN: &[u8] =
+    b"before id:########## sub:### dlvrd:### submit date:########## done date:########## stat:@@@@@@@ err:### text:";
+
+/// Whether an octet may stand at this place of the pattern.
+fn fits(place: u8, octet: u8) -> bool {
+    match place {
+        b'#' => octet.is_ascii_digit(),
+        b'@' => octet.is_ascii_uppercase(),
+        _ => octet == place,
     }
-    Ok(())
 }
 
-/// Whether a receipt was asked for.
-fn is_asked(alloc: Global, registered_delivery: u8, steps: &[Step]) -> Result<bool, Fail> {
-    match text(alloc, registered_delivery, steps)? {
-        Ok(_text) => Ok(true),
-        Err(ReceiptFault::NotAsked) => Ok(false),
-        Err(fault) => Err(fault)?,
+/// How many octets stand behind the pattern, if a text has it.
+fn behind_the_pattern(text: &[u8]) -> Option<usize> {
+    let front = text.get(..PATTERN.len())?;
+    let is_there = PATTERN
+        .iter()
+        .zip(front)
+        .all(|(place, octet)| fits(*place, *octet));
+    is_there.then_some(text.len() - PATTERN.len())
+}
+
+#[test]
+fn each_text_has_the_pattern_of_appendix_b(rt: HostRuntime) -> Result<(), Fail> {
+    let delivered = [Step::Attempt(0, 1), Step::Fate(0, DELIVERED, 0)];
+    let expired = [Step::Fate(259200, EXPIRED, 0)];
+    let deleted = [Step::Fate(0, DELETED, 0)];
+    let rejected = [Step::Attempt(0, 1), Step::Fate(0, REJECTED, 102)];
+    let undelivered = undelivered();
+    let ends: [&[Step]; 5] = [&delivered, &expired, &deleted, &undelivered, &rejected];
+    for steps in ends {
+        let told = text(rt.alloc(), 1, steps)??;
+        assert_eq!(rt; behind_the_pattern(&told), Some(2));
     }
+    Ok(())
 }

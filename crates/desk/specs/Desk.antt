@@ -1,27 +1,20 @@
--- The checks of a submit_sm, what is taken of it, and what a query_sm and a cancel_sm are answered over a table of chains.
+-- The checks of a submit_sm, what is taken of it, and what a query_sm shows of a chain.
 use Rattle.std.specs.Prelude.{ℕ, Bool, ◌%◌, min, nat_lt, ◌==◌, ◌&&◌, ◌||◌, not, List, [], ◌∷◌, filter, Option, Some, None, Result, Ok, Err, if◌then◌else◌}
 use Rattle.std.specs.Str.{bytes_eq}
-use Rattle.std.specs.Option.{option_and_then, option_map}
+use Rattle.std.specs.Option.{option_map}
 use Rattle.mc_model.specs.message.Ids.{most_serial}
 use Rattle.mc_model.specs.message.Submission.{Submission}
-use Rattle.mc_model.specs.message.Decree.{Author, Final, Delivered, Expired, Deleted, Undeliverable, Rejected, Taken, Decree}
-use Rattle.mc_model.specs.message.Chain.{Chain, taken_in, final_in, error_in}
+use Rattle.mc_model.specs.message.Decree.{Decree}
+use Rattle.mc_model.specs.message.Chain.{Chain, final_in, error_in}
 use Rattle.pdu_tables.specs.declared.status.Status.{Status}
 use Rattle.pdu_tables.specs.declared.status.Status.TheVariants as statuses
 use Rattle.pdu_codec.specs.Text.{has_tag_among}
 use Rattle.pdu_bodies.specs.declared.pdu.Message.{Message}
-use Rattle.pdu_bodies.specs.declared.pdu.Cancel.{Cancel as Cancellation}
 use Rattle.fate_chain.specs.States.{state_of}
 use Rattle.fate_chain.specs.Submissions.{address_of}
 use Rattle.desk.specs.declared.request.Answer.{Answer}
-use Rattle.desk.specs.declared.request.Answer.TheVariants.{Shown, NotOwner, Removed, Kept, NotMatched, Unknown}
-use Rattle.desk.specs.Table.{Table, chain_at, with_chain}
-use Rattle.desk.specs.Fates.{is_idle, ended}
+use Rattle.desk.specs.declared.request.Answer.TheVariants.{Shown}
 use Rattle.desk.specs.Times.{Times, times_of}
-
--- the chain of a message, and what was taken of it, where there is such a message
-abbrev pub message_at : Table → ℕ → Option (Chain × Submission)
-message_at table id = option_and_then (λ chain. option_map (λ message. (chain, message)) (taken_in chain.decrees)) (chain_at table id)
 
 -- ---- a submit_sm
 
@@ -85,17 +78,6 @@ submission_of account target times message = record {
   passed = filter (has_tag_among passed_tags) message.tlvs;
 }
 
--- the chain of a message that is taken now under an id
-abbrev pub chain_begun : Author → ℕ → ℕ → Submission → Chain
-chain_begun author id now message = record {
-  id = id;
-  decrees = record {
-    author = author;
-    moment = now;
-    kind = Taken message;
-  } ∷ [];
-}
-
 -- ---- a query_sm
 
 -- the moment of a final state
@@ -103,45 +85,6 @@ abbrev pub final_moment : List Decree → Option ℕ
 final_moment [] = None
 final_moment (newest ∷ older) = option_map (λ final. newest.moment) (final_in (newest ∷ older))
 
--- the message is the account's, from this source address
-abbrev pub is_sent_by : List ℕ → List ℕ → Submission → Bool
-is_sent_by account source message = bytes_eq message.submitter account && bytes_eq message.source.digits source
-
 -- the state of a chain, the moment of a final one, and the error, cut to what error_code has room for (own)
 abbrev pub shown : Chain → Answer
 shown chain = Shown (state_of (final_in chain.decrees)) (final_moment chain.decrees) (min (error_in chain.decrees) 255)
-
--- what a query_sm of an account from a source address is answered about a message
-abbrev pub query_answer : List ℕ → List ℕ → Option (Chain × Submission) → Answer
-query_answer account source None = Unknown
-query_answer account source (Some message) = if is_sent_by account source message.1 then shown message.0 else NotOwner
-
--- ---- a cancel_sm
-
--- The message is the account's, from this source address, and goes to this destination address, if one is named.
-abbrev pub is_meant : List ℕ → Cancellation → Submission → Bool
-is_meant account cancel message =
-    is_sent_by account cancel.source.digits message
-    && (bytes_eq cancel.destination.digits [] || bytes_eq message.destination.digits cancel.destination.digits)
-
--- the answer for a message that is not idle: it was deleted before, or stays as it is
-abbrev pub late_answer : Option Final → Answer
-late_answer None = Kept
-late_answer (Some Delivered) = Kept
-late_answer (Some Expired) = Kept
-late_answer (Some Deleted) = Removed
-late_answer (Some Undeliverable) = Kept
-late_answer (Some Rejected) = Kept
-
--- what a cancel_sm is answered that means the message of this chain, and the table then
-abbrev pub deleted : Author → ℕ → Table → Chain → Answer × Table
-deleted author now table chain =
-    if is_idle chain.decrees then (Removed, with_chain table (ended author now Deleted chain))
-    else (late_answer (final_in chain.decrees), table)
-
--- What a cancel_sm of an account is answered about a message, and the table then: whether it means the message is
--- looked at before the state.
-abbrev pub cancelled_by : List ℕ → Author → ℕ → Cancellation → Table → Option (Chain × Submission) → Answer × Table
-cancelled_by account author now cancel table None = (Unknown, table)
-cancelled_by account author now cancel table (Some message) =
-    if is_meant account cancel message.1 then deleted author now table message.0 else (NotMatched, table)

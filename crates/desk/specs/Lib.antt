@@ -1,5 +1,3 @@
-pub mod Table
-pub mod Fates
 pub mod Times
 pub mod Desk
 pub mod Admissions

@@ -8,6 +8,6 @@ mod showing;
 mod times;
 
 pub use door::{Admitted, Door};
-pub use laws::{fates_are_permitted, owners_are_those_of_the_rules, unrouted_are_refused};
+pub use laws::unrouted_are_refused;
 pub use request::{Answer, Request};
 pub use showing::shown;

@@ -60,7 +60,7 @@ reaction_served : (settings : Settings) (number : ℕ) (node : Node) (came : Cam
     TellsPossible came → (sound : IsSound node) → IsServed (world_of node sound) (on_reaction settings number node came session reaction)
 reaction_served settings number node came session (reactions.Ask requested) possible sound =
     request_served number node session requested came.sequence session.account came.request sound
-reaction_served settings number node came session (reactions.Answered pushed answer) possible sound = record {
+reaction_served settings number node came session (reactions.Answered pushed) possible sound = record {
   leads = delivered_leads node sound pushed.delivery (came.outcome pushed.sequence) (possible pushed.sequence);
   mute = tt;
 }

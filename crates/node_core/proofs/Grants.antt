@@ -38,7 +38,8 @@ use Rattle.node_core.specs.Attempting.{IsBacked}
 use Rattle.node_core.specs.Keeping.{AreOwn, IsTaken, kept_of}
 use Rattle.node_core.specs.Lists.{listed}
 use Rattle.node_core.specs.Messages.{IsConcluded, IsOf, IsOfSame, IsTriedSo, closed_at, granted_at, may_start, message_of, next_round, prepare_from, with_start}
-use Rattle.node_core.specs.Steps.{IsLeft, IsNext, IsStep, giving, granted_of, receipt_of}
+use Rattle.node_core.specs.Steps.{IsLeft, IsNext, IsStep, giving, granted_of}
+use Rattle.node_model.specs.Reported.{receipt_of}
 use Rattle.node_core.proofs.Attempting.{still_of}
 use Rattle.node_core.proofs.Leaving.{left}
 

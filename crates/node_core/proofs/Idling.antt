@@ -6,7 +6,7 @@ use Rattle.std.specs.Cmp.Lexicographic.{pointwise}
 use Rattle.std.specs.Str.{bytes_eq}
 use Rattle.std.specs.Global.{Vec}
 use Rattle.std.specs.Prelude.{filter, not}
-use Rattle.rules.specs.Dues.{is_up}
+use Rattle.delivery.specs.Targets.{is_up}
 use Rattle.node_core.specs.Idling.{IsQuiet}
 use Rattle.std.specs.List.{list_any}
 use Rattle.mc_model.specs.synod.Lists.{In}

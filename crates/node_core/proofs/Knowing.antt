@@ -29,7 +29,8 @@ use Rattle.node_core.specs.Keeping.{AreOwn, IsAs, kept_of}
 use Rattle.node_core.specs.Lists.{listed}
 use Rattle.node_core.specs.Messages.{IsStartedFor, message_of, prepare_from, with_start}
 use Rattle.node_core.specs.Queueing.{AreAsked, requeued}
-use Rattle.node_core.specs.Steps.{IsLeft, IsStep, giving, outputs_of, receipt_of}
+use Rattle.node_core.specs.Steps.{IsLeft, IsStep, giving, outputs_of}
+use Rattle.node_model.specs.Reported.{receipt_of}
 use Rattle.node_core.specs.Voting.{receipt_if}
 use Rattle.node_core.proofs.Grants.{prepare_same, start_same, started_with}
 use Rattle.node_core.proofs.Leaving.{as_changed, left_as}

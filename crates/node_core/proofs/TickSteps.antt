@@ -25,7 +25,8 @@ use Rattle.node_core.specs.declared.turn_list.TurnList.{TurnList}
 use Rattle.synod_acceptor.specs.Packets.{packet_of}
 use Rattle.node_core.specs.Keeping.{AreOf, filed_as, kept_of, records_of}
 use Rattle.node_core.specs.Messages.{changed_by}
-use Rattle.node_core.specs.Steps.{Alters, HasRoom, IsStep, entries_after, granted_of, held_then, installed, kept_then, outputs_of, receipt_of, rested_entry, rested_if}
+use Rattle.node_core.specs.Steps.{Alters, HasRoom, IsStep, entries_after, granted_of, held_then, installed, kept_then, outputs_of, rested_entry, rested_if}
+use Rattle.node_model.specs.Reported.{receipt_of}
 use Rattle.node_core.specs.Ticking.{IsTurned, entries_turned, kept_turned}
 
 -- what serves for so many is room for them

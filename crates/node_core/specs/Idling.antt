@@ -9,7 +9,7 @@ use Rattle.node_model.specs.Stepped.{stepped}
 use Rattle.node_model.specs.Requests.{is_untold}
 use Rattle.node_model.specs.Rules.{first_rule}
 use Rattle.node_model.specs.Ticks.{ids_of, is_late, on_tick, ticked}
-use Rattle.rules.specs.Dues.{is_up}
+use Rattle.delivery.specs.Targets.{is_up}
 use Rattle.node_core.specs.declared.input.Input.{Input}
 use Rattle.node_core.specs.declared.kept.Kept.{Kept as Holding}
 use Rattle.node_core.specs.declared.step.Step.{Step}

@@ -11,12 +11,13 @@ use Rattle.mc_model.specs.node.Setup.{Setup}
 use Rattle.node_model.specs.Attempts.{grant_refusal}
 use Rattle.node_model.specs.Kept.{Held, Kept, message_at}
 use Rattle.node_model.specs.Outputs.{Stepped, nothing}
+use Rattle.node_model.specs.Reported.{receipt_of}
 use Rattle.node_model.specs.Stepped.{stepped}
 use Rattle.node_model.specs.Granted.{is_open, known_slot}
 use Rattle.delivery.specs.Kept.{outcome_kept}
 use Rattle.desk.specs.Arrivals.{requested}
 use Rattle.pdu_tables.specs.StatusCodes.{status_code}
-use Rattle.rules.specs.Dues.{is_up}
+use Rattle.delivery.specs.Targets.{is_up}
 use Rattle.requests.specs.Replying.{reply_given}
 use Rattle.requests.specs.Waiting.{held_in}
 use Rattle.shelf.specs.Shelved.{with_value}
@@ -63,13 +64,10 @@ abbrev pub IsFault : Option StepFault → StepFault → Type 0
 IsFault None fault = fault ≡ faults.Memory
 IsFault (Some refusal) fault = fault ≡ refusal
 
--- what it gives out, receipts by the chains of their messages
-abbrev pub receipt_of : Chain → Receipt
-receipt_of chain = record { id = chain.id; chain = chain.decrees }
-
 abbrev pub granted_of : Chain → Slot
 granted_of chain = slot_of chain.id chain.decrees
 
+-- what it gives out, receipts by the chains of their messages
 abbrev pub outputs_of : Sent → Outputs
 outputs_of o = record nothing {
   ticket = o.ticket;

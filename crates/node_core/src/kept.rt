@@ -26,7 +26,8 @@ ghost use Rattle.node_core.specs.declared.queue_change.QueueChange.TheVariants.{
 ghost use Rattle.requests.specs.Waiting.{held_in};
 ghost use Rattle.node_core.specs.Voting.{id_concerns, receipt_if, voted_in};
 ghost use Rattle.node_core.specs.Pendings.{IsPrepared};
-ghost use Rattle.node_core.specs.Steps.{HasRoom, IsAnswer, IsFault, IsInstalled, IsLeft, IsNext, IsStep, entries_after, giving, receipt_of, refused_by, rested_if};
+ghost use Rattle.node_core.specs.Steps.{HasRoom, IsAnswer, IsFault, IsInstalled, IsLeft, IsNext, IsStep, entries_after, giving, refused_by, rested_if};
+ghost use Rattle.node_model.specs.Reported.{receipt_of};
 
 use crate::fault::StepFault;
 use crate::input::{Input, sender};

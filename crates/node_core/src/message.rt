@@ -25,7 +25,8 @@ ghost use Rattle.node_core.specs.Attempting.{IsBacked, IsBy, IsTried, granted_in
 ghost use Rattle.node_model.specs.Ticks.{ruled};
 ghost use Rattle.node_model.specs.Rules.{first_rule, known_rule};
 ghost use Rattle.node_model.specs.Granted.{is_open_in};
-ghost use Rattle.rules.specs.Dues.{is_up, rule_of};
+ghost use Rattle.rules.specs.Dues.{rule_of};
+ghost use Rattle.delivery.specs.Targets.{is_up};
 ghost use Rattle.node_core.specs.Ticking.{IsAtRest, IsOfTurn, gives_up, ruled_as, ruled_by, turned};
 ghost use Rattle.node_core.specs.Messages.{IsConcluded, IsHeard, IsJudged, IsOf, IsPromised, IsRefused, IsStarted, IsStartedFor, IsTriedSo, changed_by, closed_at, granted_at, message_of, rested};
 ghost use Rattle.node_core.specs.Living.{is_decided};

@@ -14,7 +14,7 @@ ghost use Rattle.node_model.specs.Ticks.{asked_again, ids_of, on_tick, ticked};
 ghost use Rattle.requests.specs.Numbers.{IsLeastFrom, ids_in};
 ghost use Rattle.requests.specs.Queues.{timely};
 ghost use Rattle.requests.specs.Waiting.{held_in};
-ghost use Rattle.rules.specs.Dues.{is_up};
+ghost use Rattle.delivery.specs.Targets.{is_up};
 ghost use Rattle.shelf.specs.Shelved.{value_at};
 ghost use Rattle.synod_acceptor.specs.Packets.{packet_of};
 ghost use Rattle.node_core.specs.Idling.{IsIdle, IsQuiet, IsStill, NoneFits};

@@ -12,6 +12,7 @@ pub mod Answers
 pub mod Starts
 pub mod Rules
 pub mod Outputs
+pub mod Reported
 pub mod Packets
 pub mod Ticks
 pub mod Attempts

@@ -1,7 +1,5 @@
 -- What is due behind a chain that is known, and its decree (own).
 use Rattle.std.specs.Prelude.{◌≡◌, ℕ, Bool, ◌==◌, ◌&&◌, List, [], ◌∷◌, Option, Some, None, if◌then◌else◌}
-use Rattle.std.specs.List.{list_any}
-use Rattle.std.specs.Str.{bytes_eq}
 use Rattle.std.specs.Option.{option_map, option_or}
 use Rattle.mc_model.specs.message.Submission.{Submission}
 use Rattle.mc_model.specs.message.Decree.{Decree, Deleted, Failed, Fate, Kind}
@@ -53,10 +51,6 @@ abbrev pub fitting_for : Standpoint → Decree → List Decree → Due → Fitti
 fitting_for s newest older due = record { rule = rule_of due; start = start_for s newest older due }
 
 -- ---- which rule fits
-
--- the accounts of which a session may receive
-abbrev pub is_up : List (List ℕ) → List ℕ → Bool
-is_up accounts target = list_any (λ account. bytes_eq account target) accounts
 
 -- of a message that waits
 abbrev pub idle_rule : Standpoint → Bool → Bool → Submission → Decree → List Decree → Option Fitting

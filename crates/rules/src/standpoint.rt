@@ -5,7 +5,8 @@ ghost use Rattle.mc_model.specs.message.Decree.{Decree as DecreeValue};
 ghost use Rattle.node_model.specs.Rules.{attempt_rule, is_attempt_by};
 ghost use Rattle.node_model.specs.Starts.{is_idle, moment_behind};
 ghost use Rattle.rules.specs.Attempts.{attempted_at};
-ghost use Rattle.rules.specs.Dues.{IsBehind, IsDecreeBehind, IsDeletion, IsDueBehind, IsEnd, MayBeDue, MayEnd, fitting_for, is_up};
+ghost use Rattle.rules.specs.Dues.{IsBehind, IsDecreeBehind, IsDeletion, IsDueBehind, IsEnd, MayBeDue, MayEnd, fitting_for};
+ghost use Rattle.delivery.specs.Targets.{is_up};
 ghost use Rattle.rules.specs.Standpoints.{kept_of, setup_of};
 
 use crate::attempted::{Attempted, Closing};

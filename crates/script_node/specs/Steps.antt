@@ -16,7 +16,7 @@ use Rattle.requests.specs.declared.answer.Reply.{Reply}
 use Rattle.script_text.specs.Node.{Node, awaiting, step_at, with_step}
 use Rattle.node_core.specs.Keeping.{kept_of}
 use Rattle.synod_acceptor.specs.Packets.{packet_of}
-use Rattle.node_core.specs.Steps.{receipt_of}
+use Rattle.node_model.specs.Reported.{receipt_of}
 use Rattle.script_node.specs.declared.node.Answers.{Answers}
 use Rattle.script_node.specs.declared.node.Given.{Given}
 use Rattle.script_node.specs.declared.node.Granting.{Granting}

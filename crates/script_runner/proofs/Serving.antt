@@ -51,7 +51,7 @@ served_so settings number node session (Leave outgoing abandoned) = record { nod
 served_so settings number node session (Ask requested) =
     let e = unasked_by number node session requested 0 session.account in
     record { node_is = ap (λ (s : Served). s.node) e; session_is = ap (λ (s : Served). s.session) e; prints_are = ap (λ (s : Served). s.prints) e }
-served_so settings number node session (Answered pushed answer) = record {
+served_so settings number node session (Answered pushed) = record {
   node_is = ap (λ (w : Went). w.node) (unanswered_by node pushed.delivery);
   session_is = refl;
   prints_are = refl;
@@ -60,7 +60,7 @@ served_so settings number node session (Answered pushed answer) = record {
 -- a reaction that is neither a request for the node nor an answer to it is served alike, whatever came
 abbrev pub IsOwn : Reaction → Type 0
 IsOwn (Ask requested) = ⊥
-IsOwn (Answered pushed answer) = ⊥
+IsOwn (Answered pushed) = ⊥
 IsOwn other = Unit {0}
 
 own_so : (settings : Settings) (number : ℕ) (node : Node) (came : Came) (session : Session) (reaction : Reaction) → IsOwn reaction
@@ -69,7 +69,7 @@ own_so settings number node came session Nothing own = record { node_is = refl; 
 own_so settings number node came session (Respond outgoing) own = record { node_is = refl; session_is = refl; prints_are = refl }
 own_so settings number node came session (Leave outgoing abandoned) own = record { node_is = refl; session_is = refl; prints_are = refl }
 own_so settings number node came session (Ask requested) own = absurd own
-own_so settings number node came session (Answered pushed answer) own = absurd own
+own_so settings number node came session (Answered pushed) own = absurd own
 
 -- It was served, if the node is left so, and its lines were added.
 reacted_so : (settings : Settings) (number : ℕ) (node left : Node) (session remains : Session) (reaction : Reaction) (served : Served) (before after : List ℕ)

@@ -15,7 +15,8 @@ use Rattle.script_text.specs.Node.{Node, awaiting, step_at, with_step}
 use Rattle.script_text.specs.Prints.{Print, line_of, text_of_prints, unsettled_line}
 use Rattle.script_text.specs.Receipts.{Posted, all_posted}
 use Rattle.script_text.specs.Runner.{Acted, Runner, Told, answered_by, followed_by, mail_of, on_delivery, posts, reports_by, rests, settles, told, unsettled, with_posted}
-use Rattle.script_sessions.specs.Posting.{IsPosted, receipt_by}
+use Rattle.script_sessions.specs.Posting.{IsPosted}
+use Rattle.node_model.specs.Reported.{receipt_of}
 use Rattle.script_sessions.specs.Told.{AreTold}
 use Rattle.script_node.specs.Steps.{HasCome, HasReplied}
 use Rattle.script_node.specs.declared.node.Given.{Given}
@@ -101,7 +102,7 @@ reported_so runner middle left node input step replies receipts before after is 
 pub one_settled : (all : Acted) (left more : ℕ) (runner middle next : Runner) (given : Given) (before text after : List ℕ)
     → IsLeft all (settles left runner) before text → left ≡ suc more → HasCome runner.node given middle.node
     → middle.sessions ≡ runner.sessions → middle.streams ≡ runner.streams → middle.waiting ≡ runner.waiting
-    → IsDone (tells middle (map reply_given given.replies.items) (map receipt_by given.receipts.items)) next text after
+    → IsDone (tells middle (map reply_given given.replies.items) (map receipt_of given.receipts.items)) next text after
     → IsLeft all (settles more next) before after
 one_settled all left more runner middle next given before text after so is came sessions streams waiting told_so =
     let first = first_settled left more runner came.packet came.others is came.waited in

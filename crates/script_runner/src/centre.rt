@@ -36,7 +36,7 @@ pub struct Centre {
 }
 
 impl Centre {
-    ghost use Rattle.script_sessions.specs.Posting.{receipt_by};
+    ghost use Rattle.node_model.specs.Reported.{receipt_of};
     ghost use Rattle.requests.specs.Replying.{reply_given};
     ghost use Rattle.script_runner.specs.Centre.{IsDone, keeps, put_back, runner_of, tells};
     ghost use Rattle.script_text.specs.Runner.{ends, gives_up, held_in, makes_room, on_frame, on_grant, on_octets, on_restart, on_settle, on_tick, opened_at, posts_for, sent, settles};
@@ -319,7 +319,7 @@ impl Centre {
 
     /// Adds the lines of what a step gave out: its replies, and then its receipts.
     fn tell(&mut self, alloc: Global, given: Given, text: &mut Vec<u8>) -> Result<(), AllocError>
-        ensures { OnOk result (IsDone (tells (runner_of self.old) (map reply_given given.replies.items) (map receipt_by given.receipts.items)) (runner_of self.new) text.old.items text.new.items) }
+        ensures { OnOk result (IsDone (tells (runner_of self.old) (map reply_given given.replies.items) (map receipt_of given.receipts.items)) (runner_of self.new) text.old.items text.new.items) }
     {
         let Given { replies, receipts } = given;
         write_replies(alloc, text, &mut self.connected, replies)?;

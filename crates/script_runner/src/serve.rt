@@ -104,7 +104,7 @@ fn serve_pdu(
                 alloc, config, number, node, session, requested, sequence, pdu.body, text,
             )
         }
-        Reaction::Answered(pushed, _) => {
+        Reaction::Answered(pushed) => {
             let outcome = outcome_of(pushed.sequence, &pdu);
             drop(pdu);
             node.conclude_by(pushed.delivery, outcome)
@@ -240,6 +240,6 @@ fn react(
             write_outgoing(alloc, text, number, &config.system_id, outgoing)?;
             write_gone(text, number)
         }
-        Reaction::Nothing | Reaction::Ask(_) | Reaction::Answered(_, _) => Ok(()),
+        Reaction::Nothing | Reaction::Ask(_) | Reaction::Answered(_) => Ok(()),
     }
 }

@@ -13,7 +13,8 @@ use Rattle.sessions.specs.declared.pushed.Delivery.TheVariants as deliveries
 use Rattle.script_text.specs.Prints.{Print, text_of_prints}
 use Rattle.script_text.specs.Pushes.{knows_optional, target_in, with_push}
 use Rattle.script_text.specs.Receipts.{Mail, Posted, all_posted, goes_out, goes_out_up_to, is_for, posted, posted_for, posted_for_all, posted_to, reported_by, reports_on, stays, submitter_of, then_posted, waits_for, with_both}
-use Rattle.script_sessions.specs.Posting.{IsPosted, mail, receipt_by, report_prints}
+use Rattle.script_sessions.specs.Posting.{IsPosted, mail, report_prints}
+use Rattle.node_model.specs.Reported.{receipt_of}
 use Rattle.script_sessions.specs.Pushing.{GoesOut}
 use Rattle.script_sessions.specs.declared.connected.PushedOn.{PushedOn}
 use Rattle.script_sessions.proofs.Telling.{in_turn}
@@ -116,20 +117,20 @@ module _ (now : ℕ) (account : List ℕ) where
   -- One more goes out.
   pub one_posted : (all : Posted) (sessions left : List (ℕ × Session)) (waiting still : List Receipt) (id : ℕ) (pushed : PushedOn) (chain : Chain) (before text after : List ℕ)
       → IsLeft all (posted_for now (mail sessions waiting) account) before text
-      → Some id ≡ option_map (λ (r : Receipt). r.id) (find (is_for account) waiting) → Some (receipt_by chain) ≡ find (is_for account) waiting
+      → Some id ≡ option_map (λ (r : Receipt). r.id) (find (is_for account) waiting) → Some (receipt_of chain) ≡ find (is_for account) waiting
       → GoesOut sessions account now (deliveries.Receipt id) pushed left → still ≡ without_first (is_for account) waiting
-      → after ≡ text ++ text_of_prints (report_prints pushed (reported_by (receipt_by chain)))
+      → after ≡ text ++ text_of_prints (report_prints pushed (reported_by (receipt_of chain)))
       → IsLeft all (posted_for now (mail left still) account) before after
   one_posted all sessions left waiting still id pushed chain before text after so named found out rest wrote =
       let same : id ≡ chain.id = (let both = named ∙ ap (option_map (λ (r : Receipt). r.id)) (sym found) in cc) in
       let there = mail sessions waiting in
-      let goes = goes_out now account there (receipt_by chain) pushed.number in
+      let goes = goes_out now account there (receipt_of chain) pushed.number in
       let mails : goes.mail ≡ mail left still =
       λ i. mail ((ap (λ (n : ℕ). with_push sessions pushed.number now (deliveries.Receipt n)) (sym same) ∙ sym out.left) i) (sym rest i) in
-      let prints : report_prints pushed (reported_by (receipt_by chain)) ≡ goes.prints =
-      report_so pushed out.session (reported_by (receipt_by chain)) out.sequence out.optional
-      ∙ ap (λ (s : Option Session). reports_on pushed.number s (reported_by (receipt_by chain))) (sym out.stands) in
-      let one = posts_one there (receipt_by chain) pushed.number (sym found) out.takes in
+      let prints : report_prints pushed (reported_by (receipt_of chain)) ≡ goes.prints =
+      report_so pushed out.session (reported_by (receipt_of chain)) out.sequence out.optional
+      ∙ ap (λ (s : Option Session). reports_on pushed.number s (reported_by (receipt_of chain))) (sym out.stands) in
+      let one = posts_one there (receipt_of chain) pushed.number (sym found) out.takes in
       first_out all (posted_for now there account) goes (posted_for now (mail left still) account) before text after so
       (one ∙ ap (λ (m : Mail). then_posted goes (posted_for now m account)) mails)
       (wrote ∙ ap (λ (ps : List Print). text ++ text_of_prints ps) prints)
@@ -173,30 +174,30 @@ posts_first now m receipts others receipt are = rw are refl
 
 -- One more was due.
 pub one_due : (all : Posted) (now : ℕ) (sessions left : List (ℕ × Session)) (waiting still : List Receipt) (chains others : List Chain) (chain : Chain) (before text after : List ℕ)
-    → IsLeft all (all_posted now (mail sessions waiting) (map receipt_by chains)) before text → chains ≡ chain ∷ others
-    → IsPosted (posted now (mail sessions waiting) (receipt_by chain)) left still text after → IsLeft all (all_posted now (mail left still) (map receipt_by others)) before after
+    → IsLeft all (all_posted now (mail sessions waiting) (map receipt_of chains)) before text → chains ≡ chain ∷ others
+    → IsPosted (posted now (mail sessions waiting) (receipt_of chain)) left still text after → IsLeft all (all_posted now (mail left still) (map receipt_of others)) before after
 one_due all now sessions left waiting still chains others chain before text after so are done =
-    let one = posted now (mail sessions waiting) (receipt_by chain) in
+    let one = posted now (mail sessions waiting) (receipt_of chain) in
     let mails : one.mail ≡ mail left still = λ i. mail (sym done.sessions i) (sym done.waiting i) in
-    first_out all (all_posted now (mail sessions waiting) (map receipt_by chains)) one (all_posted now (mail left still) (map receipt_by others)) before text after so
-    (posts_first now (mail sessions waiting) (map receipt_by chains) (map receipt_by others) (receipt_by chain) (ap (map receipt_by) are)
-    ∙ ap (λ (m : Mail). then_posted one (all_posted now m (map receipt_by others))) mails) done.text
+    first_out all (all_posted now (mail sessions waiting) (map receipt_of chains)) one (all_posted now (mail left still) (map receipt_of others)) before text after so
+    (posts_first now (mail sessions waiting) (map receipt_of chains) (map receipt_of others) (receipt_of chain) (ap (map receipt_of) are)
+    ∙ ap (λ (m : Mail). then_posted one (all_posted now m (map receipt_of others))) mails) done.text
 
 none_due : (now : ℕ) (m : Mail) (receipts : List Receipt) → receipts ≡ [] → all_posted now m receipts ≡ stays m
 unfolding all_posted
 none_due now m receipts none = rw none refl
 
 pub all_due : (all : Posted) (now : ℕ) (sessions : List (ℕ × Session)) (waiting : List Receipt) (chains : List Chain) (before text : List ℕ)
-    → IsLeft all (all_posted now (mail sessions waiting) (map receipt_by chains)) before text → chains ≡ [] → IsPosted all sessions waiting before text
+    → IsLeft all (all_posted now (mail sessions waiting) (map receipt_of chains)) before text → chains ≡ [] → IsPosted all sessions waiting before text
 all_due all now sessions waiting chains before text so none =
-    all_out all (all_posted now (mail sessions waiting) (map receipt_by chains)) sessions waiting before text so
-    (none_due now (mail sessions waiting) (map receipt_by chains) (ap (map receipt_by) none))
+    all_out all (all_posted now (mail sessions waiting) (map receipt_of chains)) sessions waiting before text so
+    (none_due now (mail sessions waiting) (map receipt_of chains) (ap (map receipt_of) none))
 
 -- It waits for its account, and goes out if it can.
 pub posted_if : (r : Result (Unit {0}) AllocError) (now : ℕ) (sessions left : List (ℕ × Session)) (waiting with still : List Receipt) (chain : Chain) (account : List ℕ) (before after : List ℕ)
-    → submitter_of (receipt_by chain) ≡ Some account → with ≡ waits_for account waiting (receipt_by chain)
-    → OnOk r (IsPosted (posted_for now (mail sessions with) account) left still before after) → OnOk r (IsPosted (posted now (mail sessions waiting) (receipt_by chain)) left still before after)
+    → submitter_of (receipt_of chain) ≡ Some account → with ≡ waits_for account waiting (receipt_of chain)
+    → OnOk r (IsPosted (posted_for now (mail sessions with) account) left still before after) → OnOk r (IsPosted (posted now (mail sessions waiting) (receipt_of chain)) left still before after)
 posted_if (Err fault) now sessions left waiting with still chain account before after from waits done = tt
 posted_if (Ok fine) now sessions left waiting with still chain account before after from waits done =
-    subst (λ (to : Option (List ℕ)). IsPosted (posted_to now (mail sessions waiting) (receipt_by chain) to) left still before after) (sym from)
+    subst (λ (to : Option (List ℕ)). IsPosted (posted_to now (mail sessions waiting) (receipt_of chain) to) left still before after) (sym from)
     (subst (λ (w : List Receipt). IsPosted (posted_for now (mail sessions w) account) left still before after) waits done)

@@ -8,7 +8,7 @@ use Rattle.mc_model.specs.message.Chain.{Chain}
 use Rattle.mc_model.specs.node.Outputs.{Receipt}
 use Rattle.sessions.specs.Windows.{without_first}
 use Rattle.script_text.specs.Receipts.{is_for, most_waiting, waits_for}
-use Rattle.script_sessions.specs.Posting.{receipt_by}
+use Rattle.node_model.specs.Reported.{receipt_of}
 use Rattle.sessions.proofs.Firsts.{found_first, found_none, left_first, stays}
 
 module _ {A B : Type 0} (f : A → B) (test : B → Bool) where
@@ -61,9 +61,9 @@ module _ {A B : Type 0} (f : A → B) (test : B → Bool) where
 
 -- ---- one more
 
-pub counted : (account : List ℕ) (chains : List Chain) → length (filter (λ chain. is_for account (receipt_by chain)) chains) ≡ length (filter (is_for account) (map receipt_by chains))
+pub counted : (account : List ℕ) (chains : List Chain) → length (filter (λ chain. is_for account (receipt_of chain)) chains) ≡ length (filter (is_for account) (map receipt_of chains))
 counted account chains =
-    sym (length-map (filter (λ chain. is_for account (receipt_by chain)) chains) receipt_by) ∙ ap length (filter_mapped receipt_by (is_for account) chains)
+    sym (length-map (filter (λ chain. is_for account (receipt_of chain)) chains) receipt_of) ∙ ap length (filter_mapped receipt_of (is_for account) chains)
 
 -- as many wait as may
 pub full : (account : List ℕ) (waiting : List Receipt) (receipt : Receipt) → 10000 ≤ length (filter (is_for account) waiting) → waiting ≡ waits_for account waiting receipt
@@ -78,5 +78,5 @@ has_room account waiting receipt below =
     ap (λ (b : Bool). cond b (waiting ++ receipt ∷ []) waiting) (sym test)
 
 -- by their chains
-pub one_more : (chains : List Chain) (chain : Chain) → map receipt_by (chains ++ chain ∷ []) ≡ map receipt_by chains ++ receipt_by chain ∷ []
-one_more chains chain = map-append receipt_by chains (chain ∷ [])
+pub one_more : (chains : List Chain) (chain : Chain) → map receipt_of (chains ++ chain ∷ []) ≡ map receipt_of chains ++ receipt_of chain ∷ []
+one_more chains chain = map-append receipt_of chains (chain ∷ [])

@@ -1,16 +1,11 @@
 -- Receipts that go out on the sessions of a script, in the words of its text.
 use Rattle.std.specs.Prelude.{◌≡◌, ℕ, List, [], ◌∷◌, ◌++◌, map, Option, Some, None}
-use Rattle.mc_model.specs.message.Chain.{Chain}
 use Rattle.mc_model.specs.node.Outputs.{Receipt}
 use Rattle.receipts.specs.Texts.{Report}
 use Rattle.sessions.specs.Session.{Session}
 use Rattle.script_text.specs.Prints.{Print, Reports, text_of_prints}
 use Rattle.script_text.specs.Receipts.{Mail, Posted}
 use Rattle.script_sessions.specs.declared.connected.PushedOn.{PushedOn}
-
--- the receipt of a message, by its chain
-abbrev pub receipt_by : Chain → Receipt
-receipt_by chain = record { id = chain.id; chain = chain.decrees }
 
 -- what is printed of a report that was pushed
 abbrev pub report_prints : PushedOn → Option Report → List Print

@@ -2,7 +2,8 @@
 
 ghost use Rattle.std.specs.Prelude.{◌≡◌, length, map, OnOk};
 ghost use Rattle.script_text.specs.Receipts.{all_posted, goes_out_up_to, posted, posted_for, posted_for_all};
-ghost use Rattle.script_sessions.specs.Posting.{IsPosted, mail, receipt_by};
+ghost use Rattle.script_sessions.specs.Posting.{IsPosted, mail};
+ghost use Rattle.node_model.specs.Reported.{receipt_of};
 
 use crate::connected::Connected;
 use crate::output::write_receipt;
@@ -64,7 +65,7 @@ pub fn post_all(
     now: Moment,
     chains: Vec<Chain>,
 ) -> Result<(), AllocError>
-    ensures { OnOk result (IsPosted (all_posted now (mail connected.old waiting.old) (map receipt_by chains.items)) connected.new waiting.new text.old.items text.new.items) }
+    ensures { OnOk result (IsPosted (all_posted now (mail connected.old waiting.old) (map receipt_of chains.items)) connected.new waiting.new text.old.items text.new.items) }
 {
     for chain in chains {
         post(alloc, text, connected, waiting, now, chain)?;
@@ -81,7 +82,7 @@ fn post(
     now: Moment,
     chain: Chain,
 ) -> Result<(), AllocError>
-    ensures { OnOk result (IsPosted (posted now (mail connected.old waiting.old) (receipt_by chain)) connected.new waiting.new text.old.items text.new.items) }
+    ensures { OnOk result (IsPosted (posted now (mail connected.old waiting.old) (receipt_of chain)) connected.new waiting.new text.old.items text.new.items) }
 {
     let account = match chain.submission().submitter.copy() {
         Ok(account) => account,

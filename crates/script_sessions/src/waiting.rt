@@ -1,9 +1,9 @@
 //! The receipts that wait for a session.
 
-ghost use Rattle.std.specs.Prelude.{◌≡◌, ◌==◌, [], find, filter, length, position, option_map, IfOk, OnOk, IsTrue};
+ghost use Rattle.std.specs.Prelude.{◌≡◌, ◌≤◌, ◌↔◌, ◌==◌, [], find, filter, length, position, option_map, IfOk, OnOk, IsTrue};
 ghost use Rattle.sessions.specs.Windows.{without_first};
 ghost use Rattle.script_text.specs.Receipts.{is_for, waits_for};
-ghost use Rattle.script_sessions.specs.Posting.{receipt_by};
+ghost use Rattle.node_model.specs.Reported.{receipt_of};
 
 use fate_chain::Chain;
 use mc_types::MsgId;
@@ -23,11 +23,11 @@ pub struct Waiting {
 impl Model for Waiting {
     ghost use Rattle.std.specs.Prelude.{List, map};
     ghost use Rattle.mc_model.specs.node.Outputs.{Receipt};
-    ghost use Rattle.script_sessions.specs.Posting.{receipt_by};
+    ghost use Rattle.node_model.specs.Reported.{receipt_of};
 
     ghost Value = { List Receipt };
 
-    ghost view = { λ waiting. map receipt_by waiting.chains.items };
+    ghost view = { λ waiting. map receipt_of waiting.chains.items };
 }
 
 impl Waiting {
@@ -49,9 +49,9 @@ impl Waiting {
 
     /// One more waits for this account, by the chain of its message; it is dropped if 10,000 do. An `Err` is want of memory.
     pub(crate) fn add(&mut self, account: &Text<16>, chain: Chain) -> Result<(), AllocError>
-        ensures { OnOk result (self.new ≡ waits_for account.now self.old (receipt_by chain)) }
+        ensures { OnOk result (self.new ≡ waits_for account.now self.old (receipt_of chain)) }
     {
-        if count_for(&self.chains, account) >= MOST_WAITING {
+        if is_full(&self.chains, account) {
             drop(chain);
             return Ok(());
         }
@@ -69,7 +69,7 @@ impl Waiting {
 
     /// Takes out the oldest that waits for an account, if one does.
     pub(crate) fn take_for(&mut self, account: &Text<16>) -> Option<Chain>
-        ensures taken { option_map receipt_by result ≡ find (is_for account.now) self.old }
+        ensures taken { option_map receipt_of result ≡ find (is_for account.now) self.old }
         ensures rest { self.new ≡ without_first (is_for account.now) self.old }
     {
         let place = place_for(&self.chains, account)?;
@@ -77,23 +77,30 @@ impl Waiting {
     }
 }
 
+/// Whether as many of these receipts are for an account as may be. They are counted only if there are so many in all.
+fn is_full(chains: &[Chain], account: &Text<16>) -> bool
+    ensures { IsTrue result ↔ (10000 ≤ length (filter (λ chain. is_for account.now (receipt_of chain)) chains.now)) }
+{
+    chains.len() >= MOST_WAITING && count_for(chains, account) >= MOST_WAITING
+}
+
 /// How many of these receipts are for an account.
 fn count_for(chains: &[Chain], account: &Text<16>) -> usize
-    ensures { result ≡ length (filter (λ chain. is_for account.now (receipt_by chain)) chains.now) }
+    ensures { result ≡ length (filter (λ chain. is_for account.now (receipt_of chain)) chains.now) }
 {
     chains.iter().filter(|chain| is_for(account, chain)).count()
 }
 
 /// Where the first of these receipts stands that is for an account.
 fn place_for(chains: &[Chain], account: &Text<16>) -> Option<usize>
-    ensures { result ≡ position (λ chain. is_for account.now (receipt_by chain)) chains.now }
+    ensures { result ≡ position (λ chain. is_for account.now (receipt_of chain)) chains.now }
 {
     chains.iter().position(|chain| is_for(account, chain))
 }
 
 /// Whether the receipt by a chain is for an account: that which submitted the message.
 fn is_for(account: &Text<16>, chain: &Chain) -> bool
-    ensures { result ≡ is_for account.now (receipt_by chain.now) }
+    ensures { result ≡ is_for account.now (receipt_of chain.now) }
 {
     chain.submission().submitter.octets() == account.octets()
 }

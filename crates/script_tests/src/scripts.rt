@@ -20,6 +20,10 @@ const UNBOUND: &[u8] = b"pdu 1 1 00000010800000060000000000000004\ngone 1 1\n";
 const SUBMIT: &[u8] =
     b"pdu 1 1 0000002900000004000000000000000200010131343400010131353500000000000000000000024869\n";
 
+/// The same, with a receipt asked for.
+const REPORTED: &[u8] =
+    b"pdu 1 1 0000002900000004000000000000000200010131343400010131353500000000000001000000024869\n";
+
 const QUERY: &[u8] =
     b"pdu 1 1 000000210000000300000000000000033130303031303030303100010131343400\n";
 
@@ -167,5 +171,57 @@ fn a_settle_ends_after_100000_deliveries(rt: HostRuntime) -> Result<(), Fail> {
     // Each answer to a submit_sm has 27 octets.
     let answers = 10 * (b"pdu 1 1 \n".len() + 2 * 27);
     assert_eq!(rt; output.len(), unsettled.len() + answers);
+    Ok(())
+}
+
+/// A script in which 10,001 messages expire of which a receipt is asked for, while no session is there, and behind that 1,001 sessions bind and
+/// unbind.
+fn many_receipts(alloc: Global) -> Result<Vec<u8>, AllocError> {
+    let ten = joined(alloc, &[&times(alloc, REPORTED, 10)?, b"settle\n"])?;
+    let submits = times(alloc, &ten, 1000)?;
+    let sessions = times(alloc, &joined(alloc, &[BIND_LINE, UNBIND])?, 1001)?;
+    joined(
+        alloc,
+        &[
+            BIND,
+            &submits,
+            REPORTED,
+            b"settle\n",
+            UNBIND,
+            b"tick 1 946944000\nsettle\n",
+            &sessions,
+        ],
+    )
+}
+
+/// Whether octets stand somewhere in a text.
+fn contains(text: &[u8], octets: &[u8]) -> bool {
+    text.windows(28).any(|there| there == octets)
+}
+
+/// The receipts wait for a session, but for the 10,001st, which is dropped. Each session that binds gets ten, and takes them with it
+/// when it goes; the last one gets none.
+#[test]
+fn ten_thousand_receipts_wait(rt: HostRuntime) -> Result<(), Fail> {
+    let alloc = rt.alloc();
+    let script = many_receipts(alloc)?;
+    let mut output = Vec::new(alloc);
+    assert_eq!(rt;
+        run_script(alloc, &mut script.as_slice(), &mut output),
+        Ok(())
+    );
+    // Each answer to a submit_sm has 27 octets, each receipt 163.
+    let answers = 10001 * (b"pdu 1 1 \n".len() + 2 * 27);
+    let receipts = 10000 * (b"pdu 1 1 \n".len() + 2 * 163);
+    let sessions = 1002 * (BOUND.len() + UNBOUND.len());
+    assert_eq!(rt; output.len(), answers + receipts + sessions);
+    // The last texts would begin with `id:1000110000` and `id:1000110001`, and a space.
+    assert!(rt; contains(&output, b"69643a3130303031313030303020"));
+    assert!(rt; !contains(&output, b"69643a3130303031313030303120"));
+    assert!(rt;
+        output
+            .as_slice()
+            .ends_with(&joined(alloc, &[UNBOUND, BOUND, UNBOUND])?)
+    );
     Ok(())
 }

@@ -125,7 +125,7 @@ request_goes number node session requested sequence (Some account) (Some request
 
 reaction_goes : (settings : Settings) (number : ℕ) (node : Node) (came : Came) (session : Session) (reaction : Reaction) → ServedGoes node (on_reaction settings number node came session reaction)
 reaction_goes settings number node came session (reactions.Ask requested) = request_goes number node session requested came.sequence session.account came.request
-reaction_goes settings number node came session (reactions.Answered pushed answer) = delivered_goes node pushed.delivery (came.outcome pushed.sequence)
+reaction_goes settings number node came session (reactions.Answered pushed) = delivered_goes node pushed.delivery (came.outcome pushed.sequence)
 reaction_goes settings number node came session (reactions.Leave outgoing abandoned) = all_go node abandoned
 reaction_goes settings number node came session other = goes_nowhere node
 

@@ -1,4 +1,4 @@
--- A script: an ESME binds, submits a message and asks for it.
+-- Two scripts. In the first an ESME binds, submits a message and asks for it.
 use Rattle.std.specs.Prelude.{ℕ, List, [], ◌∷◌, ◌++◌, codes}
 
 abbrev pub first_script : List ℕ
@@ -16,3 +16,27 @@ first_text =
     codes "pdu 1 1 0000001c80000009000000000000000143454e545245000210000134" ++ 10 ∷
     (codes "pdu 1 1 0000001b8000000400000000000000023130303031303030303100" ++ 10 ∷
     (codes "pdu 1 1 0000001e8000000300000000000000033130303031303030303100000100" ++ 10 ∷ []))
+
+-- in the second it binds, submits a message to itself with a receipt asked for, gets it, answers ESME_ROK, and gets the receipt
+abbrev pub second_script : List ℕ
+second_script =
+    codes "nodes 1" ++ 10 ∷
+    (codes "tick 1 1706659200" ++ 10 ∷
+    (codes "settle" ++ 10 ∷
+    (codes "pdu 1 1 0000001e000000090000000000000001736d653100707731000034000000" ++ 10 ∷
+    (codes "pdu 1 1 0000002900000004000000000000000200010131343400010131353500000000000001000000024869" ++ 10 ∷
+    (codes "settle" ++ 10 ∷
+    (codes "tick 1 1706659200" ++ 10 ∷
+    (codes "settle" ++ 10 ∷
+    (codes "grant 1 1000100001" ++ 10 ∷
+    (codes "settle" ++ 10 ∷
+    (codes "pdu 1 1 0000001180000005000000000000000100" ++ 10 ∷
+    codes "settle"))))))))))
+
+-- what it prints: the bind_transceiver_resp, the submit_sm_resp, the deliver_sm of the attempt, and that of the receipt, which tells DELIVRD
+abbrev pub second_text : List ℕ
+second_text =
+    codes "pdu 1 1 0000001c80000009000000000000000143454e545245000210000134" ++ 10 ∷
+    (codes "pdu 1 1 0000001b8000000400000000000000023130303031303030303100" ++ 10 ∷
+    (codes "pdu 1 1 0000002900000005000000000000000100010131343400010131353500000000000000000000024869" ++ 10 ∷
+    (codes "pdu 1 1 000000a3000000050000000000000002000101313535000101313434000400000000000000006869643a31303030313030303031207375623a30303120646c7672643a303031207375626d697420646174653a3234303133313030303020646f6e6520646174653a3234303133313030303020737461743a44454c49565244206572723a30303020746578743a4869001e000b31303030313030303031000427000102" ++ 10 ∷ [])))

@@ -22,7 +22,7 @@ use Rattle.script_text.specs.Runner.{Runner}
 use Rattle.script_text.specs.Script.{Stage, Joins, bad_from, bad_line, prints_from, prints_of, text_of}
 use Rattle.script_text.specs.OneNode.{one_node_text}
 use Rattle.script_text.specs.Calm.{IsCalm}
-use Rattle.script_text.specs.Example.{first_script, first_text}
+use Rattle.script_text.specs.Example.{first_script, first_text, second_script, second_text}
 
 -- ---- a script is its lines, joined
 
@@ -130,9 +130,14 @@ DeletedStaysDeleted =
     → TellsState query message_id state
     → state ≡ state_code states.Deleted
 
--- ---- an example
+-- ---- examples
 
 -- There are calm scripts: this one is, in which a message is submitted and queried, and this is its one-node text.
 pub record FirstScriptIsCalm : Type 0 where
   pub calm : IsCalm first_script
   pub text : one_node_text first_script ≡ first_text
+
+-- And this one is, in which a message is delivered and its receipt goes out.
+pub record SecondScriptIsCalm : Type 0 where
+  pub calm : IsCalm second_script
+  pub text : one_node_text second_script ≡ second_text

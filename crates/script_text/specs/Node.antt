@@ -8,7 +8,7 @@ use Rattle.node_model.specs.Outputs.{Stepped}
 use Rattle.node_model.specs.Stepped.{opened_new, stepped}
 use Rattle.desk.specs.Arrivals.{requested}
 use Rattle.desk.specs.declared.request.Request.{Request}
-use Rattle.script_text.specs.Pushes.{is_up}
+use Rattle.delivery.specs.Targets.{is_up}
 
 pub record Node : Type 0 where
   pub setup : Setup

@@ -33,7 +33,8 @@ use Rattle.script_text.specs.Settings.{Settings, script_settings}
 use Rattle.script_text.specs.Attempts.{unanswered}
 use Rattle.script_text.specs.Responses.{refusal_pdu, reply_pdu}
 use Rattle.script_text.specs.Prints.{Print, AtOnce, Late, Delivers, Ungranted, text_of_prints}
-use Rattle.script_text.specs.Pushes.{accounts_up, delivery_on, is_up, target_in, with_push}
+use Rattle.script_text.specs.Pushes.{accounts_up, delivery_on, target_in, with_push}
+use Rattle.delivery.specs.Targets.{is_up}
 use Rattle.script_text.specs.Receipts.{Mail, Posted, all_posted, posted_for_all, posted_for_any}
 use Rattle.script_text.specs.Runner.{Came, came_by, nothing_came, session_in}
 use Rattle.script_text.specs.Events.{Event, Comes, Ticks, Grants, Settles, Play, play_of}
@@ -138,7 +139,7 @@ abbrev pub reacted : Settings → OneNode → ℕ → Came → Session → React
 reacted settings one number came next (Respond outgoing) =
     prints_now (with_session one number next) (AtOnce number (pdu_of settings.system_id outgoing) ∷ [])
 reacted settings one number came next (Ask kind) = asked settings one number kind came.sequence next.account came.request
-reacted settings one number came next (Answered pushed answer) =
+reacted settings one number came next (Answered pushed) =
     prints_now (answered (with_session one number next) pushed.delivery (came.outcome pushed.sequence)) []
 reacted settings one number came next other = prints_now one []
 

@@ -1,6 +1,6 @@
 -- What the centre pushes to ESMEs: over which session a deliver_sm goes, and what it brings (SMPP 3.4, 4.6.1; the sessions: own).
 use Rattle.std.specs.Prelude.{ℕ, Bool, true, false, ◌&&◌, nat_le, List, [], ◌∷◌, filter, find, map, Option, Some, None, is_none, if◌then◌else◌}
-use Rattle.std.specs.List.{filter_map, flat_map, list_any, range_with_len}
+use Rattle.std.specs.List.{filter_map, flat_map, range_with_len}
 use Rattle.std.specs.Map.{lookup, set_value}
 use Rattle.std.specs.Ordering.{nat_cmp}
 use Rattle.std.specs.BTreeMap.{is_at}
@@ -34,10 +34,6 @@ receiver_of (Some session) = if may_receive session.state then session.account e
 -- the account of each session that may receive
 unfoldable pub accounts_up : List (ℕ × Session) → List (List ℕ)
 accounts_up connected = filter_map (λ number. receiver_of (session_at connected number)) session_numbers
-
--- whether an account is one of these
-abbrev pub is_up : List (List ℕ) → List ℕ → Bool
-is_up accounts target = list_any (λ account. bytes_eq account target) accounts
 
 -- ---- over which session a deliver_sm goes
 

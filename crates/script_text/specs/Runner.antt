@@ -131,7 +131,7 @@ reaction_prints settings number other = []
 abbrev pub on_reaction : Settings → ℕ → Node → Came → Session → Reaction → Served
 on_reaction settings number node came session (Ask requested) =
     on_request number node session requested came.sequence session.account came.request
-on_reaction settings number node came session (Answered pushed answer) =
+on_reaction settings number node came session (Answered pushed) =
     gone_on session (delivered_so node pushed.delivery (came.outcome pushed.sequence)) []
 on_reaction settings number node came session (Leave outgoing abandoned) =
     gone_on session (all_given_up node abandoned) (reaction_prints settings number (Leave outgoing abandoned))

@@ -5,6 +5,7 @@ ghost use Rattle.script_text.specs.Laws.{
   GoodLinesJoin,
   JoinedLinesArePrinted,
   NodeGoesByItsInputs,
+  SecondScriptIsCalm,
 };
 
 /// A script is its lines, joined: lines that join print what they are computed to print, and none of them is bad; lines of which
@@ -19,4 +20,10 @@ pub fn lines_join()
 /// responses.
 pub fn first_script_is_calm()
     ensures { FirstScriptIsCalm }
+{}
+
+/// One in which an attempt is granted is calm too: an ESME binds, submits a message to itself, answers its deliver_sm, and gets its receipt. Its
+/// one-node text is the two responses and the two deliver_sm.
+pub fn second_script_is_calm()
+    ensures { SecondScriptIsCalm }
 {}

@@ -37,17 +37,14 @@ fn word_of_leaving(
     Ok(format!(in alloc; "{} and {given_up}", digits(alloc, outgoing)?)?)
 }
 
-/// `-` if a PDU is dropped, `ask` if the request is the node's, the sequence_number and the answer if a pushed request is
-/// answered, else the digits of what is sent.
+/// `-` if a PDU is dropped, `ask` if the request is the node's, the sequence_number if a pushed request is answered, else the digits of what is sent.
 pub fn word_of(alloc: Global, reaction: &Reaction) -> Result<String, Fail> {
     match reaction {
         Reaction::Nothing => Ok(format!(in alloc; "-")?),
         Reaction::Respond(outgoing) => digits(alloc, *outgoing),
         Reaction::Leave(outgoing, abandoned) => word_of_leaving(alloc, *outgoing, abandoned),
         Reaction::Ask(requested) => Ok(format!(in alloc; "ask {requested:?}")?),
-        Reaction::Answered(pushed, answer) => {
-            Ok(format!(in alloc; "answers {} by {answer:?}", pushed.sequence)?)
-        }
+        Reaction::Answered(pushed) => Ok(format!(in alloc; "answers {}", pushed.sequence)?),
     }
 }
 

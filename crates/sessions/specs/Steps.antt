@@ -16,8 +16,6 @@ use Rattle.sessions.specs.declared.pushed.Delivery.{Delivery}
 use Rattle.sessions.specs.declared.pushed.Pushed.{Pushed}
 use Rattle.sessions.specs.declared.pushed.PushRefusal.{PushRefusal}
 use Rattle.sessions.specs.declared.pushed.PushRefusal.TheVariants.{Window, NotReceiving}
-use Rattle.sessions.specs.declared.reaction.EsmeAnswer.{EsmeAnswer}
-use Rattle.sessions.specs.declared.reaction.EsmeAnswer.TheVariants as answers
 use Rattle.sessions.specs.declared.reaction.Reaction.{Reaction}
 use Rattle.sessions.specs.declared.reaction.Reaction.TheVariants.{Nothing, Respond, Leave, Ask, Answered}
 use Rattle.sessions.specs.declared.request.OpenRequest.{OpenRequest}
@@ -94,28 +92,23 @@ asks session sequence (Some requested) =
     if has_room session.requests then Ask requested else refused sequence (Some requested) statuses.Throttled
 
 -- the answer to a pushed request, if there is such a one
-abbrev pub answers_to : Option Pushed → EsmeAnswer → Reaction
-answers_to None answer = Nothing
-answers_to (Some pushed) answer = Answered pushed answer
+abbrev pub answers_to : Option Pushed → Reaction
+answers_to None = Nothing
+answers_to (Some pushed) = Answered pushed
 
 -- an answer with this sequence_number: its request leaves the window
-abbrev pub on_answer : Session → ℕ → EsmeAnswer → Done
-on_answer session sequence answer = record {
+abbrev pub on_answer : Session → ℕ → Done
+on_answer session sequence = record {
   next = record session { pushed = without_first (λ request. request.sequence == sequence) session.pushed };
-  reaction = answers_to (find (λ request. request.sequence == sequence) session.pushed) answer;
+  reaction = answers_to (find (λ request. request.sequence == sequence) session.pushed);
 }
 
--- the bind in a body, and the answer to a pushed request that a PDU is, if it is one
+-- the bind in a body, if it is one
 abbrev pub bind_in : Body → Option Bind
 bind_in (bodies.BindReceiver bind) = Some bind
 bind_in (bodies.BindTransmitter bind) = Some bind
 bind_in (bodies.BindTransceiver bind) = Some bind
 bind_in other = None
-
-abbrev pub answer_in : ℕ → Body → Option EsmeAnswer
-answer_in status (bodies.DeliverSmResp message_id) = Some (answers.DeliverSmResp status)
-answer_in status bodies.GenericNack = Some (answers.GenericNack status)
-answer_in status other = None
 
 -- the request that a PDU is, if it is one
 abbrev pub request_in : Pdu → Option Requested
@@ -125,10 +118,6 @@ abbrev pub binds_by : List Account → Session → ℕ → Role → Option Bind 
 binds_by accounts session sequence role None = stays session Nothing
 binds_by accounts session sequence role (Some bind) = binds accounts session sequence role bind
 
-abbrev pub answered_by : Session → ℕ → Option EsmeAnswer → Done
-answered_by session sequence None = stays session Nothing
-answered_by session sequence (Some answer) = on_answer session sequence answer
-
 -- what a cell of the session table says of a PDU
 abbrev pub on_cell : List Account → Session → Pdu → Cell → Done
 on_cell accounts session pdu (Binds role) = binds_by accounts session pdu.sequence role (bind_in pdu.body)
@@ -137,7 +126,7 @@ on_cell accounts session pdu Asks = stays session (asks session pdu.sequence (re
 on_cell accounts session pdu Unbinds = leaves session pdu.sequence Unbound
 on_cell accounts session pdu Links = stays session (responds pdu.sequence (Some Linked))
 on_cell accounts session pdu NotServed = stays session (responds pdu.sequence (Some (Nack statuses.InvalidCommandId)))
-on_cell accounts session pdu Answers = answered_by session pdu.sequence (answer_in pdu.status pdu.body)
+on_cell accounts session pdu Answers = on_answer session pdu.sequence
 on_cell accounts session pdu Drops = stays session Nothing
 
 -- a PDU came

@@ -16,7 +16,7 @@ pub use laws::{
     reply_to_another_changes_nothing, tickets_are_apart,
 };
 pub use pushed::{Abandoned, Delivery, PushRefusal, Pushed};
-pub use reaction::{EsmeAnswer, Reaction};
+pub use reaction::Reaction;
 pub use request::OpenRequest;
 pub use requested::Requested;
 pub use response::{Outgoing, Response, encoded, pdu_with};

@@ -15,7 +15,7 @@ ghost use Rattle.pdu_tables.specs.CommandCodes.{command_of};
 
 use crate::fault::told_of_fault;
 use crate::pushed::{Abandoned, Delivery, PushRefusal, Pushed, retain_timely, take_sequence};
-use crate::reaction::{EsmeAnswer, Reaction};
+use crate::reaction::Reaction;
 use crate::request::{OpenRequest, take_ticket};
 use crate::requested::Requested;
 use crate::response::{KNOWS_OPTIONAL, Outgoing, Response};
@@ -149,10 +149,7 @@ impl Session {
             Body::Unbind => Ok(self.unbind(sequence)),
             Body::EnquireLink => Ok(respond(sequence, Response::Linked)),
             Body::DeliverSm(_) => Ok(respond(sequence, Response::Nack(Status::InvalidCommandId))),
-            Body::DeliverSmResp(_) => {
-                Ok(self.answered(sequence, EsmeAnswer::DeliverSmResp(pdu.status)))
-            }
-            Body::GenericNack => Ok(self.answered(sequence, EsmeAnswer::GenericNack(pdu.status))),
+            Body::DeliverSmResp(_) | Body::GenericNack => Ok(self.answered(sequence)),
             Body::BindReceiverResp(_)
             | Body::BindTransmitterResp(_)
             | Body::BindTransceiverResp(_)
@@ -350,11 +347,11 @@ impl Session {
     }
 
     /// An answer of the ESME came, with this sequence_number.
-    fn answered(&mut self, sequence: u32, answer: EsmeAnswer) -> Reaction
-        ensures { Reacts (steps.on_answer self.old sequence answer) self.new result }
+    fn answered(&mut self, sequence: u32) -> Reaction
+        ensures { Reacts (steps.on_answer self.old sequence) self.new result }
     {
         match take_sequence(&mut self.pushed, sequence) {
-            Some(pushed) => Reaction::Answered(pushed, answer),
+            Some(pushed) => Reaction::Answered(pushed),
             None => Reaction::Nothing,
         }
     }

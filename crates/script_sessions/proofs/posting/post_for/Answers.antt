@@ -1,5 +1,5 @@
 use Rattle.script_text.specs.Receipts.{is_for}
-use Rattle.script_sessions.specs.Posting.{receipt_by}
+use Rattle.node_model.specs.Reported.{receipt_of}
 use Rattle.script_sessions.proofs.Going.{all_left, none_takes, none_waits, one_posted, smaller}
 use Rattle.script_sessions.proofs.posting.post_for.Goals as goal
 
@@ -14,7 +14,7 @@ returns-in_default-push c =
 
 pub receipts-smaller : goal.receipts-smaller
 receipts-smaller c =
-    smaller (is_for c.args.account.now) c.receipts.waiting c.take_for.new.self (receipt_by c.in-Some-take_for.chain) c.in-Some-take_for.ensures.taken c.in-Some-take_for.ensures.rest
+    smaller (is_for c.args.account.now) c.receipts.waiting c.take_for.new.self (receipt_of c.in-Some-take_for.chain) c.in-Some-take_for.ensures.taken c.in-Some-take_for.ensures.rest
 
 pub receipts-preserved : goal.receipts-preserved
 receipts-preserved c =

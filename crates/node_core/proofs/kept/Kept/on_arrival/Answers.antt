@@ -9,7 +9,8 @@ use Rattle.node_model.specs.Ticks.{on_arrival, question}
 use Rattle.requests.specs.Questions.{question_by}
 use Rattle.synod_acceptor.specs.Packets.{packet_of}
 use Rattle.node_core.specs.Lists.{listed}
-use Rattle.node_core.specs.Steps.{IsStep, granted_of, outputs_of, receipt_of}
+use Rattle.node_core.specs.Steps.{IsStep, granted_of, outputs_of}
+use Rattle.node_model.specs.Reported.{receipt_of}
 use Rattle.mc_model.specs.node.Effect.{next_serial}
 use Rattle.requests.specs.Replying.{reply_given}
 use Rattle.pdu_tables.specs.StatusCodes.{status_code}

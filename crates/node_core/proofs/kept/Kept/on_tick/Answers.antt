@@ -7,7 +7,7 @@ use Rattle.node_model.specs.Ticks.{is_late}
 use Rattle.requests.specs.Queues.{timely}
 use Rattle.requests.specs.Waiting.{held_in}
 use Rattle.requests.specs.Replying.{reply_given}
-use Rattle.rules.specs.Dues.{is_up}
+use Rattle.delivery.specs.Targets.{is_up}
 use Rattle.synod_acceptor.specs.Packets.{packet_of}
 use Rattle.node_core.specs.Idling.{NoneFits}
 use Rattle.node_core.specs.Keeping.{kept_of}

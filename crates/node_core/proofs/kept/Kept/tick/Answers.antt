@@ -1,7 +1,7 @@
 use Rattle.std.proofs.Common.{◌≡◌, ℕ, List, max, sym, subst, rules}
 use Rattle.node_model.specs.Outputs.{leaves}
 use Rattle.node_model.specs.Ticks.{on_tick, ticked}
-use Rattle.rules.specs.Dues.{is_up}
+use Rattle.delivery.specs.Targets.{is_up}
 use Rattle.node_core.specs.Idling.{IsQuiet}
 use Rattle.node_core.specs.Keeping.{kept_of}
 use Rattle.node_core.proofs.Idling.{quiet_then}

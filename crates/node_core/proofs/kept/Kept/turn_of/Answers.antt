@@ -1,5 +1,5 @@
 use Rattle.std.proofs.Common.{◌≡◌, Some, None, sym}
-use Rattle.rules.specs.Dues.{is_up}
+use Rattle.delivery.specs.Targets.{is_up}
 use Rattle.shelf.specs.Shelved.{value_at}
 use Rattle.node_model.specs.Ticks.{ticked}
 use Rattle.node_core.specs.Keeping.{kept_of}

@@ -2,7 +2,7 @@ use Rattle.std.proofs.Common.{◌≡◌, ◌∙◌, ◌<◌, ℕ, suc, List, [],
 use Rattle.std.specs.Prelude.{filter, nat_le}
 use Rattle.mc_model.specs.synod.Lists.{In}
 use Rattle.node_model.specs.Ticks.{ids_of, ticked}
-use Rattle.rules.specs.Dues.{is_up}
+use Rattle.delivery.specs.Targets.{is_up}
 use Rattle.node_core.specs.Keeping.{kept_of}
 use Rattle.node_core.specs.Walking.{ids_left, next_of}
 use Rattle.node_core.specs.declared.walk.Walk.{Walk}

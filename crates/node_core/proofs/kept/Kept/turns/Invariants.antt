@@ -1,6 +1,6 @@
 use Rattle.std.proofs.Common.{◌≡◌, [], length}
 use Rattle.node_model.specs.Ticks.{ids_of, ticked}
-use Rattle.rules.specs.Dues.{is_up}
+use Rattle.delivery.specs.Targets.{is_up}
 use Rattle.node_core.specs.Idling.{NoneFits}
 use Rattle.node_core.specs.Keeping.{kept_of}
 use Rattle.node_core.specs.Living.{AreRising}

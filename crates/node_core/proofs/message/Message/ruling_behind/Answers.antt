@@ -5,7 +5,8 @@ use Rattle.mc_model.specs.message.Chain.{taken_in}
 use Rattle.node_model.specs.Starts.{cancels}
 use Rattle.requests.specs.Queues.{timely}
 use Rattle.requests.specs.Waiting.{held_in}
-use Rattle.rules.specs.Dues.{IsDueBehind, is_up}
+use Rattle.rules.specs.Dues.{IsDueBehind}
+use Rattle.delivery.specs.Targets.{is_up}
 use Rattle.rules.specs.declared.attempted.Attempted.{Attempted}
 use Rattle.node_core.proofs.Ticks.{ruled_behind}
 use Rattle.node_core.proofs.message.Message.ruling_behind.Goals as goal

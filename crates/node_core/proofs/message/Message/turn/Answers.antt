@@ -2,7 +2,7 @@ use Rattle.std.proofs.Common.{◌≡◌, ◌∙◌, Some, None, Option, ℕ, ref
 use Rattle.node_core.specs.Messages.{rested}
 use Rattle.requests.specs.Queues.{timely}
 use Rattle.requests.specs.Waiting.{held_in}
-use Rattle.rules.specs.Dues.{is_up}
+use Rattle.delivery.specs.Targets.{is_up}
 use Rattle.rules.specs.Standpoints.{start_of}
 use Rattle.node_core.specs.Ticking.{turned}
 use Rattle.node_core.proofs.Turns.{by_given, given_same, ruling_is, turned_begun, turned_given, turned_not, turned_same}

@@ -3,7 +3,7 @@ use Rattle.std.specs.Prelude.{◌&&◌}
 use Rattle.mc_model.specs.message.Submission.{Submission}
 use Rattle.node_model.specs.Rules.{is_attempt_by}
 use Rattle.node_model.specs.Starts.{is_idle, moment_behind}
-use Rattle.rules.specs.Dues.{is_up}
+use Rattle.delivery.specs.Targets.{is_up}
 use Rattle.rules.specs.Standpoints.{kept_of}
 use Rattle.rules.proofs.Waiting.{cancelled_not, due_found, idle_is_due, idle_may, waits_not}
 use Rattle.rules.proofs.standpoint.Standpoint.due.Goals.{else-cancelled-via-then-cancelled+else-is_idle, else-cancelled-via-else-cancelled}
