@@ -14,7 +14,7 @@ pub enum EsmeAnswer {
 }
 
 /// What comes of a PDU on a session.
-#[derive(Debug, Drop)]
+#[derive(Drop)]
 pub enum Reaction {
     /// Nothing: it is dropped.
     Nothing,
