@@ -13,7 +13,7 @@ use std::alloc::Global;
 use std::marker::Model;
 
 /// An account, by which an ESME binds.
-#[derive(Debug, Drop)]
+#[derive(Drop)]
 pub struct Account {
     /// system_id (SMPP 3.4, section 5.2.1).
     pub system_id: Text<16>,
@@ -40,7 +40,7 @@ impl Account {
 }
 
 /// Accounts, in the order in which they were added, no two with one system_id.
-#[derive(Debug, Drop)]
+#[derive(Drop)]
 pub struct Accounts {
     accounts: Vec<Account>,
 }

@@ -11,7 +11,7 @@ use std::alloc::Global;
 use std::marker::Model;
 
 /// A route: what goes to a destination with this prefix goes to this account.
-#[derive(Debug, Drop)]
+#[derive(Drop)]
 pub struct Route {
     /// The first digits of the destination_addr (SMPP 3.4, section 5.2.9). The empty prefix is one of every destination.
     pub prefix: Text<21>,
@@ -20,7 +20,7 @@ pub struct Route {
 }
 
 /// Routes, in the order in which they were added, no two with one prefix.
-#[derive(Debug, Drop)]
+#[derive(Drop)]
 pub struct Routes {
     routes: Vec<Route>,
 }

@@ -5,7 +5,7 @@ use pdu_codec::Text;
 use std::net::SocketAddrV4;
 
 /// Where a node listens, and where it keeps its records.
-#[derive(Debug, Drop)]
+#[derive(Drop)]
 pub struct NodeConfig {
     /// The address and the port.
     pub listen: SocketAddrV4,
@@ -14,7 +14,7 @@ pub struct NodeConfig {
 }
 
 /// What the text of a configuration says.
-#[derive(Debug, Drop)]
+#[derive(Drop)]
 pub struct Config {
     /// The centre's system_id, 1 to 15 octets.
     pub system_id: Text<16>,

@@ -31,7 +31,7 @@ pub struct Door {
 }
 
 /// What waits of a request that is not refused.
-#[derive(Debug, Drop)]
+#[derive(Drop)]
 pub enum Admitted {
     /// What is taken of a submit_sm.
     Submit(Submission),

@@ -5,7 +5,7 @@ use pdu_codec::{Cancel, Message, Query, Text};
 use pdu_tables::State;
 
 /// A request of an account.
-#[derive(Debug, Drop)]
+#[derive(Drop)]
 pub enum Request {
     /// A submit_sm, with the account that a route leads to, if one does.
     Submit(Message, Option<Text<16>>),

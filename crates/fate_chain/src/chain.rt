@@ -22,7 +22,7 @@ use std::alloc::{AllocError, Global};
 use std::marker::Model;
 
 /// The decrees on one message. Contracts see them the newest first; each may follow the one before.
-#[derive(Debug, Drop)]
+#[derive(Drop)]
 pub struct Chain {
     id: MsgId,
     // The oldest first.

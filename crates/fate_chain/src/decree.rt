@@ -108,7 +108,7 @@ impl Final {
 }
 
 /// What a decree decides.
-#[derive(Debug, Drop)]
+#[derive(Drop)]
 pub enum Kind {
     /// The message is taken.
     Taken(Submission),
@@ -160,7 +160,7 @@ impl Kind {
 }
 
 /// A decree on a message.
-#[derive(Debug, Drop)]
+#[derive(Drop)]
 pub struct Decree {
     pub author: Author,
     pub moment: Moment,

@@ -11,7 +11,7 @@ use std::alloc::AllocError;
 use std::marker::Model;
 
 /// What a submit_sm asked for, as it was taken (SMPP 3.4, section 4.4.1).
-#[derive(Debug, Drop)]
+#[derive(Drop)]
 pub struct Submission {
     /// The account that sent it.
     pub submitter: Text<16>,

@@ -11,7 +11,7 @@ use pdu_codec::Text;
 use synod_acceptor::Packet;
 
 /// What comes to a node.
-#[derive(Debug, Drop)]
+#[derive(Drop)]
 pub enum Input {
     /// A request of an account: a submit_sm, with the account that a route leads to, if one does, a query_sm or a cancel_sm.
     Request(Text<16>, Request),

@@ -5,7 +5,7 @@ ghost use Rattle.std.specs.Prelude.{◌≡◌};
 use mc_types::{Incarnation, NodeNo};
 
 /// One incarnation of one node. It is made when a node opens, and can't be copied.
-#[derive(Debug, Drop)]
+#[derive(Drop)]
 pub struct Life {
     node: NodeNo,
     incarnation: Incarnation,

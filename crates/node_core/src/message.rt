@@ -52,7 +52,7 @@ use synod_proposer::Proposer;
 
 /// What a node keeps of one message: the records of its acceptor, what it heard and knows, what it proposes, and what it did with its
 /// attempts.
-#[derive(Debug, Drop)]
+#[derive(Drop)]
 pub struct Message {
     acceptor: Acceptor,
     learner: Learner,

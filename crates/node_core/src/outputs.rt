@@ -12,7 +12,7 @@ use std::alloc::{AllocError, Global};
 use synod_acceptor::Packet;
 
 /// What a step gives out, the oldest first.
-#[derive(Debug, Drop)]
+#[derive(Drop)]
 pub struct Outputs {
     /// The ticket under which the request waits that came.
     pub ticket: Option<u64>,

@@ -9,7 +9,6 @@ use std::marker::Model;
 /// The leave to deliver the attempt in a slot, which a node granted in the incarnation of a `Life`. It can't be copied, and can't be let go:
 /// `Node::answered` spends it with what came of the attempt, or `abandon` without. While it is out, its `Life` is borrowed. Contracts see the
 /// life and the slot.
-#[derive(Debug)]
 pub struct Permit<'l> {
     life: &'l Life,
     slot: Slot,

@@ -22,7 +22,7 @@ pub enum Found {
 }
 
 /// The packet in the save of whose step a node stopped, and what was stored once it opened again.
-#[derive(Debug, Drop)]
+#[derive(Drop)]
 pub struct Stopped {
     pub packet: Packet,
     pub found: Found,

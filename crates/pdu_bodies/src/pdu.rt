@@ -82,7 +82,7 @@ impl fmt::Debug for Body {
 }
 
 /// What a bind has (section 4.1.5).
-#[derive(Debug, PartialEq, Eq, Drop)]
+#[derive(PartialEq, Eq, Drop)]
 pub struct Bind {
     pub system_id: Text<16>,
     pub password: Text<9>,
@@ -94,14 +94,14 @@ pub struct Bind {
 }
 
 /// What the response to a bind has (section 4.1.6).
-#[derive(Debug, PartialEq, Eq, Drop)]
+#[derive(PartialEq, Eq, Drop)]
 pub struct BindAnswer {
     pub system_id: Text<16>,
     pub tlvs: Tlvs,
 }
 
 /// What a submit_sm and a deliver_sm have (sections 4.4.1 and 4.6.1).
-#[derive(Debug, PartialEq, Eq, Drop)]
+#[derive(PartialEq, Eq, Drop)]
 pub struct Message {
     pub service_type: Text<6>,
     pub source: Address,
@@ -120,14 +120,14 @@ pub struct Message {
 }
 
 /// What a query_sm has (section 4.8.1).
-#[derive(Debug, PartialEq, Eq, Drop)]
+#[derive(PartialEq, Eq, Drop)]
 pub struct Query {
     pub message_id: Text<65>,
     pub source: Address,
 }
 
 /// What the response to a query_sm has (section 4.8.2).
-#[derive(Debug, PartialEq, Eq, Drop)]
+#[derive(PartialEq, Eq, Drop)]
 pub struct QueryAnswer {
     pub message_id: Text<65>,
     pub final_date: Text<17>,
@@ -136,7 +136,7 @@ pub struct QueryAnswer {
 }
 
 /// What a cancel_sm has (section 4.9.1).
-#[derive(Debug, PartialEq, Eq, Drop)]
+#[derive(PartialEq, Eq, Drop)]
 pub struct Cancel {
     pub service_type: Text<6>,
     pub message_id: Text<65>,

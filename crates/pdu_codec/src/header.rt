@@ -6,7 +6,7 @@ ghost use Rattle.pdu_fields.specs.Grammar as spec;
 use pdu_tables::limits;
 
 /// The four numbers with which a PDU begins.
-#[derive(Clone, Copy, Debug, PartialEq, Eq)]
+#[derive(Clone, Copy, PartialEq, Eq)]
 pub struct Header {
     /// command_length: the octets of the whole PDU.
     pub length: u32,

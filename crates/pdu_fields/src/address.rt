@@ -4,7 +4,7 @@ use crate::text::Text;
 use std::alloc::AllocError;
 
 /// An address of an SME, with its type of number and its numbering plan (sections 5.2.5, 5.2.6, 5.2.8).
-#[derive(Debug, PartialEq, Eq, Drop)]
+#[derive(PartialEq, Eq, Drop)]
 pub struct Address {
     pub ton: u8,
     pub npi: u8,

@@ -12,7 +12,7 @@ use std::marker::Model;
 
 /// A C-octet string (SMPP 3.4, section 3.1): fewer than `LIMIT` octets, none of them zero. On the wire a zero
 /// octet follows, which the limit counts.
-#[derive(Debug, Drop)]
+#[derive(Drop)]
 pub struct Text<const LIMIT: usize> {
     octets: Vec<u8>,
 }
@@ -89,7 +89,7 @@ impl<const LIMIT: usize> Eq for Text<LIMIT> {
 }
 
 /// A short_message (SMPP 3.4, section 5.2.22): at most 254 octets of any value.
-#[derive(Debug, Drop)]
+#[derive(Drop)]
 pub struct ShortMessage {
     octets: Vec<u8>,
 }

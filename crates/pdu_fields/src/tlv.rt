@@ -11,7 +11,7 @@ use std::marker::Model;
 
 /// The optional parameters of a PDU (SMPP 3.4, section 3.2.4.1), in their order: at most 7,000 octets, their tags and lengths
 /// counted. They are kept as those octets, and seen as pairs of tag and value.
-#[derive(Debug, Drop)]
+#[derive(Drop)]
 pub struct Tlvs {
     octets: Vec<u8>,
 }

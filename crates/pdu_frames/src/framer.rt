@@ -21,7 +21,7 @@ const LENGTH_FIELD: usize = 4;
 ///
 /// A stream is cut into pieces anywhere; what `feed` takes of them and the frames that `take` gives are those of the whole
 /// stream. Once a command_length below 16 or above 8,192 stands next, both answer `Length` from then on.
-#[derive(Debug, Drop)]
+#[derive(Drop)]
 pub struct Framer {
     octets: Vec<u8>,
 }

@@ -4,7 +4,7 @@ use fate_chain::Chain;
 use mc_types::MsgId;
 
 /// What a request that waited is answered (SMPP 3.4, sections 4.4.2, 4.8.2 and 4.9.2).
-#[derive(Debug, Drop)]
+#[derive(Drop)]
 pub enum Answer {
     /// The message of the submit_sm is taken.
     Accepted,
@@ -25,7 +25,7 @@ pub enum Answer {
 }
 
 /// The answer to the request of a ticket, about the message of an id.
-#[derive(Debug, Drop)]
+#[derive(Drop)]
 pub struct Reply {
     pub ticket: u64,
     pub id: MsgId,

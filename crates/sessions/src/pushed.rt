@@ -39,7 +39,7 @@ pub enum PushRefusal {
 }
 
 /// Pushed requests that are given up: no answer to them will be taken. Contracts see them as a list.
-#[derive(Debug, Drop)]
+#[derive(Drop)]
 pub struct Abandoned {
     pushed: Vec<Pushed>,
 }

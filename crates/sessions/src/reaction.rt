@@ -5,7 +5,7 @@ use crate::requested::Requested;
 use crate::response::Outgoing;
 
 /// What comes of a PDU on a session.
-#[derive(Debug, Drop)]
+#[derive(Drop)]
 pub enum Reaction {
     /// Nothing: it is dropped.
     Nothing,

@@ -36,7 +36,7 @@ const FIRST_SEQUENCE: u32 = 1;
 const LAST_SEQUENCE: u32 = 0x7FFF_FFFF;
 
 /// A session with an ESME: its state, the account by which it is bound, and the requests that wait, at most ten each way.
-#[derive(Debug, Drop)]
+#[derive(Drop)]
 pub struct Session {
     state: SessionState,
     // Of a session that is bound.

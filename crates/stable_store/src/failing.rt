@@ -16,7 +16,7 @@ pub enum Found {
 }
 
 /// A store of which one save fails. After that it goes on, as a device does that was opened again.
-#[derive(Debug, Drop)]
+#[derive(Drop)]
 pub struct FailingStore {
     store: ListStore,
     // How many saves from now the one that fails is; 0 where none is left to fail.

@@ -12,7 +12,7 @@ use synod_acceptor::{Change, Record};
 
 /// A store in memory, for scripts and tests: the records in the order in which they were saved. It outlives the stop of a node
 /// whose program goes on. A save costs one copy of a record; a load costs all that were saved.
-#[derive(Debug, Drop)]
+#[derive(Drop)]
 pub struct ListStore {
     // The oldest first.
     saved: Vec<Record>,

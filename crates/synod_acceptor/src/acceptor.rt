@@ -20,7 +20,7 @@ use std::alloc::{AllocError, Global};
 use std::marker::Model;
 
 /// What an acceptor answers, and the change that is to be saved before, if any.
-#[derive(Debug, Drop)]
+#[derive(Drop)]
 pub struct Verdict {
     pub answer: Packet,
     pub change: Option<Change>,
@@ -31,7 +31,7 @@ pub struct Verdict {
 ///
 /// A node keeps the records of each message in one, so that a call costs the few records of a message, and copies none but
 /// that of its slot.
-#[derive(Debug, Drop)]
+#[derive(Drop)]
 pub struct Acceptor {
     records: Vec<Record>,
 }

@@ -27,7 +27,7 @@ impl Model for Name {
 
 /// What a node sends to all nodes (Paxos Made Simple, sections 2.2 and 2.3, and the questions of a read), with its sender. A
 /// vote stands in the slot of its chain, so no packet can lie about that.
-#[derive(Debug, Drop)]
+#[derive(Drop)]
 pub enum Packet {
     /// Asks for a promise at a ballot.
     Prepare {

@@ -11,14 +11,14 @@ use mc_types::{Ballot, Slot};
 use std::alloc::AllocError;
 
 /// What an acceptor keeps of a slot: the ballot that it promised there, and its vote, if any.
-#[derive(Debug, Drop)]
+#[derive(Drop)]
 pub struct Record {
     pub promised: Ballot,
     pub report: Report,
 }
 
 /// A record that takes the place of the old one of its slot. It is to be saved before anything is answered.
-#[derive(Debug, Drop)]
+#[derive(Drop)]
 pub struct Change {
     pub after: Record,
 }

@@ -9,7 +9,7 @@ use mc_types::{Ballot, Slot};
 use std::alloc::AllocError;
 
 /// A vote for a chain at a ballot. Its slot is the one in which the chain stands, so it can't be of another.
-#[derive(Debug, Drop)]
+#[derive(Drop)]
 pub struct Vote {
     pub ballot: Ballot,
     pub chain: Chain,
@@ -46,7 +46,7 @@ impl Vote {
 }
 
 /// What an acceptor reports of a slot: that it did not vote there, or its vote.
-#[derive(Debug, Drop)]
+#[derive(Drop)]
 pub enum Report {
     Nothing(Slot),
     Held(Vote),

@@ -23,7 +23,7 @@ use synod_acceptor::Vote;
 /// A chain is known if more than half of the nodes told of their votes for it at one ballot. Of a message the longest is known, and
 /// of equally long ones the first. A node keeps the votes on each message in a learner of its own, so that a call costs the few
 /// votes of a message.
-#[derive(Debug, Drop)]
+#[derive(Drop)]
 pub struct Learner {
     nodes: u8,
     tallies: Vec<Tally>,

@@ -8,7 +8,7 @@ use mc_types::NodeSet;
 use synod_acceptor::Vote;
 
 /// A vote, and the nodes that cast it.
-#[derive(Debug, Drop)]
+#[derive(Drop)]
 pub struct Tally {
     pub vote: Vote,
     pub voters: NodeSet,

@@ -19,7 +19,7 @@ use synod_acceptor::{Packet, Report};
 
 /// What a node proposes on one message: the round that runs, if any, and the highest round that it saw at each place of the chain.
 /// All that is handed to it is of that message, and a chain has 18 places at most.
-#[derive(Debug, Drop)]
+#[derive(Drop)]
 pub struct Proposer {
     me: Author,
     nodes: u8,

@@ -16,7 +16,7 @@ use std::marker::Model;
 use synod_acceptor::{Report, Vote};
 
 /// A round: its ballot, the chain that it is for, the nodes that promised, and the highest vote that they reported.
-#[derive(Debug, Drop)]
+#[derive(Drop)]
 pub struct Round {
     ballot: Ballot,
     own: Chain,
