@@ -17,7 +17,7 @@ use Rattle.hex.specs.Hex.{decode_of}
 use Rattle.mc_model.specs.message.Ids.{IsId, IsMoment, IsNode}
 use Rattle.mc_types.specs.Texts.{id_in}
 use Rattle.mc_types.proofs.Texts.{ids_and_texts}
-use Rattle.script_lines.specs.Said.{Said, Skipped, Nodes, Octets, Deliver, Crash, Tick, Grant, Settle, Restart, Replay, IsWording, IsSession, Spells, spaced, side_word, most_number, each_once, ◌>>=◌, behind, has_leading_zero, number_of, word_len, number_at, node_at, ends, nodes_said, octets_parts, octets_said, deliver_said, side_in, crash_said, tick_said, grant_said, nodes_in, settle_said, restart_said, replay_said, named_said, is_skipped, words_said, said_of}
+use Rattle.script_lines.specs.Said.{Said, Skipped, Nodes, Octets, Deliver, Crash, Tick, Grant, Settle, Restart, Replay, IsWording, IsSession, Spells, spaced, side_word, most_number, each_once, ◌>>=◌, behind, has_leading_zero, number_of, word_len, number_at, node_at, ends, nodes_said, octets_parts, octets_said, deliver_said, side_in, crash_said, tick_said, grant_said, nodes_in, settle_said, restart_said, replay_said, named_said, is_skipped, words_said, said_of, names_within, said_within}
 use Rattle.script_lines.proofs.WordLemmas.{own, Numeral, Numeral-from_test, test-from_Numeral}
 
 -- ---- a step that gave a value
@@ -595,3 +595,10 @@ wording_again line (Replay count) w = ap said_short w.1 ∙ replay_line (spaced 
 
 pub spelled_so : (line : List ℕ) (said : Said) → (said_of line ≡ Some said) ↔ Spells said line
 spelled_so line said = (said_takes line said, λ spells. said_of-short line spells.short ∙ wording_again line said spells.wording)
+
+-- a line that names these nodes alone says what it spells, too
+pub spells_within : (most : ℕ) (line : List ℕ) (said : Said) → said_within most line ≡ Some said → Spells said line
+spells_within most line said e =
+    let a = bind_some (said_of line) (λ found. cond (names_within most found) (Some found) None) said e in
+    let is = cond_some (names_within most a.0) a.0 said a.2 in
+    said_takes line said (a.1 ∙ ap (λ s. Some s) is.1)
