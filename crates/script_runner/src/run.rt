@@ -125,7 +125,9 @@ fn act(
         Line::Skipped => Ok(true),
         Line::Nodes { serial, .. } => start(alloc, config, stage, serial),
         Line::Octets {
-            session, octets, ..
+            session,
+            octets,
+            ..
         } => match stage {
             None => Ok(false),
             Some(centre) => {

@@ -37,7 +37,7 @@ use Rattle.script_text.specs.Node.{Node, awaiting, request_at, step_at, tick_at,
 use Rattle.script_text.specs.Prints.{Print}
 use Rattle.script_text.specs.Pushes.{accounts_up, overdue_in, session_at, target_in}
 use Rattle.script_text.specs.Attempts.{Went, all_given_up, concluded, delivered_so, given_up, rests_at, submission_at, unanswered, went}
-use Rattle.script_text.specs.Runner.{Runner, Acted, Served, Came, answered_by, came_by, declined, ends, first_or, followed_by, gives_up, granted, granted_unless, held_in, holds, last_incarnation, makes_room, most_deliveries, no_incarnation, nothing_came, on_cut, on_delivery, on_done, on_frame, on_frames, on_grant, on_octets, on_reaction, on_read, on_request, on_rest, on_restart, on_settle, on_tick, opened_at, posts, posts_for, posts_for_all, pushes, put_at, restarted, rests, sent, sent_to, served_at, serves, session_in, settles, ticked, with_session}
+use Rattle.script_text.specs.Runner.{Runner, Acted, Served, Came, answered_by, came_by, declined, ends, first_or, followed_by, gives_up, granted, granted_unless, held_in, holds, last_incarnation, makes_room, most_deliveries, no_incarnation, nothing_came, on_delivery, on_done, on_frame, on_frames, on_grant, on_octets, on_reaction, on_read, on_request, on_rest, on_restart, on_settle, on_tick, opened_at, posts, posts_for, posts_for_all, pushes, put_at, restarted, rests, sent, sent_to, served_at, serves, session_in, settles, ticked, with_session}
 use Rattle.script_text.specs.Script.{Stage, Stepped, Joins, LineStep, after, bad_from, prints_from, script_nodes, step_by, step_of, stepped}
 use Rattle.script_text.specs.Laws.{GoesBy, kept_by}
 
