@@ -9,8 +9,8 @@ use Rattle.alone_laws.specs.Ticks.{ticked}
 use Rattle.alone_laws.proofs.Opening.{new_rests}
 use Rattle.pdu_frames.specs.Frames.{Cut, begins_wrong, cut}
 use Rattle.script_lines.specs.Lines.{lines_of}
-use Rattle.script_lines.specs.Said.{Said, Skipped, Nodes, Octets, Tick, Grant, Settle, Restart, said_of}
-use Rattle.script_lines.proofs.SaidLemmas.{spelled_so}
+use Rattle.script_lines.specs.Said.{Said, Skipped, Nodes, Octets, Deliver, Crash, Tick, Grant, Settle, Restart, Replay, said_within}
+use Rattle.script_lines.proofs.SaidLemmas.{spells_within}
 use Rattle.script_text.specs.Settings.{Settings, script_settings}
 use Rattle.script_text.specs.Prints.{Print, text_of_prints}
 use Rattle.script_text.specs.Pushes.{accounts_up}
@@ -19,7 +19,7 @@ use Rattle.script_text.specs.Runner.{Runner, held_in, on_grant, on_octets, on_se
 use Rattle.script_text.specs.Events.{Event, Heard, Comes, Ticks, Grants, Settles, Play, and_then, events_from, heard_by, play_from, play_of_lines}
 use Rattle.script_text.specs.OneNode.{OneNode, granted_unless, happen, happens, one_node, one_node_text, played, prints_if, settled, ticks}
 use Rattle.script_text.specs.Calm.{IsCalm, are_calm, may_happen, pushed_in, tick_stir}
-use Rattle.script_text.specs.Script.{Stage, Stepped, after, bad_from, bad_line, opened, prints_from, step_by, step_of, text_of}
+use Rattle.script_text.specs.Script.{Stage, Stepped, after, bad_from, bad_line, opened, prints_from, script_nodes, step_by, step_of, text_of}
 use Rattle.calm_laws.proofs.Calming.{octets_leave}
 use Rattle.calm_laws.proofs.Ending.{settle_leaves}
 use Rattle.calm_laws.proofs.Granting.{grant_leaves}
@@ -70,12 +70,12 @@ module _ (settings : Settings) (first : ℕ) (lines : List (List ℕ)) (behind :
 
   -- ---- octets
 
-  module _ (number : ℕ) (octets : List ℕ) where
+  module _ (node number : ℕ) (octets : List ℕ) where
     abbrev stream : Cut
     stream = cut (held_in streams number ++ octets)
 
     octets_calm : (tail : List Event) → begins_wrong stream.rest ≡ false → events_from (insert_entry nat_cmp streams number stream.rest) lines ≡ Some tail →
-        SaidCalm (Some (Octets number octets)) (map (Comes number) stream.frames ++ tail)
+        SaidCalm (Some (Octets node number octets)) (map (Comes number) stream.frames ++ tail)
     unfolding LinesCalm
     octets_calm tail right tail_is runs calm small =
         let acted = on_octets settings runner number octets in
@@ -88,17 +88,17 @@ module _ (settings : Settings) (first : ℕ) (lines : List (List ℕ)) (behind :
     heard = record { events = map (Comes number) stream.frames; streams = insert_entry nat_cmp streams number stream.rest }
 
     octets_said : (events : List Event) (wrong : Bool) → begins_wrong stream.rest ≡ wrong →
-        and_then (cond wrong None (Some heard)) (λ so. events_from so.streams lines) ≡ Some events → SaidCalm (Some (Octets number octets)) events
+        and_then (cond wrong None (Some heard)) (λ so. events_from so.streams lines) ≡ Some events → SaidCalm (Some (Octets node number octets)) events
     octets_said events true right is = absurd cc
     octets_said events false right is =
-        tail_of (SaidCalm (Some (Octets number octets))) (map (Comes number) stream.frames) (events_from heard.streams lines) events
+        tail_of (SaidCalm (Some (Octets node number octets))) (map (Comes number) stream.frames) (events_from heard.streams lines) events
         (λ tail tail_is. octets_calm tail right tail_is) is
 
   -- ---- a tick
 
-  tick_calm : (moment : ℕ) (tail : List Event) → events_from streams lines ≡ Some tail → SaidCalm (Some (Tick moment)) (Ticks moment ∷ tail)
+  tick_calm : (node moment : ℕ) (tail : List Event) → events_from streams lines ≡ Some tail → SaidCalm (Some (Tick node moment)) (Ticks moment ∷ tail)
   unfolding LinesCalm are_calm happen happens
-  tick_calm moment tail tail_is runs calm small =
+  tick_calm node moment tail tail_is runs calm small =
       let happened = ticks one (ticked one.node moment (is_up (accounts_up one.sessions))) in
       let parts = and_parts (may_happen quiet (tick_stir (pushed_in one))) (are_calm settings happened.next false tail) calm in
       let (leaves, prints) = tick_leaves settings first (length tail) quiet one streams runner moment parts.0 runs in
@@ -110,9 +110,9 @@ module _ (settings : Settings) (first : ℕ) (lines : List (List ℕ)) (behind :
 
   -- ---- a grant
 
-  grant_calm : (id : ℕ) (tail : List Event) → events_from streams lines ≡ Some tail → SaidCalm (Some (Grant id)) (Grants id ∷ tail)
+  grant_calm : (node id : ℕ) (tail : List Event) → events_from streams lines ≡ Some tail → SaidCalm (Some (Grant node id)) (Grants id ∷ tail)
   unfolding LinesCalm are_calm happen happens
-  grant_calm id tail tail_is runs calm small =
+  grant_calm node id tail tail_is runs calm small =
       let happened = granted_unless one id (refusal_at one.node id) in
       let parts = and_parts quiet (are_calm settings happened.next false tail) calm in
       let (leaves, prints) = grant_leaves settings first (length tail) one streams runner id
@@ -125,9 +125,9 @@ module _ (settings : Settings) (first : ℕ) (lines : List (List ℕ)) (behind :
 
   -- ---- a settle
 
-  settle_calm : (tail : List Event) → events_from streams lines ≡ Some tail → SaidCalm (Some Settle) (Settles ∷ tail)
+  settle_calm : (nodes : List ℕ) (tail : List Event) → events_from streams lines ≡ Some tail → SaidCalm (Some (Settle nodes)) (Settles ∷ tail)
   unfolding LinesCalm are_calm happen happens
-  settle_calm tail tail_is runs calm small =
+  settle_calm nodes tail tail_is runs calm small =
       let next = (settled one).next in
       let grown = events_grow settings next tail in
       let (leaves, prints) = settle_leaves settings first (length tail) quiet one streams runner (omega (arith, grown, small)) runs in
@@ -144,16 +144,19 @@ module _ (settings : Settings) (first : ℕ) (lines : List (List ℕ)) (behind :
       SaidCalm said events
   unfolding LinesCalm
   said_calm events None is = absurd cc
-  said_calm events (Some (Nodes serial)) is = absurd cc
-  said_calm events (Some Restart) is = absurd cc
+  said_calm events (Some (Nodes count serial)) is = absurd cc
+  said_calm events (Some (Deliver number node)) is = absurd cc
+  said_calm events (Some (Crash node number after)) is = absurd cc
+  said_calm events (Some (Restart node)) is = absurd cc
+  said_calm events (Some (Replay count)) is = absurd cc
   said_calm events (Some Skipped) is =
       tail_of (SaidCalm (Some Skipped)) [] (events_from streams lines) events
       (λ tail tail_is runs calm small. behind streams quiet one runner tail (suc line) runs tail_is calm small) is
-  said_calm events (Some (Tick moment)) is =
-      tail_of (SaidCalm (Some (Tick moment))) (Ticks moment ∷ []) (events_from streams lines) events (tick_calm moment) is
-  said_calm events (Some (Grant id)) is = tail_of (SaidCalm (Some (Grant id))) (Grants id ∷ []) (events_from streams lines) events (grant_calm id) is
-  said_calm events (Some Settle) is = tail_of (SaidCalm (Some Settle)) (Settles ∷ []) (events_from streams lines) events settle_calm is
-  said_calm events (Some (Octets number octets)) is = octets_said number octets events (begins_wrong (stream number octets).rest) refl is
+  said_calm events (Some (Tick node moment)) is =
+      tail_of (SaidCalm (Some (Tick node moment))) (Ticks moment ∷ []) (events_from streams lines) events (tick_calm node moment) is
+  said_calm events (Some (Grant node id)) is = tail_of (SaidCalm (Some (Grant node id))) (Grants id ∷ []) (events_from streams lines) events (grant_calm node id) is
+  said_calm events (Some (Settle nodes)) is = tail_of (SaidCalm (Some (Settle nodes))) (Settles ∷ []) (events_from streams lines) events (settle_calm nodes) is
+  said_calm events (Some (Octets node number octets)) is = octets_said node number octets events (begins_wrong (stream node number octets).rest) refl is
 
 lines_calm : (settings : Settings) (first : ℕ) (lines : List (List ℕ)) → LinesCalm settings first lines
 unfolding LinesCalm prints_from bad_from step_of events_from happen
@@ -161,7 +164,7 @@ lines_calm settings first [] streams quiet one runner events number runs is calm
     let none : [] ≡ events = cc in
     subst (λ (e : List Event). Prints settings one e [] None) none (refl, refl)
 lines_calm settings first (line ∷ lines) streams quiet one runner events number runs is calm small =
-    said_calm settings first lines (lines_calm settings first lines) streams quiet one runner number events (said_of line) is runs calm small
+    said_calm settings first lines (lines_calm settings first lines) streams quiet one runner number events (said_within script_nodes line) is runs calm small
 
 -- ---- a script
 
@@ -213,23 +216,27 @@ module _ (lines : List (List ℕ)) (play : Play) (number : ℕ) (calm : IsCalmPl
       (opened_runs serial events least so.few) found so.calm so.small)
 
   -- the first line says this, or the lines behind it are those of the script
-  first_said : (line : List ℕ) (said : Option Said) → said_of line ≡ said → (play_of_lines lines ≡ Some play → StagePrints play None (suc number) lines) →
+  first_said : (line : List ℕ) (said : Option Said) → said_within script_nodes line ≡ said → (play_of_lines lines ≡ Some play → StagePrints play None (suc number) lines) →
       play_from said lines (play_of_lines lines) ≡ Some play →
       PlayPrints play (after [] (λ (done : Stepped). done.prints ++ prints_from script_settings done.stage lines) (step_by script_settings None said))
       (after (Some number) (λ (done : Stepped). bad_from script_settings done.stage (suc number) lines) (step_by script_settings None said))
   first_said line None said later is = absurd cc
   first_said line (Some Skipped) said later is = later is
-  first_said line (Some (Nodes serial)) said later is = nodes_calm serial (events_from [] lines) ((spelled_so line (Nodes serial)).0 said).wording.0 refl is
-  first_said line (Some (Octets session octets)) said later is = absurd cc
-  first_said line (Some (Tick moment)) said later is = absurd cc
-  first_said line (Some (Grant id)) said later is = absurd cc
-  first_said line (Some Settle) said later is = absurd cc
-  first_said line (Some Restart) said later is = absurd cc
+  first_said line (Some (Nodes count serial)) said later is =
+      nodes_calm serial (events_from [] lines) (spells_within script_nodes line (Nodes count serial) said).wording.1 refl is
+  first_said line (Some (Octets node session octets)) said later is = absurd cc
+  first_said line (Some (Deliver number node)) said later is = absurd cc
+  first_said line (Some (Crash node number after)) said later is = absurd cc
+  first_said line (Some (Tick node moment)) said later is = absurd cc
+  first_said line (Some (Grant node id)) said later is = absurd cc
+  first_said line (Some (Settle nodes)) said later is = absurd cc
+  first_said line (Some (Restart node)) said later is = absurd cc
+  first_said line (Some (Replay count)) said later is = absurd cc
 
 first_calm : (lines : List (List ℕ)) (play : Play) (number : ℕ) → IsCalmPlay play → play_of_lines lines ≡ Some play → StagePrints play None number lines
 unfolding play_of_lines prints_from bad_from step_of
 first_calm [] play number calm is = absurd cc
-first_calm (line ∷ lines) play number calm is = first_said lines play number calm line (said_of line) refl (first_calm lines play (suc number) calm) is
+first_calm (line ∷ lines) play number calm is = first_said lines play number calm line (said_within script_nodes line) refl (first_calm lines play (suc number) calm) is
 
 pub calm_text : (script : List ℕ) → IsCalm script → (bad_line script ≡ None) × (text_of script ≡ one_node_text script)
 calm_text script is =

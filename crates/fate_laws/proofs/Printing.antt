@@ -8,14 +8,14 @@ use Rattle.mc_model.specs.cluster.World.{World, start}
 use Rattle.mc_laws.proofs.Reached.{holds}
 use Rattle.fate_chain.specs.States.{state_of}
 use Rattle.script_lines.specs.Lines.{lines_of}
-use Rattle.script_lines.specs.Said.{Said, Skipped, Nodes, Octets, Tick, Grant, Settle, Restart, said_of}
-use Rattle.script_lines.proofs.SaidLemmas.{spelled_so}
+use Rattle.script_lines.specs.Said.{Said, Skipped, Nodes, Octets, Deliver, Crash, Tick, Grant, Settle, Restart, Replay, said_within}
+use Rattle.script_lines.proofs.SaidLemmas.{spells_within}
 use Rattle.pdu_tables.specs.StateCodes.{state_code}
 use Rattle.pdu_tables.specs.declared.state.State.TheVariants as states
 use Rattle.script_text.specs.Settings.{Settings, script_settings}
 use Rattle.script_text.specs.Prints.{Print}
 use Rattle.script_text.specs.Runner.{Runner, Acted, on_grant, on_octets, on_restart, on_settle, on_tick}
-use Rattle.script_text.specs.Script.{Stepped, after, opened, prints_from, prints_of, step_by, step_of}
+use Rattle.script_text.specs.Script.{Stepped, after, opened, prints_from, prints_of, script_nodes, step_by, step_of}
 use Rattle.script_text.specs.Laws.{StatesFate, TellsDeletion, TellsState}
 use Rattle.fate_laws.proofs.Decided.{IsDecided, decided_once}
 use Rattle.fate_laws.proofs.Sound.{opened_sound, sound_holds}
@@ -39,26 +39,29 @@ said_tells : (settings : Settings) (lines : List (List ℕ)) (said : Option Said
     (after [] (λ (done : Stepped). done.prints ++ prints_from settings done.stage lines) (step_by settings (Some runner) said))
 said_tells settings lines None later runner truth = nothing_told (world_under runner truth) (sound_holds runner.node truth.sound)
 said_tells settings lines (Some Skipped) later runner truth = later runner truth
-said_tells settings lines (Some (Nodes serial)) later runner truth = nothing_told (world_under runner truth) (sound_holds runner.node truth.sound)
-said_tells settings lines (Some (Octets number octets)) later runner truth =
+said_tells settings lines (Some (Nodes count serial)) later runner truth = nothing_told (world_under runner truth) (sound_holds runner.node truth.sound)
+said_tells settings lines (Some (Deliver number node)) later runner truth = nothing_told (world_under runner truth) (sound_holds runner.node truth.sound)
+said_tells settings lines (Some (Crash node number after)) later runner truth = nothing_told (world_under runner truth) (sound_holds runner.node truth.sound)
+said_tells settings lines (Some (Replay count)) later runner truth = nothing_told (world_under runner truth) (sound_holds runner.node truth.sound)
+said_tells settings lines (Some (Octets node number octets)) later runner truth =
     acted_tells settings lines (world_under runner truth) (on_octets settings runner number octets) later (octets_act settings runner number octets truth)
-said_tells settings lines (Some (Tick moment)) later runner truth =
+said_tells settings lines (Some (Tick node moment)) later runner truth =
     acted_tells settings lines (world_under runner truth) (on_tick runner moment) later (tick_acts runner moment truth)
-said_tells settings lines (Some (Grant id)) later runner truth =
+said_tells settings lines (Some (Grant node id)) later runner truth =
     acted_tells settings lines (world_under runner truth) (on_grant runner id) later (grant_acts runner id truth)
-said_tells settings lines (Some Settle) later runner truth =
+said_tells settings lines (Some (Settle nodes)) later runner truth =
     acted_tells settings lines (world_under runner truth) (on_settle runner) later (settle_acts runner truth)
-said_tells settings lines (Some Restart) later runner truth =
+said_tells settings lines (Some (Restart node)) later runner truth =
     acted_tells settings lines (world_under runner truth) (on_restart runner) later (restart_acts runner truth)
 
 lines_tell : (settings : Settings) (lines : List (List ℕ)) → LinesTell settings lines
 unfolding prints_from step_of
 lines_tell settings [] runner truth = nothing_told (world_under runner truth) (sound_holds runner.node truth.sound)
-lines_tell settings (line ∷ lines) runner truth = said_tells settings lines (said_of line) (lines_tell settings lines) runner truth
+lines_tell settings (line ∷ lines) runner truth = said_tells settings lines (said_within script_nodes line) (lines_tell settings lines) runner truth
 
 -- the serial of the first message is 1 at least
-serial_least : (line : List ℕ) (serial : ℕ) → said_of line ≡ Some (Nodes serial) → 1 ≤ serial
-serial_least line serial is = ((spelled_so line (Nodes serial)).0 is).wording.0
+serial_least : (line : List ℕ) (count serial : ℕ) → said_within script_nodes line ≡ Some (Nodes count serial) → 1 ≤ serial
+serial_least line count serial is = (spells_within script_nodes line (Nodes count serial) is).wording.1
 
 -- what a script tells from its first line on
 pub record TellsInAll (prints : List Print) : Type 0 where
@@ -71,21 +74,24 @@ none_told = record { first = start 1 (λ node. 1); tell = nothing_told (start 1 
 first_tells : (settings : Settings) (lines : List (List ℕ)) → TellsInAll (prints_from settings None lines)
 unfolding prints_from step_of
 first_tells settings [] = none_told
-first_tells settings (line ∷ lines) = by_said (said_of line) refl (first_tells settings lines)
+first_tells settings (line ∷ lines) = by_said (said_within script_nodes line) refl (first_tells settings lines)
   where
-    by_said : (said : Option Said) → said_of line ≡ said → TellsInAll (prints_from settings None lines) →
+    by_said : (said : Option Said) → said_within script_nodes line ≡ said → TellsInAll (prints_from settings None lines) →
         TellsInAll (after [] (λ (done : Stepped). done.prints ++ prints_from settings done.stage lines) (step_by settings None said))
     by_said None is later = none_told
     by_said (Some Skipped) is later = later
-    by_said (Some (Nodes serial)) is later =
+    by_said (Some (Nodes count serial)) is later =
         let truth : IsTruthful (opened settings serial) =
-        record { sound = opened_sound settings.validity serial (serial_least line serial is); due = λ receipt among. absurd among } in
+        record { sound = opened_sound settings.validity serial (serial_least line count serial is); due = λ receipt among. absurd among } in
         record { first = world_under (opened settings serial) truth; tell = lines_tell settings lines (opened settings serial) truth }
-    by_said (Some (Octets number octets)) is later = none_told
-    by_said (Some (Tick moment)) is later = none_told
-    by_said (Some (Grant id)) is later = none_told
-    by_said (Some Settle) is later = none_told
-    by_said (Some Restart) is later = none_told
+    by_said (Some (Octets node number octets)) is later = none_told
+    by_said (Some (Deliver number node)) is later = none_told
+    by_said (Some (Crash node number after)) is later = none_told
+    by_said (Some (Tick node moment)) is later = none_told
+    by_said (Some (Grant node id)) is later = none_told
+    by_said (Some (Settle nodes)) is later = none_told
+    by_said (Some (Restart node)) is later = none_told
+    by_said (Some (Replay count)) is later = none_told
 
 -- ---- the laws
 

@@ -1,5 +1,6 @@
 //! Lines out of readers, and what they say.
 
+use mc_types::{MsgId, NodeNo, NodeSet};
 use script_lines::{Found, Line, LineBuffer, MOST_OCTETS, ReadFault, read_line};
 use std::alloc::Global;
 use std::io;
@@ -11,34 +12,131 @@ fn good_lines_are_read(rt: HostRuntime) -> Result<(), Fail> {
     let alloc = rt.alloc();
     assert_eq!(rt; read_line(alloc, b"")?, Some(Line::Skipped));
     assert_eq!(rt; read_line(alloc, b"#nodes")?, Some(Line::Skipped));
-    assert_eq!(rt; read_line(alloc, b"nodes 1")?, Some(Line::Nodes(1)));
     assert_eq!(rt;
-        read_line(alloc, b"nodes 1 99999")?,
-        Some(Line::Nodes(99999))
+        read_line(alloc, b"nodes 1")?,
+        Some(Line::Nodes {
+            count: 1,
+            serial: 1
+        })
     );
-    assert_eq!(rt; read_line(alloc, b"settle")?, Some(Line::Settle));
-    assert_eq!(rt; read_line(alloc, b"settle 1 1 1")?, Some(Line::Settle));
-    assert_eq!(rt; read_line(alloc, b"restart 1")?, Some(Line::Restart));
-    let octets = Vec::from_slice(alloc, &[0xab, 0xcd, 0x09])?;
     assert_eq!(rt;
-        read_line(alloc, b"pdu 1 99 aBCd09")?,
-        Some(Line::Octets(99, octets))
+        read_line(alloc, b"nodes 9 99999")?,
+        Some(Line::Nodes {
+            count: 9,
+            serial: 99_999
+        })
+    );
+    assert_eq!(rt;
+        read_line(alloc, b"restart 7")?,
+        Some(Line::Restart {
+            node: NodeNo::of(7)
+        })
+    );
+    let octets = Vec::from_slice(alloc, &[0xab, 0xcd, 0x09])?;
+    let line = Line::Octets {
+        node: NodeNo::of(2),
+        session: 99,
+        octets,
+    };
+    assert_eq!(rt; read_line(alloc, b"pdu 2 99 aBCd09")?, Some(line));
+    Ok(())
+}
+
+#[test]
+fn moments_and_ids_are_read(rt: HostRuntime) -> Result<(), Fail> {
+    let alloc = rt.alloc();
+    let first = Line::Tick {
+        node: NodeNo::of(1),
+        moment: 946_684_800,
+    };
+    assert_eq!(rt; read_line(alloc, b"tick 1 946684800")?, Some(first));
+    let last = Line::Tick {
+        node: NodeNo::of(9),
+        moment: 4_102_444_799,
+    };
+    assert_eq!(rt; read_line(alloc, b"tick 9 4102444799")?, Some(last));
+    let grant = Line::Grant {
+        node: NodeNo::of(3),
+        id: MsgId::read(b"1000100001").ok().ok_or("no id")?,
+    };
+    assert_eq!(rt; read_line(alloc, b"grant 3 1000100001")?, Some(grant));
+    Ok(())
+}
+
+#[test]
+fn packets_are_named_by_number_and_node(rt: HostRuntime) -> Result<(), Fail> {
+    let alloc = rt.alloc();
+    let deliver = Line::Deliver {
+        number: 12,
+        node: NodeNo::of(3),
+    };
+    assert_eq!(rt; read_line(alloc, b"deliver 12 3")?, Some(deliver));
+    let before = Line::Crash {
+        node: NodeNo::of(3),
+        number: 0,
+        after: false,
+    };
+    assert_eq!(rt; read_line(alloc, b"crash 3 0 before")?, Some(before));
+    let after = Line::Crash {
+        node: NodeNo::of(2),
+        number: 18_446_744_073_709_551_615,
+        after: true,
+    };
+    assert_eq!(rt;
+        read_line(alloc, b"crash 2 18446744073709551615 after")?,
+        Some(after)
+    );
+    assert_eq!(rt;
+        read_line(alloc, b"replay 0")?,
+        Some(Line::Replay { count: 0 })
     );
     Ok(())
 }
 
 #[test]
-fn moments_are_read(rt: HostRuntime) -> Result<(), Fail> {
+fn a_node_that_is_settled_twice_counts_once(rt: HostRuntime) -> Result<(), Fail> {
     let alloc = rt.alloc();
+    let none = Line::Settle {
+        nodes: NodeSet::empty(),
+    };
+    assert_eq!(rt; read_line(alloc, b"settle")?, Some(none));
+    let mut nodes = NodeSet::empty();
+    nodes.add(NodeNo::of(2));
+    nodes.add(NodeNo::of(9));
     assert_eq!(rt;
-        read_line(alloc, b"tick 1 946684800")?,
-        Some(Line::Tick(946_684_800))
-    );
-    assert_eq!(rt;
-        read_line(alloc, b"tick 1 4102444799")?,
-        Some(Line::Tick(4_102_444_799))
+        read_line(alloc, b"settle 9 2 9")?,
+        Some(Line::Settle { nodes })
     );
     Ok(())
+}
+
+#[test]
+fn the_nodes_of_a_line_are_among_the_first(rt: HostRuntime) -> Result<(), Fail> {
+    let lines = [
+        ("nodes 3", 3),
+        ("pdu 3 1 00", 3),
+        ("deliver 9 3", 3),
+        ("crash 3 9 after", 3),
+        ("tick 3 946684800", 3),
+        ("grant 3 1000100001", 3),
+        ("settle 3 1", 3),
+        ("restart 3", 3),
+        ("settle", 0),
+        ("replay 9", 0),
+    ];
+    for (text, highest) in lines {
+        let line = read_line(rt.alloc(), text.as_bytes())?.ok_or("bad")?;
+        assert!(rt; line.names_within(highest), "{text}");
+        if highest > 0 {
+            assert!(rt; !line.names_within(highest - 1), "{text}");
+        }
+    }
+    Ok(())
+}
+
+/// Whether a line says nothing.
+fn is_bad(alloc: Global, line: &str) -> Result<bool, Fail> {
+    Ok(read_line(alloc, line.as_bytes())?.is_none())
 }
 
 #[test]
@@ -46,7 +144,8 @@ fn bad_lines_say_nothing(rt: HostRuntime) -> Result<(), Fail> {
     let lines = [
         " ",
         "nodes",
-        "nodes 2",
+        "nodes 0",
+        "nodes 10",
         "nodes 01",
         "nodes 1 ",
         "nodes  1",
@@ -63,11 +162,12 @@ fn bad_lines_say_nothing(rt: HostRuntime) -> Result<(), Fail> {
         "pdu 1 1 0g",
         "pdu 1 01 00",
         "pdu 1 1 00 00",
-        "pdu 2 1 00",
+        "pdu 0 1 00",
+        "pdu 10 1 00",
         "tick",
         "tick 1",
         "tick 1 ",
-        "tick 2 946684800",
+        "tick 10 946684800",
         "tick 0 946684800",
         "tick 1 946684799",
         "tick 1 4102444800",
@@ -76,22 +176,58 @@ fn bad_lines_say_nothing(rt: HostRuntime) -> Result<(), Fail> {
         "tick 1 946684800 ",
         "tick 1 946684800 1",
         "tick 946684800",
+        "grant 1 100010001",
+        "grant 0 1000100001",
+        "grant 1000100001",
         "settle  1",
         "settle 1 ",
-        "settle 2",
+        "settle 0",
+        "settle 1 10",
         "settle1",
         "settle\r",
         "Settle",
         "restart",
-        "restart 2",
+        "restart 0",
         "restart 1 ",
-        "restart  1",
-        "restart 11",
         "restart 1 1",
+        "replay",
+        "replay 01",
+        "replay 18446744073709551616",
         "drop",
     ];
     for line in lines {
-        assert_eq!(rt; read_line(rt.alloc(), line.as_bytes())?, None, "{line}");
+        assert!(rt; is_bad(rt.alloc(), line)?, "{line}");
+    }
+    Ok(())
+}
+
+#[test]
+fn bad_lines_of_packets_say_nothing(rt: HostRuntime) -> Result<(), Fail> {
+    let lines = [
+        "deliver",
+        "deliver 1",
+        "deliver 1 0",
+        "deliver 1 10",
+        "deliver 01 1",
+        "deliver -1 1",
+        "deliver 18446744073709551616 1",
+        "deliver 1 1 1",
+        "deliver 1 1 ",
+        "deliver 1  1",
+        "crash 1 1",
+        "crash 1 1 ",
+        "crash 1 1 during",
+        "crash 1 1 Before",
+        "crash 1 1 before ",
+        "crash 1 1 after 1",
+        "crash 0 1 after",
+        "crash 10 1 after",
+        "crash 1 01 after",
+        "crash 1 18446744073709551616 after",
+        "crash 1 after",
+    ];
+    for line in lines {
+        assert!(rt; is_bad(rt.alloc(), line)?, "{line}");
     }
     Ok(())
 }
@@ -121,7 +257,11 @@ fn the_longest_line_is_9996_octets_on_a_session(rt: HostRuntime) -> Result<(), F
     let octets = vec![in alloc; 0xa5u8; 9996]?;
     assert_eq!(rt;
         read_line(alloc, line.as_slice())?,
-        Some(Line::Octets(1, octets))
+        Some(Line::Octets {
+            node: NodeNo::of(1),
+            session: 1,
+            octets,
+        })
     );
     line.push(b'\n')?;
     assert_eq!(rt;

@@ -1,15 +1,37 @@
 //! What a line says.
 
-ghost use Rattle.std.specs.Prelude.{◌≡◌, ◌↔◌, ◌≤◌, List, ℕ, Option, Some, length, IfOk, IfSome, OnErr, IsOk, IsTrue};
+ghost use Rattle.std.specs.Prelude.{◌≡◌, ◌↔◌, ◌≤◌, List, ℕ, Option, Some, length, nat_le, IfOk, IfSome, OnErr, IsOk, IsTrue};
 ghost use Rattle.std.specs.Option.{option_map, option_copied};
 ghost use Rattle.std.specs.List.{list_all};
 ghost use Rattle.std.specs.Char.{is_ascii_digit, is_ascii_hexdigit};
 ghost use Rattle.hex.specs.Hex.{decode_of};
-ghost use Rattle.script_lines.specs.Said.{Said, Spells, SaysOctets, said_by, said_of, words_said, nodes_said, octets_said, tick_said, grant_said, settle_said, restart_said};
+ghost use Rattle.mc_model.specs.message.Ids.{IsNode};
+ghost use Rattle.mc_types.specs.Nodes.{has};
+ghost use Rattle.script_lines.specs.Said.{
+  Said,
+  SaysOctets,
+  Spells,
+  crash_said,
+  deliver_said,
+  grant_said,
+  named_said,
+  names_within,
+  nodes_said,
+  nodes_with,
+  octets_said,
+  replay_said,
+  restart_said,
+  said_by,
+  said_of,
+  settle_said,
+  side_in,
+  tick_said,
+  words_said,
+};
 ghost use Rattle.script_lines.specs.Said as spec;
 
 use crate::octets::place_of;
-use mc_types::MsgId;
+use mc_types::{MsgId, NodeNo, NodeSet};
 use std::alloc::{AllocError, Global};
 use std::str;
 
@@ -33,18 +55,82 @@ const MOST_MOMENT: u64 = 4_102_444_799;
 pub enum Line {
     /// Nothing: it is empty, or begins with `#`.
     Skipped,
-    /// `nodes 1 SERIAL`: one node, whose first message has the serial, 1 to 99999; 1 where none is given.
-    Nodes(u32),
-    /// `pdu 1 SESSION HEX`: the next octets of the stream of a session, 1 to 99.
-    Octets(u8, Vec<u8>),
-    /// `tick 1 MOMENT`: this moment has come, in whole seconds since 1970-01-01T00:00:00Z, 946684800 to 4102444799.
-    Tick(u32),
-    /// `grant 1 ID`: the attempt of the message of this id is asked for.
-    Grant(MsgId),
-    /// `settle`, which may name the node 1.
-    Settle,
-    /// `restart 1`: the node starts anew.
-    Restart,
+    /// `nodes N SERIAL`: so many nodes, 1 to 9, whose first messages have the serial, 1 to 99999; 1 if none is given.
+    Nodes {
+        count: u8,
+        serial: u32,
+    },
+    /// `pdu NODE SESSION HEX`: the next octets of the stream of a session, 1 to 99, of a node.
+    Octets {
+        node: NodeNo,
+        session: u8,
+        octets: Vec<u8>,
+    },
+    /// `deliver NUMBER NODE`: the packet of this number comes to a node.
+    Deliver {
+        number: u64,
+        node: NodeNo,
+    },
+    /// `crash NODE NUMBER before` or `after`: a node stops in the save of what comes of the packet of this number, before
+    /// it is saved or after.
+    Crash {
+        node: NodeNo,
+        number: u64,
+        after: bool,
+    },
+    /// `tick NODE MOMENT`: at a node this moment has come, in whole seconds since 1970-01-01T00:00:00Z, 946684800 to 4102444799.
+    Tick {
+        node: NodeNo,
+        moment: u32,
+    },
+    /// `grant NODE ID`: a node is asked for the attempt of the message of this id.
+    Grant {
+        node: NodeNo,
+        id: MsgId,
+    },
+    /// `settle NODE ..`: packets come between these nodes, or between all nodes if none is listed.
+    Settle {
+        nodes: NodeSet,
+    },
+    /// `restart NODE`: a node starts anew.
+    Restart {
+        node: NodeNo,
+    },
+    /// `replay K`: all packets come again, so many times.
+    Replay {
+        count: u64,
+    },
+}
+
+impl Line {
+    /// Whether each node that the line names is one of the nodes from 1 to this one; `nodes N` names the nodes up to N.
+    pub fn names_within(&self, most: u8) -> bool
+        ensures { result ≡ names_within most (said_by self.now) }
+    {
+        match self {
+            Line::Skipped | Line::Replay { .. } => true,
+            Line::Nodes { count, .. } => *count <= most,
+            Line::Settle { nodes } => all_within(*nodes, most),
+            Line::Octets { node, .. }
+            | Line::Deliver { node, .. }
+            | Line::Crash { node, .. }
+            | Line::Tick { node, .. }
+            | Line::Grant { node, .. }
+            | Line::Restart { node } => node.number() <= most,
+        }
+    }
+}
+
+/// Whether each of these nodes is one of the nodes from 1 to this one.
+fn all_within(nodes: NodeSet, most: u8) -> bool
+    ensures { result ≡ list_all (λ node. nat_le node most) (nodes_with (has nodes)) }
+{
+    for number in 1..10 {
+        if most < number && nodes.has(NodeNo::of(number)) {
+            return false;
+        }
+    }
+    true
 }
 
 /// What a line says, its line feed taken off; a bad line says nothing. An `Err` is want of memory, which octets need.
@@ -62,77 +148,102 @@ pub fn read_line(alloc: Global, line: &[u8]) -> Result<Option<Line>, AllocError>
     words_of(alloc, line)
 }
 
-/// What a line says by its first word.
+/// What a line says by its words.
 #[tactic(auto, unfolding(crate::specs::Said::words_said, crate::specs::Said::behind))]
 fn words_of(alloc: Global, line: &[u8]) -> Result<Option<Line>, AllocError>
     ensures said { IfOk result (λ read. option_map said_by read ≡ words_said line.now) }
     ensures memory { OnErr result (SaysOctets (words_said line.now)) }
 {
-    if let Some(words) = behind(b"nodes", line) {
-        return Ok(nodes_of(words));
-    }
     if let Some(words) = behind(b"pdu", line) {
         return octets_of(alloc, words);
     }
-    if let Some(words) = behind(b"tick", line) {
-        return Ok(tick_of(words));
-    }
-    if let Some(words) = behind(b"grant", line) {
-        return Ok(grant_of(words));
-    }
-    if let Some(words) = behind(b"settle", line) {
-        return Ok(settle_of(words));
-    }
-    if let Some(words) = behind(b"restart", line) {
-        return Ok(restart_of(words));
-    }
-    Ok(None)
+    Ok(named_of(line))
 }
 
-/// What stands behind `nodes`: the node, and a serial or none.
+/// What a line says by its first word, if that is not `pdu`.
+#[tactic(auto, unfolding(crate::specs::Said::named_said, crate::specs::Said::behind))]
+fn named_of(line: &[u8]) -> Option<Line>
+    ensures { option_map said_by result ≡ named_said line.now }
+{
+    if let Some(words) = behind(b"nodes", line) {
+        return nodes_of(words);
+    }
+    if let Some(words) = behind(b"deliver", line) {
+        return deliver_of(words);
+    }
+    if let Some(words) = behind(b"crash", line) {
+        return crash_of(words);
+    }
+    if let Some(words) = behind(b"tick", line) {
+        return tick_of(words);
+    }
+    if let Some(words) = behind(b"grant", line) {
+        return grant_of(words);
+    }
+    if let Some(words) = behind(b"settle", line) {
+        return settle_of(words);
+    }
+    if let Some(words) = behind(b"restart", line) {
+        return restart_of(words);
+    }
+    if let Some(words) = behind(b"replay", line) {
+        return replay_of(words);
+    }
+    None
+}
+
+/// What stands behind `nodes`: how many they are, and a serial or none.
 #[tactic(auto, unfolding(crate::specs::Said::nodes_said))]
 fn nodes_of(words: &[u8]) -> Option<Line>
     ensures { option_map said_by result ≡ nodes_said words.now }
 {
-    let serial = behind(b" 1", words)?;
-    if serial.is_empty() {
-        return Some(Line::Nodes(1));
+    let (count, rest) = node_at(words)?;
+    if rest.is_empty() {
+        return Some(Line::Nodes { count, serial: 1 });
     }
-    let (serial, rest) = number_at(1, MOST_SERIAL, serial)?;
+    let (serial, rest) = number_at(1, MOST_SERIAL, rest)?;
     if !rest.is_empty() {
         return None;
     }
-    Some(Line::Nodes(serial as u32))
+    Some(Line::Nodes {
+        count,
+        serial: serial as u32,
+    })
 }
 
-/// What stands behind `pdu`: the node, a session and octets.
+/// What stands behind `pdu`: a node, a session and octets.
 #[tactic(auto, unfolding(crate::specs::Said::octets_said))]
 fn octets_of(alloc: Global, words: &[u8]) -> Result<Option<Line>, AllocError>
     ensures said { IfOk result (λ read. option_map said_by read ≡ octets_said words.now) }
     ensures memory { OnErr result (SaysOctets (octets_said words.now)) }
 {
-    let Some((session, digits)) = octets_parts(words) else {
+    let Some((node, session, digits)) = octets_parts(words) else {
         return Ok(None);
     };
     if !are_octets(digits) {
         return Ok(None);
     }
     let octets = hex::decode(alloc, digits).map_err(|_| AllocError)?;
-    Ok(Some(Line::Octets(session, octets)))
+    Ok(Some(Line::Octets {
+        node: NodeNo::of(node),
+        session,
+        octets,
+    }))
 }
 
-/// The session and the digits behind `pdu`.
+/// The node, the session and the digits behind `pdu`.
 #[tactic(auto, unfolding(crate::specs::Said::octets_parts))]
-fn octets_parts(words: &[u8]) -> Option<(u8, &[u8])>
-    ensures { option_map (λ p. (p.0, p.1.now)) result ≡ spec.octets_parts words.now }
+fn octets_parts(words: &[u8]) -> Option<(u8, u8, &[u8])>
+    ensures value { option_map (λ p. (p.0, p.1, p.2.now)) result ≡ spec.octets_parts words.now }
+    ensures range { IfSome result (λ p. IsNode p.0) }
 {
-    let words = behind(b" 1", words)?;
+    let (node, words) = node_at(words)?;
     let (session, words) = number_at(1, MOST_SESSION, words)?;
     let digits = behind(b" ", words)?;
     if digits.is_empty() {
         return None;
     }
-    Some((session as u8, digits))
+    Some((node, session as u8, digits))
 }
 
 /// An even number of hex digits.
@@ -142,54 +253,134 @@ fn are_octets(digits: &[u8]) -> bool
     digits.len() % 2 == 0 && are_hex_digits(digits)
 }
 
-/// What stands behind `tick`: the node, and a moment.
+/// What stands behind `deliver`: the number of a packet, and a node.
+#[tactic(auto, unfolding(crate::specs::Said::deliver_said))]
+fn deliver_of(words: &[u8]) -> Option<Line>
+    ensures { option_map said_by result ≡ deliver_said words.now }
+{
+    let (number, rest) = number_at(0, u64::MAX, words)?;
+    let (node, rest) = node_at(rest)?;
+    if !rest.is_empty() {
+        return None;
+    }
+    Some(Line::Deliver {
+        number,
+        node: NodeNo::of(node),
+    })
+}
+
+/// What stands behind `crash`: a node, the number of a packet, and a side of the save.
+#[tactic(auto, unfolding(crate::specs::Said::crash_said))]
+fn crash_of(words: &[u8]) -> Option<Line>
+    ensures { option_map said_by result ≡ crash_said words.now }
+{
+    let (node, rest) = node_at(words)?;
+    let (number, rest) = number_at(0, u64::MAX, rest)?;
+    let after = side_of(rest)?;
+    Some(Line::Crash {
+        node: NodeNo::of(node),
+        number,
+        after,
+    })
+}
+
+/// The side of a save, after it or before, if nothing stands behind its word.
+fn side_of(text: &[u8]) -> Option<bool>
+    ensures { result ≡ side_in text.now }
+{
+    if text == b" before".as_slice() {
+        return Some(false);
+    }
+    if text == b" after".as_slice() {
+        return Some(true);
+    }
+    None
+}
+
+/// What stands behind `tick`: a node, and a moment.
 #[tactic(auto, unfolding(crate::specs::Said::tick_said))]
 fn tick_of(words: &[u8]) -> Option<Line>
     ensures { option_map said_by result ≡ tick_said words.now }
 {
-    let moment = behind(b" 1", words)?;
-    let (seconds, rest) = number_at(LEAST_MOMENT, MOST_MOMENT, moment)?;
+    let (node, rest) = node_at(words)?;
+    let (moment, rest) = number_at(LEAST_MOMENT, MOST_MOMENT, rest)?;
     if !rest.is_empty() {
         return None;
     }
-    Some(Line::Tick(seconds as u32))
+    Some(Line::Tick {
+        node: NodeNo::of(node),
+        moment: moment as u32,
+    })
 }
 
-/// What stands behind `grant`: the node, and the id of a message.
+/// What stands behind `grant`: a node, and the id of a message.
 #[tactic(auto, unfolding(crate::specs::Said::grant_said))]
 fn grant_of(words: &[u8]) -> Option<Line>
     ensures { option_map said_by result ≡ grant_said words.now }
 {
-    let word = behind(b" 1 ", words)?;
+    let (node, rest) = node_at(words)?;
+    let word = behind(b" ", rest)?;
     let id = MsgId::read(word).ok()?;
-    Some(Line::Grant(id))
+    Some(Line::Grant {
+        node: NodeNo::of(node),
+        id,
+    })
 }
 
-/// What stands behind `settle`: the node, as often as it may be.
+/// What stands behind `settle`: nodes, as many as there are.
 #[tactic(auto, unfolding(crate::specs::Said::settle_said))]
 fn settle_of(words: &[u8]) -> Option<Line>
     ensures { option_map said_by result ≡ settle_said words.now }
 {
+    let mut nodes = NodeSet::empty();
     let mut rest = words;
-    'nodes: while !rest.is_empty() {
-        rest = behind(b" 1", rest)?;
+    'listed: while !rest.is_empty() {
+        let (node, behind_it) = node_at(rest)?;
+        nodes.add(NodeNo::of(node));
+        rest = behind_it;
     }
-    Some(Line::Settle)
+    Some(Line::Settle { nodes })
 }
 
-/// What stands behind `restart`: the node alone.
+/// What stands behind `restart`: a node alone.
 #[tactic(auto, unfolding(crate::specs::Said::restart_said))]
 fn restart_of(words: &[u8]) -> Option<Line>
     ensures { option_map said_by result ≡ restart_said words.now }
 {
-    let rest = behind(b" 1", words)?;
+    let (node, rest) = node_at(words)?;
     if !rest.is_empty() {
         return None;
     }
-    Some(Line::Restart)
+    Some(Line::Restart {
+        node: NodeNo::of(node),
+    })
 }
 
-/// What is behind the front, where the text begins with it.
+/// What stands behind `replay`: how often.
+#[tactic(auto, unfolding(crate::specs::Said::replay_said))]
+fn replay_of(words: &[u8]) -> Option<Line>
+    ensures { option_map said_by result ≡ replay_said words.now }
+{
+    let (count, rest) = number_at(0, u64::MAX, words)?;
+    if !rest.is_empty() {
+        return None;
+    }
+    Some(Line::Replay { count })
+}
+
+/// A space and the digit of a node, and what is behind it.
+#[tactic(auto, unfolding(crate::specs::Said::node_at))]
+fn node_at(text: &[u8]) -> Option<(u8, &[u8])>
+    ensures value { option_map (λ p. (p.0, p.1.now)) result ≡ spec.node_at text.now }
+    ensures range { IfSome result (λ p. IsNode p.0) }
+{
+    match text {
+        [b' ', digit @ b'1'..=b'9', rest @ ..] => Some((*digit - b'0', rest)),
+        _ => None,
+    }
+}
+
+/// What is behind the front, if the text begins with it.
 #[tactic(auto, unfolding(crate::specs::Said::behind))]
 fn behind<'a>(front: &[u8], text: &'a [u8]) -> Option<&'a [u8]>
     ensures { option_copied result ≡ spec.behind front.now text.now }

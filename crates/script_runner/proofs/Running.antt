@@ -14,7 +14,7 @@ use Rattle.script_lines.specs.Said.{Said, said_of}
 use Rattle.script_runner.specs.Outcome.{AreLines, Writes, WritesLine, IsWhole, IsDecided, StopsAt, StopsBetween, StopsInLine, IsOutcome}
 use Rattle.script_runner.specs.declared.fault.ScriptFault.{ScriptFault}
 use Rattle.script_runner.specs.declared.fault.ScriptFault.TheVariants.{BadLine, Read, Write, Memory}
-use Rattle.script_runner.proofs.Steps.{SaysItsSpelling, step_of-said}
+use Rattle.script_runner.proofs.Steps.{SaysItsSpelling, step_of-none}
 
 -- the text of lines from a stage on
 abbrev pub text_from : Stage → List (List ℕ) → List ℕ
@@ -208,7 +208,7 @@ too_long_first laws spelled held stage long more =
       line = first.0;
       lines = first.1;
       first = first.2;
-      bad = step_of-said stage first.0 None (not_said spelled first.0 (said_of first.0) refl first.3);
+      bad = step_of-none stage first.0 (not_said spelled first.0 (said_of first.0) refl first.3);
     }
 
 pub line_first : LinesAreRead → (held : List ℕ) (stage : Stage) (count : ℕ) → BeginsWithLine count held → step_of script_settings stage (take count held) ≡ None → (more : List ℕ) → BadFirst held stage more

@@ -3,7 +3,7 @@ use Rattle.std.specs.Prelude.{◌≡◌, ◌⊎◌, ℕ, ◌≤◌, Bool, true, 
 use Rattle.std.specs.Io.KnownBytes.{Consumes, Appends, Keeps, IsAtEnd}
 use Rattle.mc_model.specs.message.Ids.{IsMoment}
 use Rattle.script_lines.specs.Lines.{NeedsMore}
-use Rattle.script_lines.specs.Said.{Said, Skipped, Nodes, Octets, Tick, Grant, Settle, Restart}
+use Rattle.script_lines.specs.Said.{Said, Skipped, Nodes, Octets, Deliver, Crash, Tick, Grant, Settle, Restart, Replay}
 use Rattle.script_text.specs.Settings.{script_settings}
 use Rattle.script_text.specs.Prints.{text_of_prints}
 use Rattle.script_text.specs.Script.{Stage, Stepped, opened, step_of, text_of, bad_line}
@@ -15,12 +15,15 @@ use Rattle.script_runner.specs.declared.fault.ScriptFault.TheVariants.{BadLine, 
 -- a serial or moment that a line gives is one
 abbrev pub NumberFits : Said → Type 0
 NumberFits Skipped = Unit {0}
-NumberFits (Nodes serial) = (1 ≤ serial) × (serial ≤ 99999)
-NumberFits (Octets session octets) = Unit {0}
-NumberFits (Tick moment) = IsMoment moment
-NumberFits (Grant id) = Unit {0}
-NumberFits Settle = Unit {0}
-NumberFits Restart = Unit {0}
+NumberFits (Nodes count serial) = (1 ≤ serial) × (serial ≤ 99999)
+NumberFits (Octets node session octets) = Unit {0}
+NumberFits (Deliver number node) = Unit {0}
+NumberFits (Crash node number after) = Unit {0}
+NumberFits (Tick node moment) = IsMoment moment
+NumberFits (Grant node id) = Unit {0}
+NumberFits (Settle nodes) = Unit {0}
+NumberFits (Restart node) = Unit {0}
+NumberFits (Replay count) = Unit {0}
 
 -- the centre is started once
 abbrev pub IsStarted : Stage → Bool → Stage → ℕ → Type 0

@@ -15,6 +15,9 @@ use script_lines::{Found, Line, LineBuffer, lines_are_read, read_line, spelled_s
 use std::alloc::{AllocError, Global};
 use std::io::{Read, Write};
 
+/// A script is over so many nodes.
+const NODES: u8 = 1;
+
 /// Runs a script: reads its lines, and writes the output of each before it reads the next. `Ok` at its end.
 pub fn run_script<R: Read, W: Write>(
     alloc: Global,
@@ -97,13 +100,16 @@ fn step(
     ensures { IfOk result (λ good. IsStep (stage_of stage.old) line.now good (stage_of stage.new) text.old.items text.new.items) }
 {
     spelled_so();
-    match read_line(alloc, line)? {
-        None => Ok(false),
-        Some(said) => act(alloc, config, stage, said, text),
+    let Some(said) = read_line(alloc, line)? else {
+        return Ok(false);
+    };
+    if !said.names_within(NODES) {
+        return Ok(false);
     }
+    act(alloc, config, stage, said, text)
 }
 
-/// Does what a good line says, if it may stand there.
+/// Does what a line says that names no other node, if it may stand there.
 fn act(
     alloc: Global,
     config: &Config,
@@ -117,42 +123,47 @@ fn act(
 {
     match said {
         Line::Skipped => Ok(true),
-        Line::Nodes(serial) => start(alloc, config, stage, serial),
-        Line::Octets(session, octets) => match stage {
+        Line::Nodes { serial, .. } => start(alloc, config, stage, serial),
+        Line::Octets {
+            session,
+            octets,
+            ..
+        } => match stage {
             None => Ok(false),
             Some(centre) => {
                 centre.octets(alloc, config, session, &octets, text)?;
                 Ok(true)
             }
         },
-        Line::Tick(seconds) => match stage {
+        Line::Tick { moment, .. } => match stage {
             None => Ok(false),
             Some(centre) => {
-                centre.tick(alloc, Moment::make(seconds).unwrap(), text)?;
+                centre.tick(alloc, Moment::make(moment).unwrap(), text)?;
                 Ok(true)
             }
         },
-        Line::Grant(id) => match stage {
+        Line::Grant { id, .. } => match stage {
             None => Ok(false),
             Some(centre) => {
                 centre.grant(alloc, id, text)?;
                 Ok(true)
             }
         },
-        Line::Settle => match stage {
+        Line::Settle { .. } => match stage {
             None => Ok(false),
             Some(centre) => {
                 centre.settle(alloc, text)?;
                 Ok(true)
             }
         },
-        Line::Restart => match stage.take() {
+        Line::Restart { .. } => match stage.take() {
             None => Ok(false),
             Some(centre) => {
                 *stage = Some(centre.restart(alloc, text)?);
                 Ok(true)
             }
         },
+        Line::Deliver { .. } | Line::Crash { .. } | Line::Replay { .. } => Ok(false),
     }
 }
 

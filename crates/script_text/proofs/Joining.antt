@@ -4,7 +4,7 @@ use Rattle.std.specs.Map.{remove_entry}
 use Rattle.std.specs.Ordering.{nat_cmp}
 use Rattle.std.specs.BTreeMap.{is_at}
 use Rattle.std.proofs.Common.{◌≡◌, ℕ, zero, suc, Bool, true, false, cond, List, [], ◌∷◌, ◌++◌, Option, Some, None, Result, Ok, Err, refl, sym, ◌∙◌, ap, subst}
-use Rattle.script_lines.specs.Said.{Said, Skipped, Nodes, Octets, Tick, Grant, Settle, Restart, said_of}
+use Rattle.script_lines.specs.Said.{Said, Skipped, Nodes, Octets, Deliver, Crash, Tick, Grant, Settle, Restart, Replay, said_within}
 use Rattle.sessions.specs.Session.{Session}
 use Rattle.sessions.specs.States.{is_gone}
 use Rattle.sessions.specs.Steps.{Done, on_fault, on_pdu, on_wrong_length}
@@ -37,8 +37,8 @@ use Rattle.script_text.specs.Node.{Node, awaiting, request_at, step_at, tick_at,
 use Rattle.script_text.specs.Prints.{Print}
 use Rattle.script_text.specs.Pushes.{accounts_up, overdue_in, session_at, target_in}
 use Rattle.script_text.specs.Attempts.{Went, all_given_up, concluded, delivered_so, given_up, rests_at, submission_at, unanswered, went}
-use Rattle.script_text.specs.Runner.{Runner, Acted, Served, Came, answered_by, came_by, declined, ends, first_or, followed_by, gives_up, granted, granted_unless, held_in, holds, last_incarnation, makes_room, most_deliveries, no_incarnation, nothing_came, on_cut, on_delivery, on_done, on_frame, on_frames, on_grant, on_octets, on_reaction, on_read, on_request, on_rest, on_restart, on_settle, on_tick, opened_at, posts, posts_for, posts_for_all, pushes, put_at, restarted, rests, sent, sent_to, served_at, serves, session_in, settles, ticked, with_session}
-use Rattle.script_text.specs.Script.{Stage, Stepped, Joins, LineStep, after, bad_from, prints_from, step_by, step_of, stepped}
+use Rattle.script_text.specs.Runner.{Runner, Acted, Served, Came, answered_by, came_by, declined, ends, first_or, followed_by, gives_up, granted, granted_unless, held_in, holds, last_incarnation, makes_room, most_deliveries, no_incarnation, nothing_came, on_delivery, on_done, on_frame, on_frames, on_grant, on_octets, on_reaction, on_read, on_request, on_rest, on_restart, on_settle, on_tick, opened_at, posts, posts_for, posts_for_all, pushes, put_at, restarted, rests, sent, sent_to, served_at, serves, session_in, settles, ticked, with_session}
+use Rattle.script_text.specs.Script.{Stage, Stepped, Joins, LineStep, after, bad_from, prints_from, script_nodes, step_by, step_of, stepped}
 use Rattle.script_text.specs.Laws.{GoesBy, kept_by}
 
 -- ---- joined lines, and those computed
@@ -278,17 +278,20 @@ acted_goes runner acted done goes is = goes_so runner _ done is (acted.next, ref
 
 line_goes : (settings : Settings) (runner : Runner) (line : List ℕ) (done : Stepped) → LineStep settings (Some runner) line done → StageGoes runner done.inputs done.stage
 unfolding step_of
-line_goes settings runner line done is = by_said (said_of line) is
+line_goes settings runner line done is = by_said (said_within script_nodes line) is
   where
     by_said : (said : Option Said) → step_by settings (Some runner) said ≡ Some done → StageGoes runner done.inputs done.stage
     by_said None is = absurd cc
     by_said (Some Skipped) is = goes_so runner _ done is (runner, refl, goes_nowhere runner.node)
-    by_said (Some (Nodes serial)) is = absurd cc
-    by_said (Some (Octets session octets)) is = acted_goes runner (on_octets settings runner session octets) done (octets_go settings runner session octets) is
-    by_said (Some (Tick moment)) is = acted_goes runner (on_tick runner moment) done (tick_goes runner moment) is
-    by_said (Some (Grant id)) is = acted_goes runner (on_grant runner id) done (grant_goes runner id) is
-    by_said (Some Restart) is = acted_goes runner (on_restart runner) done (restart_goes runner) is
-    by_said (Some Settle) is = acted_goes runner (on_settle runner) done (settles_goes most_deliveries runner) is
+    by_said (Some (Nodes count serial)) is = absurd cc
+    by_said (Some (Octets node session octets)) is = acted_goes runner (on_octets settings runner session octets) done (octets_go settings runner session octets) is
+    by_said (Some (Deliver number node)) is = absurd cc
+    by_said (Some (Crash node number after)) is = absurd cc
+    by_said (Some (Tick node moment)) is = acted_goes runner (on_tick runner moment) done (tick_goes runner moment) is
+    by_said (Some (Grant node id)) is = acted_goes runner (on_grant runner id) done (grant_goes runner id) is
+    by_said (Some (Settle nodes)) is = acted_goes runner (on_settle runner) done (settles_goes most_deliveries runner) is
+    by_said (Some (Restart node)) is = acted_goes runner (on_restart runner) done (restart_goes runner) is
+    by_said (Some (Replay count)) is = absurd cc
 
 lines_go : (settings : Settings) (first : Stage) (runner : Runner) (lines : List (List ℕ)) (inputs : List Input) (prints : List Print) (last : Stage) → first ≡ Some runner → Joins settings first lines inputs prints last → StageGoes runner inputs last
 unfolding Joins

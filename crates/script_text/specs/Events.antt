@@ -4,7 +4,7 @@ use Rattle.std.specs.Ordering.{nat_cmp}
 use Rattle.std.specs.BTreeMap.{insert_entry}
 use Rattle.pdu_frames.specs.Frames.{Cut, cut, begins_wrong}
 use Rattle.script_lines.specs.Lines.{lines_of}
-use Rattle.script_lines.specs.Said.{Said, Skipped, Nodes, Octets, Tick, Grant, Settle, Restart, said_of}
+use Rattle.script_lines.specs.Said.{Said, Skipped, Nodes, Octets, Deliver, Crash, Tick, Grant, Settle, Restart, Replay, said_within}
 use Rattle.script_text.specs.Runner.{held_in}
 
 pub data Event : Type 0 where
@@ -31,12 +31,15 @@ heard_of streams number stream =
 abbrev pub heard_by : List (ℕ × List ℕ) → Option Said → Option Heard
 heard_by streams None = None
 heard_by streams (Some Skipped) = Some (record { events = []; streams = streams })
-heard_by streams (Some (Nodes serial)) = None
-heard_by streams (Some (Octets number octets)) = heard_of streams number (cut (held_in streams number ++ octets))
-heard_by streams (Some (Tick moment)) = Some (record { events = Ticks moment ∷ []; streams = streams })
-heard_by streams (Some (Grant id)) = Some (record { events = Grants id ∷ []; streams = streams })
-heard_by streams (Some Settle) = Some (record { events = Settles ∷ []; streams = streams })
-heard_by streams (Some Restart) = None
+heard_by streams (Some (Nodes count serial)) = None
+heard_by streams (Some (Octets node number octets)) = heard_of streams number (cut (held_in streams number ++ octets))
+heard_by streams (Some (Deliver number node)) = None
+heard_by streams (Some (Crash node number after)) = None
+heard_by streams (Some (Tick node moment)) = Some (record { events = Ticks moment ∷ []; streams = streams })
+heard_by streams (Some (Grant node id)) = Some (record { events = Grants id ∷ []; streams = streams })
+heard_by streams (Some (Settle nodes)) = Some (record { events = Settles ∷ []; streams = streams })
+heard_by streams (Some (Restart node)) = None
+heard_by streams (Some (Replay count)) = None
 
 abbrev pub and_then : Option Heard → (Heard → Option (List Event)) → Option (List Event)
 and_then None later = None
@@ -45,7 +48,7 @@ and_then (Some heard) later = option_map (λ events. heard.events ++ events) (la
 -- what happens by lines, which are neither bad nor `nodes`
 unfoldable pub events_from : List (ℕ × List ℕ) → List (List ℕ) → Option (List Event)
 events_from streams [] = Some []
-events_from streams (line ∷ lines) = and_then (heard_by streams (said_of line)) (λ heard. events_from heard.streams lines)
+events_from streams (line ∷ lines) = and_then (heard_by streams (said_within 1 line)) (λ heard. events_from heard.streams lines)
 
 -- the serial of the first message, and what happens then
 pub record Play : Type 0 where
@@ -54,13 +57,13 @@ pub record Play : Type 0 where
 
 abbrev pub play_from : Option Said → List (List ℕ) → Option Play → Option Play
 play_from (Some Skipped) lines others = others
-play_from (Some (Nodes serial)) lines others = option_map (λ events. record { serial = serial; events = events }) (events_from [] lines)
+play_from (Some (Nodes count serial)) lines others = option_map (λ events. record { serial = serial; events = events }) (events_from [] lines)
 play_from other lines others = None
 
 -- The first line that says something is `nodes`.
 unfoldable pub play_of_lines : List (List ℕ) → Option Play
 play_of_lines [] = None
-play_of_lines (line ∷ lines) = play_from (said_of line) lines (play_of_lines lines)
+play_of_lines (line ∷ lines) = play_from (said_within 1 line) lines (play_of_lines lines)
 
 abbrev pub play_of : List ℕ → Option Play
 play_of script = play_of_lines (lines_of script)

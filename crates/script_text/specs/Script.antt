@@ -1,7 +1,7 @@
 -- The text of a script.
 use Rattle.std.specs.Prelude.{◌≡◌, ℕ, suc, List, [], ◌∷◌, ◌++◌, Option, Some, None}
 use Rattle.script_lines.specs.Lines.{lines_of}
-use Rattle.script_lines.specs.Said.{Said, Skipped, Nodes, Octets, Tick, Grant, Settle, Restart, said_of}
+use Rattle.script_lines.specs.Said.{Said, Skipped, Nodes, Octets, Deliver, Crash, Tick, Grant, Settle, Restart, Replay, said_within}
 use Rattle.script_text.specs.Settings.{Settings, script_settings}
 use Rattle.mc_model.specs.node.Input.{Input}
 use Rattle.script_text.specs.Node as node
@@ -28,25 +28,37 @@ stepped acted = Some (record { stage = Some acted.next; inputs = acted.inputs; p
 abbrev pub silent : Stage → Option Stepped
 silent stage = Some (record { stage = stage; inputs = []; prints = [] })
 
--- What a line does; none if it is bad. The first line that says something opens the runner, and no other does.
+-- A script is over so many nodes (own).
+abbrev pub script_nodes : ℕ
+script_nodes = 1
+
+-- What a line does that names no other node; none if it is bad. The first line that says something opens the runner, and no other does.
+-- Packets come at a settle alone: a line that delivers one, stops the node at one, or replays them, is bad.
 abbrev pub step_by : Settings → Stage → Option Said → Option Stepped
 step_by settings stage None = None
 step_by settings stage (Some Skipped) = silent stage
-step_by settings None (Some (Nodes serial)) = silent (Some (opened settings serial))
-step_by settings None (Some (Octets session octets)) = None
-step_by settings None (Some (Tick moment)) = None
-step_by settings None (Some (Grant id)) = None
-step_by settings None (Some Settle) = None
-step_by settings None (Some Restart) = None
-step_by settings (Some runner) (Some (Nodes serial)) = None
-step_by settings (Some runner) (Some (Octets session octets)) = stepped (on_octets settings runner session octets)
-step_by settings (Some runner) (Some (Tick moment)) = stepped (on_tick runner moment)
-step_by settings (Some runner) (Some (Grant id)) = stepped (on_grant runner id)
-step_by settings (Some runner) (Some Settle) = stepped (on_settle runner)
-step_by settings (Some runner) (Some Restart) = stepped (on_restart runner)
+step_by settings None (Some (Nodes count serial)) = silent (Some (opened settings serial))
+step_by settings None (Some (Octets node session octets)) = None
+step_by settings None (Some (Deliver number node)) = None
+step_by settings None (Some (Crash node number after)) = None
+step_by settings None (Some (Tick node moment)) = None
+step_by settings None (Some (Grant node id)) = None
+step_by settings None (Some (Settle nodes)) = None
+step_by settings None (Some (Restart node)) = None
+step_by settings None (Some (Replay count)) = None
+step_by settings (Some runner) (Some (Nodes count serial)) = None
+step_by settings (Some runner) (Some (Octets node session octets)) = stepped (on_octets settings runner session octets)
+step_by settings (Some runner) (Some (Deliver number node)) = None
+step_by settings (Some runner) (Some (Crash node number after)) = None
+step_by settings (Some runner) (Some (Tick node moment)) = stepped (on_tick runner moment)
+step_by settings (Some runner) (Some (Grant node id)) = stepped (on_grant runner id)
+step_by settings (Some runner) (Some (Settle nodes)) = stepped (on_settle runner)
+step_by settings (Some runner) (Some (Restart node)) = stepped (on_restart runner)
+step_by settings (Some runner) (Some (Replay count)) = None
 
+-- what a line does: one that names another node is bad
 unfoldable pub step_of : Settings → Stage → List ℕ → Option Stepped
-step_of settings stage line = step_by settings stage (said_of line)
+step_of settings stage line = step_by settings stage (said_within script_nodes line)
 
 -- ---- a script, as lines that join
 

@@ -10,12 +10,13 @@ use Rattle.node_model.specs.Attempts.{grant_refusal}
 use Rattle.node_model.specs.Granted.{is_open, known_slot}
 use Rattle.node_model.specs.Kept.{Kept}
 use Rattle.node_model.specs.Outputs.{nothing}
+use Rattle.node_model.specs.Reported.{receipt_of}
 use Rattle.node_laws.specs.Clusters.{KeptCluster, MayHappen, NodeInput, kept_reached, step_at}
 use Rattle.delivery.specs.Kept.{outcome_kept}
+use Rattle.delivery.specs.Targets.{is_up}
 use Rattle.desk.specs.Arrivals.{requested}
 use Rattle.pdu_tables.specs.StatusCodes.{status_code}
 use Rattle.requests.specs.Replying.{reply_given}
-use Rattle.rules.specs.Dues.{is_up}
 use Rattle.stable_store.specs.Stored.{AreSame, Listed}
 use Rattle.synod_acceptor.specs.Packets.{packet_of}
 use Rattle.synod_acceptor.specs.Records.{record_at}
@@ -23,7 +24,7 @@ use Rattle.node_core.specs.Attempting.{reason_of}
 use Rattle.node_core.specs.Keeping.{kept_of}
 use Rattle.node_core.specs.Nodes.{Standing}
 use Rattle.node_core.specs.Restarts.{ListsRecorded}
-use Rattle.node_core.specs.Steps.{granted_of, receipt_of}
+use Rattle.node_core.specs.Steps.{granted_of}
 use Rattle.node_core.specs.Stops.{is_after}
 use Rattle.sim_net.specs.Network.{numbered}
 use Rattle.world.specs.declared.fault.StartFault.{StartFault}

@@ -1,9 +1,12 @@
 use Rattle.std.proofs.Common.{◌≡◌, length}
-use Rattle.script_lines.specs.Said.{are_ones}
+use Rattle.std.specs.Prelude.{option_map}
+use Rattle.mc_types.specs.Nodes.{has}
+use Rattle.script_lines.specs.Said.{each_once, nodes_in}
+use Rattle.script_lines.proofs.WordLemmas.{joined}
 use Rattle.script_lines.proofs.line.settle_of.Given as goal
 
-abbrev pub invariant-nodes : goal.invariant-nodes
-invariant-nodes l = are_ones l.rest ≡ are_ones l.words
+abbrev pub invariant-listed : goal.invariant-listed
+invariant-listed l = option_map (joined (has l.nodes)) (nodes_in l.rest) ≡ option_map each_once (nodes_in l.words)
 
-abbrev pub decreases-nodes : goal.decreases-nodes
-decreases-nodes l = length l.rest
+abbrev pub decreases-listed : goal.decreases-listed
+decreases-listed l = length l.rest

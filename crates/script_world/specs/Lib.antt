@@ -1,0 +1,4 @@
+pub mod Prints
+pub mod World
+pub mod Script
+pub mod Example
