@@ -96,7 +96,10 @@ impl Packets {
         let Some(least) = length.checked_add(more) else {
             return Err(AllocError);
         };
-        let mut wider = Vec::with_capacity(*self.sent.allocator(), least.max(length.saturating_mul(2)))?;
+        let mut wider = Vec::with_capacity(
+            *self.sent.allocator(),
+            least.max(length.saturating_mul(2)),
+        )?;
         if wider.append(&mut self.sent).is_err() {
             unreachable!();
         }

@@ -68,11 +68,7 @@ impl Member {
 
     /// Takes the step of an input, and sends its packets. Grant and NotGranted exactly as `Node::prepare_step` says; else an `Err` is want of
     /// memory. Then nothing changes.
-    pub(crate) fn take(
-        &mut self,
-        input: Input,
-        packets: &mut Packets,
-    ) -> Result<Given, StepFault>
+    pub(crate) fn take(&mut self, input: Input, packets: &mut Packets) -> Result<Given, StepFault>
         requires { self.old.up ≡ true }
         ensures taken { IfOk result (λ given. HasSent self.old input packets.old.sent given self.new packets.new.sent) }
         ensures faults { IfErr result (IsFault (refused_by self.old.node.kept.setup (kept_of self.old.node.kept) input)) }

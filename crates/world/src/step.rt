@@ -10,7 +10,10 @@ use pdu_codec::Text;
 #[derive(Debug, Drop)]
 pub enum Step {
     /// The packet with this number comes to a node.
-    Deliver { number: u64, node: NodeNo },
+    Deliver {
+        number: u64,
+        node: NodeNo,
+    },
     /// A request of an account comes to a node: a submit_sm, with the account that a route leads to, if one does, a query_sm or a
     /// cancel_sm.
     Request {
@@ -25,7 +28,10 @@ pub enum Step {
         up: Vec<Text<16>>,
     },
     /// The attempt in which the known chain of a message ends is asked for at a node.
-    Grant { node: NodeNo, id: MsgId },
+    Grant {
+        node: NodeNo,
+        id: MsgId,
+    },
     /// What came of the attempt in a slot.
     Answered {
         node: NodeNo,
@@ -40,5 +46,7 @@ pub enum Step {
         found: Found,
     },
     /// A node starts anew, in its next incarnation, with its stable records and nothing else.
-    Restart { node: NodeNo },
+    Restart {
+        node: NodeNo,
+    },
 }

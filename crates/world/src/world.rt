@@ -156,12 +156,7 @@ impl World {
     }
 
     /// The node at this place, which is up, takes the step of an input.
-    fn take_at(
-        &mut self,
-        node: NodeNo,
-        place: usize,
-        input: Input,
-    ) -> Result<Given, WorldFault>
+    fn take_at(&mut self, node: NodeNo, place: usize, input: Input) -> Result<Given, WorldFault>
         requires up { IsUpAt self.old node place }
         requires sent { IsSentIn self.old input }
         ensures taken { IfOk result (λ given. HasTaken self.old node input given self.new) }
@@ -178,12 +173,7 @@ impl World {
     }
 
     /// The node at this place, which is up, stops as a packet comes.
-    fn crash_at(
-        &mut self,
-        place: usize,
-        packet: &Packet,
-        found: Found,
-    ) -> Result<Given, WorldFault>
+    fn crash_at(&mut self, place: usize, packet: &Packet, found: Found) -> Result<Given, WorldFault>
         requires up { IsUpAt self.old (place + 1) place }
         requires sent { In packet.now self.old.packets }
         ensures stopped { IfOk result (λ given. HasStopped self.old place packet.now (is_after found) given self.new) }
@@ -250,8 +240,7 @@ fn opened(
             nodes,
             first_serial,
             default_validity,
-        )
-        .unwrap();
+        ).unwrap();
         members.push(Member::open(alloc, setup)?)?;
     }
     Ok(members)

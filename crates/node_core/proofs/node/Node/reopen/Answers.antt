@@ -48,9 +48,8 @@ invariant_of-self-in-Err g c =
     λ (sound : c.if-self.self ≡ false). elim c.if-self.branch [
       | then-self w ↦ sym w.self-is ∙ sound
       | else-self w ↦ w.if-self.false
-    ] in
-    (
+    ] in (
       still_stored c.self.inside.broken c.if-self.self (g.S.StableStore.records c.self.inside.store) (g.S.StableStore.records c.begin.new.store)
-      c.self.inside.unfinished c.self.inside.kept works (fun_ext c.begin.ensures.records.each) c.self.invariant.0,
+          c.self.inside.unfinished c.self.inside.kept works (fun_ext c.begin.ensures.records.each) c.self.invariant.0,
       c.self.invariant.1,
     )
