@@ -13,7 +13,7 @@ use sim_net::Packets;
 use std::alloc::Global;
 
 /// What a step gives out, the oldest first, but for its packets, which are among those that were sent.
-#[derive(Debug, Drop)]
+#[derive(Drop)]
 pub struct Given {
     /// The ticket under which the request waits that came.
     pub ticket: Option<u64>,

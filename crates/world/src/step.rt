@@ -7,7 +7,7 @@ use node_core::Found;
 use pdu_codec::Text;
 
 /// What happens in a world: one step of one node.
-#[derive(Debug, Drop)]
+#[derive(Drop)]
 pub enum Step {
     /// The packet with this number comes to a node.
     Deliver {

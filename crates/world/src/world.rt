@@ -73,6 +73,13 @@ impl World {
         })
     }
 
+    /// All packets that were sent.
+    pub fn packets(&self) -> &Packets
+        ensures { result.now.sent ≡ self.now.packets }
+    {
+        &self.packets
+    }
+
     /// Takes a step. Of several refusals the one with the lowest number is told, but that a node is down before why an attempt is not granted;
     /// Memory is want of memory. A step that is refused changes nothing.
     pub fn step(&mut self, step: Step) -> Result<Given, WorldFault>

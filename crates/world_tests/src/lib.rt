@@ -1,0 +1,9 @@
+//! Tests of a world of several nodes, and of the packets between them.
+#![tactic(auto)]
+
+#[cfg(test)]
+mod asked;
+#[cfg(test)]
+mod walks;
+#[cfg(test)]
+mod worlds;
