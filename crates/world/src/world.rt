@@ -5,7 +5,7 @@ ghost use Rattle.mc_model.specs.synod.Lists.{In};
 ghost use Rattle.node_core.specs.Stops.{is_after};
 ghost use Rattle.mc_model.specs.message.Ids.{IsSerial};
 ghost use Rattle.world.specs.Members.{AreOpened, CantBegin, DoesNotTake, HasBegun, HasStopped, HasTaken, IsAddressed, IsSentIn, IsUpAt, Keeps, RefusesTo, away_in, undelivered_in};
-ghost use Rattle.world.specs.Runs.{IsAt, IsFault, IsStartFault, Leads, cluster_with, start_refusal};
+ghost use Rattle.world.specs.Runs.{IsAt, IsFault, IsSomewhere, IsStartFault, Leads, cluster_with, start_refusal};
 ghost use Rattle.world.specs.declared.fault.WorldFault.TheVariants.{Memory};
 ghost use Rattle.world.specs.declared.step.Step.TheVariants as steps;
 
@@ -78,6 +78,13 @@ impl World {
         ensures { result.now.sent ≡ self.now.packets }
     {
         &self.packets
+    }
+
+    /// What a proof takes of it: it stands somewhere in a run of the model's cluster. The call does nothing.
+    pub fn stands(&self)
+        ensures { IsSomewhere self.now }
+    {
+        self.members.len();
     }
 
     /// Takes a step. Of several refusals the one with the lowest number is told, but that a node is down before why an attempt is not granted;

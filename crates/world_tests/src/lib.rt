@@ -4,6 +4,8 @@
 #[cfg(test)]
 mod asked;
 #[cfg(test)]
+mod runs;
+#[cfg(test)]
 mod walks;
 #[cfg(test)]
 mod worlds;

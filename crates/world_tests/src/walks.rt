@@ -8,6 +8,7 @@ use requests::Reply;
 use std::alloc::Global;
 use std::test::Fail;
 use world::{Given, Step, World, WorldFault};
+use world_runs::Trace;
 
 // What happens in a world, at a node.
 #[derive(Clone, Copy)]
@@ -170,4 +171,21 @@ pub fn otherwise(alloc: Global, rows: &[Row]) -> Result<Option<(usize, Answer)>,
     let other = otherwise_by(alloc, &mut world, rows);
     drop(world);
     other
+}
+
+// What a list of steps gave, step by step.
+pub fn answers_in(alloc: Global, trace: Trace) -> Result<Vec<Answer>, Fail> {
+    let mut answers = Vec::new(alloc);
+    for given in trace.answers {
+        answers.push(answer_of(given))?;
+    }
+    Ok(answers)
+}
+
+pub fn steps_of(alloc: Global, comes: &[Comes]) -> Result<Vec<Step>, Fail> {
+    let mut steps = Vec::new(alloc);
+    for one in comes {
+        steps.push(step_of(alloc, *one)?.ok_or("a step")?)?;
+    }
+    Ok(steps)
 }

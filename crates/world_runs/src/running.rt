@@ -1,0 +1,30 @@
+//! A list of steps of a world.
+
+ghost use Rattle.std.specs.Prelude.{◌≡◌, IfOk, OnErr};
+ghost use Rattle.world_runs.specs.Traces.{GrantsNoneAfterAFate, HasOneFate, LeadsAll};
+
+use crate::trace::Trace;
+use std::alloc::{AllocError, Global};
+use std::collections::VecDeque;
+use world::{Step, World};
+
+/// Takes these steps, one after the other, whatever each gives. For every list of steps in which packets are delivered, lost, repeated or reordered
+/// and nodes stop and start anew: no two final states that are told of one message differ, and once one was told, no attempt of the message is granted. An
+/// `Err` is want of memory for what they give; then no step was taken.
+pub fn run(alloc: Global, world: &mut World, steps: Vec<Step>) -> Result<Trace, AllocError>
+    ensures leads { IfOk result (λ trace. LeadsAll world.old steps.items trace.answers.items world.new) }
+    ensures one_fate { IfOk result (λ trace. HasOneFate trace.answers.items) }
+    ensures no_grant { IfOk result (λ trace. GrantsNoneAfterAFate trace.answers.items) }
+    ensures stays { OnErr result (world.new ≡ world.old) }
+{
+    world.stands();
+    let mut answers = Vec::with_capacity(alloc, steps.len())?;
+    let mut steps = VecDeque::from_vec(steps);
+    while let Some(step) = steps.pop_front() {
+        let answer = world.step(step);
+        let Ok(()) = answers.push(answer) else {
+            unreachable!();
+        };
+    }
+    Ok(Trace { answers })
+}
