@@ -63,3 +63,7 @@ pub mod WholeSteps
 pub mod Clustered
 pub mod Stated
 pub mod NoGrant
+pub mod Causing
+pub mod Sources
+pub mod Delivered
+pub mod Fresh

@@ -26,22 +26,22 @@ grant_only (Tick moment up) slot same = absurd (cc)
 grant_only (Response other outcome) slot same = absurd (cc)
 grant_only (Restart lost) slot same = absurd (cc)
 
-abbrev deed_at : World → ℕ → Act → Deed
+abbrev pub deed_at : World → ℕ → Act → Deed
 deed_at w node act = record { node = node; incarnation = (w.actors node).incarnation; act = act }
 
--- the deed of an act that is done first stands right behind what was done before
-record IsNext (before after : List Deed) (act : Act) : Type 0 where
-  newer : List Deed
-  deed : Deed
-  split : after ≡ newer ++ deed ∷ before
-  act_is : deed.act ≡ act
+-- the deed of an act stands right behind what was done before
+pub record IsNext (first : World) (node : ℕ) (act : Act) (older : List Act) (after : List Deed) : Type 0 where
+  pub newer : List Deed
+  pub split : after ≡ newer ++ deed_at (reached first (by_node node older)) node act ∷ (reached first (by_node node older)).past
 
-done_first : (first : World) (node : ℕ) (front : List Act) (act : Act) → IsNext first.past (reached first (by_node node (front ++ act ∷ []))).past act
-done_first first node [] act = record { newer = []; deed = _; split = refl; act_is = refl }
-done_first first node (newest ∷ front) act =
-    let it = done_first first node front act in record { newer = _ ∷ it.newer; deed = it.deed; split = λ i. deed_at (reached first (by_node node (front ++ act ∷ []))) node newest ∷ it.split i; act_is = it.act_is }
+pub done_behind : (first : World) (node : ℕ) (front : List Act) (act : Act) (older : List Act) →
+    IsNext first node act older (reached first (by_node node (front ++ act ∷ older))).past
+done_behind first node [] act older = record { newer = []; split = refl }
+done_behind first node (newest ∷ front) act older =
+    let it = done_behind first node front act older in
+    record { newer = _ ∷ it.newer; split = λ i. deed_at (reached first (by_node node (front ++ act ∷ older))) node newest ∷ it.split i }
 
-past_grows : (first : World) (deeds : List (ℕ × Act)) → (newer : List Deed) × ((reached first deeds).past ≡ newer ++ first.past)
+pub past_grows : (first : World) (deeds : List (ℕ × Act)) → (newer : List Deed) × ((reached first deeds).past ≡ newer ++ first.past)
 past_grows first [] = ([], refl)
 past_grows first (newest ∷ older) = let it = past_grows first older in (_ ∷ it.0, λ i. deed_at (reached first older) newest.0 newest.1 ∷ it.1 i)
 
@@ -61,15 +61,15 @@ module _ (cluster : Cluster) where
       let grant : step.input ≡ Grant slot = grant_only step.input slot granted in
       let core : is.exact.core ≡ Grants slot ∷ [] = core_of step.input grant is.exact.core is.exact.core_is in
       let acts : step.acts ≡ front ++ Grants slot ∷ [] = is.exact.acts_are ∙ ap (λ (c : List Act). front ++ c) core in
-      let done = done_first (world_at cluster older) step.node front (Grants slot) in
+      let done = done_behind (world_at cluster older) step.node front (Grants slot) [] in
       record {
-        deed = done.deed;
+        deed = deed_at (world_at cluster older) step.node (Grants slot);
         newer = done.newer;
         split =
             ap (λ (w : World). w.past) (reached_all first (by_node step.node step.acts) (acts_in older))
             ∙ ap (λ (done_so : List Act). (reached (world_at cluster older) (by_node step.node done_so)).past) acts
             ∙ done.split;
-        act_is = done.act_is;
+        act_is = refl;
       }
     where
       front : List Act

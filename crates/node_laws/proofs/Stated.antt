@@ -16,13 +16,13 @@ use Rattle.node_laws.proofs.Orders.{in_reverse, mapped_in}
 
 -- ---- what goes out is done by an act
 
-reply_act : (acts : List Act) (reply : Reply) → In reply (replies_in acts) → In (Replies reply.ticket reply.id reply.answer) acts
+pub reply_act : (acts : List Act) (reply : Reply) → In reply (replies_in acts) → In (Replies reply.ticket reply.id reply.answer) acts
 reply_act [] reply none = absurd none
 reply_act (Replies ticket id answer ∷ acts) reply (inl same) = inl (ap (λ (r : Reply). Replies r.ticket r.id r.answer) same)
 reply_act (Replies ticket id answer ∷ acts) reply (inr later) = inr (reply_act acts reply later)
 reply_act (act ∷ acts) reply among = inr (reply_act acts reply among)
 
-receipt_act : (acts : List Act) (receipt : Receipt) → In receipt (receipts_in acts) → In (Reports receipt.id receipt.chain) acts
+pub receipt_act : (acts : List Act) (receipt : Receipt) → In receipt (receipts_in acts) → In (Reports receipt.id receipt.chain) acts
 receipt_act [] receipt none = absurd none
 receipt_act (Reports id chain ∷ acts) receipt (inl same) = inl (ap (λ (r : Receipt). Reports r.id r.chain) same)
 receipt_act (Reports id chain ∷ acts) receipt (inr later) = inr (receipt_act acts receipt later)
@@ -41,7 +41,7 @@ done_in first (newest ∷ older) node act (inl same) = record { deed = _; past =
 done_in first (newest ∷ older) node act (inr before) =
     let it = done_in first older node act before in record { deed = it.deed; past = inr it.past; act_is = it.act_is }
 
-past_still : (first : World) (deeds : List (ℕ × Act)) (deed : Deed) → In deed first.past → In deed (reached first deeds).past
+pub past_still : (first : World) (deeds : List (ℕ × Act)) (deed : Deed) → In deed first.past → In deed (reached first deeds).past
 past_still first [] deed past = past
 past_still first (newest ∷ older) deed past = inr (past_still first older deed past)
 

@@ -1,11 +1,12 @@
 -- A cluster of nodes by what they keep, and the packets between them.
 use Rattle.std.specs.Prelude.{◌≡◌, ◌⊎◌, ℕ, List, [], ◌∷◌, ◌++◌, map, reverse, Some}
-use Rattle.mc_model.specs.message.Decree.{Decree, Final}
+use Rattle.mc_model.specs.message.Decree.{Attempt, Decree, Delivered, Fate, Final}
 use Rattle.mc_model.specs.message.Chain.{final_in}
 use Rattle.mc_model.specs.synod.Lists.{In}
-use Rattle.mc_model.specs.synod.Packet.{Packet, Slot}
+use Rattle.mc_model.specs.synod.Packet.{Packet, Slot, slot_of}
 use Rattle.mc_model.specs.node.Alone.{opened_new as node_new, reached_alone}
-use Rattle.mc_model.specs.node.Input.{Crash, Delivery, Input}
+use Rattle.mc_model.specs.node.Input.{Crash, Delivery, Grant, Input, Response}
+use Rattle.mc_model.specs.node.Outcome.{Concluded}
 use Rattle.mc_model.specs.node.Outputs.{Outputs, Reply, outputs_of}
 use Rattle.mc_model.specs.cluster.Fate.{shown_by}
 use Rattle.mc_model.specs.cluster.Assembly.{acts_of}
@@ -26,6 +27,9 @@ pub record KeptCluster : Type 0 where
 pub record NodeInput : Type 0 where
   pub node : ℕ
   pub input : Input
+
+abbrev pub comes_to : ℕ → Input → NodeInput
+comes_to node input = record { node = node; input = input }
 
 -- all nodes open with new stores
 abbrev pub kept_start : Cluster → KeptCluster
@@ -51,6 +55,10 @@ abbrev pub WasSentBefore : List Packet → Input → Type 0
 WasSentBefore packets (Delivery packet) = In packet packets
 WasSentBefore packets (Crash packet after) = In packet packets
 WasSentBefore packets input = Unit {0}
+
+-- what this gives out, behind these
+abbrev pub outputs_at : Cluster → List NodeInput → NodeInput → Outputs
+outputs_at cluster inputs next = (step_at cluster (kept_reached cluster inputs) next).outputs
 
 -- Packets may be lost, repeated and reordered, and nodes may stop and start anew: any input may come that may come to the node, and
 -- whose packet was sent.
@@ -111,9 +119,23 @@ pub record GrantsOut (outputs : Outputs) (id : ℕ) : Type 0 where
   pub granted : outputs.granted ≡ Some slot
   pub about : slot.id ≡ id
 
--- of what is given out, the newest first, one came before another
-pub record CameEarlier (first second : Outputs) (given : List Outputs) : Type 0 where
-  pub newer : List Outputs
-  pub older : List Outputs
-  pub split : given ≡ newer ++ second ∷ older
+-- of what came or was given out, the newest first, one came before another
+pub record CameEarlier {A : Type 0} (first second : A) (all : List A) : Type 0 where
+  pub newer : List A
+  pub older : List A
+  pub split : all ≡ newer ++ second ∷ older
   pub before : In first older
+
+-- A chain ends in the fate DELIVERED behind an attempt of the same author. As these inputs came, the newest first, that attempt was granted at
+-- its author's node, and then answered there by ESME_ROK.
+pub record IsDeliveredBy (id : ℕ) (chain : List Decree) (inputs : List NodeInput) : Type 0 where
+  pub fate : Decree
+  pub attempt : Decree
+  pub older : List Decree
+  pub number : ℕ
+  pub chain_is : chain ≡ fate ∷ attempt ∷ older
+  pub attempted : attempt.kind ≡ Attempt number
+  pub delivered : fate.kind ≡ Fate Delivered 0
+  pub author : fate.author ≡ attempt.author
+  pub granted : CameEarlier (comes_to attempt.author.node (Grant (slot_of id (attempt ∷ older))))
+      (comes_to attempt.author.node (Response (slot_of id (attempt ∷ older)) (Concluded Delivered 0))) inputs

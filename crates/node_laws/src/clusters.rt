@@ -1,18 +1,25 @@
 //! A cluster of nodes by what they keep, as a cluster of the model.
 
-ghost use Rattle.std.specs.Prelude.{◌≡◌, ℕ, List};
-ghost use Rattle.mc_model.specs.message.Decree.{Final};
+ghost use Rattle.std.specs.Prelude.{◌≡◌, ◌∷◌, ◌++◌, ℕ, List, Some};
+ghost use Rattle.mc_model.specs.message.Decree.{Decree, Delivered, Final};
+ghost use Rattle.mc_model.specs.message.Chain.{final_in};
 ghost use Rattle.mc_model.specs.synod.Lists.{In};
+ghost use Rattle.mc_model.specs.node.Actor.{Request};
+ghost use Rattle.mc_model.specs.node.Input.{Arrival, Input, Restart};
 ghost use Rattle.mc_model.specs.node.Outputs.{Outputs};
+ghost use Rattle.mc_model.specs.node.Replies.{Shown};
 ghost use Rattle.mc_model.specs.cluster.Steps.{Cluster};
 ghost use Rattle.node_laws.specs.Clusters.{
   CameEarlier,
   GrantsOut,
+  IsDeliveredBy,
   MayHappen,
   NodeInput,
   RunsTogether,
   StatesFinal,
   cluster_outputs,
+  comes_to,
+  outputs_at,
 };
 
 /// For every list of inputs of a cluster of nine nodes at most, in which packets are delivered, lost, repeated or reordered and nodes
@@ -37,4 +44,25 @@ pub fn no_attempt_is_granted_after_a_fate()
         (stating granting : Outputs) (id : ℕ) (final : Final) →
         CameEarlier stating granting (cluster_outputs cluster inputs) →
         StatesFinal stating id final → GrantsOut granting id → ⊥ }
+{}
+
+/// And each DELIVERED that is given out stands on an attempt of its author, which was granted at the author's node and then answered by
+/// ESME_ROK, as earlier inputs came.
+pub fn a_delivery_stands_on_an_answered_attempt()
+    ensures { (cluster : Cluster) (next : NodeInput) (inputs : List NodeInput) → MayHappen cluster (next ∷ inputs) →
+        (id : ℕ) (says : StatesFinal (outputs_at cluster inputs next) id Delivered) → IsDeliveredBy id says.chain inputs }
+{}
+
+/// And a query_sm that came after a final state of its message was given out, and is answered by ESME_ROK in the same life of its node, is told
+/// that state.
+pub fn a_later_query_is_told_the_fate()
+    ensures { (cluster : Cluster) (older middle : List NodeInput) (node ticket : ℕ) (request : Request) (next : Input)
+        (id : ℕ) (chain : List Decree) (stating : Outputs) (final : Final) →
+        MayHappen cluster (comes_to node next ∷ (middle ++ comes_to node (Arrival request) ∷ older)) →
+        In stating (cluster_outputs cluster older) → StatesFinal stating id final →
+        (outputs_at cluster older (comes_to node (Arrival request))).ticket ≡ Some ticket →
+        ((lost : ℕ) → In (comes_to node (Restart lost)) middle → ⊥) →
+        In (record { ticket = ticket; id = id; answer = Shown chain })
+        (outputs_at cluster (middle ++ comes_to node (Arrival request) ∷ older) (comes_to node next)).replies →
+        final_in chain ≡ Some final }
 {}
