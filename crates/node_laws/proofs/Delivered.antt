@@ -7,7 +7,7 @@ use Rattle.mc_model.specs.message.Chain.{final_in}
 use Rattle.mc_model.specs.synod.Lists.{In}
 use Rattle.mc_model.specs.synod.Packet.{Slot, slot_of}
 use Rattle.mc_model.specs.node.Act.{Act, Concludes, Grants}
-use Rattle.mc_model.specs.node.Input.{Grant, Input, Response}
+use Rattle.mc_model.specs.node.Input.{Grant, Input, Response, Restart}
 use Rattle.mc_model.specs.node.Outcome.{Concluded, Outcome}
 use Rattle.mc_model.specs.node.Outputs.{Outputs}
 use Rattle.mc_model.specs.node.Setup.{Setup}
@@ -19,10 +19,11 @@ use Rattle.mc_laws.proofs.Behind.{run_by}
 use Rattle.mc_laws.proofs.Reached.{holds, stands_on_delivery}
 use Rattle.node_model.specs.Kept.{Kept}
 use Rattle.node_model.specs.Stepped.{stepped, stepped_down, stepped_up}
-use Rattle.node_laws.specs.Clusters.{CameEarlier, IsDeliveredBy, KeptCluster, MayHappen, NodeInput, StatesFinal, kept_reached, step_at, world_at}
+use Rattle.node_laws.specs.Clusters.{CameInOneLife, IsDeliveredBy, KeptCluster, LivesOn, MayHappen, NodeInput, StatesFinal, comes_to, kept_reached, step_at, world_at}
 use Rattle.node_laws.proofs.Clustered.{clustered}
+use Rattle.node_laws.proofs.Lives.{life_in, life_within, lives_on}
 use Rattle.node_laws.proofs.NoGrant.{deed_at}
-use Rattle.node_laws.proofs.Sources.{IsDeed, came_by, cut_at, deed_of, in_cut, input_of, may_until, past_behind, past_of, setup_by, step_of, told_by}
+use Rattle.node_laws.proofs.Sources.{IsDeed, came_by, cut_at, deed_of, input_of, may_until, past_behind, past_of, setup_by, step_of, told_by}
 
 -- ---- from acts to steps
 
@@ -104,21 +105,37 @@ module _ (cluster : Cluster) where
       inputs ≡ map came_by later ++ came_by step ∷ map came_by before
   inputs_split steps later step before inputs are split = sym are ∙ ap (map came_by) split ∙ map-append came_by later (step ∷ before)
 
+  -- the incarnation of a deed, and of its node before the step
+  life_before : (steps : List Step) (by : ℕ) (act : Act) (earlier : List (ℕ × Act)) (there : IsDoneIn steps by act earlier) →
+      ((lost : ℕ) → there.step.input ≡ Restart lost → ⊥) → life_in by (reached first earlier) ≡ life_in by (world_at cluster there.before)
+  life_before steps by act earlier there none =
+      ap (λ (acts : List (ℕ × Act)). life_in by (reached first acts)) there.within.earlier_is
+      ∙ life_within cluster by there.step there.before there.is none there.within.rest there.within.parts
+
   -- ---- a grant before an answer
 
-  module _ (author : Author) (slot : Slot) where
-    abbrev grant_input : NodeInput
-    grant_input = record { node = author.node; input = Grant slot }
+  no_start : (input other : Input) → input ≡ other → ((lost : ℕ) → other ≡ Restart lost → ⊥) → (lost : ℕ) → input ≡ Restart lost → ⊥
+  no_start input other same none lost anew = none lost (sym same ∙ anew)
 
+  module _ (author : Author) (slot : Slot) where
     abbrev grant_deed : Deed
     grant_deed = deed_by author (Grants slot)
 
-    -- a grant that was done before the step of an answer, or in it, came before
-    grant_came : (step : Step) (before : List Step) → IsStep (world_at cluster before) (setup_by cluster step) step.input step.acts →
+    -- the step of a grant, in the life of its author
+    record IsGrantStep (steps : List Step) : Type 0 where
+      later : List Step
+      step : Step
+      before : List Step
+      split : steps ≡ later ++ step ∷ before
+      is : IsStep (world_at cluster before) (setup_by cluster step) step.input step.acts
+      came : came_by step ≡ comes_to author.node (Grant slot)
+      life : author.incarnation ≡ life_in author.node (world_at cluster before)
+
+    -- a grant that was done before the step of an answer, or in it, was done before
+    grant_step : (step : Step) (before : List Step) → IsStep (world_at cluster before) (setup_by cluster step) step.input step.acts →
         AreSteps cluster first before → (rest : List Act) → ((act : Act) → In act rest → In act step.acts) → (step.input ≡ Grant slot → ⊥) →
-        In grant_deed (past_of cluster (by_node step.node rest ++ acts_in before)) →
-        In grant_input (map came_by before)
-    grant_came step before is are rest parts other among =
+        In grant_deed (past_of cluster (by_node step.node rest ++ acts_in before)) → IsGrantStep before
+    grant_step step before is are rest parts other among =
         let cut = cut_at grant_deed _ among in
         let d = done cluster.nodes cluster.serials (by_node step.node rest ++ acts_in before) cut.newer grant_deed cut.older cut.split in
         elim (within_or_before step.node rest (acts_in before) d.later author.node (Grants slot) d.earlier d.split) [
@@ -126,27 +143,59 @@ module _ (cluster : Cluster) where
           | inr it ↦
               let there = done_in before are it.later author.node (Grants slot) d.earlier it.split in
               let granted : there.step.input ≡ Grant slot = input_of cluster there.step there.before there.is (Grants slot) there.within.among in
-              subst (In grant_input) (sym (inputs_split before there.later there.step there.before (map came_by before) refl there.split))
-              (subst (λ (x : NodeInput). In x (map came_by there.later ++ came_by there.step ∷ map came_by there.before))
-              (λ i. record { node = there.within.node_is i; input = granted i })
-              (in_cut (map came_by there.later) (map came_by there.before) (came_by there.step)))
+              record {
+                later = there.later;
+                step = there.step;
+                before = there.before;
+                split = there.split;
+                is = there.is;
+                came = λ i. comes_to (there.within.node_is i) (granted i);
+                life = d.incarnation ∙ life_before before author.node (Grants slot) d.earlier there
+                    (no_start there.step.input (Grant slot) granted (λ lost is. cc));
+              }
         ]
 
-    module _ (outcome : Outcome) where
-      abbrev answer_input : NodeInput
-      answer_input = record { node = author.node; input = Response slot outcome }
+    -- and the node lived on until a later step in that life
+    grant_lives : (steps : List Step) → AreSteps cluster first steps → author.incarnation ≡ life_in author.node (world_at cluster steps) →
+        (it : IsGrantStep steps) →
+        LivesOn author.node (map came_by it.later)
+    grant_lives steps are life it =
+        lives_on cluster author.node it.later (it.step ∷ it.before) (subst (AreSteps cluster first) it.split are)
+        (sym (ap (λ (ss : List Step). life_in author.node (world_at cluster ss)) it.split)
+        ∙ sym life ∙ it.life
+        ∙ sym (life_within cluster author.node it.step it.before it.is
+        (no_start it.step.input (Grant slot) (ap (λ (x : NodeInput). x.input) it.came) (λ lost is. cc)) it.step.acts (λ act among. among)))
 
+    module _ (outcome : Outcome) where
       abbrev answer_deed : Deed
       answer_deed = deed_by author (Concludes slot outcome)
 
+      abbrev answer_input : NodeInput
+      answer_input = comes_to author.node (Response slot outcome)
+
       no_grant_so : (input : Input) → input ≡ Response slot outcome → input ≡ Grant slot → ⊥
       no_grant_so input answer grant = let both : Response slot outcome ≡ Grant slot = sym answer ∙ grant in cc
+
+      in_one_life : (steps later : List Step) (step : Step) (before : List Step) → AreSteps cluster first before →
+          steps ≡ later ++ step ∷ before → came_by step ≡ answer_input →
+          author.incarnation ≡ life_in author.node (world_at cluster before) → IsGrantStep before →
+          CameInOneLife author.node (Grant slot) (Response slot outcome) (map came_by steps)
+      in_one_life steps later step before are split came life grant = record {
+        newer = map came_by later;
+        middle = map came_by grant.later;
+        older = map came_by grant.before;
+        split =
+            inputs_split steps later step before (map came_by steps) refl split
+            ∙ (λ i. map came_by later ++ came i ∷ inputs_split before grant.later grant.step grant.before (map came_by before) refl grant.split i)
+            ∙ (λ i. map came_by later ++ answer_input ∷ (map came_by grant.later ++ grant.came i ∷ map came_by grant.before));
+        lives = grant_lives before are life grant;
+      }
 
       -- both came before a step, if an outcome is not its input
       both_came : (step : Step) (before : List Step) → IsStep (world_at cluster before) (setup_by cluster step) step.input step.acts →
           AreSteps cluster first before → (rest : List Act) → ((act : Act) → In act rest → In act step.acts) → (step.input ≡ Response slot outcome → ⊥) →
           CameBefore grant_deed answer_deed (past_of cluster (by_node step.node rest ++ acts_in before)) →
-          CameEarlier grant_input answer_input (map came_by before)
+          CameInOneLife author.node (Grant slot) (Response slot outcome) (map came_by before)
       both_came step before is are rest parts other came =
           let d = done cluster.nodes cluster.serials (by_node step.node rest ++ acts_in before) came.newer answer_deed came.older came.split in
           elim (within_or_before step.node rest (acts_in before) d.later author.node (Concludes slot outcome) d.earlier d.split) [
@@ -157,15 +206,11 @@ module _ (cluster : Cluster) where
                 input_of cluster there.step there.before there.is (Concludes slot outcome) there.within.among in
                 let past : past_of cluster (by_node there.step.node there.within.rest ++ acts_in there.before) ≡ came.older =
                 ap (past_of cluster) (sym there.within.earlier_is) ∙ d.past in
-                record {
-                  newer = map came_by there.later;
-                  older = map came_by there.before;
-                  split =
-                      inputs_split before there.later there.step there.before (map came_by before) refl there.split
-                      ∙ (λ i. map came_by there.later ++ record { node = there.within.node_is i; input = answered i } ∷ map came_by there.before);
-                  before = grant_came there.step there.before there.is there.are there.within.rest there.within.parts (no_grant_so there.step.input answered)
-                      (subst (In grant_deed) (sym past) came.before);
-                }
+                in_one_life before there.later there.step there.before there.are there.split (λ i. comes_to (there.within.node_is i) (answered i))
+                (d.incarnation ∙ life_before before author.node (Concludes slot outcome) d.earlier there
+                (no_start there.step.input (Response slot outcome) answered (λ lost is. cc)))
+                (grant_step there.step there.before there.is there.are there.within.rest there.within.parts (no_grant_so there.step.input answered)
+                (subst (In grant_deed) (sym past) came.before))
           ]
 
   -- ---- a statement
@@ -193,21 +238,22 @@ module _ (cluster : Cluster) where
       (subst (λ (input : Input). StatesFinal (stepped (setup_of cluster next.node) (w.kept next.node) input).outputs id final) answer says)
 
   -- an outcome of ESME_ROK has no error
-  no_error : (inputs : List NodeInput) → MayHappen cluster inputs → (slot : Slot) (error : ℕ) (grant : NodeInput) (author : Author) →
-      CameEarlier grant (record { node = author.node; input = Response slot (Concluded Delivered error) }) inputs → error ≡ 0
-  no_error inputs may slot error grant author came =
+  no_error : (inputs : List NodeInput) → MayHappen cluster inputs → (slot : Slot) (error node : ℕ) →
+      CameInOneLife node (Grant slot) (Response slot (Concluded Delivered error)) inputs → error ≡ 0
+  no_error inputs may slot error node came =
       let there = may_until cluster came.newer _ (subst (MayHappen cluster) came.split may) in
       there.2.possible
 
   module _ (next : NodeInput) (inputs : List NodeInput) (may : MayHappen cluster (next ∷ inputs)) (id : ℕ)
       (says : StatesFinal (step_at cluster (kept_reached cluster inputs) next).outputs id Delivered) where
     by_delivery : (before : List Step) → map came_by before ≡ inputs → (d : (deeds : List Deed) × IsDelivery id says.chain deeds) →
-        CameEarlier (grant_input d.1.attempt.author (slot_of id (d.1.attempt ∷ d.1.older)))
-        (answer_input d.1.attempt.author (slot_of id (d.1.attempt ∷ d.1.older)) (Concluded Delivered d.1.error)) (map came_by before) →
+        CameInOneLife d.1.attempt.author.node (Grant (slot_of id (d.1.attempt ∷ d.1.older)))
+        (Response (slot_of id (d.1.attempt ∷ d.1.older)) (Concluded Delivered d.1.error)) (map came_by before) →
         IsDeliveredBy id says.chain inputs
     by_delivery before older_is (deeds, d) came =
-        let both = subst (CameEarlier _ _) older_is came in
-        let none = no_error inputs may.4 (slot_of id (d.attempt ∷ d.older)) d.error _ d.attempt.author both in
+        let slot = slot_of id (d.attempt ∷ d.older) in
+        let both = subst (CameInOneLife d.attempt.author.node (Grant slot) (Response slot (Concluded Delivered d.error))) older_is came in
+        let none = no_error inputs may.4 slot d.error d.attempt.author.node both in
         record {
           fate = d.fate;
           attempt = d.attempt;
@@ -217,8 +263,7 @@ module _ (cluster : Cluster) where
           attempted = d.attempted;
           delivered = d.delivered ∙ ap (Fate Delivered) none;
           author = d.author;
-          granted = subst (λ (error : ℕ). CameEarlier (grant_input d.attempt.author (slot_of id (d.attempt ∷ d.older)))
-              (answer_input d.attempt.author (slot_of id (d.attempt ∷ d.older)) (Concluded Delivered error)) inputs) none both;
+          granted = subst (λ (error : ℕ). CameInOneLife d.attempt.author.node (Grant slot) (Response slot (Concluded Delivered error)) inputs) none both;
         }
 
     pub delivered : IsDeliveredBy id says.chain inputs

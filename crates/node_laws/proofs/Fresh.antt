@@ -1,59 +1,33 @@
 -- A query_sm that came after a final state of its message was given out, and is answered ESME_ROK, is told that state.
-use Rattle.std.proofs.Common.{◌≡◌, ℕ, Bool, true, false, List, [], ◌∷◌, ◌++◌, map, Some, refl, sym, ap, subst, ◌∙◌, inl, inr, append_assoc}
+use Rattle.std.proofs.Common.{◌≡◌, ℕ, Bool, true, false, List, [], ◌∷◌, ◌++◌, map, Some, refl, sym, ap, subst, ◌∙◌, inl, append_assoc}
 use Rattle.std.specs.Prelude.{if◌then◌else◌}
 use Rattle.mc_model.specs.message.Decree.{Decree, Final}
 use Rattle.mc_model.specs.message.Chain.{final_in}
 use Rattle.mc_model.specs.synod.Acceptor.{Records}
 use Rattle.mc_model.specs.synod.Lists.{In}
-use Rattle.mc_model.specs.node.Act.{Act, Begins, Replies, Restarts}
+use Rattle.mc_model.specs.node.Act.{Act, Begins, Replies}
 use Rattle.mc_model.specs.node.Actor.{Actor, Request, id_in}
 use Rattle.mc_model.specs.node.Core.{IsCore}
-use Rattle.mc_model.specs.node.Effect.{actor_by}
 use Rattle.mc_model.specs.node.Input.{Arrival, Input, Restart}
 use Rattle.mc_model.specs.node.Outputs.{Outputs, Reply, replies_in, ticket_of}
-use Rattle.mc_model.specs.node.Replies.{Shown}
+use Rattle.mc_model.specs.node.Replies.{Accepted, Answer, Shown, Unknown}
 use Rattle.mc_model.specs.node.Setup.{Setup}
 use Rattle.mc_model.specs.node.Step.{IsExact}
 use Rattle.mc_model.specs.cluster.Fate.{States}
 use Rattle.mc_model.specs.cluster.Steps.{AreSteps, Cluster, IsStep, Step, acts_in, by_node, setup_of}
-use Rattle.mc_model.specs.cluster.World.{Deed, World, after, reached, start}
+use Rattle.mc_model.specs.cluster.World.{Deed, World, reached, start}
 use Rattle.mc_parts.proofs.Membership.{in_right}
-use Rattle.mc_laws.proofs.Answers.{Answered, answered, fresh_query}
+use Rattle.mc_laws.proofs.Answers.{Answered, answered, fresh_query, never_unknown as never_told}
 use Rattle.mc_laws.proofs.Behind.{steps_run}
-use Rattle.mc_laws.proofs.Growth.{actors_after, remembers}
 use Rattle.node_model.specs.Kept.{Kept}
 use Rattle.node_model.specs.Stepped.{stepped, stepped_down, stepped_up}
-use Rattle.node_laws.specs.Clusters.{KeptCluster, MayHappen, NodeInput, StatesFinal, cluster_outputs, comes_to, kept_reached, outputs_at, step_at, world_at}
+use Rattle.node_laws.specs.Clusters.{KeptCluster, LivesOn, MayHappen, NodeInput, StatesFinal, cluster_outputs, comes_to, kept_reached, outputs_at, step_at, step_outputs, world_at}
 use Rattle.node_laws.proofs.Clustered.{clustered, reached_all}
+use Rattle.node_laws.proofs.Lives.{life_along, life_in, life_within}
 use Rattle.node_laws.proofs.NoGrant.{deed_at, past_grows}
 use Rattle.node_laws.proofs.Orders.{in_reverse}
-use Rattle.node_laws.proofs.Sources.{IsDeed, IsStepOf, came_by, deed_of, input_of, past_behind, step_of}
-use Rattle.node_laws.proofs.Stated.{past_still, reply_act, stated}
-
--- ---- the life of a node
-
-life_of : (node : ℕ) (a : Actor) (act : Act) → ((lost serial : ℕ) → act ≡ Restarts lost serial → ⊥) → (actor_by node a act).incarnation ≡ a.incarnation
-life_of node a act none = elim (remembers node a act) [ inl anew ↦ absurd (none anew.0 anew.1 anew.2) | inr r ↦ r.incarnation ]
-
-abbrev life_in : ℕ → World → ℕ
-life_in node w = (w.actors node).incarnation
-
-life_then : (w : World) (by : ℕ) (act : Act) (node : ℕ) → (by ≡ node → (lost serial : ℕ) → act ≡ Restarts lost serial → ⊥) →
-    life_in node (after w by act) ≡ life_in node w
-life_then w by act node none = elim (actors_after w by act node) [
-  | inl here ↦
-      ap (λ (a : Actor). a.incarnation) here.actor_is
-      ∙ life_of by (w.actors by) act (none (sym here.node_is))
-      ∙ ap (λ (n : ℕ). life_in n w) (sym here.node_is)
-  | inr elsewhere ↦ ap (λ (a : Actor). a.incarnation) elsewhere
-]
-
--- acts leave a node its incarnation, if it does not start anew by them
-life_by : (w : World) (by : ℕ) (acts : List Act) (node : ℕ) → (by ≡ node → (lost serial : ℕ) → In (Restarts lost serial) acts → ⊥) →
-    life_in node (reached w (by_node by acts)) ≡ life_in node w
-life_by w by [] node none = refl
-life_by w by (act ∷ acts) node none = life_then (reached w (by_node by acts)) by act node (λ same lost serial is. none same lost serial (inl (sym is)))
-    ∙ life_by w by acts node (λ same lost serial among. none same lost serial (inr among))
+use Rattle.node_laws.proofs.Sources.{IsDeed, IsStepOf, came_by, deed_of, past_behind, step_of}
+use Rattle.node_laws.proofs.Stated.{given_by, past_still, reply_act, stated}
 
 begun_in : (setup : Setup) (a : Actor) (records : Records) (input : Input) (acts : List Act) → IsExact setup a records input acts →
     (request : Request) → input ≡ Arrival request →
@@ -72,28 +46,6 @@ silent setup k lost false reply among = among
 module _ (cluster : Cluster) where
   abbrev first : World
   first = start cluster.nodes cluster.serials
-
-  abbrev NoRestart : ℕ → List NodeInput → Type 0
-  NoRestart node inputs = (lost : ℕ) → In (comes_to node (Restart lost)) inputs → ⊥
-
-  life_along : (node : ℕ) (later before : List Step) → AreSteps cluster first (later ++ before) → NoRestart node (map came_by later) →
-      life_in node (world_at cluster (later ++ before)) ≡ life_in node (world_at cluster before)
-  life_along node [] before are none = refl
-  life_along node (step ∷ later) before are none =
-      ap (life_in node) (reached_all first (by_node step.node step.acts) (acts_in (later ++ before)))
-      ∙ life_by (world_at cluster (later ++ before)) step.node step.acts node (λ same lost serial among.
-      let anew : step.input ≡ Restart lost = input_of cluster step (later ++ before) are.0 (Restarts lost serial) among in
-      none lost (inl (λ i. comes_to (sym same i) (sym anew i))))
-      ∙ life_along node later before are.1 (λ lost among. none lost (inr among))
-
-  -- in the midst of a step
-  life_within : (node : ℕ) (step : Step) (before : List Step) → IsStep (world_at cluster before) (setup_of cluster step.node) step.input step.acts →
-      ((lost : ℕ) → step.input ≡ Restart lost → ⊥) → (rest : List Act) → ((act : Act) → In act rest → In act step.acts) →
-      life_in node (reached first (by_node step.node rest ++ acts_in before)) ≡ life_in node (world_at cluster before)
-  life_within node step before is none rest parts =
-      ap (life_in node) (reached_all first (by_node step.node rest) (acts_in before))
-      ∙ life_by (world_at cluster before) step.node rest node (λ same lost serial among.
-      none lost (input_of cluster step before is (Restarts lost serial) (parts (Restarts lost serial) among)))
 
   past_along : (later before : List Step) → (newer : List Deed) × ((world_at cluster (later ++ before)).past ≡ newer ++ (world_at cluster before).past)
   past_along [] before = ([], refl)
@@ -141,15 +93,15 @@ module _ (cluster : Cluster) where
 
     -- the node does not start anew on the way
     same_deed : next.node ≡ asked.node → ((lost : ℕ) → next.input ≡ Restart lost → ⊥) → ((lost : ℕ) → asked.input ≡ Restart lost → ⊥) →
-        NoRestart asked.node (map came_by later) →
+        LivesOn asked.node (map came_by later) →
         deed_at now next.node act ≡ record (deed_at before_it asked.node ask) { act = act }
     same_deed nodes none never between =
         let lives : life_in asked.node now ≡ life_in asked.node before_it =
-        life_within asked.node next earlier is none told.rest told.parts
+        life_within cluster asked.node next earlier is none told.rest told.parts
         ∙ ap (λ (steps : List Step). life_in asked.node (world_at cluster steps)) split
-        ∙ life_along asked.node later (asked ∷ before) (subst (AreSteps cluster first) split are) between
-        ∙ life_within asked.node asked before asks never asked.acts (λ x among. among)
-        ∙ sym (life_within asked.node asked before asks never began.rest began.parts)
+        ∙ life_along cluster asked.node later (asked ∷ before) (subst (AreSteps cluster first) split are) between
+        ∙ life_within cluster asked.node asked before asks never asked.acts (λ x among. among)
+        ∙ sym (life_within cluster asked.node asked before asks never began.rest began.parts)
         in
         let lived : life_in next.node now ≡ life_in asked.node before_it = ap (λ (n : ℕ). life_in n now) nodes ∙ lives in
         λ i. record { node = nodes i; incarnation = lived i; act = act }
@@ -162,9 +114,9 @@ module _ (cluster : Cluster) where
       (past_still (world_at cluster before) (by_node step.node rest) deed past)
 
   -- the message of a reply is the one that was asked for
-  about_it : (beginning : Deed) (ticket : ℕ) (request : Request) (id : ℕ) (chain : List Decree) (older : List Deed) →
-      Answered cluster.nodes cluster.serials beginning ticket request id (Shown chain) older → id ≡ id_in request
-  about_it beginning ticket request id chain older a =
+  about_it : (beginning : Deed) (ticket : ℕ) (request : Request) (id : ℕ) (answer : Answer) (older : List Deed) →
+      Answered cluster.nodes cluster.serials beginning ticket request id answer older → id ≡ id_in request
+  about_it beginning ticket request id answer older a =
       sym a.replies.asked.about ∙ a.asked.fresh.about a.asked.incarnation a.replies.asked.waiting a.replies.asked.waits a.replies.asked.ticket_is
 
   silent_at : (w : KeptCluster) (next : NodeInput) (lost : ℕ) → next.input ≡ Restart lost → (reply : Reply) →
@@ -173,7 +125,7 @@ module _ (cluster : Cluster) where
       silent (setup_of cluster next.node) (w.kept next.node) lost (w.kept next.node).up reply
       (subst (λ (input : Input). In reply (stepped (setup_of cluster next.node) (w.kept next.node) input).outputs.replies) anew among)
 
-  module _ (older middle : List NodeInput) (node ticket : ℕ) (request : Request) (next : Input) (id : ℕ) (chain : List Decree) where
+  module _ (older middle : List NodeInput) (node ticket : ℕ) (request : Request) (next : Input) (id : ℕ) (answer : Answer) where
     abbrev asking : NodeInput
     asking = comes_to node (Arrival request)
 
@@ -181,10 +133,10 @@ module _ (cluster : Cluster) where
     inputs = middle ++ asking ∷ older
 
     abbrev reply : Reply
-    reply = record { ticket = ticket; id = id; answer = Shown chain }
+    reply = record { ticket = ticket; id = id; answer = answer }
 
     abbrev answers : Act
-    answers = Replies ticket id (Shown chain)
+    answers = Replies ticket id answer
 
     module _ (last : List Step) (r : IsStepOf cluster last [] (comes_to node next) inputs) (q : IsStepOf cluster r.before middle asking older) where
       arrives : q.step.input ≡ Arrival request
@@ -226,37 +178,73 @@ module _ (cluster : Cluster) where
         abbrev past_then : List Deed
         past_then = past_behind cluster q.step q.before began.rest
 
-        same_life : In reply (outputs_at cluster inputs (comes_to node next)).replies → NoRestart node middle → replying ≡ record beginning { act = answers }
+        same_life : In reply (outputs_at cluster inputs (comes_to node next)).replies → LivesOn node middle → replying ≡ record beginning { act = answers }
         same_life among between =
             let here : r.step.node ≡ node = ap (λ (x : NodeInput). x.node) r.step_is in
             let there : q.step.node ≡ node = ap (λ (x : NodeInput). x.node) q.step_is in
             same_deed r.step q.step r.before q.later q.before q.split r.is r.are q.is answers told (Begins ticket request) began
             (here ∙ sym there) (no_start among) no_start_asking
-            (subst (λ (n : ℕ). NoRestart n (map came_by q.later)) (sym there) (subst (NoRestart node) (sym q.later_are) between))
+            (subst (λ (n : ℕ). LivesOn n (map came_by q.later)) (sym there) (subst (LivesOn node) (sym q.later_are) between))
 
-        answered_so : replying ≡ record beginning { act = answers } → Answered cluster.nodes cluster.serials beginning ticket request id (Shown chain) past_then
+        answered_so : replying ≡ record beginning { act = answers } → Answered cluster.nodes cluster.serials beginning ticket request id answer past_then
         answered_so same =
             let behind = behind_it r.step q.step r.before q.later q.before q.split r.is r.are q.is answers told (Begins ticket request) began in
             answered cluster.nodes cluster.serials (acts_in (r.step ∷ r.before)) told.newer replying behind.middle beginning past_then
-            ticket request id (Shown chain)
+            ticket request id answer
             (steps_run cluster first (r.step ∷ r.before) (r.is, r.are))
             (told.split ∙ ap (λ (deeds : List Deed). told.newer ++ replying ∷ deeds) behind.past) refl same
 
-        fresh_by : Answered cluster.nodes cluster.serials beginning ticket request id (Shown chain) past_then → (stating : Outputs) →
-            In stating (cluster_outputs cluster older) → (final : Final) → StatesFinal stating id final → final_in chain ≡ Some final
-        fresh_by a stating given final says =
-            let said = stated cluster q.before stating (subst (In stating) q.older_outputs given) id final says in
-            fresh_query cluster.nodes cluster.serials beginning ticket request id chain past_then a said.deed final
-            (past_within q.step q.before began.rest said.deed said.past)
-            (subst (λ (i : ℕ). States said.deed i final) (about_it beginning ticket request id chain past_then a) said.states)
+    -- the request and its reply, as deeds of a run, behind what was given out before
+    record IsAsked : Type 0 where
+      before : List Step
+      outputs : cluster_outputs cluster older ≡ step_outputs cluster before
+      beginning : Deed
+      past : List Deed
+      behind : (deed : Deed) → In deed (world_at cluster before).past → In deed past
+      answered : Answered cluster.nodes cluster.serials beginning ticket request id answer past
 
-    pub fresh : (stating : Outputs) (final : Final) → MayHappen cluster (comes_to node next ∷ inputs) → In stating (cluster_outputs cluster older) →
-        StatesFinal stating id final → (outputs_at cluster older asking).ticket ≡ Some ticket → NoRestart node middle →
-        In reply (outputs_at cluster inputs (comes_to node next)).replies → final_in chain ≡ Some final
-    fresh stating final may given says asked between among =
+    is_asked : MayHappen cluster (comes_to node next ∷ inputs) → (outputs_at cluster older asking).ticket ≡ Some ticket → LivesOn node middle →
+        In reply (outputs_at cluster inputs (comes_to node next)).replies → IsAsked
+    is_asked may asked between among =
         let run = clustered cluster (comes_to node next ∷ inputs) may in
         let r = step_of cluster run.steps run.are [] (comes_to node next) inputs run.inputs_are run.outputs in
         let q = step_of cluster r.before r.are middle asking older r.before_are r.older_outputs in
         let began = deed_of cluster q.step q.before (Begins ticket request) (asked_under run.steps r q asked) in
         let told = deed_of cluster r.step r.before answers (told_so run.steps r q among) in
-        fresh_by run.steps r q told began (answered_so run.steps r q told began (same_life run.steps r q told began among between)) stating given final says
+        record {
+          before = q.before;
+          outputs = q.older_outputs;
+          beginning = beginning run.steps r q told began;
+          past = past_then run.steps r q told began;
+          behind = past_within q.step q.before began.rest;
+          answered = answered_so run.steps r q told began (same_life run.steps r q told began among between);
+        }
+
+  module _ (older middle : List NodeInput) (node ticket : ℕ) (request : Request) (next : Input) (id : ℕ) where
+    abbrev AnsweredSo : Answer → Type 0
+    AnsweredSo answer = In (record { ticket = ticket; id = id; answer = answer })
+        (outputs_at cluster (middle ++ comes_to node (Arrival request) ∷ older) (comes_to node next)).replies
+
+    pub fresh : (chain : List Decree) (stating : Outputs) (final : Final) →
+        MayHappen cluster (comes_to node next ∷ (middle ++ comes_to node (Arrival request) ∷ older)) →
+        In stating (cluster_outputs cluster older) → StatesFinal stating id final →
+        (outputs_at cluster older (comes_to node (Arrival request))).ticket ≡ Some ticket →
+        LivesOn node middle → AnsweredSo (Shown chain) → final_in chain ≡ Some final
+    fresh chain stating final may given says asked between among =
+        let it = is_asked older middle node ticket request next id (Shown chain) may asked between among in
+        let said = stated cluster it.before stating (subst (In stating) it.outputs given) id final says in
+        fresh_query cluster.nodes cluster.serials it.beginning ticket request id chain it.past it.answered said.deed final (it.behind said.deed said.past)
+        (subst (λ (i : ℕ). States said.deed i final) (about_it it.beginning ticket request id (Shown chain) it.past it.answered) said.states)
+
+    pub never_unknown : (accepting : Outputs) (taken : ℕ) →
+        MayHappen cluster (comes_to node next ∷ (middle ++ comes_to node (Arrival request) ∷ older)) →
+        In accepting (cluster_outputs cluster older) → In (record { ticket = taken; id = id; answer = Accepted }) accepting.replies →
+        (outputs_at cluster older (comes_to node (Arrival request))).ticket ≡ Some ticket → LivesOn node middle → AnsweredSo Unknown → ⊥
+    never_unknown accepting taken may given accepts asked between among =
+        let it = is_asked older middle node ticket request next id Unknown may asked between among in
+        let by = given_by cluster it.before accepting (subst (In accepting) it.outputs given) in
+        let accepted : Reply = record { ticket = taken; id = id; answer = Accepted } in
+        let done = by.done (Replies taken id Accepted)
+        (reply_act by.acts accepted (in_reverse accepted (replies_in by.acts) (subst (In accepted) by.replies_are accepts))) in
+        never_told cluster.nodes cluster.serials it.beginning ticket request id it.past it.answered done.deed taken (it.behind done.deed done.past)
+        (done.act_is ∙ ap (λ (i : ℕ). Replies taken i Accepted) (about_it it.beginning ticket request id Unknown it.past it.answered))

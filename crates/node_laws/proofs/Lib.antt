@@ -65,5 +65,6 @@ pub mod Stated
 pub mod NoGrant
 pub mod Causing
 pub mod Sources
+pub mod Lives
 pub mod Delivered
 pub mod Fresh

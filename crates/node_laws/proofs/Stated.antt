@@ -30,10 +30,10 @@ receipt_act (act ∷ acts) receipt among = inr (receipt_act acts receipt among)
 
 -- ---- an act of a step is a deed that is remembered
 
-record IsDone (w : World) (act : Act) : Type 0 where
-  deed : Deed
-  past : In deed w.past
-  act_is : deed.act ≡ act
+pub record IsDone (w : World) (act : Act) : Type 0 where
+  pub deed : Deed
+  pub past : In deed w.past
+  pub act_is : deed.act ≡ act
 
 done_in : (first : World) (deeds : List (ℕ × Act)) (node : ℕ) (act : Act) → In (node, act) deeds → IsDone (reached first deeds) act
 done_in first [] node act none = absurd none
@@ -50,13 +50,13 @@ module _ (cluster : Cluster) where
   first = start cluster.nodes cluster.serials
 
   -- the step that gave this out, whose acts are remembered
-  record IsGivenBy (steps : List Step) (outputs : Outputs) : Type 0 where
-    acts : List Act
-    replies_are : outputs.replies ≡ reverse (replies_in acts)
-    receipts_are : outputs.receipts ≡ reverse (receipts_in acts)
-    done : (act : Act) → In act acts → IsDone (world_at cluster steps) act
+  pub record IsGivenBy (steps : List Step) (outputs : Outputs) : Type 0 where
+    pub acts : List Act
+    pub replies_are : outputs.replies ≡ reverse (replies_in acts)
+    pub receipts_are : outputs.receipts ≡ reverse (receipts_in acts)
+    pub done : (act : Act) → In act acts → IsDone (world_at cluster steps) act
 
-  given_by : (steps : List Step) (outputs : Outputs) → In outputs (step_outputs cluster steps) → IsGivenBy steps outputs
+  pub given_by : (steps : List Step) (outputs : Outputs) → In outputs (step_outputs cluster steps) → IsGivenBy steps outputs
   given_by [] outputs none = absurd none
   given_by (newest ∷ older) outputs (inl same) = record {
     acts = newest.acts;

@@ -5,7 +5,7 @@ use Rattle.mc_model.specs.message.Chain.{final_in}
 use Rattle.mc_model.specs.synod.Lists.{In}
 use Rattle.mc_model.specs.synod.Packet.{Packet, Slot, slot_of}
 use Rattle.mc_model.specs.node.Alone.{opened_new as node_new, reached_alone}
-use Rattle.mc_model.specs.node.Input.{Crash, Delivery, Grant, Input, Response}
+use Rattle.mc_model.specs.node.Input.{Crash, Delivery, Grant, Input, Response, Restart}
 use Rattle.mc_model.specs.node.Outcome.{Concluded}
 use Rattle.mc_model.specs.node.Outputs.{Outputs, Reply, outputs_of}
 use Rattle.mc_model.specs.cluster.Fate.{shown_by}
@@ -119,15 +119,27 @@ pub record GrantsOut (outputs : Outputs) (id : ℕ) : Type 0 where
   pub granted : outputs.granted ≡ Some slot
   pub about : slot.id ≡ id
 
--- of what came or was given out, the newest first, one came before another
-pub record CameEarlier {A : Type 0} (first second : A) (all : List A) : Type 0 where
-  pub newer : List A
-  pub older : List A
-  pub split : all ≡ newer ++ second ∷ older
+-- of what is given out, the newest first, one came before another
+pub record CameEarlier (first second : Outputs) (given : List Outputs) : Type 0 where
+  pub newer : List Outputs
+  pub older : List Outputs
+  pub split : given ≡ newer ++ second ∷ older
   pub before : In first older
 
+-- a node does not start anew as these come
+abbrev pub LivesOn : ℕ → List NodeInput → Type 0
+LivesOn node inputs = (lost : ℕ) → In (comes_to node (Restart lost)) inputs → ⊥
+
+-- of inputs, the newest first, one came to a node, and later, in the same life of the node, another
+pub record CameInOneLife (node : ℕ) (first second : Input) (inputs : List NodeInput) : Type 0 where
+  pub newer : List NodeInput
+  pub middle : List NodeInput
+  pub older : List NodeInput
+  pub split : inputs ≡ newer ++ comes_to node second ∷ (middle ++ comes_to node first ∷ older)
+  pub lives : LivesOn node middle
+
 -- A chain ends in the fate DELIVERED behind an attempt of the same author. As these inputs came, the newest first, that attempt was granted at
--- its author's node, and then answered there by ESME_ROK.
+-- its author's node, and then, in the same life of the node, answered there by ESME_ROK.
 pub record IsDeliveredBy (id : ℕ) (chain : List Decree) (inputs : List NodeInput) : Type 0 where
   pub fate : Decree
   pub attempt : Decree
@@ -137,5 +149,5 @@ pub record IsDeliveredBy (id : ℕ) (chain : List Decree) (inputs : List NodeInp
   pub attempted : attempt.kind ≡ Attempt number
   pub delivered : fate.kind ≡ Fate Delivered 0
   pub author : fate.author ≡ attempt.author
-  pub granted : CameEarlier (comes_to attempt.author.node (Grant (slot_of id (attempt ∷ older))))
-      (comes_to attempt.author.node (Response (slot_of id (attempt ∷ older)) (Concluded Delivered 0))) inputs
+  pub granted : CameInOneLife attempt.author.node (Grant (slot_of id (attempt ∷ older)))
+      (Response (slot_of id (attempt ∷ older)) (Concluded Delivered 0)) inputs

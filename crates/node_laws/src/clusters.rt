@@ -5,14 +5,15 @@ ghost use Rattle.mc_model.specs.message.Decree.{Decree, Delivered, Final};
 ghost use Rattle.mc_model.specs.message.Chain.{final_in};
 ghost use Rattle.mc_model.specs.synod.Lists.{In};
 ghost use Rattle.mc_model.specs.node.Actor.{Request};
-ghost use Rattle.mc_model.specs.node.Input.{Arrival, Input, Restart};
+ghost use Rattle.mc_model.specs.node.Input.{Arrival, Input};
 ghost use Rattle.mc_model.specs.node.Outputs.{Outputs};
-ghost use Rattle.mc_model.specs.node.Replies.{Shown};
+ghost use Rattle.mc_model.specs.node.Replies.{Accepted, Shown, Unknown};
 ghost use Rattle.mc_model.specs.cluster.Steps.{Cluster};
 ghost use Rattle.node_laws.specs.Clusters.{
   CameEarlier,
   GrantsOut,
   IsDeliveredBy,
+  LivesOn,
   MayHappen,
   NodeInput,
   RunsTogether,
@@ -56,13 +57,24 @@ pub fn a_delivery_stands_on_an_answered_attempt()
 /// And a query_sm that came after a final state of its message was given out, and is answered by ESME_ROK in the same life of its node, is told
 /// that state.
 pub fn a_later_query_is_told_the_fate()
-    ensures { (cluster : Cluster) (older middle : List NodeInput) (node ticket : ℕ) (request : Request) (next : Input)
-        (id : ℕ) (chain : List Decree) (stating : Outputs) (final : Final) →
+    ensures { (cluster : Cluster) (older middle : List NodeInput) (node ticket : ℕ) (request : Request) (next : Input) (id : ℕ)
+        (chain : List Decree) (stating : Outputs) (final : Final) →
         MayHappen cluster (comes_to node next ∷ (middle ++ comes_to node (Arrival request) ∷ older)) →
         In stating (cluster_outputs cluster older) → StatesFinal stating id final →
-        (outputs_at cluster older (comes_to node (Arrival request))).ticket ≡ Some ticket →
-        ((lost : ℕ) → In (comes_to node (Restart lost)) middle → ⊥) →
+        (outputs_at cluster older (comes_to node (Arrival request))).ticket ≡ Some ticket → LivesOn node middle →
         In (record { ticket = ticket; id = id; answer = Shown chain })
         (outputs_at cluster (middle ++ comes_to node (Arrival request) ∷ older) (comes_to node next)).replies →
         final_in chain ≡ Some final }
+{}
+
+/// And a request that came after ESME_ROK to the submit_sm of its message was given out is never answered, in the same life of its node, that
+/// there is no such message.
+pub fn a_later_request_is_of_a_known_message()
+    ensures { (cluster : Cluster) (older middle : List NodeInput) (node ticket : ℕ) (request : Request) (next : Input) (id : ℕ)
+        (accepting : Outputs) (taken : ℕ) →
+        MayHappen cluster (comes_to node next ∷ (middle ++ comes_to node (Arrival request) ∷ older)) →
+        In accepting (cluster_outputs cluster older) → In (record { ticket = taken; id = id; answer = Accepted }) accepting.replies →
+        (outputs_at cluster older (comes_to node (Arrival request))).ticket ≡ Some ticket → LivesOn node middle →
+        In (record { ticket = ticket; id = id; answer = Unknown })
+        (outputs_at cluster (middle ++ comes_to node (Arrival request) ∷ older) (comes_to node next)).replies → ⊥ }
 {}

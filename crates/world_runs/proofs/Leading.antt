@@ -1,12 +1,15 @@
 -- A list of steps, one after the other.
-use Rattle.std.proofs.Common.{◌≡◌, ℕ, ◌+◌, ◌≤◌, List, [], ◌∷◌, ◌++◌, length, Result, Ok, Err, refl, sym, ap, subst, ◌∙◌, arith, append_assoc, length-append}
+use Rattle.std.specs.Prelude.{drop}
+use Rattle.std.proofs.Common.{◌≡◌, ℕ, ◌+◌, ◌≤◌, true, List, [], ◌∷◌, ◌++◌, length, Ok, Err, refl, sym, ap, subst, ◌∙◌, arith, append_assoc, length-append}
 use Rattle.mc_model.specs.synod.Packet.{Packet}
 use Rattle.mc_model.specs.cluster.Steps.{Cluster}
 use Rattle.node_laws.specs.Clusters.{NodeInput}
 use Rattle.world.specs.declared.step.Step.{Step}
-use Rattle.world.specs.Runs.{Answers, IsAt, IsSomewhere, Leads}
+use Rattle.world.specs.Runs.{Answers, IsSomewhere, Leads}
 use Rattle.world.specs.Scenes.{Scene}
-use Rattle.world_runs.specs.Traces.{Answer, GoesTo, GrantsNoneAfterAFate, HasOneFate, LeadsAll, Reaches}
+use Rattle.world_runs.specs.Traces.{AcceptedAreKnown, Answer, DeliveriesStand, DeliveriesStandInRuns, GoesTo, GrantsNoneAfterAFate, HasOneFate, LaterQueriesAreTold, LeadsAll, Reaches}
+use Rattle.world_runs.proofs.Asking.{accepted_are_known, later_queries_are_told}
+use Rattle.world_runs.proofs.Standing.{deliveries_stand, deliveries_stand_in_run}
 use Rattle.world_runs.proofs.Tracing.{grants_none, one_fate}
 
 module _ (cluster : Cluster) (behind : List Packet) where
@@ -81,6 +84,16 @@ pub all_led : (old now : Scene) (steps left : List Step) (answers : List Answer)
 all_led old now steps left answers room way none =
     subst (λ (ss : List Step). LeadsAll old ss answers now) (sym (way.split ∙ ap (λ (ss : List Step). way.done ++ ss) none ∙ append_none way.done)) way.leads
 
+-- nothing is left if nothing leaves at the front
+none_left : (left rest : List Step) → left ≡ rest → rest ≡ drop 1 left → left ≡ []
+none_left [] rest same dropped = refl
+none_left (step ∷ left) rest same dropped = let long = ap length (same ∙ dropped) in absurd (omega (arith, long))
+
+pub led : (old now : Scene) (given steps left rest : List Step) (answers : List Answer) (room : ℕ) → steps ≡ given →
+    IsUnderWay old steps left answers room now → left ≡ rest → rest ≡ drop 1 left → LeadsAll old given answers now
+led old now given steps left rest answers room same way kept dropped =
+    subst (λ (ss : List Step). LeadsAll old ss answers now) same (all_led old now steps left answers room way (none_left left rest kept dropped))
+
 pub has_one_fate : (old new : Scene) (steps : List Step) (answers : List Answer) → IsSomewhere old → LeadsAll old steps answers new → HasOneFate answers
 has_one_fate old new steps answers is all =
     let so = all.each is.cluster is.behind is.inputs is.at in
@@ -90,3 +103,27 @@ pub grants_none_after : (old new : Scene) (steps : List Step) (answers : List An
 grants_none_after old new steps answers is all =
     let so = all.each is.cluster is.behind is.inputs is.at in
     grants_none is.cluster is.behind is.inputs steps answers so.last so.reaches so.at.may
+
+pub deliveries_stand_in : (old new : Scene) (steps : List Step) (answers : List Answer) → IsSomewhere old →
+    LeadsAll old steps answers new → old.fresh ≡ true → DeliveriesStand steps answers
+deliveries_stand_in old new steps answers is all fresh =
+    let so = all.each is.cluster is.behind is.inputs is.at in
+    deliveries_stand is.cluster is.behind steps answers so.last
+    (subst (λ (inputs : List NodeInput). Reaches is.cluster is.behind inputs steps answers so.last) (is.at.fresh fresh).0 so.reaches) so.at.may
+
+pub deliveries_stand_in_runs : (old new : Scene) (steps : List Step) (answers : List Answer) → LeadsAll old steps answers new →
+    DeliveriesStandInRuns old steps answers
+deliveries_stand_in_runs old new steps answers all cluster behind inputs now =
+    let so = all.each cluster behind inputs now in deliveries_stand_in_run cluster behind inputs steps answers so.last so.reaches so.at.may
+
+pub later_queries_told : (old new : Scene) (steps : List Step) (answers : List Answer) → IsSomewhere old →
+    LeadsAll old steps answers new → LaterQueriesAreTold steps answers
+later_queries_told old new steps answers is all =
+    let so = all.each is.cluster is.behind is.inputs is.at in
+    later_queries_are_told is.cluster is.behind is.inputs steps answers so.last so.reaches so.at.may
+
+pub accepted_known : (old new : Scene) (steps : List Step) (answers : List Answer) → IsSomewhere old →
+    LeadsAll old steps answers new → AcceptedAreKnown steps answers
+accepted_known old new steps answers is all =
+    let so = all.each is.cluster is.behind is.inputs is.at in
+    accepted_are_known is.cluster is.behind is.inputs steps answers so.last so.reaches so.at.may

@@ -1,2 +1,6 @@
 pub mod Tracing
+pub mod Events
+pub mod Coming
+pub mod Standing
+pub mod Asking
 pub mod Leading

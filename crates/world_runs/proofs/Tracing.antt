@@ -1,5 +1,5 @@
 -- What the steps of a world tell is what the model's cluster gives out, in the same order.
-use Rattle.std.proofs.Common.{◌≡◌, ◌⊎◌, ℕ, List, [], ◌∷◌, ◌++◌, length, Some, None, Result, Ok, Err, refl, sym, ap, subst, ◌∙◌, inl, inr, append_assoc}
+use Rattle.std.proofs.Common.{◌≡◌, ℕ, List, [], ◌∷◌, ◌++◌, Ok, Err, refl, sym, ap, subst, ◌∙◌, inl, inr, append_assoc}
 use Rattle.mc_model.specs.message.Decree.{Final}
 use Rattle.mc_model.specs.synod.Lists.{In}
 use Rattle.mc_model.specs.synod.Packet.{Packet}
@@ -12,11 +12,11 @@ use Rattle.node_laws.proofs.Stated.{one_final}
 use Rattle.world.specs.declared.given.Given.{Given}
 use Rattle.world.specs.declared.step.Step.{Step}
 use Rattle.world.specs.Runs.{IsGiven, given_out}
-use Rattle.world_runs.specs.Traces.{Answer, CameBefore, GrantsNoneAfterAFate, HasOneFate, Reaches, told_in}
+use Rattle.world_runs.specs.Traces.{Answer, GrantsNoneAfterAFate, HasOneFate, Reaches, told_in}
 
 -- ---- an answer and what the model gives out
 
-states_so : (one other : Outputs) → other.replies ≡ one.replies → other.receipts ≡ one.receipts → (id : ℕ) (final : Final) → StatesFinal one id final → StatesFinal other id final
+abbrev pub states_so : (one other : Outputs) → other.replies ≡ one.replies → other.receipts ≡ one.receipts → (id : ℕ) (final : Final) → StatesFinal one id final → StatesFinal other id final
 states_so one other replies receipts id final says = record {
   chain = says.chain;
   tells = elim says.tells [
@@ -26,7 +26,7 @@ states_so one other replies receipts id final says = record {
   state = says.state;
 }
 
-states_given : (given : Given) (outputs : Outputs) → IsGiven given outputs → (id : ℕ) (final : Final) → StatesFinal (given_out given) id final → StatesFinal outputs id final
+abbrev pub states_given : (given : Given) (outputs : Outputs) → IsGiven given outputs → (id : ℕ) (final : Final) → StatesFinal (given_out given) id final → StatesFinal outputs id final
 states_given given outputs is id final says =
     states_so (given_out given) outputs (sym (ap (λ (o : Outputs). o.replies) is.others)) (sym (ap (λ (o : Outputs). o.receipts) is.others)) id final says
 
@@ -37,7 +37,7 @@ grants_given given outputs is id grants = record {
   about = grants.about;
 }
 
-states_nothing : (id : ℕ) (final : Final) → StatesFinal nothing id final → ⊥
+pub states_nothing : (id : ℕ) (final : Final) → StatesFinal nothing id final → ⊥
 states_nothing id final says = elim says.tells [
   | inl reply ↦ reply.among
   | inr receipt ↦ receipt
@@ -78,12 +78,12 @@ module _ (cluster : Cluster) (behind : List Packet) where
 
   -- ---- what is told is given out
 
-  record IsStated (last : List NodeInput) (id : ℕ) (final : Final) : Type 0 where
-    outputs : Outputs
-    among : In outputs (cluster_outputs cluster last)
-    states : StatesFinal outputs id final
+  pub record IsStated (last : List NodeInput) (id : ℕ) (final : Final) : Type 0 where
+    pub outputs : Outputs
+    pub among : In outputs (cluster_outputs cluster last)
+    pub states : StatesFinal outputs id final
 
-  stated : (inputs : List NodeInput) (steps : List Step) (answers : List Answer) (last : List NodeInput) → Reaches cluster behind inputs steps answers last →
+  pub stated : (inputs : List NodeInput) (steps : List Step) (answers : List Answer) (last : List NodeInput) → Reaches cluster behind inputs steps answers last →
       (answer : Answer) → In answer answers → (id : ℕ) (final : Final) → StatesFinal (told_in answer) id final → IsStated last id final
   stated inputs steps [] last r answer none id final says = absurd none
   stated inputs [] (first ∷ answers) last none answer among id final says = absurd none

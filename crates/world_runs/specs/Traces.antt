@@ -1,15 +1,20 @@
 -- What a list of steps of a world gave, as a run of the model's cluster (own).
-use Rattle.std.specs.Prelude.{◌≡◌, ℕ, List, [], ◌∷◌, ◌++◌, length, None, Result, Ok, Err}
-use Rattle.mc_model.specs.message.Decree.{Final}
+use Rattle.std.specs.Prelude.{◌≡◌, ℕ, List, [], ◌∷◌, ◌++◌, length, map, zip, Some, None, Result, Ok, Err}
+use Rattle.mc_model.specs.message.Decree.{Attempt, Decree, Delivered, Fate, Final}
+use Rattle.mc_model.specs.message.Chain.{final_in}
 use Rattle.mc_model.specs.synod.Lists.{In}
-use Rattle.mc_model.specs.synod.Packet.{Packet}
+use Rattle.mc_model.specs.synod.Packet.{Packet, Slot, slot_of}
 use Rattle.mc_model.specs.node.Outputs.{Outputs}
+use Rattle.mc_model.specs.node.Replies.{Accepted, Answer as Told, Shown, Unknown}
 use Rattle.mc_model.specs.cluster.Steps.{Cluster}
 use Rattle.node_model.specs.Outputs.{nothing}
-use Rattle.node_laws.specs.Clusters.{GrantsOut, NodeInput, StatesFinal, kept_reached, step_at}
+use Rattle.node_laws.specs.Clusters.{GrantsOut, IsDeliveredBy, NodeInput, StatesFinal, kept_reached, step_at}
 use Rattle.world.specs.declared.fault.WorldFault.{WorldFault}
 use Rattle.world.specs.declared.given.Given.{Given}
 use Rattle.world.specs.declared.step.Step.{Step}
+use Rattle.world.specs.declared.step.Step.TheVariants as steps
+use Rattle.desk.specs.declared.request.Request.{Request}
+use Rattle.delivery.specs.declared.outcome.Outcome.TheVariants as outcomes
 use Rattle.world.specs.Runs.{Comes, IsAt, IsFault, IsGiven, given_out, refusal_of}
 use Rattle.world.specs.Scenes.{Scene}
 
@@ -38,7 +43,8 @@ pub record GoesTo (cluster : Cluster) (behind : List Packet) (inputs : List Node
 
 -- wherever the world stood in a run, the run goes on so
 pub record LeadsAll (old : Scene) (steps : List Step) (answers : List Answer) (new : Scene) : Type 0 where
-  pub each : (cluster : Cluster) (behind : List Packet) (inputs : List NodeInput) → IsAt cluster behind inputs old → GoesTo cluster behind inputs steps answers new
+  pub each : (cluster : Cluster) (behind : List Packet) (inputs : List NodeInput) → IsAt cluster behind inputs old →
+      GoesTo cluster behind inputs steps answers new
 
 -- ---- what is told
 
@@ -64,3 +70,128 @@ abbrev pub GrantsNoneAfterAFate : List Answer → Type 0
 GrantsNoneAfterAFate answers =
     (telling granting : Answer) (id : ℕ) (final : Final) → CameBefore telling granting answers →
     StatesFinal (told_in telling) id final → GrantsOut (told_in granting) id → ⊥
+
+-- ---- what stands behind a delivery
+
+-- a step and what it gave
+abbrev pub Event : Type 0
+Event = Step × Answer
+
+abbrev pub steps_in : List Event → List Step
+steps_in events = map (λ event. event.0) events
+
+abbrev pub answers_in : List Event → List Answer
+answers_in events = map (λ event. event.1) events
+
+-- a node does not start anew by these steps
+abbrev pub LivesOn : ℕ → List Event → Type 0
+LivesOn node events = (given : Given) → In (steps.Restart node, Ok given) events → ⊥
+
+-- of these steps, the first of them first, one came, and later, in the same life of a node, another
+pub record CameInOneLife (node : ℕ) (first second : Event) (events : List Event) : Type 0 where
+  pub older : List Event
+  pub middle : List Event
+  pub newer : List Event
+  pub split : events ≡ older ++ first ∷ (middle ++ second ∷ newer)
+  pub lives : LivesOn node middle
+
+-- the attempt in this slot was granted at a node
+pub record IsGranted (event : Event) (node : ℕ) (slot : Slot) : Type 0 where
+  pub given : Given
+  pub asked : event.0 ≡ steps.Grant node slot.id
+  pub taken : event.1 ≡ Ok given
+  pub granted : (given_out given).granted ≡ Some slot
+
+-- it was answered there by ESME_ROK, which was taken
+pub record IsAnswered (event : Event) (node : ℕ) (slot : Slot) : Type 0 where
+  pub given : Given
+  pub answered : event.0 ≡ steps.Answered node slot outcomes.Delivered
+  pub taken : event.1 ≡ Ok given
+
+-- A chain ends in the fate DELIVERED behind an attempt of the same author. By these steps, the first of them first, that attempt was granted at its
+-- author's node, and then, in the same life of the node, answered there by ESME_ROK.
+pub record StandsOnAnAttempt (id : ℕ) (chain : List Decree) (events : List Event) : Type 0 where
+  pub fate : Decree
+  pub attempt : Decree
+  pub older : List Decree
+  pub number : ℕ
+  pub chain_is : chain ≡ fate ∷ attempt ∷ older
+  pub attempted : attempt.kind ≡ Attempt number
+  pub delivered : fate.kind ≡ Fate Delivered 0
+  pub author : fate.author ≡ attempt.author
+  pub granting : Event
+  pub granted : IsGranted granting attempt.author.node (slot_of id (attempt ∷ older))
+  pub answering : Event
+  pub answered : IsAnswered answering attempt.author.node (slot_of id (attempt ∷ older))
+  pub order : CameInOneLife attempt.author.node granting answering events
+
+-- Each DELIVERED that is told of a message stands on an attempt that was granted, and answered by ESME_ROK, before it was told.
+abbrev pub DeliveriesStand : List Step → List Answer → Type 0
+DeliveriesStand steps answers =
+    (older : List Event) (event : Event) (newer : List Event) (id : ℕ) → zip steps answers ≡ older ++ event ∷ newer →
+    (says : StatesFinal (told_in event.1) id Delivered) → StandsOnAnAttempt id says.chain older
+
+-- As inputs of the run that led here, and goes on by these steps, its attempt was granted and answered by ESME_ROK.
+pub record StandsInTheRun (cluster : Cluster) (behind : List Packet) (inputs : List NodeInput) (events : List Event) (id : ℕ)
+    (chain : List Decree) : Type 0 where
+  pub last : List NodeInput
+  pub reaches : Reaches cluster behind inputs (steps_in events) (answers_in events) last
+  pub stands : IsDeliveredBy id chain last
+
+-- so wherever the world stood in a run
+abbrev pub DeliveriesStandInRuns : Scene → List Step → List Answer → Type 0
+DeliveriesStandInRuns old steps answers =
+    (cluster : Cluster) (behind : List Packet) (inputs : List NodeInput) → IsAt cluster behind inputs old →
+    (older : List Event) (event : Event) (newer : List Event) (id : ℕ) → zip steps answers ≡ older ++ event ∷ newer →
+    (says : StatesFinal (told_in event.1) id Delivered) → StandsInTheRun cluster behind inputs older id says.chain
+
+-- ---- what a later request is answered
+
+-- the node that takes a step
+abbrev pub node_at : Step → ℕ
+node_at (steps.Deliver number node) = node
+node_at (steps.Request node account request) = node
+node_at (steps.Tick node moment up) = node
+node_at (steps.Grant node id) = node
+node_at (steps.Answered node slot outcome) = node
+node_at (steps.Crash node number found) = node
+node_at (steps.Restart node) = node
+
+-- a request came to a node, and waits there under this ticket
+pub record Waits (event : Event) (node ticket : ℕ) : Type 0 where
+  pub account : List ℕ
+  pub request : Request
+  pub given : Given
+  pub asked : event.0 ≡ steps.Request node account request
+  pub taken : event.1 ≡ Ok given
+  pub under : given.ticket ≡ Some ticket
+
+-- a request that waits under this ticket is answered so, of this message
+abbrev pub IsRepliedTo : Event → ℕ → ℕ → Told → Type 0
+IsRepliedTo event ticket id answer = In (record { ticket = ticket; id = id; answer = answer }) (told_in event.1).replies
+
+-- After these steps a request came to a node, and waits there under this ticket; and later, in the same life of the node, it is answered so.
+pub record IsAnsweredLater (events older : List Event) (id : ℕ) (answer : Told) : Type 0 where
+  pub node : ℕ
+  pub ticket : ℕ
+  pub asking : Event
+  pub waits : Waits asking node ticket
+  pub middle : List Event
+  pub lives : LivesOn node middle
+  pub replying : Event
+  pub node_is : node_at replying.0 ≡ node
+  pub replied : IsRepliedTo replying ticket id answer
+  pub newer : List Event
+  pub split : events ≡ older ++ asking ∷ (middle ++ replying ∷ newer)
+
+-- A query_sm that comes after a final state of its message was told, and is answered by ESME_ROK in the same life of its node, is told that state.
+abbrev pub LaterQueriesAreTold : List Step → List Answer → Type 0
+LaterQueriesAreTold steps answers =
+    (older : List Event) (telling : Event) (id : ℕ) (chain : List Decree) (final : Final) → In telling older → StatesFinal (told_in telling.1) id final →
+    IsAnsweredLater (zip steps answers) older id (Shown chain) → final_in chain ≡ Some final
+
+-- No request that comes after ESME_ROK to the submit_sm of its message is answered, in the same life of its node, that there is no such message.
+abbrev pub AcceptedAreKnown : List Step → List Answer → Type 0
+AcceptedAreKnown steps answers =
+    (older : List Event) (accepting : Event) (taken id : ℕ) → In accepting older → IsRepliedTo accepting taken id Accepted →
+    IsAnsweredLater (zip steps answers) older id Unknown → ⊥

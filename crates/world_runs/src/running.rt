@@ -1,7 +1,15 @@
 //! A list of steps of a world.
 
-ghost use Rattle.std.specs.Prelude.{◌≡◌, IfOk, OnErr};
-ghost use Rattle.world_runs.specs.Traces.{GrantsNoneAfterAFate, HasOneFate, LeadsAll};
+ghost use Rattle.std.specs.Prelude.{◌≡◌, true, IfOk, OnErr};
+ghost use Rattle.world_runs.specs.Traces.{
+  AcceptedAreKnown,
+  DeliveriesStand,
+  DeliveriesStandInRuns,
+  GrantsNoneAfterAFate,
+  HasOneFate,
+  LaterQueriesAreTold,
+  LeadsAll,
+};
 
 use crate::trace::Trace;
 use std::alloc::{AllocError, Global};
@@ -9,12 +17,17 @@ use std::collections::VecDeque;
 use world::{Step, World};
 
 /// Takes these steps, one after the other, whatever each gives. For every list of steps in which packets are delivered, lost, repeated or reordered
-/// and nodes stop and start anew: no two final states that are told of one message differ, and once one was told, no attempt of the message is granted. An
-/// `Err` is want of memory for what they give; then no step was taken.
+/// and nodes stop and start anew: no two final states that are told of one message differ; once one was told, no attempt of the message is granted; each
+/// DELIVERED that is told stands on an attempt that was granted and answered by ESME_ROK, by these steps if no step was taken before them; and what comes
+/// later is answered by what was told, while its node does not start anew. An `Err` is want of memory for what the steps give; then none was taken.
 pub fn run(alloc: Global, world: &mut World, steps: Vec<Step>) -> Result<Trace, AllocError>
     ensures leads { IfOk result (λ trace. LeadsAll world.old steps.items trace.answers.items world.new) }
     ensures one_fate { IfOk result (λ trace. HasOneFate trace.answers.items) }
     ensures no_grant { IfOk result (λ trace. GrantsNoneAfterAFate trace.answers.items) }
+    ensures stands { IfOk result (λ trace. world.old.fresh ≡ true → DeliveriesStand steps.items trace.answers.items) }
+    ensures stands_in_its_run { IfOk result (λ trace. DeliveriesStandInRuns world.old steps.items trace.answers.items) }
+    ensures fresh_answers { IfOk result (λ trace. LaterQueriesAreTold steps.items trace.answers.items) }
+    ensures known { IfOk result (λ trace. AcceptedAreKnown steps.items trace.answers.items) }
     ensures stays { OnErr result (world.new ≡ world.old) }
 {
     world.stands();

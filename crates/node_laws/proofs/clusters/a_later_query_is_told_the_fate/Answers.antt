@@ -2,4 +2,4 @@ use Rattle.node_laws.proofs.Fresh.{fresh}
 use Rattle.node_laws.proofs.clusters.a_later_query_is_told_the_fate.Goals as goal
 
 pub returns : goal.returns
-returns c = fresh
+returns c = λ cluster older middle node ticket request next id. fresh cluster older middle node ticket request next id
