@@ -68,3 +68,4 @@ pub mod Sources
 pub mod Lives
 pub mod Delivered
 pub mod Fresh
+pub mod Chosen

@@ -5,3 +5,4 @@ pub mod Answering
 pub mod Steps
 pub mod Runs
 pub mod Clusters
+pub mod Chosen

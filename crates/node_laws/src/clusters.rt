@@ -9,6 +9,7 @@ ghost use Rattle.mc_model.specs.node.Input.{Arrival, Input};
 ghost use Rattle.mc_model.specs.node.Outputs.{Outputs};
 ghost use Rattle.mc_model.specs.node.Replies.{Accepted, Shown, Unknown};
 ghost use Rattle.mc_model.specs.cluster.Steps.{Cluster};
+ghost use Rattle.node_laws.specs.Chosen.{WasVotedFor};
 ghost use Rattle.node_laws.specs.Clusters.{
   CameEarlier,
   GrantsOut,
@@ -20,6 +21,7 @@ ghost use Rattle.node_laws.specs.Clusters.{
   StatesFinal,
   cluster_outputs,
   comes_to,
+  kept_reached,
   outputs_at,
 };
 
@@ -45,6 +47,13 @@ pub fn no_attempt_is_granted_after_a_fate()
         (stating granting : Outputs) (id : ℕ) (final : Final) →
         CameEarlier stating granting (cluster_outputs cluster inputs) →
         StatesFinal stating id final → GrantsOut granting id → ⊥ }
+{}
+
+/// What is told of a final state was chosen: a majority of the nodes voted for its chain at one ballot, in packets that were sent.
+pub fn what_is_given_out_was_chosen()
+    ensures { (cluster : Cluster) (next : NodeInput) (inputs : List NodeInput) → MayHappen cluster (next ∷ inputs) →
+        (id : ℕ) (final : Final) (says : StatesFinal (outputs_at cluster inputs next) id final) →
+        WasVotedFor cluster.nodes (kept_reached cluster (next ∷ inputs)).packets id says.chain }
 {}
 
 /// And each DELIVERED that is given out stands on an attempt of its author, which was granted at the author's node and then answered by

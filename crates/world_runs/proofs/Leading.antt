@@ -7,8 +7,9 @@ use Rattle.node_laws.specs.Clusters.{NodeInput}
 use Rattle.world.specs.declared.step.Step.{Step}
 use Rattle.world.specs.Runs.{Answers, IsSomewhere, Leads}
 use Rattle.world.specs.Scenes.{Scene}
-use Rattle.world_runs.specs.Traces.{AcceptedAreKnown, Answer, DeliveriesStand, DeliveriesStandInRuns, GoesTo, GrantsNoneAfterAFate, HasOneFate, LaterQueriesAreTold, LeadsAll, Reaches}
+use Rattle.world_runs.specs.Traces.{AcceptedAreKnown, Answer, AreChosen, DeliveriesStand, DeliveriesStandInRuns, GoesTo, GrantsNoneAfterAFate, HasOneFate, LaterQueriesAreTold, LeadsAll, Reaches}
 use Rattle.world_runs.proofs.Asking.{accepted_are_known, later_queries_are_told}
+use Rattle.world_runs.proofs.Choosing.{are_chosen}
 use Rattle.world_runs.proofs.Standing.{deliveries_stand, deliveries_stand_in_run}
 use Rattle.world_runs.proofs.Tracing.{grants_none, one_fate}
 
@@ -127,3 +128,8 @@ pub accepted_known : (old new : Scene) (steps : List Step) (answers : List Answe
 accepted_known old new steps answers is all =
     let so = all.each is.cluster is.behind is.inputs is.at in
     accepted_are_known is.cluster is.behind is.inputs steps answers so.last so.reaches so.at.may
+
+pub chosen_all : (old new : Scene) (steps : List Step) (answers : List Answer) → IsSomewhere old → LeadsAll old steps answers new → old.fresh ≡ true →
+    AreChosen new answers
+chosen_all old new steps answers is all fresh =
+    are_chosen is.cluster is.behind is.inputs steps answers new (is.at.fresh fresh).1 (all.each is.cluster is.behind is.inputs is.at)

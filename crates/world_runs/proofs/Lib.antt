@@ -3,4 +3,5 @@ pub mod Events
 pub mod Coming
 pub mod Standing
 pub mod Asking
+pub mod Choosing
 pub mod Leading

@@ -8,12 +8,14 @@ use Rattle.mc_model.specs.node.Outputs.{Outputs}
 use Rattle.mc_model.specs.node.Replies.{Accepted, Answer as Told, Shown, Unknown}
 use Rattle.mc_model.specs.cluster.Steps.{Cluster}
 use Rattle.node_model.specs.Outputs.{nothing}
+use Rattle.node_laws.specs.Chosen.{WasVotedFor}
 use Rattle.node_laws.specs.Clusters.{GrantsOut, IsDeliveredBy, NodeInput, StatesFinal, kept_reached, step_at}
 use Rattle.world.specs.declared.fault.WorldFault.{WorldFault}
 use Rattle.world.specs.declared.given.Given.{Given}
 use Rattle.world.specs.declared.step.Step.{Step}
 use Rattle.world.specs.declared.step.Step.TheVariants as steps
 use Rattle.desk.specs.declared.request.Request.{Request}
+use Rattle.synod_acceptor.specs.Packets.{packet_of}
 use Rattle.delivery.specs.declared.outcome.Outcome.TheVariants as outcomes
 use Rattle.world.specs.Runs.{Comes, IsAt, IsFault, IsGiven, given_out, refusal_of}
 use Rattle.world.specs.Scenes.{Scene}
@@ -144,6 +146,12 @@ DeliveriesStandInRuns old steps answers =
     (cluster : Cluster) (behind : List Packet) (inputs : List NodeInput) → IsAt cluster behind inputs old →
     (older : List Event) (event : Event) (newer : List Event) (id : ℕ) → zip steps answers ≡ older ++ event ∷ newer →
     (says : StatesFinal (told_in event.1) id Delivered) → StandsInTheRun cluster behind inputs older id says.chain
+
+-- Of each final state that is told the chain was chosen: a majority of the nodes voted for it at one ballot, in packets that were sent.
+abbrev pub AreChosen : Scene → List Answer → Type 0
+AreChosen new answers =
+    (answer : Answer) (id : ℕ) (final : Final) → In answer answers → (says : StatesFinal (told_in answer) id final) →
+    WasVotedFor (length new.members) (map packet_of new.packets) id says.chain
 
 -- ---- what a later request is answered
 

@@ -1,4 +1,4 @@
-use Rattle.world_runs.proofs.Leading.{accepted_known, deliveries_stand_in, deliveries_stand_in_runs, goes_on, grants_none_after, has_one_fate, later_queries_told, led}
+use Rattle.world_runs.proofs.Leading.{accepted_known, chosen_all, deliveries_stand_in, deliveries_stand_in_runs, goes_on, grants_none_after, has_one_fate, later_queries_told, led}
 use Rattle.world_runs.proofs.running.run.Goals as goal
 
 pub loop-step-preserved : goal.loop-step-preserved
@@ -26,6 +26,10 @@ returns-clause-stands_in_its_run c =
     deliveries_stand_in_runs c.args.world.now c.loop-step.world c.args.steps.items c.loop-step.answers.items (
     led c.args.world.now c.loop-step.world c.args.steps.items c.from_vec-steps.result.items c.loop-step.steps.items c.pop_front.new.self.items
     c.loop-step.answers.items _ c.from_vec-steps.ensures.items c.loop-step.invariant c.in_default.ensures.items c.in_default.ensures.rest)
+
+pub returns-clause-chosen : goal.returns-clause-chosen
+returns-clause-chosen c fresh =
+    chosen_all c.args.world.now c.loop-step.world c.loop-step.invariant.done c.loop-step.answers.items c.stands.ensures c.loop-step.invariant.leads fresh
 
 pub returns-clause-fresh_answers : goal.returns-clause-fresh_answers
 returns-clause-fresh_answers c =
