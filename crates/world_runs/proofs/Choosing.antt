@@ -16,8 +16,8 @@ use Rattle.synod_acceptor.specs.Packets.{packet_of}
 use Rattle.world.specs.declared.step.Step.{Step}
 use Rattle.world.specs.Runs.{IsAt}
 use Rattle.world.specs.Scenes.{Scene}
-use Rattle.world_runs.specs.Traces.{Answer, AreChosen, Event, GoesTo, Reaches, told_in}
-use Rattle.world_runs.proofs.Events.{ReachesBy, goes_on_by, reached_by, until}
+use Rattle.world_runs.specs.Traces.{Answer, AreChosen, Event, GoesTo, told_in}
+use Rattle.world_runs.proofs.Events.{ReachesBy, event_of, goes_on_by, reached_by, until}
 use Rattle.world_runs.proofs.Tracing.{states_given, states_nothing}
 
 voted_still : (nodes more : ℕ) (fewer packets : List Packet) (id : ℕ) (chain : List Decree) → nodes ≡ more →
@@ -34,17 +34,6 @@ module _ (cluster : Cluster) (behind : List Packet) where
   sent_still (next ∷ newer) inputs packet sent =
       in_right packet (reverse (outputs_at cluster (newer ++ inputs) next).packets) (kept_reached cluster (newer ++ inputs)).packets
       (sent_still newer inputs packet sent)
-
-  -- each answer is of a step
-  event_of : (inputs : List NodeInput) (steps : List Step) (answers : List Answer) (last : List NodeInput) → Reaches cluster behind inputs steps answers last →
-      (answer : Answer) → In answer answers → (step : Step) × In (step, answer) (zip steps answers)
-  event_of inputs steps [] last r answer none = absurd none
-  event_of inputs [] (first ∷ answers) last none answer among = absurd none
-  event_of inputs (step ∷ steps) (first ∷ answers) last r answer (inl same) = (step, inl (λ i. (step, same i)))
-  event_of inputs (step ∷ steps) (Ok given ∷ answers) last r answer (inr later) =
-      let it = event_of (r.0 ∷ inputs) steps answers last r.4 answer later in (it.0, inr it.1)
-  event_of inputs (step ∷ steps) (Err fault ∷ answers) last r answer (inr later) =
-      let it = event_of inputs steps answers last r.1 answer later in (it.0, inr it.1)
 
   chosen_at : (inputs : List NodeInput) (older : List Event) (event : Event) (newer : List Event) (last : List NodeInput) →
       ReachesBy cluster behind inputs (older ++ event ∷ newer) last → MayHappen cluster last →
@@ -74,7 +63,7 @@ module _ (cluster : Cluster) (behind : List Packet) where
   pub are_chosen : (inputs : List NodeInput) (steps : List Step) (answers : List Answer) (new : Scene) → behind ≡ [] →
       GoesTo cluster behind inputs steps answers new → AreChosen new answers
   are_chosen inputs steps answers new none so answer id final among says =
-      let of_step = event_of inputs steps answers so.last so.reaches answer among in
+      let of_step = event_of cluster behind inputs steps answers so.last so.reaches answer among in
       let cut = cut_at (of_step.0, answer) (zip steps answers) of_step.1 in
       let by = subst (λ (events : List Event). ReachesBy cluster behind inputs events so.last) cut.split
       (reached_by cluster behind inputs steps answers so.last so.reaches) in

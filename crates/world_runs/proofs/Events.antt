@@ -6,7 +6,7 @@ use Rattle.mc_model.specs.synod.Lists.{In}
 use Rattle.mc_model.specs.synod.Packet.{Packet}
 use Rattle.mc_model.specs.cluster.Steps.{Cluster}
 use Rattle.mc_model.specs.node.Outputs.{Outputs}
-use Rattle.node_laws.specs.Clusters.{NodeInput, cluster_outputs, kept_reached, step_at}
+use Rattle.node_laws.specs.Clusters.{NodeInput, cluster_outputs, kept_reached, outputs_at, step_at}
 use Rattle.node_laws.proofs.Orders.{in_append}
 use Rattle.node_laws.proofs.Sources.{in_cut}
 use Rattle.world.specs.declared.given.Given.{Given}
@@ -76,11 +76,54 @@ module _ (cluster : Cluster) (behind : List Packet) where
       let it = goes_on_by inputs events last r.1 in
       record { newer = it.newer; split = it.split; each = λ next among. among_more (step, Err fault) events next (it.each next among) }
 
+  -- each answer is of a step
+  pub event_of : (inputs : List NodeInput) (steps : List Step) (answers : List Answer) (last : List NodeInput) → Reaches cluster behind inputs steps answers last →
+      (answer : Answer) → In answer answers → (step : Step) × In (step, answer) (zip steps answers)
+  event_of inputs steps [] last r answer none = absurd none
+  event_of inputs [] (first ∷ answers) last none answer among = absurd none
+  event_of inputs (step ∷ steps) (first ∷ answers) last r answer (inl same) = (step, inl (λ i. (step, same i)))
+  event_of inputs (step ∷ steps) (Ok given ∷ answers) last r answer (inr later) =
+      let it = event_of (r.0 ∷ inputs) steps answers last r.4 answer later in (it.0, inr it.1)
+  event_of inputs (step ∷ steps) (Err fault ∷ answers) last r answer (inr later) =
+      let it = event_of inputs steps answers last r.1 answer later in (it.0, inr it.1)
+
+  -- the step of an answer, and those before it
+  pub record IsCutBy (steps : List Step) (older : List Answer) (answer : Answer) (newer : List Answer) : Type 0 where
+    pub before : List Event
+    pub step : Step
+    pub after : List Event
+    pub split : zip steps (older ++ answer ∷ newer) ≡ before ++ (step, answer) ∷ after
+    pub are : answers_in before ≡ older
+
+  pub events_cut : (inputs : List NodeInput) (steps : List Step) (older : List Answer) (answer : Answer) (newer : List Answer) (last : List NodeInput) →
+      Reaches cluster behind inputs steps (older ++ answer ∷ newer) last → IsCutBy steps older answer newer
+  events_cut inputs [] [] answer newer last none = absurd none
+  events_cut inputs [] (first ∷ older) answer newer last none = absurd none
+  events_cut inputs (step ∷ steps) [] answer newer last r = record { before = []; step = step; after = zip steps newer; split = refl; are = refl }
+  events_cut inputs (step ∷ steps) (Ok given ∷ older) answer newer last r =
+      let it = events_cut (r.0 ∷ inputs) steps older answer newer last r.4 in
+      record {
+        before = (step, Ok given) ∷ it.before;
+        step = it.step;
+        after = it.after;
+        split = λ i. (step, Ok given) ∷ it.split i;
+        are = λ i. Ok given ∷ it.are i;
+      }
+  events_cut inputs (step ∷ steps) (Err fault ∷ older) answer newer last r =
+      let it = events_cut inputs steps older answer newer last r.1 in
+      record {
+        before = (step, Err fault) ∷ it.before;
+        step = it.step;
+        after = it.after;
+        split = λ i. (step, Err fault) ∷ it.split i;
+        are = λ i. Err fault ∷ it.are i;
+      }
+
   -- what these gave out before is given out
-  outputs_still : (newer inputs : List NodeInput) (outputs : Outputs) → In outputs (cluster_outputs cluster inputs) →
-      In outputs (cluster_outputs cluster (newer ++ inputs))
-  outputs_still [] inputs outputs among = among
-  outputs_still (next ∷ newer) inputs outputs among = inr (outputs_still newer inputs outputs among)
+  pub outputs_since : (newer inputs : List NodeInput) → (more : List Outputs) × (cluster_outputs cluster (newer ++ inputs) ≡ more ++ cluster_outputs cluster inputs)
+  outputs_since [] inputs = ([], refl)
+  outputs_since (next ∷ newer) inputs =
+      let it = outputs_since newer inputs in (outputs_at cluster (newer ++ inputs) next ∷ it.0, λ i. outputs_at cluster (newer ++ inputs) next ∷ it.1 i)
 
   pub record IsGivenOut (last : List NodeInput) (given : Given) : Type 0 where
     pub outputs : Outputs
@@ -92,12 +135,13 @@ module _ (cluster : Cluster) (behind : List Packet) where
   given_in inputs [] last r step given none = absurd none
   given_in inputs ((first, Ok gave) ∷ events) last r step given (inl same) =
       let way = goes_on_by (r.0 ∷ inputs) events last r.4 in
+      let since = outputs_since way.newer (r.0 ∷ inputs) in
       let answers : ◌≡◌ {A = Answer} (Ok given) (Ok gave) = ap (λ (event : Event). event.1) same in
       let givens : gave ≡ given = cc in
       record {
-        outputs = (step_at cluster (kept_reached cluster inputs) r.0).outputs;
-        among = subst (λ (is : List NodeInput). In (step_at cluster (kept_reached cluster inputs) r.0).outputs (cluster_outputs cluster is)) (sym way.split)
-            (outputs_still way.newer (r.0 ∷ inputs) (step_at cluster (kept_reached cluster inputs) r.0).outputs (inl refl));
+        outputs = outputs_at cluster inputs r.0;
+        among = subst (In (outputs_at cluster inputs r.0)) (sym (ap (cluster_outputs cluster) way.split ∙ since.1))
+            (in_cut since.0 (cluster_outputs cluster inputs) (outputs_at cluster inputs r.0));
         is = subst (λ (g : Given). IsGiven g (step_at cluster (kept_reached cluster inputs) r.0).outputs) givens r.3;
       }
   given_in inputs ((first, Ok gave) ∷ events) last r step given (inr later) = given_in (r.0 ∷ inputs) events last r.4 step given later

@@ -1,5 +1,5 @@
-pub mod Tracing
 pub mod Events
+pub mod Tracing
 pub mod Coming
 pub mod Standing
 pub mod Asking
