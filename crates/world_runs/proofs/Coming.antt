@@ -12,14 +12,14 @@ use Rattle.node_model.specs.Granted.{known_slot}
 use Rattle.node_model.specs.Kept.{Kept}
 use Rattle.node_model.specs.Stepped.{stepped_down, stepped_up}
 use Rattle.node_laws.specs.Clusters.{KeptCluster, NodeInput, step_at}
+use Rattle.pdu_tables.specs.StatusCodes.{status_code}
+use Rattle.pdu_tables.specs.declared.status.Status.{Status}
 use Rattle.delivery.specs.Kept.{outcome_kept}
 use Rattle.delivery.specs.declared.outcome.Outcome.{Outcome as Answered}
 use Rattle.delivery.specs.declared.outcome.Outcome.TheVariants as outcomes
 use Rattle.desk.specs.Admissions.{admitted}
 use Rattle.desk.specs.Arrivals.{door_at, judged_as, next_id, requested}
 use Rattle.desk.specs.declared.request.Request.{Request as Asked}
-use Rattle.pdu_tables.specs.StatusCodes.{status_code}
-use Rattle.pdu_tables.specs.declared.status.Status.{Status}
 use Rattle.world.specs.declared.step.Step.{Step}
 use Rattle.world.specs.declared.step.Step.TheVariants as steps
 use Rattle.world.specs.Runs.{Comes, at}

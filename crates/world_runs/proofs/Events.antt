@@ -6,13 +6,13 @@ use Rattle.mc_model.specs.synod.Lists.{In}
 use Rattle.mc_model.specs.synod.Packet.{Packet}
 use Rattle.mc_model.specs.cluster.Steps.{Cluster}
 use Rattle.mc_model.specs.node.Outputs.{Outputs}
+use Rattle.mc_parts.proofs.Membership.{in_either, of_only}
 use Rattle.node_laws.specs.Clusters.{NodeInput, cluster_outputs, kept_reached, outputs_at, step_at}
 use Rattle.node_laws.proofs.Orders.{in_append}
 use Rattle.node_laws.proofs.Sources.{in_cut}
 use Rattle.world.specs.declared.given.Given.{Given}
 use Rattle.world.specs.declared.step.Step.{Step}
 use Rattle.world.specs.Runs.{Comes, IsFault, IsGiven, refusal_of}
-use Rattle.mc_parts.proofs.Membership.{in_either, of_only}
 use Rattle.world_runs.specs.Traces.{Answer, Event, Reaches, answers_in, steps_in}
 
 module _ (cluster : Cluster) (behind : List Packet) where

@@ -10,13 +10,13 @@ use Rattle.mc_model.specs.cluster.Steps.{Cluster}
 use Rattle.node_model.specs.Outputs.{nothing}
 use Rattle.node_laws.specs.Chosen.{WasVotedFor}
 use Rattle.node_laws.specs.Clusters.{GrantsOut, IsDeliveredBy, NodeInput, StatesFinal, kept_reached, step_at}
+use Rattle.delivery.specs.declared.outcome.Outcome.TheVariants as outcomes
+use Rattle.synod_acceptor.specs.Packets.{packet_of}
+use Rattle.desk.specs.declared.request.Request.{Request}
 use Rattle.world.specs.declared.fault.WorldFault.{WorldFault}
 use Rattle.world.specs.declared.given.Given.{Given}
 use Rattle.world.specs.declared.step.Step.{Step}
 use Rattle.world.specs.declared.step.Step.TheVariants as steps
-use Rattle.desk.specs.declared.request.Request.{Request}
-use Rattle.synod_acceptor.specs.Packets.{packet_of}
-use Rattle.delivery.specs.declared.outcome.Outcome.TheVariants as outcomes
 use Rattle.world.specs.Runs.{Comes, IsAt, IsFault, IsGiven, given_out, refusal_of}
 use Rattle.world.specs.Scenes.{Scene}
 
