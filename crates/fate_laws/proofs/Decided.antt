@@ -40,11 +40,12 @@ chosen_so node w h id final d = record {
   ];
 }
 
-pub decided_once : (node : ℕ) (w : World) → Holds w → (id : ℕ) (first second : Final) → IsDecided node w id first → IsDecided node w id second →
+-- and the same at all nodes
+pub decided_once : (one other : ℕ) (w : World) → Holds w → (id : ℕ) (first second : Final) → IsDecided one w id first → IsDecided other w id second →
     first ≡ second
-decided_once node w h id first second one other =
-    chosen_fates_same w h id one.chain other.chain first second (chosen_so node w h id first one) (chosen_so node w h id second other)
-    one.ends other.ends
+decided_once one other w h id first second here there =
+    chosen_fates_same w h id here.chain there.chain first second (chosen_so one w h id first here) (chosen_so other w h id second there)
+    here.ends there.ends
 
 -- ---- it stays decided
 
