@@ -1,0 +1,4 @@
+pub mod Places
+pub mod Worlds
+pub mod Printing
+pub mod Given
