@@ -2,7 +2,6 @@
 use Rattle.std.proofs.Common.{◌≡◌, ℕ, ◌<◌, ◌^◌, Bool, List, [], ◌∷◌, Option, Some, None, inl, inr, refl, sym, ◌∙◌, ap, subst, ◌++◌, append-nil}
 use Rattle.std.specs.Fmt.{decimal}
 use Rattle.std.specs.List.{AllByRecursion}
-use Rattle.std.proofs.lemmas.Fmt.{decimal_injective}
 use Rattle.mc_model.specs.message.Chain.{final_in}
 use Rattle.mc_model.specs.message.Decree.{Decree, Deleted, Final}
 use Rattle.mc_model.specs.synod.Lists.{In}
@@ -11,19 +10,16 @@ use Rattle.mc_model.specs.node.Replies.{Answer, Removed}
 use Rattle.mc_model.specs.cluster.Fate.{shown_by}
 use Rattle.mc_model.specs.cluster.Steps.{Cluster}
 use Rattle.node_laws.specs.Clusters.{MayHappen, NodeInput, StatesFinal, cluster_outputs}
-use Rattle.node_laws.proofs.Stated.{one_final}
 use Rattle.pdu_tables.specs.StateCodes.{state_code}
 use Rattle.fate_chain.specs.States.{final_code, state_of}
 use Rattle.receipts.specs.Texts.{Report}
-use Rattle.script_lines.specs.Lines.{lines_of}
 use Rattle.sessions.specs.Session.{Session}
 use Rattle.script_text.specs.Prints.{Late, Print, Reports}
 use Rattle.script_text.specs.Responses.{reply_pdu}
 use Rattle.script_text.specs.Runner.{Owned, Told, in_front, owner_of, replied, reply_prints, told}
-use Rattle.script_text.specs.Settings.{script_settings}
+use Rattle.script_text.specs.Settings.{Settings}
 use Rattle.script_text.specs.Laws.{StatesFate}
 use Rattle.script_world.specs.Prints.{At, WorldPrint}
-use Rattle.script_world.specs.Script.{Stage, prints_of}
 use Rattle.script_world.specs.World.{World}
 use Rattle.fate_laws.proofs.Reports.{IsReportOf}
 use Rattle.fate_laws.proofs.Printing.{of_all}
@@ -33,7 +29,7 @@ use Rattle.fate_laws.proofs.ReceiptsOut.{IsReceiptOut}
 use Rattle.fate_laws.proofs.StepsOut.{removal_ends, step_now}
 use Rattle.fate_laws.proofs.Tellings.{IsTelling, NodePrint, by_node, prints_at}
 use Rattle.world_fates.proofs.Worlds.{told_by, told_by_all}
-use Rattle.world_fates.proofs.Printing.{StageSo, WorldSo, first_so, good_lines}
+use Rattle.world_fates.proofs.Printing.{WorldSo}
 
 module _ (cluster : Cluster) where
   -- ---- what is told
@@ -56,21 +52,23 @@ module _ (cluster : Cluster) where
   abbrev pub TellsGiven : List NodeInput → Print → Type 0
   TellsGiven past print = (message_id : List ℕ) (state : ℕ) → StatesFate print message_id state → KnowsFate past message_id state
 
-  pub told_later : (inputs past : List NodeInput) (print : Print) → TellsGiven past print → TellsGiven (behind inputs past) print
-  told_later inputs past print tells message_id state fate =
-      let it = tells message_id state fate in
-      record {
-        id = it.id;
-        final = it.final;
-        small = it.small;
-        message = it.message;
-        given = record {
-          outputs = it.given.outputs;
-          among = given_later cluster inputs past it.given.outputs it.given.among;
-          states = it.given.states;
-        };
-        state_is = it.state_is;
-      }
+  pub known_later : (inputs past : List NodeInput) (message_id : List ℕ) (state : ℕ) → KnowsFate past message_id state →
+      KnowsFate (behind inputs past) message_id state
+  known_later inputs past message_id state it = record {
+    id = it.id;
+    final = it.final;
+    small = it.small;
+    message = it.message;
+    given = record {
+      outputs = it.given.outputs;
+      among = given_later cluster inputs past it.given.outputs it.given.among;
+      states = it.given.states;
+    };
+    state_is = it.state_is;
+  }
+
+  told_later : (inputs past : List NodeInput) (print : Print) → TellsGiven past print → TellsGiven (behind inputs past) print
+  told_later inputs past print tells message_id state fate = known_later inputs past message_id state (tells message_id state fate)
 
   pub mute_tells : (past : List NodeInput) (print : Print) → IsMute print → TellsGiven past print
   mute_tells past print mute message_id state (inl tells) = absurd (mute.state message_id state tells.0)
@@ -225,39 +223,10 @@ module _ (cluster : Cluster) where
         given);
   }
 
-  pub fates_same : (past : List NodeInput) → MayHappen cluster past → (message_id : List ℕ) (one other : ℕ) → KnowsFate past message_id one →
-      KnowsFate past message_id other → one ≡ other
-  fates_same past may message_id one other here there =
-      let ids : there.id ≡ here.id = decimal_injective there.id here.id there.small here.small (there.message ∙ sym here.message) in
-      let finals : here.final ≡ there.final = one_final cluster past may here.given.outputs there.given.outputs here.id here.final there.final
-      here.given.among there.given.among here.given.states
-      (subst (λ (id : ℕ). StatesFinal there.given.outputs id there.final) ids there.given.states) in
-      here.state_is ∙ ap (λ (f : Final). state_code (state_of (Some f))) finals ∙ sym there.state_is
-
--- ---- one fate
-
 -- what lines print that lead to a world was given out then
-pub given_then_so : (world : World) (prints : List WorldPrint) (so : WorldSo script_settings GivenFrom given_telling world prints) (node : ℕ) (print : Print) →
-    In (At node print) prints → TellsGiven so.cluster so.past print
-given_then_so world prints so node print among =
+pub given_then_so : (settings : Settings) (world : World) (prints : List WorldPrint) (so : WorldSo settings GivenFrom given_telling world prints)
+    (node : ℕ) (print : Print) → In (At node print) prints → TellsGiven so.cluster so.past print
+given_then_so settings world prints so node print among =
     let given = so.tell so.past [] (record { inputs = []; last_is = refl; tell = tt }) in
     of_all (TellsGivenAt so.cluster so.past) (told_by prints) (by_node node print)
     (subst (AllByRecursion (TellsGivenAt so.cluster so.past)) (append-nil (told_by prints)) given.tell) (told_by_all node print prints among)
-
-stage_fates_same : (stage : Stage) (prints : List WorldPrint) → StageSo script_settings GivenFrom given_telling stage prints → (here there : ℕ)
-    (first second : Print) (message_id : List ℕ) (one other : ℕ) → In (At here first) prints → In (At there second) prints →
-    StatesFate first message_id one → StatesFate second message_id other → one ≡ other
-stage_fates_same None prints none here there first second message_id one other first_in second_in first_states second_states =
-    absurd (subst (In (At here first)) none first_in)
-stage_fates_same (Some world) prints so here there first second message_id one other first_in second_in first_states second_states =
-    fates_same so.cluster so.past so.stands.fit.may message_id one other
-    (given_then_so world prints so here first first_in message_id one first_states)
-    (given_then_so world prints so there second second_in message_id other second_states)
-
-pub one_fate : (script : List ℕ) (here there : ℕ) (first second : Print) (message_id : List ℕ) (one other : ℕ) →
-    In (At here first) (prints_of script) → In (At there second) (prints_of script) → StatesFate first message_id one →
-    StatesFate second message_id other → one ≡ other
-one_fate script =
-    let good = good_lines script_settings (lines_of script) None in
-    stage_fates_same good.last (prints_of script)
-    (first_so script_settings GivenFrom given_telling good.lines good.inputs (prints_of script) good.last good.joins)

@@ -117,6 +117,14 @@ kept_apart cluster (input ∷ inputs) past node other apart =
       | inr elsewhere ↦ elsewhere
     ]
 
+-- a node that there is
+pub one_of_many : (cluster : Cluster) (past : List NodeInput) (world : World) → WorldStands cluster past world → (number : ℕ) (runner : Runner) → 1 ≤ number →
+    runner_at world number ≡ Some runner → IsOneOf (setup_of cluster number)
+one_of_many cluster past world stands number runner least is =
+    let within = slice_get_within world.runners (pred number) runner is in
+    let count = stands.count in
+    record { least = least; most = omega (arith, within, count, least); few = stands.few }
+
 module _ (cluster : Cluster) (Tells : List NodeInput → List NodeInput → List NodePrint → Type 0) (telling : IsTelling cluster Tells) where
   -- ---- nothing is done, or one thing after the other
 
@@ -144,13 +152,6 @@ module _ (cluster : Cluster) (Tells : List NodeInput → List NodeInput → List
   }
 
   -- ---- a node of many
-
-  one_of_many : (past : List NodeInput) (world : World) → WorldStands cluster past world → (number : ℕ) (runner : Runner) → 1 ≤ number →
-      runner_at world number ≡ Some runner → IsOneOf (setup_of cluster number)
-  one_of_many past world stands number runner least is =
-      let within = slice_get_within world.runners (pred number) runner is in
-      let count = stands.count in
-      record { least = least; most = omega (arith, within, count, least); few = stands.few }
 
   module _ (past : List NodeInput) (world : World) (stands : WorldStands cluster past world) (number : ℕ)
       (one_of : IsOneOf (setup_of cluster number)) (up : Bool) (acted : Acted) (so : ActsSo (member_of cluster number one_of) Tells past up acted) where
@@ -239,7 +240,7 @@ module _ (cluster : Cluster) (Tells : List NodeInput → List NodeInput → List
         by_runner : (found : Option Runner) → runner_at world number ≡ found → MovesSo cluster Tells past (up_or_refuses world up found)
         by_runner None is = stays_so past world stands
         by_runner (Some runner) is =
-            let one_of = one_of_many past world stands number runner least is in
+            let one_of = one_of_many cluster past world stands number runner least is in
             by_test runner one_of (stands.each number one_of runner is) (is_up runner) refl
 
     acts_so : (number : ℕ) → 1 ≤ number → (up : Bool) (act : Runner → Acted) →
@@ -272,7 +273,7 @@ module _ (cluster : Cluster) (Tells : List NodeInput → List NodeInput → List
         by_runner : (found : Option Runner) → runner_at world number ≡ found → MovesSo cluster Tells past (restarts_if world number found)
         by_runner None is = stays_so past world stands
         by_runner (Some runner) is =
-            let one_of = one_of_many past world stands number runner least is in
+            let one_of = one_of_many cluster past world stands number runner least is in
             let stood = stands.each number one_of runner is in
             elim (restart_acts (member_of cluster number one_of) Tells telling past runner.node.kept.up runner stands.fit stood.at stood.waiting) [
               | inl anew ↦ shared_so past world stands number one_of true (on_restart runner) anew

@@ -3,4 +3,7 @@
 
 mod laws;
 
-pub use laws::one_fate_is_printed_by_all_nodes;
+pub use laws::{
+    no_attempt_is_granted_after_a_fate, one_fate_is_printed_by_all_nodes, printed_fates_are_told_by_all_nodes,
+    printed_fates_stay,
+};
