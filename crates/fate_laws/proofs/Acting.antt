@@ -12,14 +12,13 @@ use Rattle.mc_model.specs.cluster.Steps.{Cluster}
 use Rattle.node_model.specs.Attempts.{grant_refusal}
 use Rattle.node_model.specs.Granted.{known_slot}
 use Rattle.node_model.specs.Outputs.{Stepped as NodeStep}
-use Rattle.node_laws.specs.Clusters.{MayHappen, NodeInput, kept_reached}
+use Rattle.node_laws.specs.Clusters.{MayHappen, NodeInput}
 use Rattle.pdu_codec.specs.Pdu.{read_pdu}
 use Rattle.pdu_frames.specs.Frames.{Cut, cut, begins_wrong}
 use Rattle.sessions.specs.Session.{Session}
 use Rattle.script_text.specs.Settings.{Settings}
 use Rattle.script_text.specs.Node.{Node, awaiting, step_at, tick_at, with_step}
 use Rattle.script_text.specs.Attempts.{concluded, submission_at, unanswered}
-use Rattle.script_text.specs.Prints.{Print}
 use Rattle.std.specs.Map.{remove_entry}
 use Rattle.std.specs.Ordering.{nat_cmp}
 use Rattle.std.specs.BTreeMap.{is_at}
@@ -28,16 +27,15 @@ use Rattle.script_text.specs.Pushes.{accounts_up, overdue_in, session_at, target
 use Rattle.script_text.specs.Receipts.{Posted, all_posted, posted_for_all, posted_for_any}
 use Rattle.script_text.specs.Runner.{Runner, Acted, Served, answered_by, declined, ends, fails_by, followed_by, gives_up, gone_prints, granted, granted_unless, held_in, holds, last_incarnation, mail_of, makes_room, no_incarnation, on_delivery, on_frame, on_frames, on_grant, on_octets, on_read, on_rest, on_restart, on_tick, opened_at, posts, posts_for, posts_for_all, pushes, put_at, reports_by, restarted, sent, sent_to, served_at, serves, session_in, ticked, told, with_posted, with_session}
 use Rattle.fate_laws.proofs.Telling.{AreMute, declined_is_mute, delivery_is_mute, gone_is_mute, ungranted_is_mute}
-use Rattle.fate_laws.proofs.Behind.{behind, came_to, input_to}
+use Rattle.fate_laws.proofs.Behind.{came_to, input_to}
 use Rattle.fate_laws.proofs.ReceiptsOut.{AreReceiptsOut, receipts_out_later}
-use Rattle.fate_laws.proofs.StepsOut.{step_now}
 use Rattle.fate_laws.proofs.Standing.{IsAt, IsFit, Leads, Member, StepsTo, WereSent, delivery_steps, grant_steps, leads_still, restart_steps, tick_steps}
-use Rattle.fate_laws.proofs.Tellings.{IsTelling, NodePrint, both_at, mutes_tell, prints_at, steps_tell}
+use Rattle.fate_laws.proofs.Tellings.{FactOfPrints, IsTelling, NodePrint, both_at, mutes_tell, prints_at, steps_tell}
 use Rattle.fate_laws.proofs.Serving.{IsServed, all_lead, came_then, read_served, unanswered_leads, wrong_length_served}
 use Rattle.fate_laws.proofs.Posting.{PostsSo, all_posted_so, posted_for_all_so, posted_for_any_so}
 
 -- The node is where what came to it leads. What waits then was given out, and so was what is printed.
-pub record ActsSo (member : Member) (Tells : List NodeInput → List NodeInput → List NodePrint → Type 0) (past : List NodeInput) (up : Bool) (acted : Acted) : Type 0 where
+pub record ActsSo (member : Member) (Tells : FactOfPrints) (past : List NodeInput) (up : Bool) (acted : Acted) : Type 0 where
   pub leads : Leads member past acted.inputs up acted.next.node
   pub waiting : AreReceiptsOut member.cluster member.number leads.later acted.next.waiting
   pub tell : (last : List NodeInput) (prints : List NodePrint) → Tells last leads.later prints →
@@ -61,7 +59,7 @@ pub gone_are_mute : (connected : List (ℕ × Session)) → AreMute (gone_prints
 gone_are_mute [] = tt
 gone_are_mute (entry ∷ connected) = (gone_is_mute entry.0, gone_are_mute connected)
 
-module _ (member : Member) (Tells : List NodeInput → List NodeInput → List NodePrint → Type 0) (telling : IsTelling member.cluster Tells) where
+module _ (member : Member) (Tells : FactOfPrints) (telling : IsTelling member.cluster Tells) where
   abbrev cluster : Cluster
   cluster = member.cluster
 
@@ -191,7 +189,8 @@ module _ (member : Member) (Tells : List NodeInput → List NodeInput → List N
   unfolding on_frames
   frames_act settings number past runner [] rest s = rest_acts settings number past runner rest s
   frames_act settings number past runner (frame ∷ frames) rest s =
-      by_test (is_none (session_at first.next.sessions number)) (frames_act settings number here.leads.later first.next frames rest (serving_then past first here))
+      by_test (is_none (session_at first.next.sessions number))
+      (frames_act settings number here.leads.later first.next frames rest (serving_then past first here))
     where
       first : Acted
       first = on_frame settings number runner frame

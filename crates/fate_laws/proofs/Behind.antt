@@ -1,6 +1,5 @@
 -- Inputs behind others, and what of a cluster only grows with them.
 use Rattle.std.proofs.Common.{◌≡◌, ℕ, List, [], ◌∷◌, ◌++◌, map, refl, sym, ◌∙◌, ap, subst, inr}
-use Rattle.mc_model.specs.message.Decree.{Final}
 use Rattle.mc_model.specs.synod.Lists.{In}
 use Rattle.mc_model.specs.synod.Packet.{Packet}
 use Rattle.mc_model.specs.node.Act.{Act}
@@ -71,7 +70,9 @@ module _ (cluster : Cluster) where
     next_acts = (one_more cluster next past may).acts
 
     pub next_run : IsRun (world_after past may.4) (by_node next.node next_acts)
-    next_run = (subst (AreSteps cluster (start cluster.nodes cluster.serials)) (one_more cluster next past may).steps (clustered cluster (next ∷ past) may).are).0.run
+    next_run =
+        (subst (AreSteps cluster (start cluster.nodes cluster.serials)) (one_more cluster next past may).steps
+        (clustered cluster (next ∷ past) may).are).0.run
 
     pub next_world : world_after (next ∷ past) may ≡ reached (world_after past may.4) (by_node next.node next_acts)
     next_world =

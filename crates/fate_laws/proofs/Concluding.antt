@@ -1,22 +1,14 @@
 -- What is told of attempts is possible.
-use Rattle.std.proofs.Common.{◌≡◌, ℕ, ◌≤◌, Bool, true, false, cond, List, [], ◌∷◌, Option, Some, None, refl, inl, inr, arith}
+use Rattle.std.proofs.Common.{ℕ, ◌≤◌, Bool, true, false, Option, Some, None, refl, inl, arith}
 use Rattle.std.specs.Prelude.{◌==◌, min, if◌then◌else◌}
-use Rattle.mc_model.specs.synod.Packet.{Slot}
-use Rattle.mc_model.specs.node.Input.{Response}
 use Rattle.mc_model.specs.node.Outcome.{Concluded, IsOutcome, Outcome, most_status_error, rejected_error, undeliverable_error}
 use Rattle.mc_model.specs.message.Decree.{Delivered, Rejected, Undeliverable}
-use Rattle.node_model.specs.Granted.{is_open}
 use Rattle.pdu_bodies.specs.declared.pdu.Body.{Body}
 use Rattle.pdu_bodies.specs.declared.pdu.Body.TheVariants as bodies
 use Rattle.pdu_bodies.specs.declared.pdu.Pdu.{Pdu}
 use Rattle.pdu_tables.specs.StatusCodes.{status_code}
 use Rattle.pdu_tables.specs.declared.status.Status.TheVariants as statuses
 use Rattle.delivery.specs.Outcomes.{failed_with, outcome_by, told_by, told_in}
-use Rattle.sessions.specs.declared.pushed.Delivery.{Delivery}
-use Rattle.sessions.specs.declared.pushed.Delivery.TheVariants as deliveries
-use Rattle.sessions.specs.declared.pushed.Pushed.{Pushed}
-use Rattle.script_text.specs.Attempts.{Went, all_given_up, concluded, delivered_so, given_up, rests_at, unanswered, went}
-use Rattle.script_text.specs.Node.{Node}
 
 -- an outcome that is possible, or none
 abbrev pub IsPossible : Option Outcome → Type 0

@@ -138,7 +138,8 @@ module _ (node : ℕ) (w : World) (h : Holds w) (ticket id : ℕ) (chain : List 
   far = elim d.seen [
     | inl learned ↦ knows.longest (pred (length d.chain)) (vote_at d.ballot d.chain) learned
     | inr since ↦
-        covered since.before w (name_of node (w.actors node) waiting) (id_in waiting.request) (since.asked waiting may.asked.waits may.asked.about) since.nodes h node
+        covered since.before w (name_of node (w.actors node) waiting) (id_in waiting.request) (since.asked waiting may.asked.waits may.asked.about)
+        since.nodes h node
         d.chain (chosen_before since) (Some chain) sees.settled
   ]
 

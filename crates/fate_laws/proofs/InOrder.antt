@@ -1,13 +1,12 @@
 -- What prints of nodes tell, one after the other: fates that are decided, and of a message whose fate was told no other state.
-use Rattle.std.proofs.Common.{◌≡◌, ℕ, ◌<◌, ◌^◌, Bool, List, [], ◌∷◌, ◌++◌, Option, Some, None, inr, inl, refl, sym, ◌∙◌, ap, subst, append-nil}
+use Rattle.std.proofs.Common.{◌≡◌, ℕ, ◌<◌, ◌^◌, List, [], ◌∷◌, ◌++◌, Option, Some, None, inr, inl, refl, sym, ◌∙◌, subst, append-nil}
 use Rattle.std.specs.Fmt.{decimal}
 use Rattle.std.specs.List.{AllByRecursion}
 use Rattle.mc_model.specs.message.Decree.{Final}
 use Rattle.mc_model.specs.synod.Lists.{In}
-use Rattle.mc_model.specs.node.Outputs.{Reply, replies_in}
-use Rattle.mc_model.specs.node.Replies.{Answer}
-use Rattle.mc_model.specs.cluster.Steps.{Cluster, by_node as acts_by}
-use Rattle.mc_model.specs.cluster.World.{World, reached}
+use Rattle.mc_model.specs.node.Outputs.{Reply}
+use Rattle.mc_model.specs.cluster.Steps.{Cluster}
+use Rattle.mc_model.specs.cluster.World.{World}
 use Rattle.mc_laws.proofs.Reached.{Holds}
 use Rattle.node_laws.specs.Clusters.{MayHappen, NodeInput}
 use Rattle.pdu_tables.specs.StateCodes.{state_code}
@@ -16,12 +15,12 @@ use Rattle.sessions.specs.Session.{Session}
 use Rattle.script_text.specs.Prints.{Late, Print, Reports}
 use Rattle.script_text.specs.Responses.{reply_pdu}
 use Rattle.script_text.specs.Runner.{Owned, Told, in_front, owner_of, replied, reply_prints, told}
-use Rattle.script_text.specs.Laws.{StatesFate, TellsState}
+use Rattle.script_text.specs.Laws.{StatesFate}
 use Rattle.fate_laws.proofs.Decided.{IsDecided}
-use Rattle.fate_laws.proofs.Replying.{AreFit, Grows, IsFitAnswer, replies_fit}
+use Rattle.fate_laws.proofs.Replying.{AreFit, Grows, replies_fit}
 use Rattle.fate_laws.proofs.Behind.{after_holds, decided_next, next_acts, next_run, next_world, world_after}
 use Rattle.fate_laws.proofs.StepsOut.{replies_are, step_now}
-use Rattle.fate_laws.proofs.Telling.{IsMute, IsTold, TellsFates, TellsOnly, fates_told_later, mute_tells_fates, mute_tells_only, reply_is_told, reply_tells_fates, reply_tells_only, report_tells_fates, report_tells_no_state}
+use Rattle.fate_laws.proofs.Telling.{TellsFates, TellsOnly, fates_told_later, mute_tells_fates, mute_tells_only, reply_is_told, reply_tells_fates, reply_tells_only, report_tells_fates, report_tells_no_state}
 use Rattle.fate_laws.proofs.Tellings.{IsTelling, NodePrint, by_node, prints_at}
 
 -- a print of a node tells this state of a message, if it tells one

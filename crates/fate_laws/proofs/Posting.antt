@@ -14,7 +14,7 @@ use Rattle.script_text.specs.Pushes.{knows_optional, session_at, target_in}
 use Rattle.script_text.specs.Receipts.{Mail, Posted, all_posted, goes_out, goes_out_up_to, is_for, most_waiting, posted, posted_for, posted_for_all, posted_for_any, posted_to, reported_by, reports_on, stays, submitter_of, then_posted, waits_for, with_both}
 use Rattle.fate_laws.proofs.Reports.{report_is}
 use Rattle.fate_laws.proofs.ReceiptsOut.{AreReceiptsOut, IsReceiptOut}
-use Rattle.fate_laws.proofs.Tellings.{IsTelling, NodePrint, both_at, prints_at}
+use Rattle.fate_laws.proofs.Tellings.{FactOfPrints, IsTelling, NodePrint, both_at, prints_at}
 
 -- ---- lists
 
@@ -39,7 +39,7 @@ left_in test (first ∷ items) item among = by_test (test first) (left_in test i
 
 -- ---- they go out
 
-module _ (cluster : Cluster) (Tells : List NodeInput → List NodeInput → List NodePrint → Type 0) (telling : IsTelling cluster Tells) (node : ℕ)
+module _ (cluster : Cluster) (Tells : FactOfPrints) (telling : IsTelling cluster Tells) (node : ℕ)
     (past : List NodeInput) (may : MayHappen cluster past) where
   abbrev AreOut : List Receipt → Type 0
   AreOut receipts = AreReceiptsOut cluster node past receipts
@@ -60,7 +60,8 @@ module _ (cluster : Cluster) (Tells : List NodeInput → List NodeInput → List
   then_so first last one other = record {
     waiting = other.waiting;
     tell = λ end prints tells.
-        subst (Tells end past) (both_at node first.prints last.prints prints) (one.tell end (prints_at node last.prints ++ prints) (other.tell end prints tells));
+        subst (Tells end past) (both_at node first.prints last.prints prints)
+        (one.tell end (prints_at node last.prints ++ prints) (other.tell end prints tells));
   }
 
   reports_so : (number : ℕ) (session : Option Session) (receipt : Receipt) (report : Option Report) → reported_by receipt ≡ report →

@@ -1,12 +1,11 @@
 -- What a script prints of the fates of messages.
-use Rattle.std.proofs.Common.{◌≡◌, ℕ, ◌≤◌, zero, suc, true, List, [], ◌∷◌, ◌++◌, map, Option, Some, None, inl, inr, refl, sym, ◌∙◌, ap, subst, arith}
+use Rattle.std.proofs.Common.{◌≡◌, ℕ, ◌≤◌, zero, suc, true, List, [], ◌∷◌, ◌++◌, Option, Some, None, inl, inr, refl, sym, ◌∙◌, ap, subst, arith}
 use Rattle.std.specs.List.{AllByRecursion}
 use Rattle.std.proofs.lemmas.Fmt.{decimal_injective}
 use Rattle.std.proofs.lemmas.List.{map-append}
 use Rattle.mc_model.specs.message.Decree.{Final}
 use Rattle.mc_model.specs.synod.Lists.{In}
 use Rattle.mc_model.specs.synod.Packet.{Packet}
-use Rattle.mc_model.specs.cluster.Steps.{Cluster}
 use Rattle.mc_model.specs.cluster.World.{World}
 use Rattle.node_laws.specs.Clusters.{NodeInput}
 use Rattle.node_laws.proofs.Orders.{mapped_in}
@@ -22,9 +21,9 @@ use Rattle.script_text.specs.Runner.{Runner, Acted, first_or, followed_by, most_
 use Rattle.script_text.specs.Script.{Stepped, after, opened, prints_from, prints_of, script_nodes, step_by, step_of}
 use Rattle.script_text.specs.Laws.{StatesFate, TellsDeletion, TellsState}
 use Rattle.fate_laws.proofs.Decided.{IsDecided, decided_once}
-use Rattle.fate_laws.proofs.Standing.{IsAt, IsFit, Leads, Member, leads_still, opened_fit}
+use Rattle.fate_laws.proofs.Standing.{Member, leads_still, opened_fit}
 use Rattle.fate_laws.proofs.Telling.{TellsFates, unsettled_is_mute}
-use Rattle.fate_laws.proofs.Tellings.{NodePrint, both_at, by_node, prints_at}
+use Rattle.fate_laws.proofs.Tellings.{FactOfPrints, NodePrint, by_node, prints_at}
 use Rattle.fate_laws.proofs.InOrder.{StatesStay, Tell, TellFrom, TellsOnlyAt, nothing_from, tell_telling}
 use Rattle.fate_laws.proofs.Acting.{ActsSo, IsServing, acts_then, delivery_acts, grant_acts, mute_acts, octets_act, restart_acts, serving_then, tick_acts}
 
@@ -41,7 +40,7 @@ module _ (validity serial : ℕ) where
   abbrev member : Member
   member = alone validity serial
 
-  abbrev Tells : List NodeInput → List NodeInput → List NodePrint → Type 0
+  abbrev Tells : FactOfPrints
   Tells = TellFrom member.cluster
 
   -- it serves there
@@ -174,12 +173,15 @@ pub told_once : (first : World) (prints : List NodePrint) → Tell first prints 
     In (by_node there other) prints → (message_id : List ℕ) (state second : ℕ) → StatesFate one message_id state → StatesFate other message_id second →
     state ≡ second
 told_once first prints tell here there one other one_in other_in message_id state second states also =
-    let told = of_all (λ (printed : NodePrint). TellsFates printed.0 tell.last printed.1) prints (by_node here one) tell.fates one_in message_id state states in
-    let again = of_all (λ (printed : NodePrint). TellsFates printed.0 tell.last printed.1) prints (by_node there other) tell.fates other_in message_id second also in
+    let told = of_all FatesAt prints (by_node here one) tell.fates one_in message_id state states in
+    let again = of_all FatesAt prints (by_node there other) tell.fates other_in message_id second also in
     let ids : again.id ≡ told.id = decimal_injective again.id told.id again.small told.small (again.message ∙ sym told.message) in
     let decided : IsDecided there tell.last told.id again.final = subst (λ (i : ℕ). IsDecided there tell.last i again.final) ids again.decided in
     let finals : told.final ≡ again.final = decided_once here there tell.last tell.holds told.id told.final again.final told.decided decided in
     told.state_is ∙ ap (λ (f : Final). state_code (state_of (Some f))) finals ∙ sym again.state_is
+  where
+    FatesAt : NodePrint → Type 0
+    FatesAt printed = TellsFates printed.0 tell.last printed.1
 
 pub one_fate : (script : List ℕ) (first second : Print) (message_id : List ℕ) (one other : ℕ) → In first (prints_of script) → In second (prints_of script) →
     StatesFate first message_id one → StatesFate second message_id other → one ≡ other

@@ -5,7 +5,7 @@ use Rattle.mc_model.specs.message.Chain.{final_in}
 use Rattle.mc_model.specs.message.Decree.{Decree, Deleted}
 use Rattle.mc_model.specs.synod.Lists.{In}
 use Rattle.mc_model.specs.node.Act.{Act, Replies}
-use Rattle.mc_model.specs.node.Outputs.{Outputs, Receipt, Reply, receipts_in, replies_in}
+use Rattle.mc_model.specs.node.Outputs.{Outputs, Reply, receipts_in, replies_in}
 use Rattle.mc_model.specs.node.Replies.{Answer, Removed}
 use Rattle.mc_model.specs.cluster.Steps.{Cluster, by_node}
 use Rattle.mc_model.specs.cluster.World.{IsRun, May, World, reached}

@@ -11,7 +11,6 @@ use Rattle.mc_model.specs.cluster.World.{World}
 use Rattle.accounts.specs.declared.role.Role.TheVariants as roles
 use Rattle.pdu_tables.specs.StateCodes.{state_code}
 use Rattle.pdu_tables.specs.StatusCodes.{status_code}
-use Rattle.pdu_tables.specs.declared.state.State.TheVariants as states
 use Rattle.pdu_tables.specs.declared.status.Status.TheVariants as statuses
 use Rattle.pdu_bodies.specs.declared.pdu.Body.{Body}
 use Rattle.pdu_bodies.specs.declared.pdu.Body.TheVariants.{QuerySmResp, CancelSmResp, DeliverSm}

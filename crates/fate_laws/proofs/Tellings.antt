@@ -25,9 +25,13 @@ by_node node print = (node, print)
 abbrev pub prints_at : ℕ → List Print → List NodePrint
 prints_at node prints = map (by_node node) prints
 
+-- a fact over prints: what has come in the end, the newest first, what has come so far, and what nodes print from then on
+abbrev pub FactOfPrints : Type 1
+FactOfPrints = List NodeInput → List NodeInput → List NodePrint → Type 0
+
 -- It is told by prints if what they tell was given out: `Tells last past prints`, from where inputs led on, up to where the last of them led.
 -- So it is with one print more that tells nothing or is of a receipt that was given out, and with the replies of a step in front.
-pub record IsTelling (cluster : Cluster) (Tells : List NodeInput → List NodeInput → List NodePrint → Type 0) : Type 0 where
+pub record IsTelling (cluster : Cluster) (Tells : FactOfPrints) : Type 0 where
   pub mute : (last past : List NodeInput) (node : ℕ) (print : Print) (prints : List NodePrint) → IsMute print →
       Tells last past prints → Tells last past (by_node node print ∷ prints)
   pub report : (last past : List NodeInput) (node : ℕ) (receipt : Receipt) (session sequence : ℕ) (optional : Bool) (report : Report)
@@ -47,7 +51,7 @@ both_at node first last prints =
     sym (append_assoc (prints_at node first) (prints_at node last) prints)
     ∙ ap (λ (printed : List NodePrint). printed ++ prints) (sym (map-append (by_node node) first last))
 
-module _ (cluster : Cluster) (Tells : List NodeInput → List NodeInput → List NodePrint → Type 0) (telling : IsTelling cluster Tells) (last : List NodeInput) where
+module _ (cluster : Cluster) (Tells : FactOfPrints) (telling : IsTelling cluster Tells) (last : List NodeInput) where
   pub mutes_tell : (past : List NodeInput) (node : ℕ) (mutes : List Print) (prints : List NodePrint) → AreMute mutes → Tells last past prints →
       Tells last past (prints_at node mutes ++ prints)
   mutes_tell past node [] prints mute tells = tells

@@ -10,7 +10,7 @@ use Rattle.script_world.specs.Prints.{At, WorldPrint}
 use Rattle.script_world.specs.Script.{Stage, prints_of}
 use Rattle.fate_laws.proofs.InOrder.{StatesStay, Tell, TellFrom, TellsOnlyAt, nothing_from, tell_telling}
 use Rattle.fate_laws.proofs.Printing.{of_all, stays_after, told_once}
-use Rattle.fate_laws.proofs.Tellings.{NodePrint, by_node}
+use Rattle.fate_laws.proofs.Tellings.{by_node}
 use Rattle.world_fates.proofs.Worlds.{told_by, told_by_all, told_by_both}
 use Rattle.world_fates.proofs.Printing.{StageSo, first_so, good_lines}
 

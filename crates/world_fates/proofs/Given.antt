@@ -6,10 +6,10 @@ use Rattle.mc_model.specs.message.Chain.{final_in}
 use Rattle.mc_model.specs.message.Decree.{Decree, Deleted, Final}
 use Rattle.mc_model.specs.synod.Lists.{In}
 use Rattle.mc_model.specs.node.Outputs.{Outputs, Receipt, Reply}
-use Rattle.mc_model.specs.node.Replies.{Answer, Removed}
+use Rattle.mc_model.specs.node.Replies.{Removed}
 use Rattle.mc_model.specs.cluster.Fate.{shown_by}
 use Rattle.mc_model.specs.cluster.Steps.{Cluster}
-use Rattle.node_laws.specs.Clusters.{MayHappen, NodeInput, StatesFinal, cluster_outputs}
+use Rattle.node_laws.specs.Clusters.{NodeInput, StatesFinal, cluster_outputs}
 use Rattle.pdu_tables.specs.StateCodes.{state_code}
 use Rattle.fate_chain.specs.States.{final_code, state_of}
 use Rattle.receipts.specs.Texts.{Report}
@@ -188,7 +188,8 @@ module _ (cluster : Cluster) where
   replies_given last past node connected [] prints out given = given
   replies_given last past node connected (reply ∷ replies) prints out given =
       at_owner (owner_of connected reply.ticket)
-      (replies_given last past node (replied connected reply.ticket (owner_of connected reply.ticket)) replies prints (λ other among. out other (inr among)) given)
+      (replies_given last past node (replied connected reply.ticket (owner_of connected reply.ticket)) replies prints
+      (λ other among. out other (inr among)) given)
     where
       later : Told
       later = told (replied connected reply.ticket (owner_of connected reply.ticket)) replies

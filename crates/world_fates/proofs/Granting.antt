@@ -1,5 +1,5 @@
 -- No line grants an attempt of a message whose fate was printed.
-use Rattle.std.proofs.Common.{◌≡◌, ℕ, ◌≤◌, ◌^◌, ◌<◌, Bool, true, false, List, [], ◌∷◌, ◌++◌, length, map, Option, Some, None, refl, sym, ◌∙◌, ap, subst, inl, inr, arith}
+use Rattle.std.proofs.Common.{◌≡◌, ℕ, ◌≤◌, Bool, true, false, List, [], ◌∷◌, length, Option, Some, None, refl, sym, ◌∙◌, ap, subst, inl, inr}
 use Rattle.std.specs.Prelude.{if◌then◌else◌}
 use Rattle.std.specs.Fmt.{decimal}
 use Rattle.std.proofs.lemmas.Fmt.{decimal_injective}
@@ -14,11 +14,11 @@ use Rattle.node_model.specs.Attempts.{grant_refusal}
 use Rattle.node_model.specs.Granted.{known_slot}
 use Rattle.node_model.specs.Outputs.{Stepped as NodeStep}
 use Rattle.node_model.specs.Stepped.{stepped_down, stepped_up}
-use Rattle.node_laws.specs.Clusters.{NodeInput, StatesFinal, cluster_outputs}
+use Rattle.node_laws.specs.Clusters.{NodeInput, cluster_outputs}
 use Rattle.node_laws.specs.Runs.{IsOneOf}
 use Rattle.node_laws.proofs.NoGrant.{no_grant}
 use Rattle.pdu_bodies.specs.declared.pdu.Pdu.{Pdu}
-use Rattle.script_lines.specs.Said.{Grant, Said, said_within}
+use Rattle.script_lines.specs.Said.{Grant, said_within}
 use Rattle.script_lines.proofs.SaidLemmas.{spells_within}
 use Rattle.script_text.specs.Laws.{StatesFate}
 use Rattle.script_text.specs.Node.{Node, step_at, with_step}
@@ -28,13 +28,13 @@ use Rattle.script_text.specs.Settings.{Settings}
 use Rattle.script_world.specs.Prints.{At, Refuses, WorldPrint}
 use Rattle.script_world.specs.Script.{Joins, Stage, Stepped, nodes_of, step_by, step_of, stepped}
 use Rattle.script_world.specs.World.{Moved, NodeInput as LineInput, World, grants, is_down, is_up, refuses, runner_at, shared, up_or_refuses}
-use Rattle.fate_laws.proofs.Behind.{behind, given_later, input_to}
+use Rattle.fate_laws.proofs.Behind.{input_to}
 use Rattle.fate_laws.proofs.Reports.{named_small}
 use Rattle.fate_laws.proofs.Standing.{IsAt, IsFit, Member, StepsTo, grant_steps}
 use Rattle.fate_laws.proofs.StepsOut.{step_now}
 use Rattle.world_fates.specs.Laws.{GrantsNothing}
 use Rattle.world_fates.proofs.Worlds.{WorldStands, inputs_of, member_of, one_of_many}
-use Rattle.world_fates.proofs.Printing.{JoinsSo, StageSo, WorldSo, first_so, joined_so}
+use Rattle.world_fates.proofs.Printing.{JoinsSo, StageSo, first_so, joined_so}
 use Rattle.world_fates.proofs.Given.{GivenFrom, KnowsFate, WasGivenOut, given_telling, given_then_so, known_later}
 
 -- a node grants no attempt of a message whose fate was given out
@@ -102,8 +102,8 @@ grants_nothing cluster past world stands there id least final given = by_runner 
     by_runner (Some runner) is = by_test runner is (is_up runner) refl
 
 -- what a line grants from where a world stands
-line_grants : (settings : Settings) (cluster : Cluster) (past : List NodeInput) (world : World) → WorldStands cluster past world → (line : List ℕ) (done : Stepped)
-    (there id state : ℕ) → said_within (length world.runners) line ≡ Some (Grant there id) → step_of settings (Some world) line ≡ Some done →
+line_grants : (settings : Settings) (cluster : Cluster) (past : List NodeInput) (world : World) → WorldStands cluster past world →
+    (line : List ℕ) (done : Stepped) (there id state : ℕ) → said_within (length world.runners) line ≡ Some (Grant there id) → step_of settings (Some world) line ≡ Some done →
     KnowsFate cluster past (decimal id) state → GrantsNothing done
 unfolding step_of
 line_grants settings cluster past world stands line done there id state says is knows =

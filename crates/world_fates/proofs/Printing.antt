@@ -16,14 +16,14 @@ use Rattle.script_world.specs.Script.{Joins, Stage, Stepped, after, moved_by, pr
 use Rattle.script_world.specs.World.{Moved, NodeInput as LineInput, World, comes, crashes, grants, hears, on_replay, on_settle, opened, opened_by, restarts, runner_opened, setup_of, ticks}
 use Rattle.fate_laws.proofs.Behind.{behind}
 use Rattle.fate_laws.proofs.Standing.{opened_fit}
-use Rattle.fate_laws.proofs.Tellings.{IsTelling, NodePrint}
+use Rattle.fate_laws.proofs.Tellings.{FactOfPrints, IsTelling, NodePrint}
 use Rattle.world_fates.proofs.Places.{row_at}
 use Rattle.world_fates.proofs.Worlds.{IsRunner, MovesSo, WorldStands, behind_lines, comes_so, crashes_so, grants_so, hears_so, inputs_of, member_of, replay_so, restarts_so, settle_so, ticks_so, told_by, told_by_both}
 
 -- ---- lines
 
 -- lines that join from a world on lead to where what they brought to nodes leads, and what they print was given out
-pub record JoinsSo (cluster : Cluster) (Tells : List NodeInput → List NodeInput → List NodePrint → Type 0) (past : List NodeInput) (inputs : List LineInput)
+pub record JoinsSo (cluster : Cluster) (Tells : FactOfPrints) (past : List NodeInput) (inputs : List LineInput)
     (prints : List WorldPrint) (stage : Stage) : Type 0 where
   pub world : World
   pub stage_is : stage ≡ Some world
@@ -32,7 +32,7 @@ pub record JoinsSo (cluster : Cluster) (Tells : List NodeInput → List NodeInpu
   pub stands : WorldStands cluster later world
   pub tell : (last : List NodeInput) (others : List NodePrint) → Tells last later others → Tells last past (told_by prints ++ others)
 
-module _ (settings : Settings) (cluster : Cluster) (Tells : List NodeInput → List NodeInput → List NodePrint → Type 0) (telling : IsTelling cluster Tells) where
+module _ (settings : Settings) (cluster : Cluster) (Tells : FactOfPrints) (telling : IsTelling cluster Tells) where
   -- what a line does is what its world does, or nothing
   moved_so : (past : List NodeInput) (moved : Moved) (done : Stepped) → MovesSo cluster Tells past moved → stepped moved ≡ Some done →
       JoinsSo cluster Tells past done.inputs done.prints done.stage
@@ -119,7 +119,8 @@ module _ (settings : Settings) (cluster : Cluster) (Tells : List NodeInput → L
 abbrev pub cluster_of : Settings → ℕ → ℕ → Cluster
 cluster_of settings count serial = record { nodes = count; serials = λ node. serial; validities = λ node. settings.validity }
 
-opened_stands : (settings : Settings) (count serial : ℕ) → count ≤ 9 → 1 ≤ serial → WorldStands (cluster_of settings count serial) [] (opened settings count serial)
+opened_stands : (settings : Settings) (count serial : ℕ) → count ≤ 9 → 1 ≤ serial →
+    WorldStands (cluster_of settings count serial) [] (opened settings count serial)
 opened_stands settings count serial few least = record {
   fit = opened_fit (cluster_of settings count serial) (λ node. least);
   few = few;
@@ -151,7 +152,7 @@ opened_stands settings count serial few least = record {
         let here : new node ≡ runner = cc in
         subst (IsRunner (member_of (cluster_of settings count serial) number one_of) []) (ap new (sym same) ∙ here) (new_stands number one_of)
 
-module _ (settings : Settings) (Tells : Cluster → List NodeInput → List NodeInput → List NodePrint → Type 0)
+module _ (settings : Settings) (Tells : Cluster → FactOfPrints)
     (telling : (cluster : Cluster) → IsTelling cluster (Tells cluster)) where
   -- what the lines print that lead to a world was given out by a cluster
   pub record WorldSo (world : World) (prints : List WorldPrint) : Type 0 where

@@ -1,14 +1,13 @@
 -- A fate that was printed is told later by every node at which nothing waits for it.
-use Rattle.std.proofs.Common.{◌≡◌, ◌≢◌, ℕ, ◌≤◌, List, [], ◌++◌, map, Some, None, refl, sym, ◌∙◌, ap, subst, append-nil}
+use Rattle.std.proofs.Common.{◌≡◌, ℕ, ◌≤◌, List, [], map, Some, None, refl, sym, ◌∙◌, ap, subst, append-nil}
 use Rattle.std.specs.Fmt.{decimal}
 use Rattle.mc_model.specs.synod.Lists.{In}
 use Rattle.mc_model.specs.node.Actor.{Actor, Waiting, id_in}
-use Rattle.mc_model.specs.cluster.Steps.{Cluster, acts_in, setup_of}
+use Rattle.mc_model.specs.cluster.Steps.{Cluster, acts_in}
 use Rattle.mc_model.specs.cluster.World.{World as ModelWorld, start}
 use Rattle.mc_laws.proofs.Behind.{steps_run}
 use Rattle.mc_laws.proofs.Together.{alone}
 use Rattle.node_model.specs.Kept.{Held}
-use Rattle.node_model.specs.Requests.{id_of}
 use Rattle.node_laws.specs.Clusters.{NodeInput, RunsTogether}
 use Rattle.node_laws.proofs.Clustered.{clustered}
 use Rattle.node_laws.proofs.Orders.{in_mapped}

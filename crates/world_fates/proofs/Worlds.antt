@@ -1,6 +1,6 @@
 -- Where the world of a script over several nodes stands, and what its lines do.
 use Rattle.std.proofs.Common.{◌≡◌, ℕ, ◌≤◌, zero, suc, pred, Bool, true, false, List, [], ◌∷◌, ◌++◌, length, map, Option, Some, None, refl, sym, ap, subst, ◌∙◌, append_assoc, inl, inr, arith}
-use Rattle.std.specs.Prelude.{find, if◌then◌else◌, reverse, slice_get, slice_set}
+use Rattle.std.specs.Prelude.{find, if◌then◌else◌, reverse}
 use Rattle.std.specs.List.{range_with_len}
 use Rattle.std.proofs.lemmas.List.{length-set, map-append}
 use Rattle.std.proofs.lemmas.Option.{slice_get_within}
@@ -24,13 +24,13 @@ use Rattle.fate_laws.proofs.Posting.{found_in}
 use Rattle.fate_laws.proofs.Behind.{behind, behind_then, came_to, input_to, sent_later}
 use Rattle.fate_laws.proofs.ReceiptsOut.{AreReceiptsOut, receipts_out_later}
 use Rattle.fate_laws.proofs.Standing.{IsAt, IsFit, Member, WereSent, crash_steps}
-use Rattle.fate_laws.proofs.Tellings.{IsTelling, NodePrint, by_node, prints_at}
+use Rattle.fate_laws.proofs.Tellings.{FactOfPrints, IsTelling, NodePrint, by_node, prints_at}
 use Rattle.fate_laws.proofs.Acting.{ActsSo, IsServing, delivery_acts, gone_are_mute, grant_acts, mute_acts, octets_act, restart_acts, tick_acts}
 use Rattle.world_fates.proofs.Places.{got_in, row_least, set_cases}
 
 -- ---- a crash of a node
 
-crash_acts : (member : Member) (Tells : List NodeInput → List NodeInput → List NodePrint → Type 0) (telling : IsTelling member.cluster Tells)
+crash_acts : (member : Member) (Tells : FactOfPrints) (telling : IsTelling member.cluster Tells)
     (past : List NodeInput) (runner : Runner) (packet : Packet) (after : Bool) → IsServing member Tells telling past runner →
     In packet (kept_reached member.cluster past).packets → ActsSo member Tells past false (crashed packet after runner)
 crash_acts member Tells telling past runner packet after s sent =
@@ -87,7 +87,7 @@ told_by_node node [] = refl
 told_by_node node (print ∷ prints) = ap (λ (told : List NodePrint). by_node node print ∷ told) (told_by_node node prints)
 
 -- the world stands where what came to nodes leads, and what is printed was given out
-pub record MovesSo (cluster : Cluster) (Tells : List NodeInput → List NodeInput → List NodePrint → Type 0) (past : List NodeInput) (moved : Moved) : Type 0 where
+pub record MovesSo (cluster : Cluster) (Tells : FactOfPrints) (past : List NodeInput) (moved : Moved) : Type 0 where
   pub later : List NodeInput
   pub later_is : later ≡ behind (inputs_of moved.inputs) past
   pub stands : WorldStands cluster later moved.next
@@ -125,7 +125,7 @@ one_of_many cluster past world stands number runner least is =
     let count = stands.count in
     record { least = least; most = omega (arith, within, count, least); few = stands.few }
 
-module _ (cluster : Cluster) (Tells : List NodeInput → List NodeInput → List NodePrint → Type 0) (telling : IsTelling cluster Tells) where
+module _ (cluster : Cluster) (Tells : FactOfPrints) (telling : IsTelling cluster Tells) where
   -- ---- nothing is done, or one thing after the other
 
   stays_so : (past : List NodeInput) (world : World) → WorldStands cluster past world → MovesSo cluster Tells past (stays world)
@@ -251,7 +251,8 @@ module _ (cluster : Cluster) (Tells : List NodeInput → List NodeInput → List
         if_up_so number least (λ runner. shared world number (act runner))
         (λ one_of runner serving. shared_so past world stands number one_of up (act runner) (so one_of runner serving))
 
-    pub hears_so : (settings : Settings) (number session : ℕ) (octets : List ℕ) → 1 ≤ number → MovesSo cluster Tells past (hears settings world number session octets)
+    pub hears_so : (settings : Settings) (number session : ℕ) (octets : List ℕ) → 1 ≤ number →
+        MovesSo cluster Tells past (hears settings world number session octets)
     hears_so settings number session octets least =
         acts_so number least true (λ runner. on_octets settings runner session octets)
         (λ one_of runner serving. octets_act (member_of cluster number one_of) Tells telling settings past runner session octets serving)
@@ -356,7 +357,8 @@ module _ (cluster : Cluster) (Tells : List NodeInput → List NodeInput → List
           let here = comes_so past world stands next.number next.node (due_least world nodes (range_with_len 1 (length world.packets)) next is) in
           then_so past one (settles more nodes one.next) here (others here.later one.next here.stands)
 
-  pub settle_so : (past : List NodeInput) (world : World) → WorldStands cluster past world → (nodes : List ℕ) → MovesSo cluster Tells past (on_settle world nodes)
+  pub settle_so : (past : List NodeInput) (world : World) → WorldStands cluster past world → (nodes : List ℕ) →
+      MovesSo cluster Tells past (on_settle world nodes)
   settle_so past world stands nodes = settles_so most_deliveries nodes past world stands
 
   -- ---- a replay
@@ -371,7 +373,8 @@ module _ (cluster : Cluster) (Tells : List NodeInput → List NodeInput → List
       then_so past one (comes_to number nodes one.next) here
       (comes_to_so number nodes (λ other among. least other (inr among)) here.later one.next here.stands)
 
-  all_come_so : (numbers : List ℕ) (past : List NodeInput) (world : World) → WorldStands cluster past world → MovesSo cluster Tells past (all_come numbers world)
+  all_come_so : (numbers : List ℕ) (past : List NodeInput) (world : World) → WorldStands cluster past world →
+      MovesSo cluster Tells past (all_come numbers world)
   unfolding all_come
   all_come_so [] past world stands = stays_so past world stands
   all_come_so (number ∷ numbers) past world stands =
