@@ -1,7 +1,10 @@
 -- Laws of the texts of scripts over several nodes.
 use Rattle.std.specs.Prelude.{◌≡◌, ◌≢◌, ℕ, ◌≤◌, List, [], ◌∷◌, ◌++◌, Some, None}
 use Rattle.std.specs.Fmt.{decimal}
+use Rattle.mc_model.specs.message.Ids.{IsId}
 use Rattle.mc_model.specs.synod.Lists.{In}
+use Rattle.mc_model.specs.synod.Packet.{Slot}
+use Rattle.mc_model.specs.node.Input.{Grant as Grants}
 use Rattle.node_model.specs.Kept.{Held}
 use Rattle.node_model.specs.Requests.{id_of}
 use Rattle.pdu_bodies.specs.declared.pdu.Pdu.{Pdu}
@@ -56,14 +59,27 @@ PrintedFatesAreToldByAllNodes =
     → TellsState query message_id other
     → other ≡ one
 
+-- After lines have printed a final state of a message, at whatever node, no attempt of it is granted by later lines, at any node.
+abbrev pub NoAttemptIsGrantedAfterAFate : Type 0
+NoAttemptIsGrantedAfterAFate =
+    (settings : Settings) (before later : List (List ℕ)) (came coming : List NodeInput) (prints others : List WorldPrint) (middle last : Stage)
+    (here there : ℕ) (first : Print) (message_id : List ℕ) (state : ℕ) (slot : Slot)
+    → Joins settings None before came prints middle
+    → Joins settings middle later coming others last
+    → In (At here first) prints
+    → StatesFate first message_id state
+    → In (record { node = there; input = Grants slot }) coming
+    → IsId slot.id
+    → decimal slot.id ≢ message_id
+
 -- nothing came to a node by a line, so nothing was granted, and no deliver_sm of an attempt went out
 pub record GrantsNothing (done : Stepped) : Type 0 where
   pub inputs : done.inputs ≡ []
   pub prints : (node session : ℕ) (pdu : Pdu) → In (At node (Delivers session pdu)) done.prints → ⊥
 
--- After lines have printed a final state of a message, at whatever node, no line that asks a node for an attempt of it grants one.
-abbrev pub NoAttemptIsGrantedAfterAFate : Type 0
-NoAttemptIsGrantedAfterAFate =
+-- And a line that asks a node for an attempt of it has nothing granted.
+abbrev pub AttemptsAreRefusedAfterAFate : Type 0
+AttemptsAreRefusedAfterAFate =
     (settings : Settings) (before later : List (List ℕ)) (came coming : List NodeInput) (prints others : List WorldPrint) (middle last : Stage)
     (line : List ℕ) (done : Stepped) (here there id : ℕ) (first : Print) (state : ℕ)
     → Joins settings None before came prints middle

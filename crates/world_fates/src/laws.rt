@@ -1,6 +1,7 @@
 //! Laws of the fates that scripts over several nodes print: nothing to call, but to cite.
 
 ghost use Rattle.world_fates.specs.Laws.{
+  AttemptsAreRefusedAfterAFate,
   NoAttemptIsGrantedAfterAFate,
   OneFateIsPrintedByAllNodes,
   PrintedFatesAreToldByAllNodes,
@@ -26,4 +27,9 @@ pub fn printed_fates_are_told_by_all_nodes()
 /// And no node grants an attempt of it any more.
 pub fn no_attempt_is_granted_after_a_fate()
     ensures { NoAttemptIsGrantedAfterAFate }
+{}
+
+/// So a line that asks for one is refused: no deliver_sm (SMPP 3.4, 4.6.1) goes out.
+pub fn attempts_are_refused_after_a_fate()
+    ensures { AttemptsAreRefusedAfterAFate }
 {}
