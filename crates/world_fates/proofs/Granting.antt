@@ -23,7 +23,6 @@ use Rattle.pdu_bodies.specs.declared.pdu.Pdu.{Pdu}
 use Rattle.script_lines.specs.Said.{Grant, said_within}
 use Rattle.script_lines.proofs.SaidLemmas.{spells_within}
 use Rattle.script_text.specs.Laws.{StatesFate}
-use Rattle.script_text.specs.Node.{Node, step_at, with_step}
 use Rattle.script_text.specs.Prints.{Delivers, Print, Ungranted}
 use Rattle.script_text.specs.Runner.{Runner, granted_unless, on_grant}
 use Rattle.script_text.specs.Settings.{Settings}
@@ -32,7 +31,7 @@ use Rattle.script_world.specs.Script.{Joins, Stage, Stepped, nodes_of, step_by, 
 use Rattle.script_world.specs.World.{Moved, NodeInput as LineInput, World, grants, is_down, is_up, refuses, runner_at, shared, up_or_refuses}
 use Rattle.fate_laws.proofs.Behind.{behind, happened_before, input_to}
 use Rattle.fate_laws.proofs.Reports.{named_small}
-use Rattle.fate_laws.proofs.Standing.{IsAt, IsFit, Member, StepsTo, grant_steps}
+use Rattle.fate_laws.proofs.Standing.{IsAt, grant_steps}
 use Rattle.fate_laws.proofs.StepsOut.{step_now}
 use Rattle.world_fates.specs.Laws.{GrantsNothing}
 use Rattle.world_fates.proofs.Worlds.{WorldStands, inputs_of, member_of, one_of_many, to_cluster}

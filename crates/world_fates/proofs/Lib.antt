@@ -5,3 +5,4 @@ pub mod Fates
 pub mod Given
 pub mod Reaching
 pub mod Granting
+pub mod Example

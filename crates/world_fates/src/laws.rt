@@ -1,5 +1,6 @@
 //! Laws of the fates that scripts over several nodes print: nothing to call, but to cite.
 
+ghost use Rattle.world_fates.specs.Example.{TwoNodesTellOneFate};
 ghost use Rattle.world_fates.specs.Laws.{
   AttemptsAreRefusedAfterAFate,
   NoAttemptIsGrantedAfterAFate,
@@ -32,4 +33,10 @@ pub fn no_attempt_is_granted_after_a_fate()
 /// So a line that asks for one is refused: no deliver_sm (SMPP 3.4, 4.6.1) goes out.
 pub fn attempts_are_refused_after_a_fate()
     ensures { AttemptsAreRefusedAfterAFate }
+{}
+
+/// The laws speak of something: a message is cancelled at one node of three, which answers ESME_ROK and sends its receipt, and another node
+/// tells DELETED.
+pub fn two_nodes_tell_one_fate()
+    ensures { TwoNodesTellOneFate }
 {}
