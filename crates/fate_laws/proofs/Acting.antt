@@ -23,14 +23,15 @@ use Rattle.std.specs.Map.{remove_entry}
 use Rattle.std.specs.Ordering.{nat_cmp}
 use Rattle.std.specs.BTreeMap.{is_at}
 use Rattle.sessions.specs.States.{is_gone}
-use Rattle.script_text.specs.Pushes.{accounts_up, overdue_in, session_at, target_in}
+use Rattle.script_text.specs.Prints.{Delivers}
+use Rattle.script_text.specs.Pushes.{accounts_up, delivery_on, overdue_in, session_at, target_in}
 use Rattle.script_text.specs.Receipts.{Posted, all_posted, posted_for_all, posted_for_any}
 use Rattle.script_text.specs.Runner.{Runner, Acted, Served, answered_by, declined, ends, fails_by, followed_by, gives_up, gone_prints, granted, granted_unless, held_in, holds, last_incarnation, mail_of, makes_room, no_incarnation, on_delivery, on_frame, on_frames, on_grant, on_octets, on_read, on_rest, on_restart, on_tick, opened_at, posts, posts_for, posts_for_all, pushes, put_at, reports_by, restarted, sent, sent_to, served_at, serves, session_in, ticked, told, with_posted, with_session}
 use Rattle.fate_laws.proofs.Telling.{AreMute, declined_is_mute, delivery_is_mute, gone_is_mute, ungranted_is_mute}
 use Rattle.fate_laws.proofs.Behind.{came_to, input_to}
 use Rattle.fate_laws.proofs.ReceiptsOut.{AreReceiptsOut, receipts_out_later}
 use Rattle.fate_laws.proofs.Standing.{IsAt, IsFit, Leads, Member, StepsTo, WereSent, delivery_steps, grant_steps, leads_still, restart_steps, tick_steps}
-use Rattle.fate_laws.proofs.Tellings.{FactOfPrints, IsTelling, NodePrint, both_at, mutes_tell, prints_at, steps_tell}
+use Rattle.fate_laws.proofs.Tellings.{FactOfPrints, IsTelling, NodePrint, TakesDeliveries, both_at, mutes_tell, prints_at, steps_tell}
 use Rattle.fate_laws.proofs.Serving.{IsServed, all_lead, came_then, read_served, unanswered_leads, wrong_length_served}
 use Rattle.fate_laws.proofs.Posting.{PostsSo, all_posted_so, posted_for_all_so, posted_for_any_so}
 
@@ -57,7 +58,7 @@ put_back runner number session = by_test (is_gone session.state)
 
 pub gone_are_mute : (connected : List (ℕ × Session)) → AreMute (gone_prints connected)
 gone_are_mute [] = tt
-gone_are_mute (entry ∷ connected) = (gone_is_mute entry.0, gone_are_mute connected)
+gone_are_mute (entry ∷ connected) = ((gone_is_mute entry.0, tt), gone_are_mute connected)
 
 module _ (member : Member) (Tells : FactOfPrints) (telling : IsTelling member.cluster Tells) where
   abbrev cluster : Cluster
@@ -239,7 +240,7 @@ module _ (member : Member) (Tells : FactOfPrints) (telling : IsTelling member.cl
 
   -- ---- an attempt that is granted, and goes out or fails
 
-  module _ (past : List NodeInput) (runner : Runner) (s : IsServing past runner) where
+  module _ (takes : TakesDeliveries Tells) (past : List NodeInput) (runner : Runner) (s : IsServing past runner) where
     fails_acts : (slot : Slot) → ActsSo member Tells past true (fails_by runner (concluded runner.node slot unanswered))
     fails_acts slot =
         mute_acts past true (fails_by runner (concluded runner.node slot unanswered)) (unanswered_leads member past s.fit runner.node s.at slot) s.waiting tt
@@ -248,9 +249,12 @@ module _ (member : Member) (Tells : FactOfPrints) (telling : IsTelling member.cl
         ActsSo member Tells past true (pushes runner slot taken number session)
     pushes_acts slot taken number None =
         mute_acts past true (pushes runner slot taken number None) (leads_still member past true runner.node s.fit s.at) s.waiting tt
-    pushes_acts slot taken number (Some session) =
-        mute_acts past true (pushes runner slot taken number (Some session)) (leads_still member past true runner.node s.fit s.at) s.waiting
-        (delivery_is_mute number session taken, tt)
+    pushes_acts slot taken number (Some session) = record {
+      leads = leads_still member past true runner.node s.fit s.at;
+      waiting = s.waiting;
+      tell = λ last prints tells.
+          takes last past member.number (Delivers number (delivery_on session taken)) prints (delivery_is_mute number session taken) tells;
+    }
 
     sent_to_acts : (slot : Slot) (taken : Submission) (target : Option ℕ) → ActsSo member Tells past true (sent_to runner slot taken target)
     sent_to_acts slot taken None = fails_acts slot
@@ -260,8 +264,8 @@ module _ (member : Member) (Tells : FactOfPrints) (telling : IsTelling member.cl
     sent_acts slot None = fails_acts slot
     sent_acts slot (Some taken) = sent_to_acts slot taken (target_in runner.sessions taken.target)
 
-  pub grant_acts : (past : List NodeInput) (runner : Runner) (id : ℕ) → IsServing past runner → ActsSo member Tells past true (on_grant runner id)
-  grant_acts past runner id s = by_refusal (grant_refusal runner.node.setup runner.node.kept id) refl
+  pub grant_acts : TakesDeliveries Tells → (past : List NodeInput) (runner : Runner) (id : ℕ) → IsServing past runner → ActsSo member Tells past true (on_grant runner id)
+  grant_acts takes past runner id s = by_refusal (grant_refusal runner.node.setup runner.node.kept id) refl
     where
       slot : Slot
       slot = known_slot runner.node.kept id
@@ -270,12 +274,12 @@ module _ (member : Member) (Tells : FactOfPrints) (telling : IsTelling member.cl
           ActsSo member Tells past true (granted_unless runner id (known_slot runner.node.kept id) refusal)
       by_refusal (Some refusal) is =
           mute_acts past true (granted_unless runner id slot (Some refusal)) (leads_still member past true runner.node s.fit s.at) s.waiting
-          (ungranted_is_mute (refusal_number refusal), tt)
+          ((ungranted_is_mute (refusal_number refusal), tt), tt)
       by_refusal None is =
           let one = granted runner (Grants slot) in
           let here = mute_acts past true one (grant_steps member past s.fit runner.node s.at id is).leads s.waiting tt in
           acts_then past true one (sent one.next slot (submission_at runner.node id)) here
-          (sent_acts here.leads.later one.next (serving_then past one here) slot (submission_at runner.node id))
+          (sent_acts takes here.leads.later one.next (serving_then past one here) slot (submission_at runner.node id))
 
   -- ---- packets
 
@@ -300,4 +304,4 @@ module _ (member : Member) (Tells : FactOfPrints) (telling : IsTelling member.cl
           inl (mute_acts past true (restarted runner) (restart_steps member past fit runner.node up at left)
           (λ receipt among. absurd among) (gone_are_mute runner.sessions))
       by_test false is = inr (mute_acts past up (declined runner no_incarnation) (leads_still member past up runner.node fit at) waiting
-          (declined_is_mute no_incarnation, tt))
+          ((declined_is_mute no_incarnation, tt), tt))

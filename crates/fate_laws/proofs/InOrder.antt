@@ -20,8 +20,8 @@ use Rattle.fate_laws.proofs.Decided.{IsDecided}
 use Rattle.fate_laws.proofs.Replying.{AreFit, Grows, replies_fit}
 use Rattle.fate_laws.proofs.Behind.{after_holds, decided_next, next_acts, next_run, next_world, world_after}
 use Rattle.fate_laws.proofs.StepsOut.{replies_are, step_now}
-use Rattle.fate_laws.proofs.Telling.{TellsFates, TellsOnly, fates_told_later, mute_tells_fates, mute_tells_only, reply_is_told, reply_tells_fates, reply_tells_only, report_tells_fates, report_tells_no_state}
-use Rattle.fate_laws.proofs.Tellings.{IsTelling, NodePrint, by_node, prints_at}
+use Rattle.fate_laws.proofs.Telling.{IsMute, TellsFates, TellsOnly, fates_told_later, mute_tells_fates, mute_tells_only, reply_is_told, reply_tells_fates, reply_tells_only, report_tells_fates, report_tells_no_state}
+use Rattle.fate_laws.proofs.Tellings.{IsTelling, NodePrint, TakesDeliveries, by_node, prints_at}
 
 -- a print of a node tells this state of a message, if it tells one
 abbrev pub TellsOnlyAt : ℕ → List ℕ → ℕ → NodePrint → Type 0
@@ -157,11 +157,18 @@ module _ (cluster : Cluster) (next : NodeInput) (past : List NodeInput) (happens
   step_replies_tell connected prints small tell =
       replies_tell next.node first last connected (step_now cluster next past).outputs.replies prints small fit tell
 
+mute_then : (cluster : Cluster) (past : List NodeInput) (may : MayHappen cluster past) (node : ℕ) (print : Print) (prints : List NodePrint) → IsMute print →
+    Tell (world_after cluster past may) prints → Tell (world_after cluster past may) (by_node node print ∷ prints)
+mute_then cluster past may node print prints mute tell =
+    told_then (world_after cluster past may) node print prints (mute_tells_fates node (world_after cluster past may) print mute)
+    (λ id final small is. mute_tells_only (decimal id) (state_code (state_of (Some final))) print mute) tell
+
+pub tell_takes : (cluster : Cluster) → TakesDeliveries (TellFrom cluster)
+tell_takes cluster end past node print prints mute tell may = mute_then cluster past may node print prints mute (tell may)
+
 pub tell_telling : (cluster : Cluster) → IsTelling cluster (TellFrom cluster)
 tell_telling cluster = record {
-  mute = λ last past node print prints mute tell may.
-      told_then (world_after cluster past may) node print prints (mute_tells_fates node (world_after cluster past may) print mute)
-      (λ id final small is. mute_tells_only (decimal id) (state_code (state_of (Some final))) print mute) (tell may);
+  mute = λ last past node print prints mute other tell may. mute_then cluster past may node print prints mute (tell may);
   report = λ last past node receipt session sequence optional report prints happens out is tell may.
       let due = (out.due may).decided report.final is.ends in
       told_then (world_after cluster past may) node (Reports session sequence optional report) prints

@@ -24,7 +24,7 @@ use Rattle.fate_laws.proofs.Decided.{IsDecided, decided_once}
 use Rattle.fate_laws.proofs.Standing.{Member, leads_still, opened_fit}
 use Rattle.fate_laws.proofs.Telling.{TellsFates, unsettled_is_mute}
 use Rattle.fate_laws.proofs.Tellings.{FactOfPrints, NodePrint, by_node, prints_at}
-use Rattle.fate_laws.proofs.InOrder.{StatesStay, Tell, TellFrom, TellsOnlyAt, nothing_from, tell_telling}
+use Rattle.fate_laws.proofs.InOrder.{StatesStay, Tell, TellFrom, TellsOnlyAt, nothing_from, tell_takes, tell_telling}
 use Rattle.fate_laws.proofs.Acting.{ActsSo, IsServing, acts_then, delivery_acts, grant_acts, mute_acts, octets_act, restart_acts, serving_then, tick_acts}
 
 -- ---- a cluster of one
@@ -56,7 +56,7 @@ module _ (validity serial : ℕ) where
   unfolding settles
   settles_act zero past runner s =
       mute_acts member Tells (tell_telling member.cluster) past true (unsettled runner) (leads_still member past true runner.node s.fit s.at) s.waiting
-      (unsettled_is_mute, tt)
+      ((unsettled_is_mute, tt), tt)
   settles_act (suc more) past runner s = at_first runner.node.packets refl (settles_act more)
     where
       at_first : (packets : List Packet) → runner.node.packets ≡ packets →
@@ -110,7 +110,7 @@ module _ (validity serial : ℕ) where
   said_tells settings lines (Some (Tick node moment)) later past runner s =
       acted_tells settings lines past (on_tick runner moment) later (tick_acts member Tells (tell_telling member.cluster) past runner moment s)
   said_tells settings lines (Some (Grant node id)) later past runner s =
-      acted_tells settings lines past (on_grant runner id) later (grant_acts member Tells (tell_telling member.cluster) past runner id s)
+      acted_tells settings lines past (on_grant runner id) later (grant_acts member Tells (tell_telling member.cluster) (tell_takes member.cluster) past runner id s)
   said_tells settings lines (Some (Settle nodes)) later past runner s =
       acted_tells settings lines past (on_settle runner) later (settles_act most_deliveries past runner s)
   said_tells settings lines (Some (Restart node)) later past runner s =

@@ -82,7 +82,7 @@ all_lead member past fit node at (first ∷ others) =
 
 refusal_mute : (number : ℕ) (requested : Requested) (sequence : ℕ) (refused : Option ℕ) → AreMute (refusal_prints number requested sequence refused)
 refusal_mute number requested sequence None = tt
-refusal_mute number requested sequence (Some status) = (refusal_is_mute number requested sequence status, tt)
+refusal_mute number requested sequence (Some status) = ((refusal_is_mute number requested sequence status, tt), tt)
 
 -- what comes tells only of outcomes that are possible
 abbrev TellsPossible : Came → Type 0
@@ -115,10 +115,10 @@ module _ (member : Member) (past : List NodeInput) (fit : IsFit member.cluster p
     mute = tt;
   }
   reaction_served settings number came session (reactions.Respond outgoing) possible =
-      nothing_asked session _ (response_is_mute number settings.system_id outgoing, tt)
+      nothing_asked session _ ((response_is_mute number settings.system_id outgoing, tt), tt)
   reaction_served settings number came session (reactions.Leave outgoing abandoned) possible = record {
     leads = all_lead member past fit node at abandoned;
-    mute = (response_is_mute number settings.system_id outgoing, (gone_is_mute number, tt));
+    mute = ((response_is_mute number settings.system_id outgoing, tt), ((gone_is_mute number, tt), tt));
   }
   reaction_served settings number came session other possible = nothing_asked session [] tt
 

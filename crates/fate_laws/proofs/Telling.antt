@@ -135,8 +135,20 @@ declined_is_mute number = silent_is_mute (Declined number) refl
 pub ungranted_is_mute : (reason : ℕ) → IsMute (Ungranted reason)
 ungranted_is_mute reason = silent_is_mute (Ungranted reason) refl
 
+-- it is no deliver_sm of an attempt
+abbrev pub IsNoDelivery : Print → Type 0
+IsNoDelivery (AtOnce session pdu) = Unit {0}
+IsNoDelivery (Late session id pdu) = Unit {0}
+IsNoDelivery (Delivers session pdu) = ⊥
+IsNoDelivery (Reports session sequence optional report) = Unit {0}
+IsNoDelivery (Gone session) = Unit {0}
+IsNoDelivery Unsettled = Unit {0}
+IsNoDelivery (Declined number) = Unit {0}
+IsNoDelivery (Ungranted reason) = Unit {0}
+
+-- prints that tell nothing of a fate, and are no deliver_sm of an attempt
 abbrev pub AreMute : List Print → Type 0
-AreMute prints = AllByRecursion IsMute prints
+AreMute prints = AllByRecursion (λ (print : Print). IsMute print × IsNoDelivery print) prints
 
 -- ---- replies
 

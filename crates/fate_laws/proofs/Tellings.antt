@@ -10,7 +10,7 @@ use Rattle.sessions.specs.Session.{Session}
 use Rattle.script_text.specs.Prints.{Print, Reports}
 use Rattle.script_text.specs.Runner.{told}
 use Rattle.fate_laws.proofs.Reports.{IsReportOf}
-use Rattle.fate_laws.proofs.Telling.{AreMute, IsMute}
+use Rattle.fate_laws.proofs.Telling.{AreMute, IsMute, IsNoDelivery}
 use Rattle.fate_laws.proofs.Behind.{behind, happened_before}
 use Rattle.fate_laws.proofs.ReceiptsOut.{IsReceiptOut}
 use Rattle.fate_laws.proofs.StepsOut.{step_now}
@@ -33,7 +33,7 @@ FactOfPrints = List NodeInput → List NodeInput → List NodePrint → Type 0
 -- So it is with one print more that tells nothing or is of a receipt that was given out, and with the replies of a step in front.
 pub record IsTelling (cluster : Cluster) (Tells : FactOfPrints) : Type 0 where
   pub mute : (last past : List NodeInput) (node : ℕ) (print : Print) (prints : List NodePrint) → IsMute print →
-      Tells last past prints → Tells last past (by_node node print ∷ prints)
+      IsNoDelivery print → Tells last past prints → Tells last past (by_node node print ∷ prints)
   pub report : (last past : List NodeInput) (node : ℕ) (receipt : Receipt) (session sequence : ℕ) (optional : Bool) (report : Report)
       (prints : List NodePrint) → MayHappen cluster past → IsReceiptOut cluster node past receipt → IsReportOf receipt.id receipt.chain report →
       Tells last past prints → Tells last past (by_node node (Reports session sequence optional report) ∷ prints)
@@ -44,6 +44,12 @@ pub record IsTelling (cluster : Cluster) (Tells : FactOfPrints) : Type 0 where
       ((reply : Reply) → In reply (step_now cluster next past).outputs.replies → reply.id < 2 ^ 64) →
       Tells last (next ∷ past) prints →
       Tells last past (prints_at next.node (told connected (step_now cluster next past).outputs.replies).prints ++ prints)
+
+-- and so it is with a deliver_sm of an attempt in front
+abbrev pub TakesDeliveries : FactOfPrints → Type 0
+TakesDeliveries Tells =
+    (last past : List NodeInput) (node : ℕ) (print : Print) (prints : List NodePrint) → IsMute print → Tells last past prints
+    → Tells last past (by_node node print ∷ prints)
 
 pub both_at : (node : ℕ) (first last : List Print) (prints : List NodePrint) →
     prints_at node first ++ (prints_at node last ++ prints) ≡ prints_at node (first ++ last) ++ prints
@@ -56,7 +62,7 @@ module _ (cluster : Cluster) (Tells : FactOfPrints) (telling : IsTelling cluster
       Tells last past (prints_at node mutes ++ prints)
   mutes_tell past node [] prints mute tells = tells
   mutes_tell past node (print ∷ mutes) prints mute tells =
-      telling.mute last past node print (prints_at node mutes ++ prints) mute.0 (mutes_tell past node mutes prints mute.1 tells)
+      telling.mute last past node print (prints_at node mutes ++ prints) mute.0.0 mute.0.1 (mutes_tell past node mutes prints mute.1 tells)
 
   -- steps that print nothing
   pub steps_tell : (inputs past : List NodeInput) (prints : List NodePrint) → MayHappen cluster (behind inputs past) →

@@ -27,7 +27,7 @@ use Rattle.fate_laws.proofs.Telling.{IsMute, IsTold, Shows, reply_is_told, repor
 use Rattle.fate_laws.proofs.Behind.{behind, given_later}
 use Rattle.fate_laws.proofs.ReceiptsOut.{IsReceiptOut}
 use Rattle.fate_laws.proofs.StepsOut.{removal_ends, step_now}
-use Rattle.fate_laws.proofs.Tellings.{IsTelling, NodePrint, by_node, prints_at}
+use Rattle.fate_laws.proofs.Tellings.{IsTelling, NodePrint, TakesDeliveries, by_node, prints_at}
 use Rattle.world_fates.proofs.Worlds.{told_by, told_by_all}
 use Rattle.world_fates.proofs.Printing.{WorldSo}
 
@@ -204,9 +204,12 @@ module _ (cluster : Cluster) where
           (reply_tells past reply print (out reply (inl refl)) (reply_is_told owned.number request.requested request.sequence reply.id reply.answer))
           others
 
+  pub given_takes : TakesDeliveries GivenFrom
+  given_takes last past node print prints mute given = given_then last past node print prints (mute_tells past print mute) given
+
   pub given_telling : IsTelling cluster GivenFrom
   given_telling = record {
-    mute = λ last past node print prints mute given. given_then last past node print prints (mute_tells past print mute) given;
+    mute = λ last past node print prints mute other given. given_then last past node print prints (mute_tells past print mute) given;
     report = λ last past node receipt session sequence optional report prints may out is given.
         given_then last past node (Reports session sequence optional report) prints
         (report_tells node past receipt session sequence optional report out is) given;
@@ -225,7 +228,7 @@ module _ (cluster : Cluster) where
   }
 
 -- what lines print that lead to a world was given out then
-pub given_then_so : (settings : Settings) (world : World) (prints : List WorldPrint) (so : WorldSo settings GivenFrom given_telling world prints)
+pub given_then_so : (settings : Settings) (world : World) (prints : List WorldPrint) (so : WorldSo settings GivenFrom given_telling given_takes world prints)
     (node : ℕ) (print : Print) → In (At node print) prints → TellsGiven so.cluster so.past print
 given_then_so settings world prints so node print among =
     let given = so.tell so.past [] (record { inputs = []; last_is = refl; tell = tt }) in

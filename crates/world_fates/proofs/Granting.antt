@@ -36,7 +36,7 @@ use Rattle.fate_laws.proofs.StepsOut.{step_now}
 use Rattle.world_fates.specs.Laws.{GrantsNothing}
 use Rattle.world_fates.proofs.Worlds.{WorldStands, inputs_of, member_of, one_of_many, to_cluster}
 use Rattle.world_fates.proofs.Printing.{JoinsSo, StageSo, first_so, joined_so}
-use Rattle.world_fates.proofs.Given.{GivenFrom, KnowsFate, WasGivenOut, given_telling, given_then_so, known_later}
+use Rattle.world_fates.proofs.Given.{GivenFrom, KnowsFate, WasGivenOut, given_takes, given_telling, given_then_so, known_later}
 
 -- no attempt of a message is granted once a final state of it was given out
 never_granted : (cluster : Cluster) (there : ℕ) (slot : Slot) (past : List NodeInput) → MayHappen cluster (input_to there (Grants slot) ∷ past) →
@@ -86,7 +86,7 @@ is_among cluster (first ∷ inputs) past may next (inr later) =
     record { older = it.older; may = it.may; given = λ id final given. it.given id final (given_before cluster first past id final given) }
 
 stage_grants_none : (settings : Settings) (later : List (List ℕ)) (coming : List LineInput) (prints others : List WorldPrint) (middle last : Stage)
-    (here there : ℕ) (first : Print) (message_id : List ℕ) (state : ℕ) (slot : Slot) → StageSo settings GivenFrom given_telling middle prints →
+    (here there : ℕ) (first : Print) (message_id : List ℕ) (state : ℕ) (slot : Slot) → StageSo settings GivenFrom given_telling given_takes middle prints →
     Joins settings middle later coming others last → In (At here first) prints → StatesFate first message_id state →
     In (record { node = there; input = Grants slot }) coming → IsId slot.id → decimal slot.id ≢ message_id
 stage_grants_none settings later coming prints others None last here there first message_id state slot none joins first_in states among is_id same =
@@ -94,7 +94,7 @@ stage_grants_none settings later coming prints others None last here there first
 stage_grants_none settings later coming prints others (Some world) last here there first message_id state slot so joins first_in states among is_id same =
     let knows = given_then_so settings world prints so here first first_in message_id state states in
     let rest : JoinsSo so.cluster (GivenFrom so.cluster) so.past coming others last =
-    joined_so settings so.cluster (GivenFrom so.cluster) (given_telling so.cluster) later so.past world so.stands coming others last joins in
+    joined_so settings so.cluster (GivenFrom so.cluster) (given_telling so.cluster) (given_takes so.cluster) later so.past world so.stands coming others last joins in
     let it = is_among so.cluster (inputs_of coming) so.past (subst (MayHappen so.cluster) rest.later_is rest.stands.fit.may)
     (input_to there (Grants slot)) (mapped_in to_cluster coming (record { node = there; input = Grants slot }) among) in
     let ids : knows.id ≡ slot.id =
@@ -108,7 +108,7 @@ pub no_attempt_granted : (settings : Settings) (before later : List (List ℕ)) 
     StatesFate first message_id state → In (record { node = there; input = Grants slot }) coming → IsId slot.id → decimal slot.id ≢ message_id
 no_attempt_granted settings before later came coming prints others middle last here there first message_id state slot joins =
     stage_grants_none settings later coming prints others middle last here there first message_id state slot
-    (first_so settings GivenFrom given_telling before came prints middle joins)
+    (first_so settings GivenFrom given_telling given_takes before came prints middle joins)
 
 -- ---- a line that asks for an attempt
 
@@ -177,7 +177,7 @@ line_grants settings cluster past world stands line done there id state says is 
     done_is stepped_is = cc
 
 stage_grants : (settings : Settings) (later : List (List ℕ)) (coming : List LineInput) (prints others : List WorldPrint) (middle last : Stage) (line : List ℕ)
-    (done : Stepped) (here there id : ℕ) (first : Print) (state : ℕ) → StageSo settings GivenFrom given_telling middle prints →
+    (done : Stepped) (here there id : ℕ) (first : Print) (state : ℕ) → StageSo settings GivenFrom given_telling given_takes middle prints →
     Joins settings middle later coming others last → In (At here first) prints → StatesFate first (decimal id) state →
     said_within (nodes_of last) line ≡ Some (Grant there id) → step_of settings last line ≡ Some done → GrantsNothing done
 stage_grants settings later coming prints others None last line done here there id first state none joins first_in states says is =
@@ -185,7 +185,7 @@ stage_grants settings later coming prints others None last line done here there 
 stage_grants settings later coming prints others (Some world) last line done here there id first state so joins first_in states says is =
     let knows = given_then_so settings world prints so here first first_in (decimal id) state states in
     let rest : JoinsSo so.cluster (GivenFrom so.cluster) so.past coming others last =
-    joined_so settings so.cluster (GivenFrom so.cluster) (given_telling so.cluster) later so.past world so.stands coming others last joins in
+    joined_so settings so.cluster (GivenFrom so.cluster) (given_telling so.cluster) (given_takes so.cluster) later so.past world so.stands coming others last joins in
     let now = subst (λ (past : List NodeInput). KnowsFate so.cluster past (decimal id) state) (sym rest.later_is)
     (known_later so.cluster (inputs_of coming) so.past (decimal id) state knows) in
     line_grants settings so.cluster rest.later rest.world rest.stands line done there id state
@@ -199,4 +199,4 @@ pub attempts_refused : (settings : Settings) (before later : List (List ℕ)) (c
     said_within (nodes_of last) line ≡ Some (Grant there id) → step_of settings last line ≡ Some done → GrantsNothing done
 attempts_refused settings before later came coming prints others middle last line done here there id first state joins =
     stage_grants settings later coming prints others middle last line done here there id first state
-    (first_so settings GivenFrom given_telling before came prints middle joins)
+    (first_so settings GivenFrom given_telling given_takes before came prints middle joins)

@@ -16,11 +16,24 @@ use Rattle.script_world.specs.Script.{Joins, Stage, Stepped, after, moved_by, pr
 use Rattle.script_world.specs.World.{Moved, NodeInput as LineInput, World, comes, crashes, grants, hears, on_replay, on_settle, opened, opened_by, restarts, runner_opened, setup_of, ticks}
 use Rattle.fate_laws.proofs.Behind.{behind}
 use Rattle.fate_laws.proofs.Standing.{opened_fit}
-use Rattle.fate_laws.proofs.Tellings.{FactOfPrints, IsTelling, NodePrint}
+use Rattle.fate_laws.proofs.Tellings.{FactOfPrints, IsTelling, NodePrint, TakesDeliveries}
 use Rattle.world_fates.proofs.Places.{row_at}
 use Rattle.world_fates.proofs.Worlds.{IsRunner, MovesSo, WorldStands, behind_lines, comes_so, crashes_so, grants_so, hears_so, inputs_of, member_of, replay_so, restarts_so, settle_so, ticks_so, told_by, told_by_both}
 
 -- ---- lines
+
+-- a line asks a node for an attempt
+abbrev pub AsksForAnAttempt : Said → Type 0
+AsksForAnAttempt (Grant node id) = Unit {0}
+AsksForAnAttempt Skipped = ⊥
+AsksForAnAttempt (Nodes count serial) = ⊥
+AsksForAnAttempt (Octets node session octets) = ⊥
+AsksForAnAttempt (Deliver number node) = ⊥
+AsksForAnAttempt (Crash node number after) = ⊥
+AsksForAnAttempt (Tick node moment) = ⊥
+AsksForAnAttempt (Settle nodes) = ⊥
+AsksForAnAttempt (Restart node) = ⊥
+AsksForAnAttempt (Replay count) = ⊥
 
 -- lines that join from a world on lead to where what they brought to nodes leads, and what they print was given out
 pub record JoinsSo (cluster : Cluster) (Tells : FactOfPrints) (past : List NodeInput) (inputs : List LineInput)
@@ -43,51 +56,51 @@ module _ (settings : Settings) (cluster : Cluster) (Tells : FactOfPrints) (telli
       same : (one other : Stepped) → Some one ≡ Some other → one ≡ other
       same one other is = cc
 
-  said_so : (past : List NodeInput) (world : World) → WorldStands cluster past world → (line : List ℕ) (said : Said) (done : Stepped) →
-      said_within (length world.runners) line ≡ Some said → moved_by settings world said ≡ Some done →
+  pub said_so : (past : List NodeInput) (world : World) → WorldStands cluster past world → (line : List ℕ) (said : Said) (done : Stepped) →
+      (AsksForAnAttempt said → TakesDeliveries Tells) → said_within (length world.runners) line ≡ Some said → moved_by settings world said ≡ Some done →
       JoinsSo cluster Tells past done.inputs done.prints done.stage
-  said_so past world stands line Skipped done says is =
+  said_so past world stands line Skipped done takes says is =
       moved_so past (record { next = world; inputs = []; prints = [] }) done
       (record { later = past; later_is = refl; stands = stands; tell = λ last prints tells. tells }) is
-  said_so past world stands line (Nodes count serial) done says is = absurd cc
-  said_so past world stands line (Octets node session octets) done says is =
+  said_so past world stands line (Nodes count serial) done takes says is = absurd cc
+  said_so past world stands line (Octets node session octets) done takes says is =
       let least = (spells_within (length world.runners) line (Octets node session octets) says).wording.0.least in
       moved_so past (hears settings world node session octets) done (hears_so cluster Tells telling past world stands settings node session octets least) is
-  said_so past world stands line (Deliver number node) done says is =
+  said_so past world stands line (Deliver number node) done takes says is =
       let least = (spells_within (length world.runners) line (Deliver number node) says).wording.1.least in
       moved_so past (comes world number node) done (comes_so cluster Tells telling past world stands number node least) is
-  said_so past world stands line (Crash node number after) done says is =
+  said_so past world stands line (Crash node number after) done takes says is =
       let least = (spells_within (length world.runners) line (Crash node number after) says).wording.0.least in
       moved_so past (crashes world node number after) done (crashes_so cluster Tells telling past world stands node number after least) is
-  said_so past world stands line (Tick node moment) done says is =
+  said_so past world stands line (Tick node moment) done takes says is =
       let least = (spells_within (length world.runners) line (Tick node moment) says).wording.0.least in
       moved_so past (ticks world node moment) done (ticks_so cluster Tells telling past world stands node moment least) is
-  said_so past world stands line (Grant node id) done says is =
+  said_so past world stands line (Grant node id) done takes says is =
       let least = (spells_within (length world.runners) line (Grant node id) says).wording.0.least in
-      moved_so past (grants world node id) done (grants_so cluster Tells telling past world stands node id least) is
-  said_so past world stands line (Settle nodes) done says is =
+      moved_so past (grants world node id) done (grants_so cluster Tells telling past world stands (takes tt) node id least) is
+  said_so past world stands line (Settle nodes) done takes says is =
       moved_so past (on_settle world nodes) done (settle_so cluster Tells telling past world stands nodes) is
-  said_so past world stands line (Restart node) done says is =
+  said_so past world stands line (Restart node) done takes says is =
       let least = (spells_within (length world.runners) line (Restart node) says).wording.0.least in
       moved_so past (restarts world node) done (restarts_so cluster Tells telling past world stands node least) is
-  said_so past world stands line (Replay count) done says is =
+  said_so past world stands line (Replay count) done takes says is =
       moved_so past (on_replay world count) done (replay_so cluster Tells telling past world stands count) is
 
-  line_so : (past : List NodeInput) (world : World) → WorldStands cluster past world → (line : List ℕ) (done : Stepped) →
+  line_so : TakesDeliveries Tells → (past : List NodeInput) (world : World) → WorldStands cluster past world → (line : List ℕ) (done : Stepped) →
       step_of settings (Some world) line ≡ Some done → JoinsSo cluster Tells past done.inputs done.prints done.stage
   unfolding step_of
-  line_so past world stands line done is = by_said (said_within (length world.runners) line) refl is
+  line_so takes past world stands line done is = by_said (said_within (length world.runners) line) refl is
     where
       by_said : (said : Option Said) → said_within (length world.runners) line ≡ said → step_by settings (Some world) said ≡ Some done →
           JoinsSo cluster Tells past done.inputs done.prints done.stage
       by_said None says is = absurd cc
-      by_said (Some said) says is = said_so past world stands line said done says is
+      by_said (Some said) says is = said_so past world stands line said done (λ asks. takes) says is
 
-  pub joined_so : (lines : List (List ℕ)) (past : List NodeInput) (world : World) → WorldStands cluster past world →
+  pub joined_so : TakesDeliveries Tells → (lines : List (List ℕ)) (past : List NodeInput) (world : World) → WorldStands cluster past world →
       (inputs : List LineInput) (prints : List WorldPrint) (stage : Stage) → Joins settings (Some world) lines inputs prints stage →
       JoinsSo cluster Tells past inputs prints stage
   unfolding Joins
-  joined_so [] past world stands inputs prints stage joins = record {
+  joined_so takes [] past world stands inputs prints stage joins = record {
     world = world;
     stage_is = joins.2;
     later = past;
@@ -95,10 +108,10 @@ module _ (settings : Settings) (cluster : Cluster) (Tells : FactOfPrints) (telli
     stands = stands;
     tell = λ last others tells. subst (λ (printed : List WorldPrint). Tells last past (told_by printed ++ others)) (sym joins.1) tells;
   }
-  joined_so (line ∷ lines) past world stands inputs prints stage joins =
+  joined_so takes (line ∷ lines) past world stands inputs prints stage joins =
       let done = joins.0 in
-      let one = line_so past world stands line done joins.3 in
-      let rest = joined_so lines one.later one.world one.stands joins.1 joins.2 stage
+      let one = line_so takes past world stands line done joins.3 in
+      let rest = joined_so takes lines one.later one.world one.stands joins.1 joins.2 stage
       (subst (λ (middle : Stage). Joins settings middle lines joins.1 joins.2 stage) one.stage_is joins.6) in
       record {
         world = rest.world;
@@ -153,7 +166,7 @@ opened_stands settings count serial few least = record {
         subst (IsRunner (member_of (cluster_of settings count serial) number one_of) []) (ap new (sym same) ∙ here) (new_stands number one_of)
 
 module _ (settings : Settings) (Tells : Cluster → FactOfPrints)
-    (telling : (cluster : Cluster) → IsTelling cluster (Tells cluster)) where
+    (telling : (cluster : Cluster) → IsTelling cluster (Tells cluster)) (takes : (cluster : Cluster) → TakesDeliveries (Tells cluster)) where
   -- what the lines print that lead to a world was given out by a cluster
   pub record WorldSo (world : World) (prints : List WorldPrint) : Type 0 where
     pub cluster : Cluster
@@ -194,7 +207,7 @@ module _ (settings : Settings) (Tells : Cluster → FactOfPrints)
           let on = leads_on (Some (opened settings count serial)) is in
           let wording = (spells_within 9 line (Nodes count serial) says).wording in
           let cluster = cluster_of settings count serial in
-          let rest = joined_so settings cluster (Tells cluster) (telling cluster) lines [] (opened settings count serial)
+          let rest = joined_so settings cluster (Tells cluster) (telling cluster) (takes cluster) lines [] (opened settings count serial)
           (opened_stands settings count serial wording.0.most wording.1) joins.1 joins.2 stage on.1 in
           subst (λ (s : Stage). StageSo s prints) (sym rest.stage_is)
           (record {

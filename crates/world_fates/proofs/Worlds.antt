@@ -24,7 +24,7 @@ use Rattle.fate_laws.proofs.Posting.{found_in}
 use Rattle.fate_laws.proofs.Behind.{behind, behind_then, came_to, input_to, sent_later}
 use Rattle.fate_laws.proofs.ReceiptsOut.{AreReceiptsOut, receipts_out_later}
 use Rattle.fate_laws.proofs.Standing.{IsAt, IsFit, Member, WereSent, crash_steps}
-use Rattle.fate_laws.proofs.Tellings.{FactOfPrints, IsTelling, NodePrint, by_node, prints_at}
+use Rattle.fate_laws.proofs.Tellings.{FactOfPrints, IsTelling, NodePrint, TakesDeliveries, by_node, prints_at}
 use Rattle.fate_laws.proofs.Acting.{ActsSo, IsServing, delivery_acts, gone_are_mute, grant_acts, mute_acts, octets_act, restart_acts, tick_acts}
 use Rattle.world_fates.proofs.Places.{got_in, row_least, set_cases}
 
@@ -262,10 +262,10 @@ module _ (cluster : Cluster) (Tells : FactOfPrints) (telling : IsTelling cluster
         acts_so number least true (λ runner. on_tick runner moment)
         (λ one_of runner serving. tick_acts (member_of cluster number one_of) Tells telling past runner moment serving)
 
-    pub grants_so : (number id : ℕ) → 1 ≤ number → MovesSo cluster Tells past (grants world number id)
-    grants_so number id least =
+    pub grants_so : TakesDeliveries Tells → (number id : ℕ) → 1 ≤ number → MovesSo cluster Tells past (grants world number id)
+    grants_so takes number id least =
         acts_so number least true (λ runner. on_grant runner id)
-        (λ one_of runner serving. grant_acts (member_of cluster number one_of) Tells telling past runner id serving)
+        (λ one_of runner serving. grant_acts (member_of cluster number one_of) Tells telling takes past runner id serving)
 
     -- a node starts anew, whether it is up or down
     pub restarts_so : (number : ℕ) → 1 ≤ number → MovesSo cluster Tells past (restarts world number)
