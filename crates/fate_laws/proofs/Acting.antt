@@ -264,7 +264,8 @@ module _ (member : Member) (Tells : FactOfPrints) (telling : IsTelling member.cl
     sent_acts slot None = fails_acts slot
     sent_acts slot (Some taken) = sent_to_acts slot taken (target_in runner.sessions taken.target)
 
-  pub grant_acts : TakesDeliveries Tells → (past : List NodeInput) (runner : Runner) (id : ℕ) → IsServing past runner → ActsSo member Tells past true (on_grant runner id)
+  pub grant_acts : TakesDeliveries Tells → (past : List NodeInput) (runner : Runner) (id : ℕ) → IsServing past runner →
+      ActsSo member Tells past true (on_grant runner id)
   grant_acts takes past runner id s = by_refusal (grant_refusal runner.node.setup runner.node.kept id) refl
     where
       slot : Slot

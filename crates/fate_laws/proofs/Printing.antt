@@ -110,7 +110,8 @@ module _ (validity serial : ℕ) where
   said_tells settings lines (Some (Tick node moment)) later past runner s =
       acted_tells settings lines past (on_tick runner moment) later (tick_acts member Tells (tell_telling member.cluster) past runner moment s)
   said_tells settings lines (Some (Grant node id)) later past runner s =
-      acted_tells settings lines past (on_grant runner id) later (grant_acts member Tells (tell_telling member.cluster) (tell_takes member.cluster) past runner id s)
+      acted_tells settings lines past (on_grant runner id) later
+      (grant_acts member Tells (tell_telling member.cluster) (tell_takes member.cluster) past runner id s)
   said_tells settings lines (Some (Settle nodes)) later past runner s =
       acted_tells settings lines past (on_settle runner) later (settles_act most_deliveries past runner s)
   said_tells settings lines (Some (Restart node)) later past runner s =

@@ -33,7 +33,8 @@ stage_prints (Some world) prints so = inr (record {
 script_prints : (script : List ℕ) → PrintsSo (prints_of script)
 script_prints script =
     let good = good_lines script_settings (lines_of script) None in
-    stage_prints good.last (prints_of script) (first_so script_settings TellFrom tell_telling tell_takes good.lines good.inputs (prints_of script) good.last good.joins)
+    stage_prints good.last (prints_of script)
+    (first_so script_settings TellFrom tell_telling tell_takes good.lines good.inputs (prints_of script) good.last good.joins)
 
 pub one_fate : (script : List ℕ) (here there : ℕ) (first second : Print) (message_id : List ℕ) (one other : ℕ) →
     In (At here first) (prints_of script) → In (At there second) (prints_of script) → StatesFate first message_id one →

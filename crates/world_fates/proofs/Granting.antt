@@ -94,7 +94,8 @@ stage_grants_none settings later coming prints others None last here there first
 stage_grants_none settings later coming prints others (Some world) last here there first message_id state slot so joins first_in states among is_id same =
     let knows = given_then_so settings world prints so here first first_in message_id state states in
     let rest : JoinsSo so.cluster (GivenFrom so.cluster) so.past coming others last =
-    joined_so settings so.cluster (GivenFrom so.cluster) (given_telling so.cluster) (given_takes so.cluster) later so.past world so.stands coming others last joins in
+    joined_so settings so.cluster (GivenFrom so.cluster) (given_telling so.cluster) (given_takes so.cluster) later so.past
+    world so.stands coming others last joins in
     let it = is_among so.cluster (inputs_of coming) so.past (subst (MayHappen so.cluster) rest.later_is rest.stands.fit.may)
     (input_to there (Grants slot)) (mapped_in to_cluster coming (record { node = there; input = Grants slot }) among) in
     let ids : knows.id ≡ slot.id =
@@ -156,7 +157,8 @@ grants_nothing cluster past world stands there id least final given = by_runner 
 
 -- what a line grants from where a world stands
 line_grants : (settings : Settings) (cluster : Cluster) (past : List NodeInput) (world : World) → WorldStands cluster past world →
-    (line : List ℕ) (done : Stepped) (there id state : ℕ) → said_within (length world.runners) line ≡ Some (Grant there id) → step_of settings (Some world) line ≡ Some done →
+    (line : List ℕ) (done : Stepped) (there id state : ℕ) → said_within (length world.runners) line ≡ Some (Grant there id) →
+    step_of settings (Some world) line ≡ Some done →
     KnowsFate cluster past (decimal id) state → GrantsNothing done
 unfolding step_of
 line_grants settings cluster past world stands line done there id state says is knows =
@@ -176,8 +178,8 @@ line_grants settings cluster past world stands line done there id state says is 
         record { stage = Some (grants world there id).next; inputs = (grants world there id).inputs; prints = (grants world there id).prints } ≡ done
     done_is stepped_is = cc
 
-stage_grants : (settings : Settings) (later : List (List ℕ)) (coming : List LineInput) (prints others : List WorldPrint) (middle last : Stage) (line : List ℕ)
-    (done : Stepped) (here there id : ℕ) (first : Print) (state : ℕ) → StageSo settings GivenFrom given_telling given_takes middle prints →
+pub stage_grants : (settings : Settings) (later : List (List ℕ)) (coming : List LineInput) (prints others : List WorldPrint) (middle last : Stage)
+    (line : List ℕ) (done : Stepped) (here there id : ℕ) (first : Print) (state : ℕ) → StageSo settings GivenFrom given_telling given_takes middle prints →
     Joins settings middle later coming others last → In (At here first) prints → StatesFate first (decimal id) state →
     said_within (nodes_of last) line ≡ Some (Grant there id) → step_of settings last line ≡ Some done → GrantsNothing done
 stage_grants settings later coming prints others None last line done here there id first state none joins first_in states says is =
@@ -185,7 +187,8 @@ stage_grants settings later coming prints others None last line done here there 
 stage_grants settings later coming prints others (Some world) last line done here there id first state so joins first_in states says is =
     let knows = given_then_so settings world prints so here first first_in (decimal id) state states in
     let rest : JoinsSo so.cluster (GivenFrom so.cluster) so.past coming others last =
-    joined_so settings so.cluster (GivenFrom so.cluster) (given_telling so.cluster) (given_takes so.cluster) later so.past world so.stands coming others last joins in
+    joined_so settings so.cluster (GivenFrom so.cluster) (given_telling so.cluster) (given_takes so.cluster) later so.past
+    world so.stands coming others last joins in
     let now = subst (λ (past : List NodeInput). KnowsFate so.cluster past (decimal id) state) (sym rest.later_is)
     (known_later so.cluster (inputs_of coming) so.past (decimal id) state knows) in
     line_grants settings so.cluster rest.later rest.world rest.stands line done there id state
@@ -193,8 +196,8 @@ stage_grants settings later coming prints others (Some world) last line done her
     (subst (λ (stage : Stage). step_of settings stage line ≡ Some done) rest.stage_is is)
     now
 
-pub attempts_refused : (settings : Settings) (before later : List (List ℕ)) (came coming : List LineInput) (prints others : List WorldPrint) (middle last : Stage)
-    (line : List ℕ) (done : Stepped) (here there id : ℕ) (first : Print) (state : ℕ) → Joins settings None before came prints middle →
+pub attempts_refused : (settings : Settings) (before later : List (List ℕ)) (came coming : List LineInput) (prints others : List WorldPrint)
+    (middle last : Stage) (line : List ℕ) (done : Stepped) (here there id : ℕ) (first : Print) (state : ℕ) → Joins settings None before came prints middle →
     Joins settings middle later coming others last → In (At here first) prints → StatesFate first (decimal id) state →
     said_within (nodes_of last) line ≡ Some (Grant there id) → step_of settings last line ≡ Some done → GrantsNothing done
 attempts_refused settings before later came coming prints others middle last line done here there id first state joins =

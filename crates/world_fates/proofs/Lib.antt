@@ -6,3 +6,4 @@ pub mod Given
 pub mod Reaching
 pub mod Granting
 pub mod Example
+pub mod Delivering

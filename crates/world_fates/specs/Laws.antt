@@ -1,5 +1,5 @@
 -- Laws of the texts of scripts over several nodes.
-use Rattle.std.specs.Prelude.{◌≡◌, ◌≢◌, ℕ, ◌≤◌, List, [], ◌∷◌, ◌++◌, Some, None}
+use Rattle.std.specs.Prelude.{◌≡◌, ◌≢◌, ℕ, ◌≤◌, List, [], ◌∷◌, ◌++◌, length, Option, Some, None}
 use Rattle.std.specs.Fmt.{decimal}
 use Rattle.mc_model.specs.message.Ids.{IsId}
 use Rattle.mc_model.specs.synod.Lists.{In}
@@ -8,7 +8,7 @@ use Rattle.mc_model.specs.node.Input.{Grant as Grants}
 use Rattle.node_model.specs.Kept.{Held}
 use Rattle.node_model.specs.Requests.{id_of}
 use Rattle.pdu_bodies.specs.declared.pdu.Pdu.{Pdu}
-use Rattle.script_lines.specs.Said.{Grant, said_within}
+use Rattle.script_lines.specs.Said.{Grant, Said, said_within}
 use Rattle.script_text.specs.Laws.{StatesFate, TellsState}
 use Rattle.script_text.specs.Prints.{Print, Delivers}
 use Rattle.script_text.specs.Runner.{Runner}
@@ -89,3 +89,20 @@ AttemptsAreRefusedAfterAFate =
     → said_within (nodes_of last) line ≡ Some (Grant there id)
     → step_of settings last line ≡ Some done
     → GrantsNothing done
+
+-- A line asks a node for the attempt of a message of which none of these prints tells a final state.
+pub record AsksBeforeAFate (prints : List WorldPrint) (node : ℕ) (said : Option Said) : Type 0 where
+  pub id : ℕ
+  pub asks : said ≡ Some (Grant node id)
+  pub unfated : (here : ℕ) (first : Print) (state : ℕ) → In (At here first) prints → StatesFate first (decimal id) state → ⊥
+
+-- A deliver_sm of an attempt goes out at a node by a line alone that asks the node for the attempt, and of no message of which a final state was
+-- printed before, at whatever node.
+abbrev pub DeliveriesComeBeforeFates : Type 0
+DeliveriesComeBeforeFates =
+    (settings : Settings) (before : List (List ℕ)) (came : List NodeInput) (prints : List WorldPrint) (world : World) (line : List ℕ) (done : Stepped)
+    (node session : ℕ) (pdu : Pdu)
+    → Joins settings None before came prints (Some world)
+    → step_of settings (Some world) line ≡ Some done
+    → In (At node (Delivers session pdu)) done.prints
+    → AsksBeforeAFate prints node (said_within (length world.runners) line)

@@ -3,6 +3,7 @@
 ghost use Rattle.world_fates.specs.Example.{TwoNodesTellOneFate};
 ghost use Rattle.world_fates.specs.Laws.{
   AttemptsAreRefusedAfterAFate,
+  DeliveriesComeBeforeFates,
   NoAttemptIsGrantedAfterAFate,
   OneFateIsPrintedByAllNodes,
   PrintedFatesAreToldByAllNodes,
@@ -33,6 +34,11 @@ pub fn no_attempt_is_granted_after_a_fate()
 /// So a line that asks for one is refused: no deliver_sm (SMPP 3.4, 4.6.1) goes out.
 pub fn attempts_are_refused_after_a_fate()
     ensures { AttemptsAreRefusedAfterAFate }
+{}
+
+/// And each deliver_sm of an attempt goes out by such a line, before a final state of its message is printed.
+pub fn deliveries_come_before_fates()
+    ensures { DeliveriesComeBeforeFates }
 {}
 
 /// The laws speak of something: a message is cancelled at one node of three, which answers ESME_ROK and sends its receipt, and another node
