@@ -1,96 +1,46 @@
--- What a line prints, from where a script stands to where it stands then.
-use Rattle.std.proofs.Common.{◌≡◌, ℕ, ◌<◌, zero, suc, Bool, true, false, cond, List, [], ◌∷◌, ◌++◌, Option, Some, None, refl, sym, subst, append_assoc, arith}
+-- Where a node of a script stands after an act, and what it prints.
+use Rattle.std.proofs.Common.{◌≡◌, ◌⊎◌, ℕ, ◌<◌, ◌^◌, Bool, true, false, cond, List, [], ◌∷◌, ◌++◌, map, Option, Some, None, refl, sym, subst, inl, inr, arith}
 use Rattle.std.specs.Prelude.{if◌then◌else◌, is_none, nat_lt}
-use Rattle.std.specs.Map.{remove_entry}
-use Rattle.std.specs.Ordering.{nat_cmp}
-use Rattle.std.specs.BTreeMap.{is_at}
 use Rattle.std.proofs.lemmas.Bool.Decides.{nat_tests}
 use Rattle.mc_model.specs.message.Submission.{Submission}
+use Rattle.mc_model.specs.synod.Lists.{In}
 use Rattle.mc_model.specs.synod.Packet.{Packet, Slot}
 use Rattle.mc_model.specs.node.Grant.{GrantRefusal, refusal_number}
 use Rattle.mc_model.specs.node.Input.{Delivery, Grant as Grants, Input}
-use Rattle.mc_model.specs.cluster.World.{World}
+use Rattle.mc_model.specs.node.Outputs.{Receipt, Reply}
+use Rattle.mc_model.specs.cluster.Steps.{Cluster}
 use Rattle.node_model.specs.Attempts.{grant_refusal}
 use Rattle.node_model.specs.Granted.{known_slot}
 use Rattle.node_model.specs.Outputs.{Stepped as NodeStep}
+use Rattle.node_laws.specs.Clusters.{MayHappen, NodeInput}
 use Rattle.pdu_codec.specs.Pdu.{read_pdu}
 use Rattle.pdu_frames.specs.Frames.{Cut, cut, begins_wrong}
 use Rattle.sessions.specs.Session.{Session}
-use Rattle.sessions.specs.States.{is_gone}
 use Rattle.script_text.specs.Settings.{Settings}
 use Rattle.script_text.specs.Node.{Node, awaiting, step_at, tick_at, with_step}
 use Rattle.script_text.specs.Attempts.{concluded, submission_at, unanswered}
-use Rattle.script_text.specs.Prints.{Print}
-use Rattle.script_text.specs.Pushes.{accounts_up, overdue_in, session_at, target_in}
+use Rattle.std.specs.Map.{remove_entry}
+use Rattle.std.specs.Ordering.{nat_cmp}
+use Rattle.std.specs.BTreeMap.{is_at}
+use Rattle.sessions.specs.States.{is_gone}
+use Rattle.script_text.specs.Prints.{Delivers}
+use Rattle.script_text.specs.Pushes.{accounts_up, delivery_on, overdue_in, session_at, target_in}
 use Rattle.script_text.specs.Receipts.{Posted, all_posted, posted_for_all, posted_for_any}
-use Rattle.script_text.specs.Runner.{Runner, Acted, Served, answered_by, declined, ends, fails_by, first_or, followed_by, gives_up, gone_prints, granted, granted_unless, held_in, holds, last_incarnation, mail_of, makes_room, most_deliveries, no_incarnation, on_delivery, on_frame, on_frames, on_grant, on_octets, on_read, on_rest, on_restart, on_settle, on_tick, opened_at, posts, posts_for, posts_for_all, pushes, put_at, reports_by, restarted, rests, sent, sent_to, served_at, serves, session_in, settles, ticked, unsettled, with_posted, with_session}
-use Rattle.fate_laws.proofs.Reporting.{AreDue, all_due_later}
-use Rattle.fate_laws.proofs.Serving.{AreMute, IsServed, read_served, wrong_length_served}
-use Rattle.fate_laws.proofs.Sound.{IsSound, Leads, StepsTo, delivery_leads, grant_leads, leads_still, restart_leads, tick_leads, world_of}
-use Rattle.fate_laws.proofs.Concluding.{all_lead, unanswered_leads}
-use Rattle.fate_laws.proofs.Telling.{declined_is_mute, delivery_is_mute, gone_is_mute, ungranted_is_mute, unsettled_is_mute}
-use Rattle.fate_laws.proofs.InOrder.{Tell, mutes_tell, replies_tell, told_before}
+use Rattle.script_text.specs.Runner.{Runner, Acted, Served, answered_by, declined, ends, fails_by, followed_by, gives_up, gone_prints, granted, granted_unless, held_in, holds, last_incarnation, mail_of, makes_room, no_incarnation, on_delivery, on_frame, on_frames, on_grant, on_octets, on_read, on_rest, on_restart, on_tick, opened_at, posts, posts_for, posts_for_all, pushes, put_at, reports_by, restarted, sent, sent_to, served_at, serves, session_in, ticked, told, with_posted, with_session}
+use Rattle.fate_laws.proofs.Telling.{AreMute, declined_is_mute, delivery_is_mute, gone_is_mute, ungranted_is_mute}
+use Rattle.fate_laws.proofs.Behind.{came_to, input_to}
+use Rattle.fate_laws.proofs.ReceiptsOut.{AreReceiptsOut, receipts_out_later}
+use Rattle.fate_laws.proofs.Standing.{IsAt, IsFit, Leads, Member, StepsTo, WereSent, delivery_steps, grant_steps, leads_still, restart_steps, tick_steps}
+use Rattle.fate_laws.proofs.Tellings.{FactOfPrints, IsTelling, NodePrint, TakesDeliveries, both_at, mutes_tell, prints_at, steps_tell}
+use Rattle.fate_laws.proofs.Serving.{IsServed, all_lead, came_then, read_served, unanswered_leads, wrong_length_served}
 use Rattle.fate_laws.proofs.Posting.{PostsSo, all_posted_so, posted_for_all_so, posted_for_any_so}
 
--- ---- where a script stands
-
--- its node is sound, and the receipts that wait tell what is decided
-pub record IsTruthful (runner : Runner) : Type 0 where
-  pub sound : IsSound runner.node
-  pub due : AreDue 1 (world_of runner.node sound) runner.waiting
-
--- where it stands in the model
-abbrev pub world_under : (runner : Runner) → IsTruthful runner → World
-world_under runner truth = world_of runner.node truth.sound
-
--- what is printed from a world to where a script stands tells what is decided, if what follows does
-pub record ActsSo (first : World) (acted : Acted) : Type 0 where
-  pub truth : IsTruthful acted.next
-  pub tell : (prints : List Print) → Tell (world_under acted.next truth) prints → Tell first (acted.prints ++ prints)
-
--- a step of the node, whose replies go out
-abbrev step_acts : (first : World) (runner : Runner) (node : Node) (input : Input) (step : NodeStep) → StepsTo first step (with_step node step) →
-    AreDue 1 first runner.waiting → ActsSo first (answered_by runner node input step)
-step_acts first runner node input step steps due =
-    let last = world_of (with_step node step) steps.leads.sound in
-    record {
-      truth = record { sound = steps.leads.sound; due = all_due_later 1 first last runner.waiting steps.leads.grows due };
-      tell = λ prints tell. replies_tell first last runner.sessions step.outputs.replies prints steps.small steps.fit tell;
-    }
-
--- what prints tell nothing of a fate
-mute_acts : (first : World) (acted : Acted) → Leads first acted.next.node → AreDue 1 first acted.next.waiting → AreMute acted.prints → ActsSo first acted
-mute_acts first acted leads due mute =
-    let last = world_of acted.next.node leads.sound in
-    record {
-      truth = record { sound = leads.sound; due = all_due_later 1 first last acted.next.waiting leads.grows due };
-      tell = λ prints tell. mutes_tell first acted.prints prints mute (told_before first last prints leads.grows tell);
-    }
-
--- receipts go out
-posts_act : (runner : Runner) (truth : IsTruthful runner) (posted : Posted) → PostsSo (world_under runner truth) posted →
-    ActsSo (world_under runner truth) (with_posted runner posted)
-posts_act runner truth posted so = record { truth = record { sound = truth.sound; due = so.due }; tell = so.tell }
-
--- one after the other
-acts_then : (first : World) (one last : Acted) (acts : ActsSo first one) → ActsSo (world_under one.next acts.truth) last →
-    ActsSo first (followed_by one last)
-acts_then first one last acts later = record {
-  truth = later.truth;
-  tell = λ prints tell. subst (Tell first) (sym (append_assoc one.prints last.prints prints)) (acts.tell (last.prints ++ prints) (later.tell prints tell));
-}
-
--- a step of the node, whose replies go out, and then its receipts
-reports_act : (first : World) (runner : Runner) (node : Node) (input : Input) (step : NodeStep) → StepsTo first step (with_step node step) →
-    AreDue 1 first runner.waiting → ActsSo first (reports_by runner node input step)
-reports_act first runner node input step steps due =
-    let one = answered_by runner node input step in
-    let here = step_acts first runner node input step steps due in
-    acts_then first one (posts one.next step.outputs.receipts) here
-    (posts_act one.next here.truth (all_posted one.next.node.kept.clock (mail_of one.next) step.outputs.receipts)
-    (all_posted_so (world_under one.next here.truth) one.next.node.kept.clock (mail_of one.next) step.outputs.receipts here.truth.due steps.due))
-
--- ---- the octets of a session
+-- The node is where what came to it leads. What waits then was given out, and so was what is printed.
+pub record ActsSo (member : Member) (Tells : FactOfPrints) (past : List NodeInput) (up : Bool) (acted : Acted) : Type 0 where
+  pub leads : Leads member past acted.inputs up acted.next.node
+  pub waiting : AreReceiptsOut member.cluster member.number leads.later acted.next.waiting
+  pub tell : (last : List NodeInput) (prints : List NodePrint) → Tells last leads.later prints →
+      Tells last past (prints_at member.number acted.prints ++ prints)
 
 -- the session is put back, and the rest stays
 record IsPutBack (first last : Runner) : Type 0 where
@@ -106,173 +56,253 @@ put_back runner number session = by_test (is_gone session.state)
     by_test true = record { node = refl; waiting = refl }
     by_test false = record { node = refl; waiting = refl }
 
-serves_act : (runner : Runner) (truth : IsTruthful runner) (number : ℕ) (served : Served) → IsServed (world_under runner truth) served →
-    ActsSo (world_under runner truth) (serves runner number served)
-serves_act runner truth number served goes =
-    let origin = world_under runner truth in
-    let one = served_at runner number served in
-    let same = put_back (record runner { node = served.node }) number served.session in
-    let acts = mute_acts origin one (subst (Leads origin) (sym same.node) goes.leads)
-    (subst (AreDue 1 origin) (sym same.waiting) truth.due) goes.mute in
-    acts_then origin one (posts_for one.next served.session.account) acts
-    (posts_act one.next acts.truth (posted_for_any one.next.node.kept.clock (mail_of one.next) served.session.account)
-    (posted_for_any_so (world_under one.next acts.truth) one.next.node.kept.clock (mail_of one.next) served.session.account acts.truth.due))
-
-frame_acts : (settings : Settings) (number : ℕ) (runner : Runner) (octets : List ℕ) (truth : IsTruthful runner) →
-    ActsSo (world_under runner truth) (on_frame settings number runner octets)
-unfolding on_frame
-frame_acts settings number runner octets truth =
-    let session = session_in runner.sessions number in
-    serves_act runner truth number (on_read settings number runner.node session octets (read_pdu octets))
-    (read_served settings number runner.node session octets (read_pdu octets) truth.sound)
-
-rest_acts : (settings : Settings) (number : ℕ) (runner : Runner) (rest : List ℕ) (truth : IsTruthful runner) →
-    ActsSo (world_under runner truth) (on_rest settings number runner rest)
-rest_acts settings number runner rest truth = by_test (begins_wrong rest)
-  where
-    by_test : (wrong : Bool) → ActsSo (world_under runner truth) (cond {A = Acted} wrong (ends settings number runner) (holds runner number rest))
-    by_test true =
-        serves_act runner truth number _ (wrong_length_served settings number runner.node (session_in runner.sessions number) truth.sound)
-    by_test false = record { truth = record { sound = truth.sound; due = truth.due }; tell = λ prints tell. tell }
-
-frames_act : (settings : Settings) (number : ℕ) (runner : Runner) (frames : List (List ℕ)) (rest : List ℕ) (truth : IsTruthful runner) →
-    ActsSo (world_under runner truth) (on_frames settings number runner frames rest)
-unfolding on_frames
-frames_act settings number runner [] rest truth = rest_acts settings number runner rest truth
-frames_act settings number runner (frame ∷ frames) rest truth =
-    by_test (is_none (session_at first.next.sessions number)) (frames_act settings number first.next frames rest here.truth)
-  where
-    first : Acted
-    first = on_frame settings number runner frame
-
-    here : ActsSo (world_under runner truth) first
-    here = frame_acts settings number runner frame truth
-
-    later : Acted
-    later = on_frames settings number first.next frames rest
-
-    by_test : (gone : Bool) → ActsSo (world_under first.next here.truth) later →
-        ActsSo (world_under runner truth) (cond {A = Acted} gone first (followed_by first later))
-    by_test true others = here
-    by_test false others = acts_then (world_under runner truth) first later here others
-
-pub octets_act : (settings : Settings) (runner : Runner) (number : ℕ) (octets : List ℕ) (truth : IsTruthful runner) →
-    ActsSo (world_under runner truth) (on_octets settings runner number octets)
-unfolding on_octets
-octets_act settings runner number octets truth =
-    let stream : Cut = cut (held_in runner.streams number ++ octets) in
-    frames_act settings number (opened_at runner number) stream.frames stream.rest (record { sound = truth.sound; due = truth.due })
-
--- ---- a moment
-
-ticked_acts : (runner : Runner) (moment : ℕ) (truth : IsTruthful runner) → ActsSo (world_under runner truth) (ticked runner moment)
-ticked_acts runner moment truth =
-    let tick = tick_at moment (accounts_up runner.sessions) in
-    step_acts (world_under runner truth) runner runner.node tick (step_at runner.node tick)
-    (tick_leads runner.node truth.sound moment (accounts_up runner.sessions)) truth.due
-
-gives_up_acts : (runner : Runner) (now : ℕ) (truth : IsTruthful runner) → ActsSo (world_under runner truth) (gives_up runner now)
-gives_up_acts runner now truth =
-    mute_acts (world_under runner truth) (gives_up runner now) (all_lead runner.node truth.sound (overdue_in runner.sessions now)) truth.due tt
-
-makes_room_acts : (runner : Runner) (truth : IsTruthful runner) → ActsSo (world_under runner truth) (makes_room runner)
-makes_room_acts runner truth =
-    let one = gives_up runner runner.node.kept.clock in
-    let here = gives_up_acts runner runner.node.kept.clock truth in
-    let up = accounts_up one.next.sessions in
-    acts_then (world_under runner truth) one (posts_for_all one.next) here
-    (posts_act one.next here.truth (posted_for_all one.next.node.kept.clock (mail_of one.next) up)
-    (posted_for_all_so (world_under one.next here.truth) one.next.node.kept.clock (mail_of one.next) up here.truth.due))
-
-pub tick_acts : (runner : Runner) (moment : ℕ) (truth : IsTruthful runner) → ActsSo (world_under runner truth) (on_tick runner moment)
-tick_acts runner moment truth =
-    let first = ticked runner moment in
-    let here = ticked_acts runner moment truth in
-    acts_then (world_under runner truth) first (makes_room first.next) here (makes_room_acts first.next here.truth)
-
--- ---- an attempt that is granted, and goes out or fails
-
-module _ (runner : Runner) (truth : IsTruthful runner) where
-  abbrev origin : World
-  origin = world_under runner truth
-
-  fails_acts : (slot : Slot) → ActsSo origin (fails_by runner (concluded runner.node slot unanswered))
-  fails_acts slot =
-      mute_acts origin (fails_by runner (concluded runner.node slot unanswered)) (unanswered_leads runner.node truth.sound slot) truth.due tt
-
-  pushes_acts : (slot : Slot) (taken : Submission) (number : ℕ) (session : Option Session) → ActsSo origin (pushes runner slot taken number session)
-  pushes_acts slot taken number None = mute_acts origin (pushes runner slot taken number None) (leads_still runner.node truth.sound) truth.due tt
-  pushes_acts slot taken number (Some session) =
-      mute_acts origin (pushes runner slot taken number (Some session)) (leads_still runner.node truth.sound) truth.due
-      (delivery_is_mute number session taken, tt)
-
-  sent_to_acts : (slot : Slot) (taken : Submission) (target : Option ℕ) → ActsSo origin (sent_to runner slot taken target)
-  sent_to_acts slot taken None = fails_acts slot
-  sent_to_acts slot taken (Some number) = pushes_acts slot taken number (session_at runner.sessions number)
-
-  sent_acts : (slot : Slot) (taken : Option Submission) → ActsSo origin (sent runner slot taken)
-  sent_acts slot None = fails_acts slot
-  sent_acts slot (Some taken) = sent_to_acts slot taken (target_in runner.sessions taken.target)
-
-pub grant_acts : (runner : Runner) (id : ℕ) (truth : IsTruthful runner) → ActsSo (world_under runner truth) (on_grant runner id)
-grant_acts runner id truth = by_refusal (grant_refusal runner.node.setup runner.node.kept id) refl
-  where
-    slot : Slot
-    slot = known_slot runner.node.kept id
-
-    by_refusal : (refusal : Option GrantRefusal) → grant_refusal runner.node.setup runner.node.kept id ≡ refusal →
-        ActsSo (world_under runner truth) (granted_unless runner id (known_slot runner.node.kept id) refusal)
-    by_refusal (Some refusal) is =
-        mute_acts (world_under runner truth) (granted_unless runner id slot (Some refusal)) (leads_still runner.node truth.sound) truth.due
-        (ungranted_is_mute (refusal_number refusal), tt)
-    by_refusal None is =
-        let one = granted runner (Grants slot) in
-        let here = mute_acts (world_under runner truth) one (grant_leads runner.node truth.sound id is).leads truth.due tt in
-        acts_then (world_under runner truth) one (sent one.next slot (submission_at runner.node id)) here
-        (sent_acts one.next here.truth slot (submission_at runner.node id))
-
--- ---- packets that are delivered
-
-delivery_acts : (runner : Runner) (packet : Packet) (others : List Packet) → runner.node.packets ≡ packet ∷ others → (truth : IsTruthful runner) →
-    ActsSo (world_under runner truth) (on_delivery runner packet others)
-delivery_acts runner packet others is truth =
-    reports_act (world_under runner truth) runner (awaiting runner.node others) (Delivery packet)
-    (step_at (awaiting runner.node others) (Delivery packet)) (delivery_leads runner.node truth.sound packet others is) truth.due
-
-settles_act : (more : ℕ) (runner : Runner) (truth : IsTruthful runner) → ActsSo (world_under runner truth) (settles more runner)
-unfolding settles
-settles_act zero runner truth =
-    mute_acts (world_under runner truth) (unsettled runner) (leads_still runner.node truth.sound) truth.due (unsettled_is_mute, tt)
-settles_act (suc more) runner truth = at_first runner.node.packets refl (settles_act more)
-  where
-    at_first : (packets : List Packet) → runner.node.packets ≡ packets →
-        ((next : Runner) (there : IsTruthful next) → ActsSo (world_under next there) (settles more next)) →
-        ActsSo (world_under runner truth) (first_or (rests runner)
-        (λ packet others. followed_by (on_delivery runner packet others) (settles more (on_delivery runner packet others).next)) packets)
-    at_first [] is later = record { truth = truth; tell = λ prints tell. tell }
-    at_first (packet ∷ others) is later =
-        let first = on_delivery runner packet others in
-        let here = delivery_acts runner packet others is truth in
-        acts_then (world_under runner truth) first (settles more first.next) here (later first.next here.truth)
-
-pub settle_acts : (runner : Runner) (truth : IsTruthful runner) → ActsSo (world_under runner truth) (on_settle runner)
-settle_acts runner truth = settles_act most_deliveries runner truth
-
--- ---- a restart
-
-gone_are_mute : (connected : List (ℕ × Session)) → AreMute (gone_prints connected)
+pub gone_are_mute : (connected : List (ℕ × Session)) → AreMute (gone_prints connected)
 gone_are_mute [] = tt
-gone_are_mute (entry ∷ connected) = (gone_is_mute entry.0, gone_are_mute connected)
+gone_are_mute (entry ∷ connected) = ((gone_is_mute entry.0, tt), gone_are_mute connected)
 
-pub restart_acts : (runner : Runner) (truth : IsTruthful runner) → ActsSo (world_under runner truth) (on_restart runner)
-restart_acts runner truth = by_test (nat_lt runner.node.kept.incarnation last_incarnation) refl
-  where
-    by_test : (left : Bool) → nat_lt runner.node.kept.incarnation last_incarnation ≡ left →
-        ActsSo (world_under runner truth) (if left then restarted runner else declined runner no_incarnation)
-    by_test true is =
-        let left : runner.node.kept.incarnation < 9999 = grind (arith, nat_tests, is) in
-        mute_acts (world_under runner truth) (restarted runner) (restart_leads runner.node truth.sound left).leads
-        (λ receipt among. absurd among) (gone_are_mute runner.sessions)
-    by_test false is =
-        mute_acts (world_under runner truth) (declined runner no_incarnation) (leads_still runner.node truth.sound) truth.due
-        (declined_is_mute no_incarnation, tt)
+module _ (member : Member) (Tells : FactOfPrints) (telling : IsTelling member.cluster Tells) where
+  abbrev cluster : Cluster
+  cluster = member.cluster
+
+  abbrev AreOut : List NodeInput → List Receipt → Type 0
+  AreOut past receipts = AreReceiptsOut cluster member.number past receipts
+
+  wait_later : (inputs : List Input) (past later : List NodeInput) (receipts : List Receipt) → later ≡ came_to member.number inputs past →
+      AreOut past receipts → AreOut later receipts
+  wait_later inputs past later receipts is out =
+      subst (λ (now : List NodeInput). AreOut now receipts) (sym is)
+      (receipts_out_later cluster member.number (map (input_to member.number) inputs) past receipts out)
+
+  -- a step of the node, whose replies go out
+  abbrev step_acts : (past : List NodeInput) (runner : Runner) (node : Node) (input : Input) (step : NodeStep) →
+      StepsTo member past input step true (with_step node step) → AreOut past runner.waiting →
+      ActsSo member Tells past true (answered_by runner node input step)
+  step_acts past runner node input step steps waiting = record {
+    leads = steps.leads;
+    waiting = wait_later (input ∷ []) past steps.leads.later runner.waiting steps.leads.later_is waiting;
+    tell = λ last prints tells.
+        subst (λ (s : NodeStep). Tells last past (prints_at member.number (told runner.sessions s.outputs.replies).prints ++ prints)) (sym steps.step_is)
+        (telling.replies last past (input_to member.number input) runner.sessions prints steps.happens
+        (subst (λ (s : NodeStep). (reply : Reply) → In reply s.outputs.replies → reply.id < 2 ^ 64) steps.step_is steps.small)
+        (subst (λ (now : List NodeInput). Tells last now prints) steps.leads.later_is tells));
+  }
+
+  -- what prints tell nothing of a fate
+  pub mute_acts : (past : List NodeInput) (up : Bool) (acted : Acted) → Leads member past acted.inputs up acted.next.node →
+      AreOut past acted.next.waiting → AreMute acted.prints → ActsSo member Tells past up acted
+  mute_acts past up acted leads waiting mute = record {
+    leads = leads;
+    waiting = wait_later acted.inputs past leads.later acted.next.waiting leads.later_is waiting;
+    tell = λ last prints tells.
+        mutes_tell cluster Tells telling last past member.number acted.prints prints mute
+        (steps_tell cluster Tells telling last (map (input_to member.number) acted.inputs) past prints
+        (subst (MayHappen cluster) leads.later_is leads.fit.may)
+        (subst (λ (now : List NodeInput). Tells last now prints) leads.later_is tells));
+  }
+
+  -- receipts go out
+  posts_act : (past : List NodeInput) (fit : IsFit cluster past) (runner : Runner) → IsAt member past true runner.node → (posted : Posted) →
+      PostsSo cluster Tells telling member.number past fit.may posted → ActsSo member Tells past true (with_posted runner posted)
+  posts_act past fit runner at posted so = record {
+    leads = leads_still member past true runner.node fit at;
+    waiting = so.waiting;
+    tell = so.tell;
+  }
+
+  -- one after the other
+  pub acts_then : (past : List NodeInput) (up : Bool) (one other : Acted) (acts : ActsSo member Tells past true one) →
+      ActsSo member Tells acts.leads.later up other → ActsSo member Tells past up (followed_by one other)
+  acts_then past up one other acts others = record {
+    leads = record {
+      later = others.leads.later;
+      later_is = came_then member.number one.inputs other.inputs past acts.leads.later others.leads.later acts.leads.later_is others.leads.later_is;
+      fit = others.leads.fit;
+      at = others.leads.at;
+    };
+    waiting = others.waiting;
+    tell = λ last prints tells.
+        subst (Tells last past) (both_at member.number one.prints other.prints prints)
+        (acts.tell last (prints_at member.number other.prints ++ prints) (others.tell last prints tells));
+  }
+
+  -- a step of the node, whose replies go out, and then its receipts
+  reports_act : (past : List NodeInput) (runner : Runner) (node : Node) (input : Input) (step : NodeStep) →
+      StepsTo member past input step true (with_step node step) → AreOut past runner.waiting →
+      ActsSo member Tells past true (reports_by runner node input step)
+  reports_act past runner node input step steps waiting =
+      let one = answered_by runner node input step in
+      let here = step_acts past runner node input step steps waiting in
+      let later = here.leads.later in
+      acts_then past true one (posts one.next step.outputs.receipts) here
+      (posts_act later here.leads.fit one.next here.leads.at (all_posted one.next.node.kept.clock (mail_of one.next) step.outputs.receipts)
+      (all_posted_so cluster Tells telling member.number later here.leads.fit.may one.next.node.kept.clock (mail_of one.next) step.outputs.receipts
+      here.waiting steps.receipts))
+
+  -- ---- a node that is up
+
+  -- it stands there, and what waits was given out
+  pub record IsServing (past : List NodeInput) (runner : Runner) : Type 0 where
+    pub fit : IsFit cluster past
+    pub at : IsAt member past true runner.node
+    pub waiting : AreOut past runner.waiting
+
+  pub serving_then : (past : List NodeInput) (acted : Acted) (acts : ActsSo member Tells past true acted) → IsServing acts.leads.later acted.next
+  serving_then past acted acts = record { fit = acts.leads.fit; at = acts.leads.at; waiting = acts.waiting }
+
+  -- ---- the octets of a session
+
+  serves_act : (past : List NodeInput) (runner : Runner) → IsServing past runner → (number : ℕ) (served : Served) → IsServed member past served →
+      ActsSo member Tells past true (serves runner number served)
+  serves_act past runner s number served goes =
+      let one = served_at runner number served in
+      let same = put_back (record runner { node = served.node }) number served.session in
+      let acts = mute_acts past true one (subst (Leads member past served.inputs true) (sym same.node) goes.leads)
+      (subst (AreOut past) (sym same.waiting) s.waiting) goes.mute in
+      acts_then past true one (posts_for one.next served.session.account) acts
+      (posts_act acts.leads.later acts.leads.fit one.next acts.leads.at
+      (posted_for_any one.next.node.kept.clock (mail_of one.next) served.session.account)
+      (posted_for_any_so cluster Tells telling member.number acts.leads.later acts.leads.fit.may one.next.node.kept.clock (mail_of one.next)
+      served.session.account acts.waiting))
+
+  frame_acts : (settings : Settings) (number : ℕ) (past : List NodeInput) (runner : Runner) (octets : List ℕ) → IsServing past runner →
+      ActsSo member Tells past true (on_frame settings number runner octets)
+  unfolding on_frame
+  frame_acts settings number past runner octets s =
+      let session = session_in runner.sessions number in
+      serves_act past runner s number (on_read settings number runner.node session octets (read_pdu octets))
+      (read_served member past s.fit runner.node s.at settings number session octets (read_pdu octets))
+
+  rest_acts : (settings : Settings) (number : ℕ) (past : List NodeInput) (runner : Runner) (rest : List ℕ) → IsServing past runner →
+      ActsSo member Tells past true (on_rest settings number runner rest)
+  rest_acts settings number past runner rest s = by_test (begins_wrong rest)
+    where
+      by_test : (wrong : Bool) → ActsSo member Tells past true (cond {A = Acted} wrong (ends settings number runner) (holds runner number rest))
+      by_test true =
+          serves_act past runner s number _ (wrong_length_served member past s.fit runner.node s.at settings number (session_in runner.sessions number))
+      by_test false = record {
+        leads = leads_still member past true runner.node s.fit s.at;
+        waiting = s.waiting;
+        tell = λ last prints tells. tells;
+      }
+
+  frames_act : (settings : Settings) (number : ℕ) (past : List NodeInput) (runner : Runner) (frames : List (List ℕ)) (rest : List ℕ) →
+      IsServing past runner → ActsSo member Tells past true (on_frames settings number runner frames rest)
+  unfolding on_frames
+  frames_act settings number past runner [] rest s = rest_acts settings number past runner rest s
+  frames_act settings number past runner (frame ∷ frames) rest s =
+      by_test (is_none (session_at first.next.sessions number))
+      (frames_act settings number here.leads.later first.next frames rest (serving_then past first here))
+    where
+      first : Acted
+      first = on_frame settings number runner frame
+
+      here : ActsSo member Tells past true first
+      here = frame_acts settings number past runner frame s
+
+      later : Acted
+      later = on_frames settings number first.next frames rest
+
+      by_test : (gone : Bool) → ActsSo member Tells here.leads.later true later →
+          ActsSo member Tells past true (cond {A = Acted} gone first (followed_by first later))
+      by_test true others = here
+      by_test false others = acts_then past true first later here others
+
+  pub octets_act : (settings : Settings) (past : List NodeInput) (runner : Runner) (number : ℕ) (octets : List ℕ) → IsServing past runner →
+      ActsSo member Tells past true (on_octets settings runner number octets)
+  unfolding on_octets
+  octets_act settings past runner number octets s =
+      let stream : Cut = cut (held_in runner.streams number ++ octets) in
+      frames_act settings number past (opened_at runner number) stream.frames stream.rest (record { fit = s.fit; at = s.at; waiting = s.waiting })
+
+  -- ---- a moment
+
+  gives_up_acts : (past : List NodeInput) (runner : Runner) (now : ℕ) → IsServing past runner → ActsSo member Tells past true (gives_up runner now)
+  gives_up_acts past runner now s =
+      mute_acts past true (gives_up runner now) (all_lead member past s.fit runner.node s.at (overdue_in runner.sessions now)) s.waiting tt
+
+  makes_room_acts : (past : List NodeInput) (runner : Runner) → IsServing past runner → ActsSo member Tells past true (makes_room runner)
+  makes_room_acts past runner s =
+      let one = gives_up runner runner.node.kept.clock in
+      let here = gives_up_acts past runner runner.node.kept.clock s in
+      let later = here.leads.later in
+      let up = accounts_up one.next.sessions in
+      acts_then past true one (posts_for_all one.next) here
+      (posts_act later here.leads.fit one.next here.leads.at (posted_for_all one.next.node.kept.clock (mail_of one.next) up)
+      (posted_for_all_so cluster Tells telling member.number later here.leads.fit.may one.next.node.kept.clock (mail_of one.next) up here.waiting))
+
+  pub tick_acts : (past : List NodeInput) (runner : Runner) (moment : ℕ) → IsServing past runner → ActsSo member Tells past true (on_tick runner moment)
+  tick_acts past runner moment s =
+      let first = ticked runner moment in
+      let tick = tick_at moment (accounts_up runner.sessions) in
+      let here = step_acts past runner runner.node tick (step_at runner.node tick)
+      (tick_steps member past s.fit runner.node s.at moment (accounts_up runner.sessions)) s.waiting in
+      acts_then past true first (makes_room first.next) here (makes_room_acts here.leads.later first.next (serving_then past first here))
+
+  -- ---- an attempt that is granted, and goes out or fails
+
+  module _ (takes : TakesDeliveries Tells) (past : List NodeInput) (runner : Runner) (s : IsServing past runner) where
+    fails_acts : (slot : Slot) → ActsSo member Tells past true (fails_by runner (concluded runner.node slot unanswered))
+    fails_acts slot =
+        mute_acts past true (fails_by runner (concluded runner.node slot unanswered)) (unanswered_leads member past s.fit runner.node s.at slot) s.waiting tt
+
+    pushes_acts : (slot : Slot) (taken : Submission) (number : ℕ) (session : Option Session) →
+        ActsSo member Tells past true (pushes runner slot taken number session)
+    pushes_acts slot taken number None =
+        mute_acts past true (pushes runner slot taken number None) (leads_still member past true runner.node s.fit s.at) s.waiting tt
+    pushes_acts slot taken number (Some session) = record {
+      leads = leads_still member past true runner.node s.fit s.at;
+      waiting = s.waiting;
+      tell = λ last prints tells.
+          takes last past member.number (Delivers number (delivery_on session taken)) prints (delivery_is_mute number session taken) tells;
+    }
+
+    sent_to_acts : (slot : Slot) (taken : Submission) (target : Option ℕ) → ActsSo member Tells past true (sent_to runner slot taken target)
+    sent_to_acts slot taken None = fails_acts slot
+    sent_to_acts slot taken (Some number) = pushes_acts slot taken number (session_at runner.sessions number)
+
+    sent_acts : (slot : Slot) (taken : Option Submission) → ActsSo member Tells past true (sent runner slot taken)
+    sent_acts slot None = fails_acts slot
+    sent_acts slot (Some taken) = sent_to_acts slot taken (target_in runner.sessions taken.target)
+
+  pub grant_acts : TakesDeliveries Tells → (past : List NodeInput) (runner : Runner) (id : ℕ) → IsServing past runner →
+      ActsSo member Tells past true (on_grant runner id)
+  grant_acts takes past runner id s = by_refusal (grant_refusal runner.node.setup runner.node.kept id) refl
+    where
+      slot : Slot
+      slot = known_slot runner.node.kept id
+
+      by_refusal : (refusal : Option GrantRefusal) → grant_refusal runner.node.setup runner.node.kept id ≡ refusal →
+          ActsSo member Tells past true (granted_unless runner id (known_slot runner.node.kept id) refusal)
+      by_refusal (Some refusal) is =
+          mute_acts past true (granted_unless runner id slot (Some refusal)) (leads_still member past true runner.node s.fit s.at) s.waiting
+          ((ungranted_is_mute (refusal_number refusal), tt), tt)
+      by_refusal None is =
+          let one = granted runner (Grants slot) in
+          let here = mute_acts past true one (grant_steps member past s.fit runner.node s.at id is).leads s.waiting tt in
+          acts_then past true one (sent one.next slot (submission_at runner.node id)) here
+          (sent_acts takes here.leads.later one.next (serving_then past one here) slot (submission_at runner.node id))
+
+  -- ---- packets
+
+  pub delivery_acts : (past : List NodeInput) (runner : Runner) (packet : Packet) (others : List Packet) → IsServing past runner →
+      WereSent cluster past (packet ∷ others) → ActsSo member Tells past true (on_delivery runner packet others)
+  delivery_acts past runner packet others s sent =
+      reports_act past runner (awaiting runner.node others) (Delivery packet) (step_at (awaiting runner.node others) (Delivery packet))
+      (delivery_steps member past s.fit runner.node s.at packet others sent) s.waiting
+
+  -- ---- a restart
+
+  -- the node is up then, or as it was
+  pub restart_acts : (past : List NodeInput) (up : Bool) (runner : Runner) → IsFit cluster past → IsAt member past up runner.node →
+      AreOut past runner.waiting → ActsSo member Tells past true (on_restart runner) ⊎ ActsSo member Tells past up (on_restart runner)
+  restart_acts past up runner fit at waiting = by_test (nat_lt runner.node.kept.incarnation last_incarnation) refl
+    where
+      by_test : (left : Bool) → nat_lt runner.node.kept.incarnation last_incarnation ≡ left →
+          ActsSo member Tells past true (if left then restarted runner else declined runner no_incarnation)
+          ⊎ ActsSo member Tells past up (if left then restarted runner else declined runner no_incarnation)
+      by_test true is =
+          let left : runner.node.kept.incarnation < 9999 = grind (arith, nat_tests, is) in
+          inl (mute_acts past true (restarted runner) (restart_steps member past fit runner.node up at left)
+          (λ receipt among. absurd among) (gone_are_mute runner.sessions))
+      by_test false is = inr (mute_acts past up (declined runner no_incarnation) (leads_still member past up runner.node fit at) waiting
+          ((declined_is_mute no_incarnation, tt), tt))

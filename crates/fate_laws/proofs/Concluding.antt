@@ -1,25 +1,14 @@
--- The node of a script goes on by what came of attempts.
-use Rattle.std.proofs.Common.{◌≡◌, ℕ, ◌≤◌, Bool, true, false, cond, List, [], ◌∷◌, Option, Some, None, refl, inl, inr, arith}
+-- What is told of attempts is possible.
+use Rattle.std.proofs.Common.{ℕ, ◌≤◌, Bool, true, false, Option, Some, None, refl, inl, arith}
 use Rattle.std.specs.Prelude.{◌==◌, min, if◌then◌else◌}
-use Rattle.mc_model.specs.synod.Packet.{Slot}
-use Rattle.mc_model.specs.node.Input.{Response}
 use Rattle.mc_model.specs.node.Outcome.{Concluded, IsOutcome, Outcome, most_status_error, rejected_error, undeliverable_error}
 use Rattle.mc_model.specs.message.Decree.{Delivered, Rejected, Undeliverable}
-use Rattle.node_model.specs.Granted.{is_open}
 use Rattle.pdu_bodies.specs.declared.pdu.Body.{Body}
 use Rattle.pdu_bodies.specs.declared.pdu.Body.TheVariants as bodies
 use Rattle.pdu_bodies.specs.declared.pdu.Pdu.{Pdu}
 use Rattle.pdu_tables.specs.StatusCodes.{status_code}
 use Rattle.pdu_tables.specs.declared.status.Status.TheVariants as statuses
 use Rattle.delivery.specs.Outcomes.{failed_with, outcome_by, told_by, told_in}
-use Rattle.sessions.specs.declared.pushed.Delivery.{Delivery}
-use Rattle.sessions.specs.declared.pushed.Delivery.TheVariants as deliveries
-use Rattle.sessions.specs.declared.pushed.Pushed.{Pushed}
-use Rattle.script_text.specs.Attempts.{Went, all_given_up, concluded, delivered_so, given_up, rests_at, unanswered, went}
-use Rattle.script_text.specs.Node.{Node}
-use Rattle.fate_laws.proofs.Sound.{IsSound, Leads, leads_still, leads_then, response_leads, world_of}
-
--- ---- outcomes that are possible
 
 -- an outcome that is possible, or none
 abbrev pub IsPossible : Option Outcome → Type 0
@@ -63,37 +52,3 @@ told_possible sequence pdu = by_test (pdu.sequence == sequence)
     by_test : (same : Bool) → IsPossible (if same then told_by pdu.status pdu.body else None)
     by_test true = body_possible pdu.status pdu.body
     by_test false = tt
-
--- ---- the node goes on by them
-
-module _ (node : Node) (sound : IsSound node) where
-  abbrev WentLeads : Went → Type 0
-  WentLeads went = Leads (world_of node sound) went.node
-
-  concluded_leads : (slot : Slot) (outcome : Outcome) → IsOutcome outcome → WentLeads (concluded node slot outcome)
-  concluded_leads slot outcome possible = by_test (is_open node.kept slot) refl
-    where
-      by_test : (test : Bool) → is_open node.kept slot ≡ test →
-          WentLeads (cond {A = Went} test (went node (Response slot outcome)) (rests_at node))
-      by_test true is = (response_leads node sound slot outcome possible is).leads
-      by_test false is = leads_still node sound
-
-  pub delivered_leads : (delivery : Delivery) (outcome : Option Outcome) → IsPossible outcome → WentLeads (delivered_so node delivery outcome)
-  delivered_leads (deliveries.Attempt slot) (Some outcome) possible = concluded_leads slot outcome possible
-  delivered_leads (deliveries.Attempt slot) None possible = leads_still node sound
-  delivered_leads (deliveries.Receipt id) outcome possible = leads_still node sound
-
-  -- nobody answered it
-  pub unanswered_leads : (slot : Slot) → WentLeads (concluded node slot unanswered)
-  unanswered_leads slot = concluded_leads slot unanswered (inr refl)
-
-  given_up_leads : (pushed : Pushed) → WentLeads (given_up node pushed)
-  given_up_leads pushed = delivered_leads pushed.delivery (Some unanswered) (inr refl)
-
-pub all_lead : (node : Node) (sound : IsSound node) (pushed : List Pushed) → Leads (world_of node sound) (all_given_up node pushed).node
-unfolding all_given_up
-all_lead node sound [] = leads_still node sound
-all_lead node sound (first ∷ others) =
-    let next = (given_up node first).node in
-    let one = given_up_leads node sound first in
-    leads_then (world_of node sound) next (all_given_up next others).node one (all_lead next one.sound others)

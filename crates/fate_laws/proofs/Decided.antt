@@ -17,7 +17,7 @@ use Rattle.mc_laws.proofs.Growth.{actors_after, grows, remembers}
 use Rattle.mc_laws.proofs.Reached.{Holds, chosen_fates_same, fate_longest}
 use Rattle.fate_laws.proofs.Since.{AllSince, nobody_waits, since_after}
 
--- the node learned a chain with a final state, or each of its requests came since that was chosen
+-- the node learned a chain with a final state, or each of its requests about the message came since that was chosen
 pub record IsDecided (node : ℕ) (w : World) (id : ℕ) (final : Final) : Type 0 where
   pub chain : List Decree
   pub ballot : ℕ
@@ -40,11 +40,12 @@ chosen_so node w h id final d = record {
   ];
 }
 
-pub decided_once : (node : ℕ) (w : World) → Holds w → (id : ℕ) (first second : Final) → IsDecided node w id first → IsDecided node w id second →
+-- and the same at all nodes
+pub decided_once : (one other : ℕ) (w : World) → Holds w → (id : ℕ) (first second : Final) → IsDecided one w id first → IsDecided other w id second →
     first ≡ second
-decided_once node w h id first second one other =
-    chosen_fates_same w h id one.chain other.chain first second (chosen_so node w h id first one) (chosen_so node w h id second other)
-    one.ends other.ends
+decided_once one other w h id first second here there =
+    chosen_fates_same w h id here.chain there.chain first second (chosen_so one w h id first here) (chosen_so other w h id second there)
+    here.ends there.ends
 
 -- ---- it stays decided
 
@@ -66,7 +67,7 @@ module _ (node : ℕ) (w : World) (h : Holds w) (slot : Slot) (vote : Vote) (by 
     nodes = refl;
     chosen = learned_chosen w h.keeps node slot vote learned;
     votes = (grows w by act may).votes;
-    asked = λ waiting is_in. absurd (none waiting is_in);
+    asked = λ waiting is_in about. absurd (none waiting is_in);
   })
 
   seen_after : Seen
@@ -93,6 +94,22 @@ decided_after node w h by act may id final d = record {
 }
 
 -- ---- replies
+
+-- a fate that is chosen is decided at a node at which no request about the message waits
+pub chosen_decides : (node : ℕ) (w : World) (id : ℕ) (chain : List Decree) (final : Final) → Chosen w id chain → final_in chain ≡ Some final →
+    ((waiting : Waiting) → In waiting (w.actors node).waiting → id_in waiting.request ≡ id → ⊥) → IsDecided node w id final
+chosen_decides node w id chain final chosen ends none = record {
+  chain = chain;
+  ballot = chosen.ballot;
+  ends = ends;
+  seen = inr (record {
+    before = w;
+    nodes = refl;
+    chosen = chosen.chosen;
+    votes = λ c is_in. is_in;
+    asked = λ waiting is_in about. absurd (none waiting is_in about);
+  });
+}
 
 -- what a reply tells is decided then
 pub told_decides : (node : ℕ) (w : World) (id : ℕ) (chain : List Decree) (final : Final) → Knows w.nodes (w.actors node).received id chain →
@@ -121,7 +138,8 @@ module _ (node : ℕ) (w : World) (h : Holds w) (ticket id : ℕ) (chain : List 
   far = elim d.seen [
     | inl learned ↦ knows.longest (pred (length d.chain)) (vote_at d.ballot d.chain) learned
     | inr since ↦
-        covered since.before w (name_of node (w.actors node) waiting) (id_in waiting.request) (since.asked waiting may.asked.waits) since.nodes h node
+        covered since.before w (name_of node (w.actors node) waiting) (id_in waiting.request) (since.asked waiting may.asked.waits may.asked.about)
+        since.nodes h node
         d.chain (chosen_before since) (Some chain) sees.settled
   ]
 

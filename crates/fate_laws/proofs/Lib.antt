@@ -6,9 +6,14 @@ pub mod Since
 pub mod Decided
 pub mod Replying
 pub mod Reporting
-pub mod Sound
+pub mod Reports
+pub mod Behind
+pub mod ReceiptsOut
+pub mod StepsOut
+pub mod Standing
 pub mod Concluding
 pub mod Telling
+pub mod Tellings
 pub mod Serving
 pub mod InOrder
 pub mod Posting

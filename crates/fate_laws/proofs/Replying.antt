@@ -14,9 +14,9 @@ use Rattle.mc_laws.proofs.Fated.{tells_known}
 use Rattle.mc_laws.proofs.Reached.{Holds, holds_after}
 use Rattle.fate_laws.proofs.Decided.{IsDecided, decided_after, shown_so, told_decides}
 
--- what is decided at a node in one world is so in another
-abbrev pub Grows : ℕ → World → World → Type 0
-Grows node first last = (id : ℕ) (final : Final) → IsDecided node first id final → IsDecided node last id final
+-- what is decided at any node in one world is so in another
+abbrev pub Grows : World → World → Type 0
+Grows first last = (node id : ℕ) (final : Final) → IsDecided node first id final → IsDecided node last id final
 
 -- ESME_ROK to a query_sm tells what is decided, and ESME_ROK to a cancel_sm that DELETED is
 pub record IsFitAnswer (node : ℕ) (w : World) (id : ℕ) (answer : Answer) : Type 0 where
@@ -26,22 +26,22 @@ pub record IsFitAnswer (node : ℕ) (w : World) (id : ℕ) (answer : Answer) : T
 
 -- each of these replies is fit in its turn
 abbrev pub AreFit : ℕ → World → List Reply → World → Type 0
-AreFit node first [] last = Grows node first last
+AreFit node first [] last = Grows first last
 AreFit node first (reply ∷ replies) last =
-    (middle : World) × Grows node first middle × IsFitAnswer node middle reply.id reply.answer × AreFit node middle replies last
+    (middle : World) × Grows first middle × IsFitAnswer node middle reply.id reply.answer × AreFit node middle replies last
 
-fit_from : (node : ℕ) (before first last : World) (replies : List Reply) → Grows node before first → AreFit node first replies last →
+fit_from : (node : ℕ) (before first last : World) (replies : List Reply) → Grows before first → AreFit node first replies last →
     AreFit node before replies last
-fit_from node before first last [] grows fit = λ id final is. fit id final (grows id final is)
-fit_from node before first last (reply ∷ replies) grows fit = (fit.0, λ id final is. fit.1 id final (grows id final is), fit.2, fit.3)
+fit_from node before first last [] grows fit = λ n id final is. fit n id final (grows n id final is)
+fit_from node before first last (reply ∷ replies) grows fit = (fit.0, λ n id final is. fit.1 n id final (grows n id final is), fit.2, fit.3)
 
-pub fits_grow : (node : ℕ) (first last : World) (replies : List Reply) → AreFit node first replies last → Grows node first last
+pub fits_grow : (node : ℕ) (first last : World) (replies : List Reply) → AreFit node first replies last → Grows first last
 fits_grow node first last [] fit = fit
-fits_grow node first last (reply ∷ replies) fit = λ id final is. fits_grow node fit.0 last replies fit.3 id final (fit.1 id final is)
+fits_grow node first last (reply ∷ replies) fit = λ n id final is. fits_grow node fit.0 last replies fit.3 n id final (fit.1 n id final is)
 
 -- ---- one reply
 
-removed_ends : (nodes node : ℕ) (a : Actor) (w : Waiting) (request : Request) (chain : List Decree) →
+pub removed_ends : (nodes node : ℕ) (a : Actor) (w : Waiting) (request : Request) (chain : List Decree) →
     FitsRequest nodes node a w request (Removed chain) → final_in chain ≡ Some Deleted
 removed_ends nodes node a w (Cancel id account source destination) chain fits = fits.deleted
 removed_ends nodes node a w (Submit id message) chain fits = absurd fits
@@ -83,8 +83,8 @@ replies_fit node w h (newest ∷ older) run more last fit = by_act (λ others. r
     holds : Holds before
     holds = holds_then node w h older run.1
 
-    onward : (act : Act) → May before node act → Grows node before (after before node act)
-    onward act may = λ id final. decided_after node before holds node act may id final
+    onward : (act : Act) → May before node act → Grows before (after before node act)
+    onward act may = λ n id final. decided_after n before holds node act may id final
 
     by_act : OlderFit → (act : Act) → May before node act → AreFit node (after before node act) more last →
         AreFit node w (reverse (replies_in (act ∷ older)) ++ more) last
@@ -95,7 +95,7 @@ replies_fit node w h (newest ∷ older) run more last fit = by_act (λ others. r
         ∙ append_assoc (reverse (replies_in older)) (reply ∷ []) more))
         (older_fit (reply ∷ more) (
           before,
-          λ i final is. is,
+          λ n i final is. is,
           answer_fits node before holds ticket id answer may,
           fit_from node before (after before node (Replies ticket id answer)) last more (onward (Replies ticket id answer) may) fit,
         ))

@@ -20,13 +20,13 @@ pub record IsDue (node : ℕ) (w : World) (receipt : Receipt) : Type 0 where
 abbrev pub AreDue : ℕ → World → List Receipt → Type 0
 AreDue node w receipts = (receipt : Receipt) → In receipt receipts → IsDue node w receipt
 
-pub due_later : (node : ℕ) (first last : World) (receipt : Receipt) → Grows node first last → IsDue node first receipt → IsDue node last receipt
+pub due_later : (node : ℕ) (first last : World) (receipt : Receipt) → Grows first last → IsDue node first receipt → IsDue node last receipt
 due_later node first last receipt grows due = record {
   named = due.named;
-  decided = λ final ends. grows receipt.id final (due.decided final ends);
+  decided = λ final ends. grows node receipt.id final (due.decided final ends);
 }
 
-pub all_due_later : (node : ℕ) (first last : World) (receipts : List Receipt) → Grows node first last → AreDue node first receipts →
+pub all_due_later : (node : ℕ) (first last : World) (receipts : List Receipt) → Grows first last → AreDue node first receipts →
     AreDue node last receipts
 all_due_later node first last receipts grows due receipt among = due_later node first last receipt grows (due receipt among)
 
@@ -46,7 +46,7 @@ receipts_due node w h (newest ∷ older) run receipt among = by_act (receipts_du
     later : AreDue node before (receipts_in older) → (act : Act) → May before node act → In receipt (receipts_in older) →
         IsDue node (after before node act) receipt
     later older_due act may among =
-        due_later node before (after before node act) receipt (λ id final. decided_after node before holds node act may id final) (older_due receipt among)
+        due_later node before (after before node act) receipt (λ n id final. decided_after n before holds node act may id final) (older_due receipt among)
 
     by_act : AreDue node before (receipts_in older) → (act : Act) → May before node act → In receipt (receipts_in (act ∷ older)) →
         IsDue node (after before node act) receipt

@@ -12,13 +12,13 @@ use Rattle.mc_laws.proofs.Freshness.{Fresh, fresh_after, fresh_begun}
 use Rattle.mc_laws.proofs.Growth.{StartsAnew, actors_after, grows, remembers}
 use Rattle.mc_laws.proofs.Reached.{Holds}
 
--- a vote was chosen in a world, and each request that waits at a node came later
+-- a vote was chosen in a world, and each request about its message that waits at a node came later
 pub record AllSince (node : ℕ) (slot : Slot) (vote : Vote) (w : World) : Type 0 where
   pub before : World
   pub nodes : w.nodes ≡ before.nodes
   pub chosen : IsChosenIn before slot vote
   pub votes : (c : Cast) → In c before.votes → In c w.votes
-  pub asked : (waiting : Waiting) → In waiting (w.actors node).waiting →
+  pub asked : (waiting : Waiting) → In waiting (w.actors node).waiting → id_in waiting.request ≡ slot.id →
       Fresh before (name_of node (w.actors node) waiting) (id_in waiting.request) w
 
 -- under which name a request of a ticket is asked for
@@ -91,20 +91,20 @@ module _ (node : ℕ) (slot : Slot) (vote : Vote) (w : World) (h : Holds w) (sin
   v = after w by act
 
   -- a request that waited is as fresh
-  still : (ticket : ℕ) (request : Request) → WaitedSo (w.actors node) ticket request →
+  still : (ticket : ℕ) (request : Request) → id_in request ≡ slot.id → WaitedSo (w.actors node) ticket request →
       Fresh since.before (name_at node (w.actors node) ticket) (id_in request) v
-  still ticket request it =
+  still ticket request about it =
       fresh_after since.before w h.keeps _ (id_in request)
       (subst (λ (t : ℕ). Fresh since.before (name_at node (w.actors node) t) (id_in request) w) it.ticket_is
       (subst (λ (r : Request). Fresh since.before (name_of node (w.actors node) it.waiting) (id_in r) w) it.request_is
-      (since.asked it.waiting it.among)))
+      (since.asked it.waiting it.among (ap id_in it.request_is ∙ about))))
       by act may
 
   -- the node that does the act
-  here : by ≡ node → (waiting : Waiting) → In waiting (actor_by by (w.actors by) act).waiting →
+  here : by ≡ node → (waiting : Waiting) → id_in waiting.request ≡ slot.id → In waiting (actor_by by (w.actors by) act).waiting →
       Fresh since.before (name_of node (w.actors node) waiting) (id_in waiting.request) v
-  here same waiting is_in = elim (waited_then by (w.actors by) act waiting is_in) [
-    | inl old ↦ still waiting.ticket waiting.request (subst (λ (n : ℕ). WaitedSo (w.actors n) waiting.ticket waiting.request) same old)
+  here same waiting about is_in = elim (waited_then by (w.actors by) act waiting is_in) [
+    | inl old ↦ still waiting.ticket waiting.request about (subst (λ (n : ℕ). WaitedSo (w.actors n) waiting.ticket waiting.request) same old)
     | inr new ↦ begun new
   ]
     where
@@ -120,19 +120,19 @@ module _ (node : ℕ) (slot : Slot) (vote : Vote) (w : World) (h : Holds w) (sin
           (sym new.begins)
           (fresh_begun w h.names by new.ticket waiting.request begins))))
 
-  asked_then : (waiting : Waiting) → In waiting (v.actors node).waiting →
+  asked_then : (waiting : Waiting) → In waiting (v.actors node).waiting → id_in waiting.request ≡ slot.id →
       Fresh since.before (name_of node (v.actors node) waiting) (id_in waiting.request) v
-  asked_then waiting is_in = elim (actors_after w by act node) [
+  asked_then waiting is_in about = elim (actors_after w by act node) [
     | inl at ↦
         let among = subst (λ (a : Actor). In waiting a.waiting) at.actor_is is_in in
         let life : (v.actors node).incarnation ≡ (w.actors node).incarnation =
         ap (λ (a : Actor). a.incarnation) at.actor_is ∙ same_life by (w.actors by) act waiting among
         ∙ ap (λ (n : ℕ). (w.actors n).incarnation) (sym at.node_is) in
         subst (λ (i : ℕ). Fresh since.before (record { node = node; incarnation = i; ticket = waiting.ticket }) (id_in waiting.request) v) (sym life)
-        (here (sym at.node_is) waiting among)
+        (here (sym at.node_is) waiting about among)
     | inr elsewhere ↦
         subst (λ (a : Actor). Fresh since.before (name_of node a waiting) (id_in waiting.request) v) (sym elsewhere)
-        (still waiting.ticket waiting.request
+        (still waiting.ticket waiting.request about
         (record { waiting = waiting; among = subst (λ (a : Actor). In waiting a.waiting) elsewhere is_in; ticket_is = refl; request_is = refl }))
   ]
 

@@ -1,6 +1,7 @@
 -- What prints tell of the fates of messages.
 use Rattle.std.proofs.Common.{◌≡◌, ℕ, ◌<◌, ◌^◌, Bool, List, Option, Some, None, inl, inr, refl, sym, ◌∙◌, ap, subst, arith}
 use Rattle.std.specs.Fmt.{decimal}
+use Rattle.std.specs.List.{AllByRecursion}
 use Rattle.std.proofs.lemmas.Fmt.{decimal_injective}
 use Rattle.mc_model.specs.message.Chain.{final_in}
 use Rattle.mc_model.specs.message.Decree.{Decree, Final, Deleted}
@@ -10,7 +11,6 @@ use Rattle.mc_model.specs.cluster.World.{World}
 use Rattle.accounts.specs.declared.role.Role.TheVariants as roles
 use Rattle.pdu_tables.specs.StateCodes.{state_code}
 use Rattle.pdu_tables.specs.StatusCodes.{status_code}
-use Rattle.pdu_tables.specs.declared.state.State.TheVariants as states
 use Rattle.pdu_tables.specs.declared.status.Status.TheVariants as statuses
 use Rattle.pdu_bodies.specs.declared.pdu.Body.{Body}
 use Rattle.pdu_bodies.specs.declared.pdu.Body.TheVariants.{QuerySmResp, CancelSmResp, DeliverSm}
@@ -135,6 +135,21 @@ declined_is_mute number = silent_is_mute (Declined number) refl
 pub ungranted_is_mute : (reason : ℕ) → IsMute (Ungranted reason)
 ungranted_is_mute reason = silent_is_mute (Ungranted reason) refl
 
+-- it is no deliver_sm of an attempt
+abbrev pub IsNoDelivery : Print → Type 0
+IsNoDelivery (AtOnce session pdu) = Unit {0}
+IsNoDelivery (Late session id pdu) = Unit {0}
+IsNoDelivery (Delivers session pdu) = ⊥
+IsNoDelivery (Reports session sequence optional report) = Unit {0}
+IsNoDelivery (Gone session) = Unit {0}
+IsNoDelivery Unsettled = Unit {0}
+IsNoDelivery (Declined number) = Unit {0}
+IsNoDelivery (Ungranted reason) = Unit {0}
+
+-- prints that tell nothing of a fate, and are no deliver_sm of an attempt
+abbrev pub AreMute : List Print → Type 0
+AreMute prints = AllByRecursion (λ (print : Print). IsMute print × IsNoDelivery print) prints
+
 -- ---- replies
 
 -- an answer shows a chain in this state
@@ -210,44 +225,51 @@ reply_is_told session requested sequence id answer = record {
 -- ---- fates told
 
 -- a print tells fates that are decided
-pub record KnowsFate (w : World) (message_id : List ℕ) (state : ℕ) : Type 0 where
+pub record KnowsFate (node : ℕ) (w : World) (message_id : List ℕ) (state : ℕ) : Type 0 where
   pub id : ℕ
   pub final : Final
   pub small : id < 2 ^ 64
   pub message : decimal id ≡ message_id
-  pub decided : IsDecided 1 w id final
+  pub decided : IsDecided node w id final
   pub state_is : state ≡ state_code (state_of (Some final))
 
-abbrev pub TellsFates : World → Print → Type 0
-TellsFates w print = (message_id : List ℕ) (state : ℕ) → StatesFate print message_id state → KnowsFate w message_id state
+abbrev pub TellsFates : ℕ → World → Print → Type 0
+TellsFates node w print = (message_id : List ℕ) (state : ℕ) → StatesFate print message_id state → KnowsFate node w message_id state
 
--- a print tells no other state of a message than DELETED
-abbrev pub TellsDeleted : List ℕ → Print → Type 0
-TellsDeleted message_id print = (state : ℕ) → TellsState print message_id state → state ≡ state_code states.Deleted
+-- a print tells this state of a message, if it tells one
+abbrev pub TellsOnly : List ℕ → ℕ → Print → Type 0
+TellsOnly message_id code print = (state : ℕ) → TellsState print message_id state → state ≡ code
 
-pub mute_tells_fates : (w : World) (print : Print) → IsMute print → TellsFates w print
-mute_tells_fates w print mute message_id state (inl tells) = absurd (mute.state message_id state tells.0)
-mute_tells_fates w print mute message_id state (inr (inl tells)) = absurd (mute.deletion message_id tells.0)
-mute_tells_fates w print mute message_id state (inr (inr tells)) = absurd (mute.receipt message_id state tells)
+pub mute_tells_fates : (node : ℕ) (w : World) (print : Print) → IsMute print → TellsFates node w print
+mute_tells_fates node w print mute message_id state (inl tells) = absurd (mute.state message_id state tells.0)
+mute_tells_fates node w print mute message_id state (inr (inl tells)) = absurd (mute.deletion message_id tells.0)
+mute_tells_fates node w print mute message_id state (inr (inr tells)) = absurd (mute.receipt message_id state tells)
 
-pub mute_tells_deleted : (message_id : List ℕ) (print : Print) → IsMute print → TellsDeleted message_id print
-mute_tells_deleted message_id print mute state tells = absurd (mute.state message_id state tells)
+pub mute_tells_only : (message_id : List ℕ) (code : ℕ) (print : Print) → IsMute print → TellsOnly message_id code print
+mute_tells_only message_id code print mute state tells = absurd (mute.state message_id state tells)
 
-pub fates_told_later : (first last : World) (print : Print) → Grows 1 first last → TellsFates first print → TellsFates last print
-fates_told_later first last print grows tells message_id state fate =
+pub fates_told_later : (node : ℕ) (first last : World) (print : Print) → Grows first last → TellsFates node first print → TellsFates node last print
+fates_told_later node first last print grows tells message_id state fate =
     let it = tells message_id state fate in
-    record { id = it.id; final = it.final; small = it.small; message = it.message; decided = grows it.id it.final it.decided; state_is = it.state_is }
+    record {
+      id = it.id;
+      final = it.final;
+      small = it.small;
+      message = it.message;
+      decided = grows node it.id it.final it.decided;
+      state_is = it.state_is;
+    }
 
 -- ---- what a reply tells that fits
 
-pub reply_tells_fates : (w : World) (id : ℕ) (answer : Answer) (print : Print) → id < 2 ^ 64 → IsTold id answer print → IsFitAnswer 1 w id answer →
-    TellsFates w print
-reply_tells_fates w id answer print small told fits message_id state (inl tells) =
+pub reply_tells_fates : (node : ℕ) (w : World) (id : ℕ) (answer : Answer) (print : Print) → id < 2 ^ 64 → IsTold id answer print →
+    IsFitAnswer node w id answer → TellsFates node w print
+reply_tells_fates node w id answer print small told fits message_id state (inl tells) =
     let (message, shows) = told.state message_id state tells.0 in
     by_final message shows (final_in shows.chain) refl
   where
     by_final : decimal id ≡ message_id → (shows : Shows answer state) → (final : Option Final) → final_in shows.chain ≡ final →
-        KnowsFate w message_id state
+        KnowsFate node w message_id state
     by_final message shows None is = absurd (tells.1 (sym shows.code_is ∙ ap (λ (f : Option Final). state_code (state_of f)) is))
     by_final message shows (Some final) is = record {
       id = id;
@@ -257,8 +279,8 @@ reply_tells_fates w id answer print small told fits message_id state (inl tells)
       decided = fits.fated shows.chain final shows.answer_is is;
       state_is = sym shows.code_is ∙ ap (λ (f : Option Final). state_code (state_of f)) is;
     }
-reply_tells_fates w id answer print small told fits message_id state (inr (inr tells)) = absurd (told.receipt message_id state tells)
-reply_tells_fates w id answer print small told fits message_id state (inr (inl tells)) =
+reply_tells_fates node w id answer print small told fits message_id state (inr (inr tells)) = absurd (told.receipt message_id state tells)
+reply_tells_fates node w id answer print small told fits message_id state (inr (inl tells)) =
     let (message, removes) = told.deletion message_id tells.0 in
     record {
       id = id;
@@ -269,12 +291,14 @@ reply_tells_fates w id answer print small told fits message_id state (inr (inl t
       state_is = tells.1;
     }
 
-pub reply_tells_deleted : (w : World) (id about : ℕ) (answer : Answer) (print : Print) → id < 2 ^ 64 → about < 2 ^ 64 → IsDecided 1 w id Deleted →
-    IsTold about answer print → IsFitAnswer 1 w about answer → TellsDeleted (decimal id) print
-reply_tells_deleted w id about answer print small other_small deleted told fits state tells =
+-- and it tells what was decided
+pub reply_tells_only : (node : ℕ) (w : World) (id about : ℕ) (final : Final) (answer : Answer) (print : Print) → id < 2 ^ 64 → about < 2 ^ 64 →
+    IsDecided node w id final → IsTold about answer print → IsFitAnswer node w about answer →
+    TellsOnly (decimal id) (state_code (state_of (Some final))) print
+reply_tells_only node w id about final answer print small other_small decided told fits state tells =
     let (message, shows) = told.state (decimal id) state tells in
     let here : about ≡ id = decimal_injective about id other_small small message in
-    let ends = fits.shown shows.chain Deleted shows.answer_is (subst (λ (i : ℕ). IsDecided 1 w i Deleted) (sym here) deleted) in
+    let ends = fits.shown shows.chain final shows.answer_is (subst (λ (i : ℕ). IsDecided node w i final) (sym here) decided) in
     sym shows.code_is ∙ ap (λ (f : Option Final). state_code (state_of f)) ends
 
 -- ---- what a receipt tells
@@ -299,13 +323,13 @@ report_tells_no_deletion session sequence optional report message_id tells = not
     not_late other id late is = cc
 
 -- the final state of its message
-pub report_tells_fates : (w : World) (session sequence : ℕ) (optional : Bool) (report : Report) → report.id < 2 ^ 64 →
-    IsDecided 1 w report.id report.final → TellsFates w (Reports session sequence optional report)
-report_tells_fates w session sequence optional report small decided message_id state (inl tells) =
+pub report_tells_fates : (node : ℕ) (w : World) (session sequence : ℕ) (optional : Bool) (report : Report) → report.id < 2 ^ 64 →
+    IsDecided node w report.id report.final → TellsFates node w (Reports session sequence optional report)
+report_tells_fates node w session sequence optional report small decided message_id state (inl tells) =
     absurd (report_tells_no_state session sequence optional report message_id state tells.0)
-report_tells_fates w session sequence optional report small decided message_id state (inr (inl tells)) =
+report_tells_fates node w session sequence optional report small decided message_id state (inr (inl tells)) =
     absurd (report_tells_no_deletion session sequence optional report message_id tells.0)
-report_tells_fates w session sequence optional report small decided message_id state (inr (inr tells)) =
+report_tells_fates node w session sequence optional report small decided message_id state (inr (inr tells)) =
     let same = report_is tells.session tells.sequence tells.optional tells.report tells.printed in
     record {
       id = report.id;
