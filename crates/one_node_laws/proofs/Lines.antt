@@ -1,15 +1,13 @@
 -- A line does the same over one node and over several, if it is not bad over one; and so do all lines.
 use Rattle.std.specs.Prelude.{nat_lt, nat_le}
-use Rattle.std.proofs.Common.{◌≡◌, ℕ, suc, true, false, List, [], ◌∷◌, ◌++◌, length, Option, Some, None, refl, sym, ap, subst, ◌∙◌, arith}
-use Rattle.std.proofs.lemmas.Grind.{flat_map-append}
-use Rattle.std.proofs.lemmas.List.{append_assoc}
+use Rattle.std.proofs.Common.{◌≡◌, ℕ, suc, true, false, List, [], ◌∷◌, ◌++◌, length, Option, Some, None, refl, sym, ap, subst, ◌≤◌, arith}
 use Rattle.script_lines.specs.Lines.{lines_of}
 use Rattle.script_lines.specs.Said.{Said, Skipped, Nodes, Octets, Deliver, Crash, Tick, Grant, Settle, Restart, Replay, said_within}
 use Rattle.script_text.specs.Settings.{Settings, script_settings}
-use Rattle.script_text.specs.Prints.{line_of, text_of_prints}
+use Rattle.script_text.specs.Prints.{text_of_prints}
 use Rattle.script_text.specs.Runner.{Runner, Acted, most_deliveries, on_grant, on_octets, on_restart, on_settle, on_tick}
 use Rattle.script_text.specs.Script as alone
-use Rattle.script_world.specs.Prints.{world_line, world_text}
+use Rattle.script_world.specs.Prints.{WorldPrint, world_text}
 use Rattle.script_world.specs.World.{World, Moved, acts, restarts}
 use Rattle.script_world.specs.World as world
 use Rattle.script_world.specs.Script as many
@@ -17,8 +15,9 @@ use Rattle.one_node_laws.proofs.Awaiting.{grant_alike, octets_alike, tick_alike}
 use Rattle.one_node_laws.proofs.Beside.{GoesBeside, IsBeside, acts_beside, restarts_beside}
 use Rattle.one_node_laws.proofs.Saying.{Says, says, said_within_more, takes_part_in, the_node}
 use Rattle.one_node_laws.proofs.Sending.{none_sent}
+use Rattle.one_node_laws.proofs.Texts.{texts_alike, texts_begin}
 use Rattle.one_node_laws.proofs.Settling.{settles_beside}
-use Rattle.one_node_laws.specs.Laws.{OneNodePrintsAlike, TextBeginsAlike}
+use Rattle.one_node_laws.specs.Laws.{BadOverOneFirst, OneNodePrintsAlike, TextBeginsAlike}
 
 -- ---- stages
 
@@ -145,56 +144,71 @@ module _ (settings : Settings) (line : List ℕ) (done : alone.Stepped) where
 
 -- ---- all lines
 
--- what is printed before the first line that is bad over one node is the same, and if no line is, all is
-record AllAlike (one many_bad : Option ℕ) (text many_text : List ℕ) : Type 0 where
+-- What is printed before the first line that is bad over one node is the same, and if no line is, all is; and a line that is bad over several
+-- nodes has one at it or before it that is bad over one.
+record AllAlike (bad many_bad : Option ℕ) (text many_text : List ℕ) : Type 0 where
   others : List ℕ
   begins : many_text ≡ text ++ others
-  good : one ≡ None → (many_bad ≡ None) × (many_text ≡ text)
+  good : bad ≡ None → (many_bad ≡ None) × (many_text ≡ text)
+  behind : (number : ℕ) → many_bad ≡ Some number → (first : ℕ) × (bad ≡ Some first) × (first ≤ number)
 
 abbrev GoAlike : Settings → alone.Stage → many.Stage → ℕ → List (List ℕ) → Type 0
 GoAlike settings stage there number lines =
     AllAlike (alone.bad_from settings stage number lines) (many.bad_from settings there number lines)
     (text_of_prints (alone.prints_from settings stage lines)) (world_text (many.prints_from settings there lines))
 
+-- lines are counted from a number
+counted_from : (settings : Settings) (there : many.Stage) (number : ℕ) (lines : List (List ℕ)) (bad : ℕ) →
+    many.bad_from settings there number lines ≡ Some bad → number ≤ bad
+unfolding many.bad_from
+counted_from settings there number [] bad is = absurd cc
+counted_from settings there number (line ∷ lines) bad is =
+    by_step (λ (next : many.Stage). counted_from settings next (suc number) lines bad) (many.step_of settings there line) is
+  where
+    by_step : ((next : many.Stage) → many.bad_from settings next (suc number) lines ≡ Some bad → suc number ≤ bad) → (step : Option many.Stepped) →
+        many.after (Some number) (λ (d : many.Stepped). many.bad_from settings d.stage (suc number) lines) step ≡ Some bad → number ≤ bad
+    by_step later None is = let same : number ≡ bad = cc in omega (arith, same)
+    by_step later (Some done) is = let least = later done.stage is in omega (arith, least)
+
 lines_alike : (settings : Settings) (stage : alone.Stage) (there : many.Stage) → StagesAlike stage there → (number : ℕ) (lines : List (List ℕ)) →
     GoAlike settings stage there number lines
 unfolding alone.prints_from alone.bad_from many.prints_from many.bad_from
-lines_alike settings stage there alike number [] = record { others = []; begins = refl; good = λ none. (refl, refl) }
+lines_alike settings stage there alike number [] = record { others = []; begins = refl; good = λ none. (refl, refl); behind = λ bad is. absurd cc }
 lines_alike settings stage there alike number (line ∷ lines) =
     by_step (λ (next : alone.Stage) (other : many.Stage) both. lines_alike settings next other both (suc number) lines) (alone.step_of settings stage line) refl
   where
+    many_bad : Option many.Stepped → Option ℕ
+    many_bad step = many.after (Some number) (λ (d : many.Stepped). many.bad_from settings d.stage (suc number) lines) step
+
+    many_prints : Option many.Stepped → List WorldPrint
+    many_prints step = many.after [] (λ (d : many.Stepped). d.prints ++ many.prints_from settings d.stage lines) step
+
     by_step : ((next : alone.Stage) (other : many.Stage) → StagesAlike next other → GoAlike settings next other (suc number) lines) →
         (step : Option alone.Stepped) → alone.step_of settings stage line ≡ step →
         AllAlike (alone.after (Some number) (λ (d : alone.Stepped). alone.bad_from settings d.stage (suc number) lines) step)
-        (many.after (Some number) (λ (d : many.Stepped). many.bad_from settings d.stage (suc number) lines) (many.step_of settings there line))
+        (many_bad (many.step_of settings there line))
         (text_of_prints (alone.after [] (λ (d : alone.Stepped). d.prints ++ alone.prints_from settings d.stage lines) step))
-        (world_text (many.after [] (λ (d : many.Stepped). d.prints ++ many.prints_from settings d.stage lines) (many.step_of settings there line)))
-    by_step behind None is = record {
-      others = world_text (many.after [] (λ (d : many.Stepped). d.prints ++ many.prints_from settings d.stage lines) (many.step_of settings there line));
+        (world_text (many_prints (many.step_of settings there line)))
+    by_step then_alike None is = record {
+      others = world_text (many_prints (many.step_of settings there line));
       begins = refl;
       good = λ none. absurd cc;
+      behind = λ bad is. (number, refl, counted_from settings there number (line ∷ lines) bad is);
     }
-    by_step behind (Some done) is =
+    by_step then_alike (Some done) is =
         let goes = line_goes_alike settings line done stage there alike is in
         let next = goes.other in
-        let later = behind done.stage next.stage goes.stages in
-        let first = text_of_prints done.prints in
-        let rest = text_of_prints (alone.prints_from settings done.stage lines) in
-        let split : text_of_prints (done.prints ++ alone.prints_from settings done.stage lines) ≡ first ++ rest =
-        flat_map-append line_of done.prints (alone.prints_from settings done.stage lines) in
-        let divided : world_text (next.prints ++ many.prints_from settings next.stage lines)
-        ≡ first ++ world_text (many.prints_from settings next.stage lines) =
-        flat_map-append world_line next.prints (many.prints_from settings next.stage lines)
-        ∙ ap (λ (text : List ℕ). text ++ world_text (many.prints_from settings next.stage lines)) goes.text in
-        subst (λ (step : Option many.Stepped). AllAlike (alone.bad_from settings done.stage (suc number) lines)
-        (many.after (Some number) (λ (d : many.Stepped). many.bad_from settings d.stage (suc number) lines) step)
-        (text_of_prints (done.prints ++ alone.prints_from settings done.stage lines))
-        (world_text (many.after [] (λ (d : many.Stepped). d.prints ++ many.prints_from settings d.stage lines) step))) (sym goes.is)
+        let later = then_alike done.stage next.stage goes.stages in
+        let prints = alone.prints_from settings done.stage lines in
+        let world_prints = many.prints_from settings next.stage lines in
+        subst (λ (step : Option many.Stepped). AllAlike (alone.bad_from settings done.stage (suc number) lines) (many_bad step)
+        (text_of_prints (done.prints ++ prints)) (world_text (many_prints step))) (sym goes.is)
         (record {
           others = later.others;
-          begins = divided ∙ ap (λ (text : List ℕ). first ++ text) later.begins ∙ sym (append_assoc first rest later.others)
-              ∙ ap (λ (text : List ℕ). text ++ later.others) (sym split);
-          good = λ none. let good = later.good none in (good.0, divided ∙ ap (λ (text : List ℕ). first ++ text) good.1 ∙ sym split);
+          begins = texts_begin next.prints world_prints done.prints prints later.others goes.text later.begins;
+          good = λ none.
+              let good = later.good none in (good.0, texts_alike next.prints world_prints done.prints prints goes.text good.1);
+          behind = later.behind;
         })
 
 script_alike : (script : List ℕ) → GoAlike script_settings None None 1 (lines_of script)
@@ -205,3 +219,6 @@ prints_alike script good = (script_alike script).good good
 
 pub begins_alike : TextBeginsAlike
 begins_alike script = let alike = script_alike script in (alike.others, alike.begins)
+
+pub bad_over_one_first : BadOverOneFirst
+bad_over_one_first script = (script_alike script).behind

@@ -2,6 +2,7 @@
 use Rattle.std.specs.Fmt.{digits}
 use Rattle.std.proofs.Common.{◌≡◌, ℕ, List, [], ◌∷◌, ◌++◌, map, refl, sym, ap, ◌∙◌}
 use Rattle.std.proofs.lemmas.Grind.{flat_map-append}
+use Rattle.std.proofs.lemmas.List.{append_assoc}
 use Rattle.std.proofs.lemmas.List.Concat.{flat_map-cons}
 use Rattle.script_text.specs.Prints.{Print, AtOnce, Late, Delivers, Reports, Gone, Unsettled, Declined, Ungranted, line_of, text_of_prints}
 use Rattle.script_world.specs.Prints.{WorldPrint, At, line_at, world_line, world_text}
@@ -33,3 +34,13 @@ texts_alike first last one other alike later =
     ∙ ap (λ (text : List ℕ). text ++ world_text last) alike
     ∙ ap (λ (text : List ℕ). text_of_prints one ++ text) later
     ∙ sym (flat_map-append line_of one other)
+
+-- what begins so, behind texts that are alike
+pub texts_begin : (first last : List WorldPrint) (one other : List Print) (rest : List ℕ) → world_text first ≡ text_of_prints one →
+    world_text last ≡ text_of_prints other ++ rest → world_text (first ++ last) ≡ text_of_prints (one ++ other) ++ rest
+texts_begin first last one other rest alike begins =
+    flat_map-append world_line first last
+    ∙ ap (λ (text : List ℕ). text ++ world_text last) alike
+    ∙ ap (λ (text : List ℕ). text_of_prints one ++ text) begins
+    ∙ sym (append_assoc (text_of_prints one) (text_of_prints other) rest)
+    ∙ ap (λ (text : List ℕ). text ++ rest) (sym (flat_map-append line_of one other))
