@@ -1,12 +1,12 @@
 #!/usr/bin/env python3
 """Prints what one line more costs `centre script`, and what memory it takes, with 1,000, 10,000 and 90,000 messages.
 
-A script binds a session and submits so many messages, with a settle behind each. To it come, each in a script of its own: 9,000 more
-submits with their settles, 9,000 queries with their settles, of messages all over, 100 ticks at the least moment, at which nothing is due,
-and a restart. What these cost is the processor time that the longer script takes more, the best of five runs of both; it is
-printed as it is, so that a difference below 0 shows how noisy the machine was. GNU time (Debian's
-`time`) measures the memory, in a run of its own, since the peak of a process that Python starts begins at Python's own. Give the built
-program as the argument:
+A script binds a session and submits so many messages, with a settle behind each, to an account that has no session, so that no attempt
+is due. To it come, each in a script of its own: 9,000 more submits with their settles, 9,000 queries with their settles, of messages all over,
+100 ticks at the least moment, at which nothing is due, and a restart. What these cost is the processor time that the longer script takes more,
+the best of five runs of both; it is printed as it is, so that a difference below 0 shows how noisy the machine was. GNU time (Debian's `time`)
+measures the memory, in a run of its own, since the peak of a process that Python starts begins at Python's own. Give the built program as
+the argument:
 
     python3 bench/one_node.py crates/centre/out/centre
 """
@@ -16,7 +16,7 @@ import sys
 import tempfile
 
 BIND = "0000001e000000090000000000000001736d653100707731000034000000"
-SUBMIT = "0000002900000004000000000000000200010131343400010131353500000000000000000000024869"
+SUBMIT = "0000002900000004000000000000000200010131343400010132353500000000000000000000024869"
 RUNS = 5
 START = 946_684_800
 MORE = 9_000

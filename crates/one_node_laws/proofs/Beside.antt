@@ -1,0 +1,102 @@
+-- The world of a script over one node stands beside the runner of the same script.
+use Rattle.std.specs.Prelude.{nat_lt, if◌then◌else◌}
+use Rattle.std.proofs.Common.{◌≡◌, ℕ, suc, Bool, List, [], ◌∷◌, ◌++◌, length, sym, ap, subst, ◌∙◌}
+use Rattle.std.proofs.lemmas.List.{append_assoc, append-nil}
+use Rattle.mc_model.specs.synod.Packet.{Packet}
+use Rattle.script_text.specs.Node.{awaiting}
+use Rattle.script_text.specs.Prints.{text_of_prints}
+use Rattle.script_text.specs.Runner.{Runner, Acted, followed_by, on_restart}
+use Rattle.script_world.specs.Prints.{world_text}
+use Rattle.script_world.specs.World.{World, Moved, acts, given_out, is_down, refuses, restarts, shared, then_moved}
+use Rattle.script_world.specs.World as many
+use Rattle.one_node_laws.proofs.Alone.{IsAlone, none_alone, others_alone}
+use Rattle.one_node_laws.proofs.Awaiting.{ActedAlike, acted_behind, restart_alike, runner_behind}
+use Rattle.one_node_laws.proofs.Sending.{AreSentBy, both_sent}
+use Rattle.one_node_laws.proofs.Texts.{text_alike, texts_alike}
+
+-- the first packets came to the node, and no others
+abbrev pub HaveCome : List Packet → (ℕ → ℕ → Bool) → Type 0
+HaveCome past came = (place : ℕ) → came (suc place) 1 ≡ nat_lt place (length past)
+
+-- one node, packets that came to it, and packets that are still to come
+abbrev pub world_of : Runner → List Packet → List Packet → (ℕ → ℕ → Bool) → World
+world_of runner past waiting came = record { runners = given_out runner ∷ []; packets = past ++ waiting; came = came }
+
+-- A world has the runner, but that the packets which are to come to its node stand behind those that came.
+pub record IsBeside (runner : Runner) (world : World) : Type 0 where
+  pub past : List Packet
+  pub came : ℕ → ℕ → Bool
+  pub is : world ≡ world_of runner past runner.node.packets came
+  pub have_come : HaveCome past came
+  pub alone : IsAlone runner.node
+
+-- what a runner did, and what a world did: they stand beside each other, and the text is the same
+pub record GoesBeside (acted : Acted) (moved : Moved) : Type 0 where
+  pub beside : IsBeside acted.next moved.next
+  pub text : world_text moved.prints ≡ text_of_prints acted.prints
+
+pub then_beside : (first last : Acted) (one other : Moved) → GoesBeside first one → GoesBeside last other →
+    GoesBeside (followed_by first last) (then_moved one other)
+then_beside first last one other goes later = record {
+  beside = later.beside;
+  text = texts_alike one.prints other.prints first.prints last.prints goes.text later.text;
+}
+
+-- ---- a node acts
+
+-- what it sends comes behind all packets
+pub shared_beside : (runner : Runner) (past waiting : List Packet) (came : ℕ → ℕ → Bool) → HaveCome past came → AreSentBy 1 waiting → (acted : Acted) →
+    IsAlone acted.next.node → GoesBeside (acted_behind waiting acted) (shared (world_of runner past waiting came) 1 acted)
+shared_beside runner past waiting came have_come own acted alone =
+    let sent = acted.next.node.packets in
+    record {
+      beside = record {
+        past = past;
+        came = came;
+        is = ap (λ (packets : List Packet). record { runners = given_out acted.next ∷ []; packets = packets; came = came }) (append_assoc past waiting sent);
+        have_come = have_come;
+        alone = others_alone acted.next.node alone (waiting ++ sent) (both_sent 1 waiting sent own alone.own);
+      };
+      text = text_alike acted.prints;
+    }
+
+-- a node that is up acts
+pub acts_up : (runner : Runner) → IsAlone runner.node → (past waiting : List Packet) (came : ℕ → ℕ → Bool) (act : Runner → Moved) →
+    many.if_up (world_of runner past waiting came) 1 act ≡ act (given_out runner)
+acts_up runner alone past waiting came act =
+    ap (λ (up : Bool). if up then act (given_out runner) else refuses (world_of runner past waiting came) is_down) alone.up
+
+-- an act that packets which wait do not change
+abbrev pub LooksAway : (Runner → Acted) → Type 0
+LooksAway act = (waiting : List Packet) (runner : Runner) → IsAlone runner.node → ActedAlike waiting (act (runner_behind waiting runner)) (act runner)
+
+-- what was given out and waits in front is what waited
+waits_again : (runner : Runner) → runner_behind runner.node.packets (given_out runner) ≡ runner
+waits_again runner = ap (λ (packets : List Packet). record runner { node = awaiting runner.node packets }) (append-nil runner.node.packets)
+
+act_is : (act : Runner → Acted) → LooksAway act → (runner : Runner) → IsAlone runner.node →
+    act runner ≡ acted_behind runner.node.packets (act (given_out runner))
+act_is act away runner alone =
+    sym (ap act (waits_again runner)) ∙ (away runner.node.packets (given_out runner) (none_alone runner.node alone)).is
+
+shares : (act : Runner → Acted) → LooksAway act → (runner : Runner) (world : World) (beside : IsBeside runner world) →
+    GoesBeside (act runner) (shared (world_of runner beside.past runner.node.packets beside.came) 1 (act (given_out runner)))
+shares act away runner world beside =
+    let waiting = runner.node.packets in
+    let there = away waiting (given_out runner) (none_alone runner.node beside.alone) in
+    subst (λ (acted : Acted). GoesBeside acted (shared (world_of runner beside.past waiting beside.came) 1 (act (given_out runner))))
+    (sym (act_is act away runner beside.alone))
+    (shared_beside runner beside.past waiting beside.came beside.have_come beside.alone.own (act (given_out runner)) there.alone)
+
+pub acts_beside : (act : Runner → Acted) → LooksAway act → (runner : Runner) (world : World) → IsBeside runner world →
+    GoesBeside (act runner) (acts world 1 act)
+acts_beside act away runner world beside =
+    let waiting = runner.node.packets in
+    let here = world_of runner beside.past waiting beside.came in
+    subst (λ (moved : Moved). GoesBeside (act runner) moved)
+    (sym (ap (λ (w : World). acts w 1 act) beside.is ∙ acts_up runner beside.alone beside.past waiting beside.came (λ r. shared here 1 (act r))))
+    (shares act away runner world beside)
+
+pub restarts_beside : (runner : Runner) (world : World) → IsBeside runner world → GoesBeside (on_restart runner) (restarts world 1)
+restarts_beside runner world beside =
+    subst (λ (w : World). GoesBeside (on_restart runner) (restarts w 1)) (sym beside.is) (shares on_restart restart_alike runner world beside)

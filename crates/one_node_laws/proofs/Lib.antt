@@ -1,0 +1,10 @@
+pub mod Sending
+pub mod Alone
+pub mod Awaiting
+pub mod Texts
+pub mod Beside
+pub mod Due
+pub mod Settling
+pub mod Saying
+pub mod Lines
+pub mod Calm
