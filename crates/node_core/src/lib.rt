@@ -37,7 +37,7 @@ mod walk;
 
 pub use fault::StepFault;
 pub use grant_refusal::GrantRefusal;
-pub use input::Input;
+pub use input::{Input, sender};
 pub use laws::{opens_as_crashed, opens_as_restarted, reopens_as_crashed};
 pub use life::Life;
 pub use node::Node;

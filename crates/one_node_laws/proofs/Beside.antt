@@ -5,9 +5,9 @@ use Rattle.std.proofs.lemmas.List.{append_assoc, append-nil}
 use Rattle.mc_model.specs.synod.Packet.{Packet}
 use Rattle.script_text.specs.Node.{awaiting}
 use Rattle.script_text.specs.Prints.{text_of_prints}
-use Rattle.script_text.specs.Runner.{Runner, Acted, followed_by, on_restart}
+use Rattle.script_text.specs.Runner.{Acted, Runner, followed_by, given_out, on_restart}
 use Rattle.script_world.specs.Prints.{world_text}
-use Rattle.script_world.specs.World.{World, Moved, acts, given_out, is_down, refuses, restarts, shared, then_moved}
+use Rattle.script_world.specs.World.{World, Moved, acts, is_down, refuses, restarts, shared, then_moved}
 use Rattle.script_world.specs.World as many
 use Rattle.one_node_laws.proofs.Alone.{IsAlone, none_alone, others_alone}
 use Rattle.one_node_laws.proofs.Awaiting.{ActedAlike, acted_behind, restart_alike, runner_behind}

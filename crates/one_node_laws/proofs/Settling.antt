@@ -3,8 +3,8 @@ use Rattle.std.specs.Prelude.{◌==◌, ◌&&◌, ◌||◌}
 use Rattle.std.proofs.Common.{◌≡◌, ℕ, zero, suc, Bool, true, List, [], ◌∷◌, ◌++◌, length, Option, Some, None, refl, sym, ap, subst, ◌∙◌, inl, inr, arith}
 use Rattle.std.proofs.lemmas.List.{append_assoc, length-append}
 use Rattle.mc_model.specs.synod.Packet.{Packet}
-use Rattle.script_text.specs.Runner.{Runner, Acted, first_or, followed_by, on_delivery, rests, settles}
-use Rattle.script_world.specs.World.{World, Moved, Due, comes, comes_if, due, given_out, if_due, marked, shared, stays, takes_part, then_moved}
+use Rattle.script_text.specs.Runner.{Acted, Runner, first_or, followed_by, given_out, on_delivery, rests, settles}
+use Rattle.script_world.specs.World.{World, Moved, Due, comes, comes_if, due, if_due, marked, shared, stays, takes_part, then_moved}
 use Rattle.script_world.specs.World as many
 use Rattle.one_node_laws.proofs.Alone.{IsAlone}
 use Rattle.one_node_laws.proofs.Awaiting.{acted_behind, delivery_alike}

@@ -104,29 +104,29 @@ pub enum Line {
 
 impl Line {
     /// Whether each node that the line names is one of the nodes from 1 to this one; `nodes N` names the nodes up to N.
-    pub fn names_within(&self, most: u8) -> bool
+    pub fn names_within(&self, most: usize) -> bool
         ensures { result ≡ names_within most (said_by self.now) }
     {
         match self {
             Line::Skipped | Line::Replay { .. } => true,
-            Line::Nodes { count, .. } => *count <= most,
+            Line::Nodes { count, .. } => *count as usize <= most,
             Line::Settle { nodes } => all_within(*nodes, most),
             Line::Octets { node, .. }
             | Line::Deliver { node, .. }
             | Line::Crash { node, .. }
             | Line::Tick { node, .. }
             | Line::Grant { node, .. }
-            | Line::Restart { node } => node.number() <= most,
+            | Line::Restart { node } => node.number() as usize <= most,
         }
     }
 }
 
 /// Whether each of these nodes is one of the nodes from 1 to this one.
-fn all_within(nodes: NodeSet, most: u8) -> bool
+fn all_within(nodes: NodeSet, most: usize) -> bool
     ensures { result ≡ list_all (λ node. nat_le node most) (nodes_with (has nodes)) }
 {
     for number in 1..10 {
-        if most < number && nodes.has(NodeNo::of(number)) {
+        if most < number as usize && nodes.has(NodeNo::of(number)) {
             return false;
         }
     }

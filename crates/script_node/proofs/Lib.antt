@@ -1,1 +1,1 @@
-pub mod Lives
+pub mod Stepping

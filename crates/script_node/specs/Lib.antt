@@ -1,2 +1,3 @@
+pub mod Nodes
 pub mod Steps
-pub mod Lives
+pub mod Stops

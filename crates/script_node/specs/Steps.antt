@@ -1,10 +1,10 @@
 -- Steps of the code's node, in the words of the text of a script.
-use Rattle.std.specs.Prelude.{◌≡◌, ℕ, List, [], ◌∷◌, map, Option, Some, None, option_map}
+use Rattle.std.specs.Prelude.{◌≡◌, ℕ, map, Some, None, option_map}
 use Rattle.std.specs.Global.{Vec}
 use Rattle.mc_model.specs.message.Chain.{Chain}
-use Rattle.mc_model.specs.synod.Packet.{Packet, slot_of}
+use Rattle.mc_model.specs.synod.Packet.{slot_of}
 use Rattle.mc_model.specs.node.Grant.{GrantRefusal, refusal_number}
-use Rattle.mc_model.specs.node.Input.{Delivery, Grant}
+use Rattle.mc_model.specs.node.Input.{Grant}
 use Rattle.node_model.specs.Attempts.{grant_refusal}
 use Rattle.node_model.specs.Granted.{known_slot}
 use Rattle.node_model.specs.Kept.{message_at}
@@ -13,19 +13,11 @@ use Rattle.delivery.specs.Deliveries.{EndsInAttempt}
 use Rattle.pdu_tables.specs.StatusCodes.{status_code}
 use Rattle.requests.specs.Replying.{reply_given}
 use Rattle.requests.specs.declared.answer.Reply.{Reply}
-use Rattle.script_text.specs.Node.{Node, awaiting, step_at, with_step}
-use Rattle.node_core.specs.Keeping.{kept_of}
-use Rattle.synod_acceptor.specs.Packets.{packet_of}
+use Rattle.script_text.specs.Node.{Node, step_at, with_step}
 use Rattle.node_model.specs.Reported.{receipt_of}
-use Rattle.script_node.specs.declared.node.Answers.{Answers}
-use Rattle.script_node.specs.declared.node.Given.{Given}
+use Rattle.world.specs.declared.given.Given.{Given}
 use Rattle.script_node.specs.declared.node.Granting.{Granting}
 use Rattle.script_node.specs.declared.node.Granting.TheVariants as grantings
-use Rattle.script_node.specs.declared.node.ScriptNode.{ScriptNode}
-
--- what it keeps, and the packets that are still to come
-abbrev pub node_of : ScriptNode → Node
-node_of n = record { setup = n.node.kept.setup; kept = kept_of n.node.kept; packets = map packet_of n.packets.items }
 
 -- A step of the node left it so, and gave these replies.
 pub record HasReplied (step : Stepped) (before : Node) (replies : Vec Reply) (after : Node) : Type 0 where
@@ -38,22 +30,10 @@ pub record HasGiven (step : Stepped) (before : Node) (given : Given) (after : No
   pub reported : map receipt_of given.receipts.items ≡ step.outputs.receipts
 
 -- The same with what was answered to the request that came.
-pub record HasStepped (step : Stepped) (before : Node) (answers : Answers) (after : Node) : Type 0 where
-  pub gave : HasGiven step before answers.given after
-  pub ticket : answers.ticket ≡ step.outputs.ticket
-  pub refused : option_map status_code answers.refused ≡ step.outputs.refused
-
--- The first packet came, and this was given out.
-pub record HasCome (before : Node) (given : Given) (after : Node) : Type 0 where
-  pub packet : Packet
-  pub others : List Packet
-  pub waited : before.packets ≡ packet ∷ others
-  pub gave : HasGiven (step_at (awaiting before others) (Delivery packet)) (awaiting before others) given after
-
--- Or there was none, and nothing changed.
-abbrev pub IsDelivered : Node → Option Given → Node → Type 0
-IsDelivered before None after = (before.packets ≡ []) × (after ≡ before)
-IsDelivered before (Some given) after = HasCome before given after
+pub record HasStepped (step : Stepped) (before : Node) (given : Given) (after : Node) : Type 0 where
+  pub gave : HasGiven step before given after
+  pub ticket : given.ticket ≡ step.outputs.ticket
+  pub refused : option_map status_code given.refused ≡ step.outputs.refused
 
 -- ---- an attempt that is asked for
 

@@ -1,7 +1,8 @@
-//! The node of a script: the only one of its cluster, with the packets that it sends to itself.
+//! A node of a script, with the packets that it gives out, and one that is down.
 #![tactic(auto)]
 
-mod live_node;
 mod node;
+mod stopped_node;
 
-pub use node::{Answers, Given, Granting, ScriptNode};
+pub use node::{Granting, ScriptNode};
+pub use stopped_node::{Restarted, StoppedNode};

@@ -1,48 +1,40 @@
-//! The node of a script.
+//! A node of a script.
 
-ghost use Rattle.std.specs.Prelude.{◌≡◌, ◌≤◌, ◌++◌, None, Some, IfOk, IsSome, OnOk, option_map};
-ghost use Rattle.script_text.specs.Attempts.{all_given_up, concluded, delivered_so};
-ghost use Rattle.script_text.specs.Node.{opened, request_at, step_at, tick_at};
+ghost use Rattle.std.specs.Prelude.{◌≡◌, ◌++◌, [], map, None, Some, true, IfOk, IsSome, OnOk, option_map};
 ghost use Rattle.delivery.specs.Kept.{outcome_kept};
+ghost use Rattle.mc_model.specs.node.Input.{Delivery as Delivered};
 ghost use Rattle.node_core.specs.Steps.{input_of, refused_by};
-ghost use Rattle.script_node.specs.Lives.{Restarts};
-ghost use Rattle.script_node.specs.Steps.{HasGranted, HasReplied, HasStepped, IsDelivered, node_of};
+ghost use Rattle.node_core.specs.Stops.{is_after};
+ghost use Rattle.node_model.specs.Stepped.{stopped};
+ghost use Rattle.script_node.specs.Nodes.{node_of};
+ghost use Rattle.script_node.specs.Steps.{HasGiven, HasGranted, HasReplied, HasStepped};
+ghost use Rattle.script_node.specs.Stops.{IsStopped, Restarts};
+ghost use Rattle.script_text.specs.Attempts.{all_given_up, concluded, delivered_so};
+ghost use Rattle.script_text.specs.Node.{awaiting, opened_by, request_at, step_at, tick_at};
+ghost use Rattle.synod_acceptor.specs.Packets.{packet_of};
 
-use crate::live_node::LiveNode;
+use crate::stopped_node::StoppedNode;
 use delivery::Outcome;
 use desk::Request;
 use fate_chain::Chain;
-use mc_types::{Moment, MsgId, NodeNo, Slot};
-use node_core::{Input, Outputs, Setup, StepFault};
+use mc_types::{Moment, MsgId, Slot};
+use node_core::{Found, Input, Setup, StepFault};
 use pdu_codec::Text;
-use pdu_tables::Status;
 use requests::Reply;
 use sessions::{Delivery, Pushed};
+use sim_net::Packets;
+use stable_store::StoreFault;
 use std::alloc::{AllocError, Global};
-use std::collections::VecDeque;
+use std::marker::Model;
 use synod_acceptor::Packet;
+use world::{Given, Member};
 
-/// The only node of its cluster, over a store in memory, and the packets that it sent to itself and that are still to come.
+/// A node that is up, over a store in memory, and the packets that it gives out.
 #[derive(Drop)]
 pub struct ScriptNode {
-    node: LiveNode,
-    // The oldest first.
-    packets: VecDeque<Packet>,
-}
-
-/// What a step of the node gives out: the replies to requests that waited, and for each receipt that is due the chain of its message.
-#[derive(Drop)]
-pub struct Given {
-    pub replies: Vec<Reply>,
-    pub receipts: Vec<Chain>,
-}
-
-/// The same with what is answered to the request that came: the ticket under which it waits, or the status with which it is refused.
-#[derive(Drop)]
-pub struct Answers {
-    pub ticket: Option<u64>,
-    pub refused: Option<Status>,
-    pub given: Given,
+    member: Member,
+    // What it sent since its packets were taken from it, the oldest first.
+    sent: Packets,
 }
 
 /// What comes of asking for the attempt of a message.
@@ -54,24 +46,41 @@ pub enum Granting {
     Refused(u8),
 }
 
+impl Model for ScriptNode {
+    ghost use Rattle.std.specs.Prelude.{◌≡◌, true};
+    ghost use Rattle.script_node.specs.Nodes.{Running};
+
+    ghost Value = { Running };
+
+    ghost view = { λ n. record { node = n.member.node; sent = n.sent.sent } };
+
+    ghost invariant = { λ n. n.member.up ≡ true };
+}
+
 impl ScriptNode {
-    /// Node 1 of one, with a new store. A message that asks for no time is kept for so many seconds, and the first has this serial. An
-    /// `Err` is want of memory.
-    pub fn open(alloc: Global, validity: u32, serial: u32) -> Result<ScriptNode, AllocError>
-        requires least { 1 ≤ serial }
-        requires most { serial ≤ 99999 }
-        ensures { IfOk result (λ node. node_of node ≡ opened validity serial) }
+    /// A node with a new store. An `Err` is want of memory.
+    pub fn open(alloc: Global, setup: Setup) -> Result<ScriptNode, AllocError>
+        ensures { IfOk result (λ node. node_of node ≡ opened_by setup) }
     {
-        let setup = Setup::make(NodeNo::of(1), 1, serial, validity).unwrap();
-        Ok(ScriptNode {
-            node: LiveNode::open(alloc, setup)?,
-            packets: VecDeque::new(alloc),
-        })
+        let member = Member::open(alloc, setup)?;
+        Ok(ScriptNode::of(alloc, member))
+    }
+
+    /// A member of a world that is up, and has sent nothing yet.
+    pub(crate) fn of(alloc: Global, member: Member) -> ScriptNode
+        requires { member.up ≡ true }
+        ensures node { result.node ≡ member.node }
+        ensures sent { result.sent ≡ [] }
+    {
+        ScriptNode {
+            member,
+            sent: Packets::none(alloc),
+        }
     }
 
     /// A request of an account comes to the node. After an `Err`, which is want of memory, nothing is said of the node.
-    pub fn request(&mut self, account: &Text<16>, request: Request) -> Result<Answers, AllocError>
-        ensures { IfOk result (λ answers. HasStepped (step_at (node_of self.old) (request_at (node_of self.old) account.now request)) (node_of self.old) answers (node_of self.new)) }
+    pub fn request(&mut self, account: &Text<16>, request: Request) -> Result<Given, AllocError>
+        ensures { IfOk result (λ given. HasStepped (step_at (node_of self.old) (request_at (node_of self.old) account.now request)) (node_of self.old) given (node_of self.new)) }
     {
         let account = account.copy()?;
         self.step(Input::Request(account, request))
@@ -82,27 +91,29 @@ impl ScriptNode {
     pub fn tick(&mut self, moment: Moment, up: Vec<Text<16>>) -> Result<Vec<Reply>, AllocError>
         ensures { IfOk result (λ replies. HasReplied (step_at (node_of self.old) (tick_at moment up.items)) (node_of self.old) replies (node_of self.new)) }
     {
-        let answers = self.step(Input::Tick(moment, up))?;
-        Ok(answers.given.replies)
+        let given = self.step(Input::Tick(moment, up))?;
+        Ok(given.replies)
     }
 
     /// The node's clock.
     pub fn clock(&self) -> Moment
         ensures { result ≡ (node_of self.now).kept.clock }
     {
-        self.node.clock()
+        self.member.clock()
     }
 
-    /// The packet that was sent first of those that are still to come comes to the node: the replies of that step; `None` if no packet
-    /// is still to come. After an `Err`, which is want of memory, nothing is said of the node.
-    pub fn deliver_next(&mut self) -> Result<Option<Given>, AllocError>
-        ensures { IfOk result (λ given. IsDelivered (node_of self.old) given (node_of self.new)) }
+    /// What a proof takes of it: it is up. The call does nothing.
+    pub fn stands(&self)
+        ensures { (node_of self.now).kept.up ≡ true }
     {
-        let Some(packet) = self.packets.pop_front() else {
-            return Ok(None);
-        };
-        let answers = self.step(Input::Packet(packet))?;
-        Ok(Some(answers.given))
+        self.member.is_up();
+    }
+
+    /// A packet comes to the node: what it gives out. After an `Err`, which is want of memory, nothing is said of the node.
+    pub fn deliver(&mut self, packet: Packet) -> Result<Given, AllocError>
+        ensures { IfOk result (λ given. HasGiven (step_at (node_of self.old) (Delivered (packet_of packet))) (node_of self.old) given (node_of self.new)) }
+    {
+        self.step(Input::Packet(packet))
     }
 
     /// The attempt in which the chain of a message ends is asked for: that chain, or the first reason that fits why it is not granted, and
@@ -110,8 +121,8 @@ impl ScriptNode {
     pub fn grant(&mut self, id: MsgId) -> Result<Granting, AllocError>
         ensures { IfOk result (λ granting. HasGranted (node_of self.old) id granting (node_of self.new)) }
     {
-        match self.node.take(Input::Grant(id)) {
-            Ok(outputs) => Ok(Granting::Granted(granted_in(outputs))),
+        match self.member.take(Input::Grant(id), &mut self.sent) {
+            Ok(given) => Ok(Granting::Granted(granted_in(given))),
             Err(StepFault::Grant(reason)) => Ok(Granting::Refused(reason.number())),
             Err(StepFault::Memory) => Err(AllocError),
             Err(_) => unreachable!(),
@@ -121,11 +132,10 @@ impl ScriptNode {
     /// The attempt in a slot has this outcome. Nothing changes if it is not open: of such a one nothing comes any more. After an `Err`,
     /// which is want of memory, nothing is said of the node.
     pub fn conclude(&mut self, slot: Slot, outcome: Outcome) -> Result<(), AllocError>
-        ensures { OnOk result (node_of self.new ≡ (concluded (node_of self.old) slot (outcome_kept outcome)).node) }
+        ensures { OnOk result ((node_of self.new) ≡ (concluded (node_of self.old) slot (outcome_kept outcome)).node) }
     {
-        match self.node.take(Input::Answered(slot, outcome)) {
-            Ok(outputs) => self.send(outputs.packets),
-            Err(StepFault::NotGranted) => Ok(()),
+        match self.member.take(Input::Answered(slot, outcome), &mut self.sent) {
+            Ok(_) | Err(StepFault::NotGranted) => Ok(()),
             Err(StepFault::Memory) => Err(AllocError),
             Err(_) => unreachable!(),
         }
@@ -138,7 +148,7 @@ impl ScriptNode {
         delivery: Delivery,
         outcome: Option<Outcome>,
     ) -> Result<(), AllocError>
-        ensures { OnOk result (node_of self.new ≡ (delivered_so (node_of self.old) delivery (option_map outcome_kept outcome)).node) }
+        ensures { OnOk result ((node_of self.new) ≡ (delivered_so (node_of self.old) delivery (option_map outcome_kept outcome)).node) }
     {
         let Delivery::Attempt(slot) = delivery else {
             return Ok(());
@@ -152,7 +162,7 @@ impl ScriptNode {
     /// Nobody answers these pushed requests any more. After an `Err`, which is want of memory, nothing is said of the node.
     #[tactic(auto, unfolding(script_text::specs::Attempts::all_given_up))]
     pub fn give_up(&mut self, pushed: &[Pushed]) -> Result<(), AllocError>
-        ensures { OnOk result (node_of self.new ≡ (all_given_up (node_of self.old) pushed.now).node) }
+        ensures { OnOk result ((node_of self.new) ≡ (all_given_up (node_of self.old) pushed.now).node) }
     {
         for request in pushed {
             self.conclude_by(request.delivery, Some(Outcome::unanswered()))?;
@@ -160,56 +170,61 @@ impl ScriptNode {
         Ok(())
     }
 
-    /// Starts the node anew, in its next incarnation, with what it has saved and nothing else; the packets that it sent are still to come.
-    /// `false`, and nothing changed, if there is no next one. An `Err` is want of memory.
-    pub fn restart(self) -> Result<(ScriptNode, bool), AllocError>
-        ensures { IfOk result (λ done. Restarts (node_of self) (node_of done.0) done.1) }
+    /// The packets that it sent, and that were not taken from it yet, come behind all packets. An `Err` is want of memory; then nothing
+    /// changes.
+    pub fn give_packets(&mut self, all: &mut Packets) -> Result<(), AllocError>
+        ensures packets { OnOk result (map packet_of all.new.sent ≡ map packet_of all.old.sent ++ (node_of self.old).packets) }
+        ensures node { OnOk result ((node_of self.new) ≡ awaiting (node_of self.old) []) }
     {
-        let ScriptNode { node, packets } = self;
-        let (node, done) = node.restart()?;
-        Ok((ScriptNode { node, packets }, done))
+        all.take_from(&mut self.sent)
+    }
+
+    /// Starts the node anew, in its next incarnation, with what it has saved and nothing else; the packets that it sent are sent. `false`, and
+    /// nothing changed, if it has begun its last incarnation. After an `Err`, which is want of memory, nothing is said of the node.
+    pub fn restart(&mut self) -> Result<bool, AllocError>
+        ensures { IfOk result (Restarts (node_of self.old) (node_of self.new)) }
+    {
+        let Err(fault) = self.member.restart() else {
+            return Ok(true);
+        };
+        if fault == StoreFault::Incarnations {
+            return Ok(false);
+        }
+        Err(AllocError)
+    }
+
+    /// Stops as a packet comes, before the save of its step or after it: the node as it is then. What it sent and gave out is lost with it. An
+    /// `Err` is want of memory.
+    pub fn stop(self, packet: &Packet, found: Found) -> Result<StoppedNode, AllocError>
+        ensures { IfOk result (IsStopped (node_of self).setup (stopped (node_of self).setup (node_of self).kept (packet_of packet.now) (is_after found))) }
+    {
+        let ScriptNode { mut member, .. } = self;
+        let Ok(()) = member.crash(packet, found) else {
+            return Err(AllocError);
+        };
+        Ok(StoppedNode::of(member))
     }
 
     /// Takes the step of an input that a node never refuses: what it sends comes behind what it has sent before. After an `Err`, which is
     /// want of memory, nothing is said of the node.
-    fn step(&mut self, input: Input) -> Result<Answers, AllocError>
+    fn step(&mut self, input: Input) -> Result<Given, AllocError>
         requires { refused_by (node_of self.old).setup (node_of self.old).kept input ≡ None }
-        ensures { IfOk result (λ answers. HasStepped (step_at (node_of self.old) (input_of (node_of self.old).setup (node_of self.old).kept input)) (node_of self.old) answers (node_of self.new)) }
+        ensures { IfOk result (λ given. HasStepped (step_at (node_of self.old) (input_of (node_of self.old).setup (node_of self.old).kept input)) (node_of self.old) given (node_of self.new)) }
     {
-        let outputs = match self.node.take(input) {
-            Ok(outputs) => outputs,
-            Err(StepFault::Memory) => return Err(AllocError),
+        match self.member.take(input, &mut self.sent) {
+            Ok(given) => Ok(given),
+            Err(StepFault::Memory) => Err(AllocError),
             Err(_) => unreachable!(),
-        };
-        self.send(outputs.packets)?;
-        Ok(Answers {
-            ticket: outputs.ticket,
-            refused: outputs.refused,
-            given: Given {
-                replies: outputs.replies,
-                receipts: outputs.receipts,
-            },
-        })
-    }
-
-    /// These packets, which the node sends, come behind what it has sent before. After an `Err`, which is want of memory, nothing is said
-    /// of them.
-    fn send(&mut self, packets: Vec<Packet>) -> Result<(), AllocError>
-        ensures packets { OnOk result (self.new.packets.items ≡ self.old.packets.items ++ packets.items) }
-        ensures node { self.new.node ≡ self.old.node }
-    {
-        let mut sent = VecDeque::from_vec(packets);
-        self.packets.append(&mut sent)?;
-        Ok(())
+        }
     }
 }
 
 /// The chain that a step gives out which grants an attempt.
-fn granted_in(outputs: Outputs) -> Chain
-    requires { IsSome outputs.granted }
-    ensures { outputs.granted ≡ Some result }
+fn granted_in(given: Given) -> Chain
+    requires { IsSome given.granted }
+    ensures { given.granted ≡ Some result }
 {
-    let Outputs { granted, .. } = outputs;
+    let Given { granted, .. } = given;
     let Some(chain) = granted else {
         unreachable!();
     };

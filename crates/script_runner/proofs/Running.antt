@@ -8,17 +8,18 @@ use Rattle.std.specs.Io.KnownBytes.{Consumes, Appends, Keeps, IsAtEnd}
 use Rattle.script_lines.specs.Lines.{Held, Grew, NeedsMore, lines_of, BeginsWithLine, IsLastLine, BeginsTooLong, LinesAreRead}
 use Rattle.std.proofs.lemmas.Grind.{flat_map-append}
 use Rattle.script_text.specs.Settings.{script_settings}
-use Rattle.script_text.specs.Prints.{line_of, text_of_prints}
-use Rattle.script_text.specs.Script.{Stage, Stepped, after, step_of, prints_from, bad_from, text_of, bad_line}
+use Rattle.script_world.specs.Prints.{world_line, world_text}
+use Rattle.script_world.specs.Script.{Stage, Stepped, after, step_of, prints_from, bad_from, text_of, bad_line}
 use Rattle.script_lines.specs.Said.{Said, said_of}
-use Rattle.script_runner.specs.Outcome.{AreLines, Writes, WritesLine, IsWhole, IsDecided, StopsAt, StopsBetween, StopsInLine, IsOutcome}
+use Rattle.script_runner.specs.Outcome.{AreLines, StandsAt, Writes, WritesLineAt, IsWhole, IsDecided, StopsAt, StopsBetween, StopsInLine, IsOutcome}
+use Rattle.script_runner.specs.declared.centre.Centre.{Centre}
 use Rattle.script_runner.specs.declared.fault.ScriptFault.{ScriptFault}
 use Rattle.script_runner.specs.declared.fault.ScriptFault.TheVariants.{BadLine, Read, Write, Memory}
 use Rattle.script_runner.proofs.Steps.{SaysItsSpelling, step_of-none}
 
 -- the text of lines from a stage on
 abbrev pub text_from : Stage → List (List ℕ) → List ℕ
-text_from stage lines = text_of_prints (prints_from script_settings stage lines)
+text_from stage lines = world_text (prints_from script_settings stage lines)
 
 -- Whole lines were done, and what is held follows them; they lead to this stage.
 pub record Progress (before left written out : Option (List ℕ)) (held : Held) (stage : Stage) (number : ℕ) : Type 0 where
@@ -31,6 +32,12 @@ pub record Progress (before left written out : Option (List ℕ)) (held : Held) 
   pub bad_on : (more : List ℕ) → bad_line (done ++ more) ≡ bad_from script_settings stage (suc number) (lines_of more)
   pub room : length held.octets ≤ 20001
   pub fits : number + (20002 * held.reads_left + length held.octets) ≤ 20002 * 2 ^ 40
+
+-- and the centre is as the world of that stage
+pub record HasRun (before left written out : Option (List ℕ)) (held : Held) (centre : Option Centre) (number : ℕ) : Type 0 where
+  pub stage : Stage
+  pub stands : StandsAt centre stage
+  pub progress : Progress before left written out held stage number
 
 -- ---- what was read and written, one part after another
 
@@ -62,9 +69,9 @@ appended_none (Some xs) = sym (append-nil xs)
 
 -- ---- the start
 
-pub started : (before written : Option (List ℕ)) (held : Held) → held.octets ≡ [] → held.reads_left ≡ 2 ^ 40 → Progress before before written written held None 0
+nothing_run : (before written : Option (List ℕ)) (held : Held) → held.octets ≡ [] → held.reads_left ≡ 2 ^ 40 → Progress before before written written held None 0
 unfolding prints_from bad_from
-started before written held none reads = record {
+nothing_run before written held none reads = record {
   done = [];
   consumed = rw none (consumed_none before);
   text = appended_none written;
@@ -75,6 +82,9 @@ started before written held none reads = record {
   room = omega (arith, ap length none);
   fits = omega (arith, ap length none);
 }
+
+pub started : (before written : Option (List ℕ)) (held : Held) → held.octets ≡ [] → held.reads_left ≡ 2 ^ 40 → HasRun before before written written held None 0
+started before written held none reads = record { stage = None; stands = tt; progress = nothing_run before written held none reads }
 
 -- ---- more is held
 
@@ -155,7 +165,7 @@ unfolding prints_from
 text_found before left written out held stage number p more b =
     ap text_of (append_assoc p.done held.octets more) ∙ p.text_on (held.octets ++ more)
     ∙ ap (λ lines. text_of p.done ++ text_from stage lines) b.first
-    ∙ ap (λ next. text_of p.done ++ text_of_prints (after [] (λ done. done.prints ++ prints_from script_settings done.stage b.lines) next)) b.bad
+    ∙ ap (λ next. text_of p.done ++ world_text (after [] (λ done. done.prints ++ prints_from script_settings done.stage b.lines) next)) b.bad
     ∙ append-nil (text_of p.done)
 
 stops : (before left written out : Option (List ℕ)) (held : Held) (stage : Stage) (number : ℕ) (p : Progress before left written out held stage number)
@@ -235,11 +245,11 @@ last_first laws held stage count last bad = record {
 
 -- ---- a good line
 
-text_of_first : (stage : Stage) (line : List ℕ) (lines : List (List ℕ)) (done : Stepped) → step_of script_settings stage line ≡ Some done → text_from stage (line ∷ lines) ≡ text_of_prints done.prints ++ text_from done.stage lines
+text_of_first : (stage : Stage) (line : List ℕ) (lines : List (List ℕ)) (done : Stepped) → step_of script_settings stage line ≡ Some done → text_from stage (line ∷ lines) ≡ world_text done.prints ++ text_from done.stage lines
 unfolding prints_from
 text_of_first stage line lines done e =
-    ap (λ next. text_of_prints (after [] (λ d. d.prints ++ prints_from script_settings d.stage lines) next)) e
-    ∙ flat_map-append line_of done.prints (prints_from script_settings done.stage lines)
+    ap (λ next. world_text (after [] (λ d. d.prints ++ prints_from script_settings d.stage lines) next)) e
+    ∙ flat_map-append world_line done.prints (prints_from script_settings done.stage lines)
 
 bad_of_first : (stage : Stage) (number : ℕ) (line : List ℕ) (lines : List (List ℕ)) (done : Stepped) → step_of script_settings stage line ≡ Some done → bad_from script_settings stage number (line ∷ lines) ≡ bad_from script_settings done.stage (suc number) lines
 unfolding bad_from
@@ -254,19 +264,19 @@ unfolding bad_from
 bad_of_nothing stage number = refl
 
 -- the last line was good, and its text was written
-pub whole_with : LinesAreRead → (before left written out now : Option (List ℕ)) (held : Held) (stage new : Stage) (number count : ℕ)
+pub whole_with : LinesAreRead → (before left written out now : Option (List ℕ)) (held : Held) (stage : Stage) (new : Option Centre) (number count : ℕ)
     → Progress before left written out held stage number → IsLastLine count held.octets → IsAtEnd left → Writes stage held.octets new out now → IsWhole before left written now
 whole_with laws before left written out now held stage new number count p last ended w =
     let lines = last_lines laws count held.octets last in
-    let told : text_of (p.done ++ held.octets) ≡ text_of p.done ++ (text_of_prints w.done.prints) =
+    let told : text_of (p.done ++ held.octets) ≡ text_of p.done ++ (world_text w.done.prints) =
     p.text_on held.octets ∙ ap (λ ls. text_of p.done ++ text_from stage ls) lines
-    ∙ ap (λ t. text_of p.done ++ t) (text_of_first stage held.octets [] w.done w.step ∙ ap (λ t. (text_of_prints w.done.prints) ++ t) (text_of_nothing w.done.stage) ∙ append-nil (text_of_prints w.done.prints)) in
+    ∙ ap (λ t. text_of p.done ++ t) (text_of_first stage held.octets [] w.done w.step ∙ ap (λ t. (world_text w.done.prints) ++ t) (text_of_nothing w.done.stage) ∙ append-nil (world_text w.done.prints)) in
     record {
       read = p.done ++ held.octets;
       consumed = p.consumed;
       ended = ended;
       good = p.bad_on held.octets ∙ ap (bad_from script_settings stage (suc number)) lines ∙ bad_of_first stage (suc number) held.octets [] w.done w.step ∙ bad_of_nothing w.done.stage (suc (suc number));
-      text = subst (λ t. Appends written now t) (sym told) (appended_on written out now (text_of p.done) (text_of_prints w.done.prints) p.text w.text);
+      text = subst (λ t. Appends written now t) (sym told) (appended_on written out now (text_of p.done) (world_text w.done.prints) p.text w.text);
     }
 
 -- what is held begins with the line and its line feed
@@ -281,38 +291,40 @@ pub within_held : (count : ℕ) (octets : List ℕ) → BeginsWithLine count oct
 within_held count octets h = let within : count < length octets = slice_get_within octets count 10 h.feed in omega arith
 
 -- one more line is done
-advanced : LinesAreRead → (before left written out now : Option (List ℕ)) (held rest : Held) (stage new : Stage) (number count : ℕ)
+advanced : LinesAreRead → (before left written out now : Option (List ℕ)) (held rest : Held) (stage : Stage) (new : Option Centre) (number count : ℕ)
     → Progress before left written out held stage number → BeginsWithLine count held.octets → Writes stage (take count held.octets) new out now
-    → rest.octets ≡ drop (count + 1) held.octets → rest.reads_left ≡ held.reads_left → Progress before left written now rest new (number + 1)
+    → rest.octets ≡ drop (count + 1) held.octets → rest.reads_left ≡ held.reads_left → HasRun before left written now rest new (number + 1)
 advanced laws before left written out now held rest stage new number count p begins w dropped reads =
     let line = take count held.octets in
     let done = p.done ++ (line ++ 10 ∷ []) in
     let next : (more : List ℕ) → lines_of ((line ++ 10 ∷ []) ++ more) ≡ line ∷ lines_of more = λ more. ap lines_of (append_assoc line (10 ∷ []) more) ∙ laws.next line more begins.line in
-    let text_next : (more : List ℕ) → text_of (done ++ more) ≡ (text_of p.done ++ (text_of_prints w.done.prints)) ++ text_from w.done.stage (lines_of more) =
+    let text_next : (more : List ℕ) → text_of (done ++ more) ≡ (text_of p.done ++ (world_text w.done.prints)) ++ text_from w.done.stage (lines_of more) =
     λ more. ap text_of (append_assoc p.done (line ++ 10 ∷ []) more) ∙ p.text_on ((line ++ 10 ∷ []) ++ more)
     ∙ ap (λ ls. text_of p.done ++ text_from stage ls) (next more)
     ∙ ap (λ t. text_of p.done ++ t) (text_of_first stage line (lines_of more) w.done w.step)
-    ∙ sym (append_assoc (text_of p.done) (text_of_prints w.done.prints) (text_from w.done.stage (lines_of more))) in
+    ∙ sym (append_assoc (text_of p.done) (world_text w.done.prints) (text_from w.done.stage (lines_of more))) in
     let bad_next : (more : List ℕ) → bad_line (done ++ more) ≡ bad_from script_settings w.done.stage (suc (suc number)) (lines_of more) =
     λ more. ap bad_line (append_assoc p.done (line ++ 10 ∷ []) more) ∙ p.bad_on ((line ++ 10 ∷ []) ++ more)
     ∙ ap (bad_from script_settings stage (suc number)) (next more) ∙ bad_of_first stage (suc number) line (lines_of more) w.done w.step in
-    let text_done : text_of done ≡ text_of p.done ++ (text_of_prints w.done.prints) =
-    ap text_of (sym (append-nil done)) ∙ text_next [] ∙ ap (λ t. (text_of p.done ++ (text_of_prints w.done.prints)) ++ t) (text_of_nothing w.done.stage) ∙ append-nil (text_of p.done ++ (text_of_prints w.done.prints)) in
+    let text_done : text_of done ≡ text_of p.done ++ (world_text w.done.prints) =
+    ap text_of (sym (append-nil done)) ∙ text_next [] ∙ ap (λ t. (text_of p.done ++ (world_text w.done.prints)) ++ t) (text_of_nothing w.done.stage) ∙ append-nil (text_of p.done ++ (world_text w.done.prints)) in
     let whole : p.done ++ held.octets ≡ done ++ rest.octets =
     ap (λ t. p.done ++ t) (parts count held.octets begins ∙ ap (λ t. (line ++ 10 ∷ []) ++ t) (sym dropped)) ∙ sym (append_assoc p.done (line ++ 10 ∷ []) rest.octets) in
     let more = within_held count held.octets begins in
     let shorter : length rest.octets + (count + 1) ≡ length held.octets = omega (arith, ap length dropped, length-drop (count + 1) held.octets, more) in
-    record {
+    let next_stage = w.done.stage in
+    let progress : Progress before left written now rest next_stage (number + 1) = record {
       done = done;
       consumed = subst (λ read. Consumes before left read) whole p.consumed;
-      text = subst (λ t. Appends written now t) (sym text_done) (appended_on written out now (text_of p.done) (text_of_prints w.done.prints) p.text w.text);
+      text = subst (λ t. Appends written now t) (sym text_done) (appended_on written out now (text_of p.done) (world_text w.done.prints) p.text w.text);
       lines = inr (p.done ++ line, sym (append_assoc p.done line (10 ∷ [])));
       good = ap bad_line (sym (append-nil done)) ∙ bad_next [] ∙ bad_of_nothing w.done.stage (suc (suc number));
-      text_on = λ more. text_next more ∙ ap (λ t. t ++ text_from w.done.stage (lines_of more)) (sym text_done) ∙ ap (λ s. text_of done ++ text_from s (lines_of more)) (sym w.stage);
-      bad_on = λ more. bad_next more ∙ ap (λ s. bad_from script_settings s (suc (suc number)) (lines_of more)) (sym w.stage) ∙ ap (λ n. bad_from script_settings new n (lines_of more)) (omega arith);
+      text_on = λ more. text_next more ∙ ap (λ t. t ++ text_from w.done.stage (lines_of more)) (sym text_done);
+      bad_on = λ more. bad_next more ∙ ap (λ n. bad_from script_settings next_stage n (lines_of more)) (omega arith);
       room = omega (arith, p.room, shorter);
       fits = omega (arith, p.fits, shorter, reads);
-    }
+    } in
+    record { stage = next_stage; stands = w.stands; progress = progress }
 
 -- ---- what comes of a line
 
@@ -336,9 +348,9 @@ pub with_fault : (r : Result (Unit {0}) ScriptFault) (fault : ScriptFault) (befo
 with_fault (Ok done) fault before left written out told outcome = absurd told
 with_fault (Err e) fault before left written out told outcome = subst (λ f. IsOutcome (Err f) before left written out) (sym told) outcome
 
-pub after_last : LinesAreRead → (r : Result (Unit {0}) ScriptFault) (before left written out now : Option (List ℕ)) (held : Held) (stage new : Stage) (number count : ℕ) (octets : List ℕ)
+pub after_last : LinesAreRead → (r : Result (Unit {0}) ScriptFault) (before left written out now : Option (List ℕ)) (held : Held) (stage : Stage) (new : Option Centre) (number count : ℕ) (octets : List ℕ)
     → octets ≡ held.octets → Progress before left written out held stage number → IsLastLine count held.octets → IsAtEnd left
-    → WritesLine r stage (take count octets) (number + 1) new out now → IsOutcome r before left written now
+    → WritesLineAt r stage (take count octets) (number + 1) new out now → IsOutcome r before left written now
 after_last laws (Ok done) before left written out now held stage new number count octets same p last ended w =
     whole_with laws before left written out now held stage new number count p last ended (subst (λ line. Writes stage line new out now) (ap (take count) same ∙ all_taken count held.octets last.all) w)
 after_last laws (Err (BadLine told)) before left written out now held stage new number count octets same p last ended w =
@@ -348,9 +360,9 @@ after_last laws (Err Read) before left written out now held stage new number cou
 after_last laws (Err Write) before left written out now held stage new number count octets same p last ended w = tt
 after_last laws (Err Memory) before left written out now held stage new number count octets same p last ended w = between_kept before left written out now held stage number p w
 
-pub after_line : LinesAreRead → (fault : ScriptFault) (before left written out now : Option (List ℕ)) (held : Held) (stage new : Stage) (number count : ℕ) (octets : List ℕ)
+pub after_line : LinesAreRead → (fault : ScriptFault) (before left written out now : Option (List ℕ)) (held : Held) (stage : Stage) (new : Option Centre) (number count : ℕ) (octets : List ℕ)
     → octets ≡ held.octets → Progress before left written out held stage number → BeginsWithLine count held.octets
-    → WritesLine (Err fault) stage (take count octets) (number + 1) new out now → IsOutcome (Err fault) before left written now
+    → WritesLineAt (Err fault) stage (take count octets) (number + 1) new out now → IsOutcome (Err fault) before left written now
 after_line laws (BadLine told) before left written out now held stage new number count octets same p begins w =
     let bad : step_of script_settings stage (take count held.octets) ≡ None = ap (λ t. step_of script_settings stage (take count t)) (sym same) ∙ w.bad in
     refused_at number told before left written out now (stops_for_good before left written out held stage number p (line_first laws held.octets stage count begins bad)) w.counted w.text
@@ -363,8 +375,8 @@ pub after_too_long : LinesAreRead → SaysItsSpelling → (before left written o
 after_too_long laws spelled before left written out held stage number p long =
     subst (λ n. StopsAt n before left written out) (sym (add-one number)) (stops_for_good before left written out held stage number p (too_long_first laws spelled held.octets stage long))
 
-pub after_good_line : LinesAreRead → (before left written out now : Option (List ℕ)) (held rest : Held) (stage new : Stage) (number count : ℕ) (octets : List ℕ)
+pub after_good_line : LinesAreRead → (before left written out now : Option (List ℕ)) (held rest : Held) (stage : Stage) (new : Option Centre) (number count : ℕ) (octets : List ℕ)
     → octets ≡ held.octets → Progress before left written out held stage number → BeginsWithLine count held.octets → Writes stage (take count octets) new out now
-    → rest.octets ≡ drop (count + 1) held.octets → rest.reads_left ≡ held.reads_left → Progress before left written now rest new (number + 1)
+    → rest.octets ≡ drop (count + 1) held.octets → rest.reads_left ≡ held.reads_left → HasRun before left written now rest new (number + 1)
 after_good_line laws before left written out now held rest stage new number count octets same p begins w dropped reads =
     advanced laws before left written out now held rest stage new number count p begins (subst (λ t. Writes stage (take count t) new out now) same w) dropped reads

@@ -1,152 +1,242 @@
--- A step is taken and its replies go out, and packets come one after another.
-use Rattle.std.proofs.Common.{◌≡◌, ℕ, zero, suc, List, [], ◌∷◌, ◌++◌, map, Result, Ok, Err, refl, sym, ◌∙◌, ap, append_assoc, subst}
-use Rattle.std.proofs.lemmas.Grind.{flat_map-append}
-use Rattle.std.proofs.lemmas.List.{append-nil}
-use Rattle.std.specs.Global.{Vec}
-use Rattle.std.specs.Prelude.{OnOk}
+-- Packets come that are due, one after another.
+use Rattle.std.proofs.Common.{◌≡◌, ◌⊎◌, ℕ, zero, suc, ◌+◌, ◌-◌, ◌<◌, ◌≤◌, Bool, true, false, cond, List, [], ◌∷◌, ◌++◌, find, length, map, Option, Some, None, Result, Ok, Err, refl, sym, ap, subst, ◌∙◌, inl, inr, arith}
+use Rattle.std.specs.Prelude.{◌&&◌, ◌||◌, ◌==◌, OnOk, not, pred, slice_get, option_map, if◌then◌else◌}
+use Rattle.std.specs.List.{range_with_len}
 use Rattle.std.specs.declared.alloc.AllocError.{AllocError}
+use Rattle.std.proofs.lemmas.List.{append-nil, length-map}
 use Rattle.mc_model.specs.synod.Packet.{Packet}
-use Rattle.mc_model.specs.node.Input.{Delivery, Input}
-use Rattle.mc_model.specs.node.Outputs.{Receipt, Reply}
-use Rattle.node_model.specs.Outputs.{Stepped}
-use Rattle.requests.specs.Replying.{reply_given}
-use Rattle.requests.specs.declared.answer.Reply.{Reply as Sent}
-use Rattle.script_text.specs.Node.{Node, awaiting, step_at, with_step}
-use Rattle.script_text.specs.Prints.{Print, line_of, text_of_prints, unsettled_line}
-use Rattle.script_text.specs.Receipts.{Posted, all_posted}
-use Rattle.script_text.specs.Runner.{Acted, Runner, Told, answered_by, followed_by, mail_of, on_delivery, posts, reports_by, rests, settles, told, unsettled, with_posted}
-use Rattle.script_sessions.specs.Posting.{IsPosted}
-use Rattle.node_model.specs.Reported.{receipt_of}
-use Rattle.script_sessions.specs.Told.{AreTold}
-use Rattle.script_node.specs.Steps.{HasCome, HasReplied}
-use Rattle.script_node.specs.declared.node.Given.{Given}
-use Rattle.script_runner.specs.Centre.{IsDone, replies_to, tells}
+use Rattle.node_model.specs.Stepped.{sender_of}
+use Rattle.script_text.specs.Prints.{unsettled_line}
+use Rattle.script_text.specs.Runner.{Runner, on_delivery}
+use Rattle.script_world.specs.World.{Due as WorldDue, Moved, World, comes, comes_if, due, due_among, due_at, due_first, if_due, if_up, is_down, is_up as is_up_in, is_up_at, lacks, marked, node_numbers, on_settle, packet_of, refuses, runner_at, settles, shared, stays, takes_part, then_moved, unsettled, up_or_refuses}
+use Rattle.script_runner.specs.Centres.{Does, IsMoved, IsWorld, NothingBefore, due_of}
+use Rattle.script_runner.specs.Stations.{is_up}
+use Rattle.script_runner.specs.declared.centre.Centre.{Centre}
+use Rattle.script_runner.specs.declared.centre.Due.{Due}
+use Rattle.script_runner.specs.declared.station.Station.{Station}
+use Rattle.script_runner.proofs.Following.{IsLeft, all_done, last_done, one_done}
+use Rattle.script_runner.proofs.Moving.{found_too, none_too, some_same}
+use Rattle.script_runner.proofs.Searching.{none_of_fewer}
 
--- what was written, these prints and the prints behind them, in another order of joining
-pub in_turn : (text : List ℕ) (first others : List Print) → (text ++ text_of_prints first) ++ text_of_prints others ≡ text ++ text_of_prints (first ++ others)
-in_turn text first others = append_assoc text (text_of_prints first) (text_of_prints others) ∙ ap (λ t. text ++ t) (sym (flat_map-append line_of first others))
+-- ---- the first that is due is the first
 
--- What was done first, and then this.
-pub then_done : (first : Acted) (later : Runner → Acted) (middle last : Runner) (before text after : List ℕ)
-    → IsDone first middle before text → IsDone (later middle) last text after → IsDone (followed_by first (later first.next)) last before after
-then_done first later middle last before text after one other = record {
-  next = other.next ∙ ap (λ (r : Runner). (later r).next) one.next;
-  text = other.text ∙ ap (λ (t : List ℕ). t ++ text_of_prints (later middle).prints) one.text
-      ∙ in_turn before first.prints (later middle).prints
-      ∙ ap (λ (r : Runner). before ++ text_of_prints (first.prints ++ (later r).prints)) one.next;
+module _ (w : World) (nodes : List ℕ) where
+  abbrev to : ℕ → Option ℕ
+  to number = due_at w nodes number (packet_of w.packets number)
+
+  none_before : (start count : ℕ) (next : WorldDue) → due_among w nodes (range_with_len start count) ≡ Some next → (n : ℕ) → start ≤ n → n < next.number → to n ≡ None
+  unfolding due_among
+  none_before start zero next is n from below = absurd cc
+  none_before start (suc count) next is n from below = by_first (to start) refl is
+    where
+      by_first : (found : Option ℕ) → to start ≡ found → due_first start found (due_among w nodes (range_with_len (start + 1) count)) ≡ Some next → to n ≡ None
+      by_first (Some node) here is =
+          let same : start ≡ next.number = ap (λ (d : WorldDue). d.number) (some_same is) in
+          absurd (omega (arith, same, from, below))
+      by_first None here is = by_place (nat_cases start n from)
+        where
+          nat_cases : (a b : ℕ) → a ≤ b → (a ≡ b) ⊎ (a + 1 ≤ b)
+          nat_cases zero zero le = inl refl
+          nat_cases zero (suc b) le = inr (omega arith)
+          nat_cases (suc a) zero le = absurd (omega (arith, le))
+          nat_cases (suc a) (suc b) le = elim (nat_cases a b (omega (arith, le))) [ | inl same ↦ inl (ap suc same) | inr more ↦ inr (omega (arith, more)) ]
+
+          by_place : (start ≡ n) ⊎ (start + 1 ≤ n) → to n ≡ None
+          by_place (inl same) = ap to (sym same) ∙ here
+          by_place (inr more) = none_before (start + 1) count next is n more below
+
+  pub due_before : (next : WorldDue) → due w nodes ≡ Some next → NothingBefore w nodes next.number
+  due_before next is zero below = refl
+  due_before next is (suc n) below = none_before 1 (length w.packets) next is (suc n) (omega arith) below
+
+  among_within : (start count : ℕ) (next : WorldDue) → due_among w nodes (range_with_len start count) ≡ Some next → (start ≤ next.number) × (next.number < start + count)
+  unfolding due_among
+  among_within start zero next is = absurd cc
+  among_within start (suc count) next is = by_first (to start) is
+    where
+      by_first : (found : Option ℕ) → due_first start found (due_among w nodes (range_with_len (start + 1) count)) ≡ Some next → (start ≤ next.number) × (next.number < start + suc count)
+      by_first (Some node) is = let same : start ≡ next.number = ap (λ (d : WorldDue). d.number) (some_same is) in (omega (arith, same), omega (arith, same))
+      by_first None is = let rest = among_within (start + 1) count next is in (omega (arith, rest.0), omega (arith, rest.1))
+
+  pub due_within : (next : WorldDue) → due w nodes ≡ Some next → next.number < suc (length w.packets)
+  due_within next is = omega (arith, (among_within 1 (length w.packets) next is).1)
+
+-- ---- what comes to a node leaves nothing more due below
+
+-- what came has come, and what was sent has been sent
+record HasGrown (w next : World) : Type 0 where
+  came : (number node : ℕ) → w.came number node ≡ true → next.came number node ≡ true
+  more : List Packet
+  packets : next.packets ≡ w.packets ++ more
+
+still : (w : World) → HasGrown w w
+still w = record { came = λ number node is. is; more = []; packets = sym (append_none w.packets) }
+  where
+    append_none : (ps : List Packet) → ps ++ [] ≡ ps
+    append_none [] = refl
+    append_none (p ∷ ps) = ap (λ (qs : List Packet). p ∷ qs) (append_none ps)
+
+or_true : (one other : Bool) → other ≡ true → (one || other) ≡ true
+or_true true other is = refl
+or_true false other is = is
+
+came_grows : (w : World) (number node : ℕ) → HasGrown w (comes w number node).next
+came_grows w number node = by_packet (packet_of w.packets number)
+  where
+    by_up : (packet : Packet) (runner : Runner) (up : Bool) →
+        HasGrown w (if up then shared (marked w number node) node (on_delivery runner packet []) else refuses w is_down).next
+    by_up packet runner true = record {
+      came = λ n m is. or_true (n == number && m == node) (w.came n m) is;
+      more = (on_delivery runner packet []).next.node.packets;
+      packets = refl;
+    }
+    by_up packet runner false = still w
+
+    by_runner : (packet : Packet) (found : Option Runner) →
+        HasGrown w (up_or_refuses w (λ runner. shared (marked w number node) node (on_delivery runner packet [])) found).next
+    by_runner packet None = still w
+    by_runner packet (Some runner) = by_up packet runner runner.node.kept.up
+
+    by_packet : (found : Option Packet) → HasGrown w (comes_if w number node found).next
+    by_packet None = still w
+    by_packet (Some packet) = by_runner packet (runner_at w node)
+
+-- as many nodes are up
+ups_at : (xs ys : List Station) (place : ℕ) → map is_up xs ≡ map is_up ys → option_map is_up (slice_get xs place) ≡ option_map is_up (slice_get ys place)
+ups_at xs ys place same = sym (mapped xs place) ∙ ap (λ (bs : List Bool). slice_get bs place) same ∙ mapped ys place
+  where
+    mapped : (zs : List Station) (k : ℕ) → slice_get (map is_up zs) k ≡ option_map is_up (slice_get zs k)
+    mapped [] zero = refl
+    mapped [] (suc k) = refl
+    mapped (z ∷ zs) zero = refl
+    mapped (z ∷ zs) (suc k) = mapped zs k
+
+abbrev or_down : Option Bool → Bool
+or_down None = false
+or_down (Some up) = up
+
+up_as : (centre : Centre) (w : World) (place : ℕ) → IsWorld centre w → is_up_at (slice_get w.runners place) ≡ or_down (option_map is_up (slice_get centre.stations.items place))
+up_as centre w place is = by_station (slice_get centre.stations.items place) refl
+  where
+    by_station : (found : Option Station) → slice_get centre.stations.items place ≡ found → is_up_at (slice_get w.runners place) ≡ or_down (option_map is_up found)
+    by_station None none = ap is_up_at (none_too centre.stations.items w.runners place is.nodes none)
+    by_station (Some station) found =
+        let there = found_too centre.stations.items w.runners place station is.nodes found in
+        ap is_up_at there.1 ∙ (is.each place station there.0 found there.1).up
+
+same_length : (xs ys : List Station) → map is_up xs ≡ map is_up ys → length xs ≡ length ys
+same_length xs ys same = sym (length-map xs is_up) ∙ ap length same ∙ length-map ys is_up
+
+in_front : (ps more : List Packet) (n : ℕ) → n < suc (length ps) → packet_of (ps ++ more) n ≡ packet_of ps n
+in_front ps more zero below = refl
+in_front ps more (suc k) below = at_place ps k (omega (arith, below))
+  where
+    at_place : (qs : List Packet) (k : ℕ) → k < length qs → slice_get (qs ++ more) k ≡ slice_get qs k
+    at_place [] k below = absurd (omega (arith, below))
+    at_place (q ∷ qs) zero below = refl
+    at_place (q ∷ qs) (suc k) below = at_place qs k (omega (arith, below))
+
+fewer_lack : (part up before now : Bool) → (before ≡ true → now ≡ true) → (part && (up && not before)) ≡ false → (part && (up && not now)) ≡ false
+fewer_lack false up before now more none = refl
+fewer_lack true false before now more none = refl
+fewer_lack true true true now more none = ap not (more refl)
+fewer_lack true true false now more none = absurd cc
+
+pub nothing_more : (old new : Centre) (w : World) (nodes : List ℕ) (number node : ℕ) → IsWorld old w → IsWorld new (comes w number node).next →
+    map is_up new.stations.items ≡ map is_up old.stations.items → number < suc (length w.packets) → NothingBefore w nodes number → NothingBefore (comes w number node).next nodes number
+nothing_more old new w nodes number node was is up within none n below = by_packet (packet_of w.packets n) refl
+  where
+    next : World
+    next = (comes w number node).next
+
+    grown : HasGrown w next
+    grown = came_grows w number node
+
+    packet_same : packet_of next.packets n ≡ packet_of w.packets n
+    packet_same = ap (λ (ps : List Packet). packet_of ps n) grown.packets ∙ in_front w.packets grown.more n (omega (arith, below, within))
+
+    count_same : length next.runners ≡ length w.runners
+    count_same = sym is.nodes ∙ same_length new.stations.items old.stations.items up ∙ was.nodes
+
+    up_same : (m : ℕ) → is_up_at (runner_at w m) ≡ is_up_at (runner_at next m)
+    up_same m =
+        up_as old w (pred m) was ∙ ap or_down (ups_at old.stations.items new.stations.items (pred m) (sym up)) ∙ sym (up_as new next (pred m) is)
+
+    weaker : (m : ℕ) → lacks w nodes n m ≡ false → lacks next nodes n m ≡ false
+    weaker m no =
+        ap (λ (b : Bool). takes_part nodes m && (b && not (next.came n m))) (sym (up_same m))
+        ∙ fewer_lack (takes_part nodes m) (is_up_at (runner_at w m)) (w.came n m) (next.came n m) (grown.came n m) no
+
+    by_part : (packet : Packet) (part : Bool) → (if part then find (lacks w nodes n) (node_numbers w) else None) ≡ None →
+        (if part then find (lacks next nodes n) (node_numbers next) else None) ≡ None
+    by_part packet false nobody = refl
+    by_part packet true nobody =
+        ap (λ (count : ℕ). find (lacks next nodes n) (range_with_len 1 count)) count_same
+        ∙ none_of_fewer (lacks w nodes n) (lacks next nodes n) (node_numbers w) weaker nobody
+
+    by_packet : (found : Option Packet) → packet_of w.packets n ≡ found → due_at next nodes n (packet_of next.packets n) ≡ None
+    by_packet None no = ap (due_at next nodes n) (packet_same ∙ no)
+    by_packet (Some packet) yes =
+        ap (due_at next nodes n) (packet_same ∙ yes)
+        ∙ by_part packet (takes_part nodes (sender_of packet)) (sym (ap (due_at w nodes n) yes) ∙ none n below)
+
+-- ---- a settle
+
+-- what is still to be done, and no packet below this number is due
+pub record IsUnderWay (all : Moved) (most : ℕ) (nodes : List ℕ) (number : ℕ) (now : Centre) (before text : List ℕ) : Type 0 where
+  pub left : IsLeft all (settles most nodes) now before text
+  pub below : NothingBefore left.world nodes number
+
+settle_next : (most more : ℕ) (nodes : List ℕ) (w : World) (next : WorldDue) → most ≡ suc more → due w nodes ≡ Some next →
+    settles most nodes w ≡ then_moved (comes w next.number next.node) (settles more nodes (comes w next.number next.node).next)
+unfolding settles
+settle_next most more nodes w next is found = rw (is, found) refl
+
+settle_ends : (most more : ℕ) (nodes : List ℕ) (w : World) → most ≡ suc more → due w nodes ≡ None → settles most nodes w ≡ stays w
+unfolding settles
+settle_ends most more nodes w is none = rw (is, none) refl
+
+settle_stops : (most : ℕ) (nodes : List ℕ) (w : World) → most ≡ zero → settles most nodes w ≡ unsettled w
+unfolding settles
+settle_stops most nodes w is = rw is refl
+
+pub begins : (old : Centre) (w : World) (most : ℕ) (nodes : List ℕ) (before : List ℕ) → IsWorld old w → IsUnderWay (settles most nodes w) most nodes 1 old before before
+begins old w most nodes before is = record {
+  left = record { world = w; is = is; next = refl; written = refl };
+  below = none;
 }
+  where
+    none : NothingBefore w nodes 1
+    none zero below = refl
+    none (suc n) below = absurd (omega (arith, below))
 
--- A step was taken, and its replies went out.
-pub step_done : (runner left : Runner) (node : Node) (input : Input) (step : Stepped) (replies : Vec Sent) (before after : List ℕ)
-    → HasReplied step node replies left.node → AreTold (told runner.sessions (map reply_given replies.items)) left.sessions before after
-    → left.streams ≡ runner.streams → left.waiting ≡ runner.waiting
-    → IsDone (answered_by runner node input step) left before after
-step_done runner left node input step replies before after stepped went_out streams waiting =
-    let same = ap (told runner.sessions) stepped.given in
-    let sessions = went_out.sessions ∙ ap (λ (t : Told). t.sessions) same in
+-- a packet came that was due
+pub one_came : (all : Moved) (most more : ℕ) (nodes : List ℕ) (from : ℕ) (now new : Centre) (found : Due) (before text after : List ℕ) (way : IsUnderWay all most nodes from now before text) →
+    most ≡ suc more → Some (due_of found) ≡ due way.left.world nodes → IsMoved (comes way.left.world found.number found.node) new text after →
+    map is_up new.stations.items ≡ map is_up now.stations.items → IsUnderWay all more nodes found.number new before after
+one_came all most more nodes from now new found before text after way is due_is moved up =
+    let w = way.left.world in
+    let next = due_of found in
     record {
-      next = λ i. record { node = stepped.node i; sessions = sessions i; streams = streams i; waiting = waiting i };
-      text = went_out.text ∙ ap (λ (t : Told). before ++ text_of_prints t.prints) same;
+      left = one_done all (settles most nodes) (settles more nodes) (λ (v : World). comes v found.number found.node) now new before text after way.left
+          (settle_next most more nodes w next is (sym due_is)) moved;
+      below = nothing_more now new w nodes found.number found.node way.left.is moved.next up (due_within w nodes next (sym due_is)) (due_before w nodes next (sym due_is));
     }
 
--- What was posted went out.
-pub posted_done_if : (r : Result (Unit {0}) AllocError) (runner left : Runner) (posted : Posted) (before after : List ℕ)
-    → OnOk r (IsPosted posted left.sessions left.waiting before after) → left.node ≡ runner.node → left.streams ≡ runner.streams
-    → OnOk r (IsDone (with_posted runner posted) left before after)
-posted_done_if (Err fault) runner left posted before after is node streams = tt
-posted_done_if (Ok done) runner left posted before after is node streams = record {
-  next = λ i. record { node = node i; sessions = is.sessions i; streams = streams i; waiting = is.waiting i };
-  text = is.text;
-}
+pub nothing_left : (all : Moved) (most more : ℕ) (nodes : List ℕ) (from : ℕ) (now : Centre) (before text : List ℕ) (way : IsUnderWay all most nodes from now before text) →
+    most ≡ suc more → None ≡ due way.left.world nodes → IsMoved all now before text
+nothing_left all most more nodes from now before text way is none =
+    all_done all (settles most nodes) now before text way.left (settle_ends most more nodes way.left.world is (sym none))
 
--- The replies of a step went out, and then its receipts.
-pub told_then_posted_if : (r : Result (Unit {0}) AllocError) (runner middle left : Runner) (replies : List Reply) (receipts : List Receipt) (now : ℕ) (before text after : List ℕ)
-    → AreTold (told runner.sessions replies) middle.sessions before text → middle.node ≡ runner.node → middle.streams ≡ runner.streams → middle.waiting ≡ runner.waiting
-    → now ≡ middle.node.kept.clock → OnOk r (IsPosted (all_posted now (mail_of middle) receipts) left.sessions left.waiting text after)
-    → left.node ≡ middle.node → left.streams ≡ middle.streams → OnOk r (IsDone (tells runner replies receipts) left before after)
-told_then_posted_if (Err fault) runner middle left replies receipts now before text after went_out node streams waiting clock posted node_left streams_left = tt
-told_then_posted_if (Ok fine) runner middle left replies receipts now before text after went_out node streams waiting clock posted node_left streams_left =
-    let first = replies_to runner (told runner.sessions replies) in
-    let one : IsDone first middle before text = record {
-      next = λ i. record { node = node i; sessions = went_out.sessions i; streams = streams i; waiting = waiting i };
-      text = went_out.text;
-    } in
-    let at_clock = subst (λ (moment : ℕ). IsPosted (all_posted moment (mail_of middle) receipts) left.sessions left.waiting text after) clock posted in
-    then_done first (λ (r : Runner). posts r receipts) middle left before text after one
-    (posted_done_if (Ok fine) middle left (all_posted middle.node.kept.clock (mail_of middle) receipts) text after at_clock node_left streams_left)
+pub stopped_there : (all : Moved) (most : ℕ) (nodes : List ℕ) (from : ℕ) (now : Centre) (before text after : List ℕ) (way : IsUnderWay all most nodes from now before text) →
+    most ≡ zero → after ≡ text ++ unsettled_line → IsMoved all now before after
+stopped_there all most nodes from now before text after way is wrote =
+    last_done all (unsettled way.left.world) (settles most nodes) now now before text after way.left (settle_stops most nodes way.left.world is)
+    (record { next = way.left.is; text = wrote ∙ ap (λ (t : List ℕ). text ++ t) (sym (append-nil unsettled_line)) })
 
--- ---- packets
-
--- What was written, and what is still to be done, is all that was to be done; and it leaves the same runner.
-pub record IsLeft (all rest : Acted) (before text : List ℕ) : Type 0 where
-  pub next : rest.next ≡ all.next
-  pub written : text ++ text_of_prints rest.prints ≡ before ++ text_of_prints all.prints
-
-pub packets_left : (most left : ℕ) (runner : Runner) (before : List ℕ) → left ≡ most → IsLeft (settles most runner) (settles left runner) before before
-packets_left most left runner before same = rw same (record { next = refl; written = refl })
-
-first_settled : (left more : ℕ) (runner : Runner) (packet : Packet) (others : List Packet) → left ≡ suc more → runner.node.packets ≡ packet ∷ others
-    → settles left runner ≡ followed_by (on_delivery runner packet others) (settles more (on_delivery runner packet others).next)
-unfolding settles
-first_settled left more runner packet others is waited = rw (is, waited) refl
-
--- What a step gave out was told: it was taken, its replies went out, and then its receipts.
-reported_so : (runner middle left : Runner) (node : Node) (input : Input) (step : Stepped) (replies : List Reply) (receipts : List Receipt) (before after : List ℕ)
-    → middle ≡ record runner { node = with_step node step } → replies ≡ step.outputs.replies → receipts ≡ step.outputs.receipts
-    → IsDone (tells middle replies receipts) left before after → IsDone (reports_by runner node input step) left before after
-reported_so runner middle left node input step replies receipts before after is same given done =
-    let all = subst (λ (a : Acted). IsDone a left before after) (λ i. tells (is i) (same i) (given i)) done in
-    record { next = all.next; text = all.text }
-
--- One more is delivered.
-pub one_settled : (all : Acted) (left more : ℕ) (runner middle next : Runner) (given : Given) (before text after : List ℕ)
-    → IsLeft all (settles left runner) before text → left ≡ suc more → HasCome runner.node given middle.node
-    → middle.sessions ≡ runner.sessions → middle.streams ≡ runner.streams → middle.waiting ≡ runner.waiting
-    → IsDone (tells middle (map reply_given given.replies.items) (map receipt_of given.receipts.items)) next text after
-    → IsLeft all (settles more next) before after
-one_settled all left more runner middle next given before text after so is came sessions streams waiting told_so =
-    let first = first_settled left more runner came.packet came.others is came.waited in
-    let node = awaiting runner.node came.others in
-    let delivered = on_delivery runner came.packet came.others in
-    let there : middle ≡ record runner { node = with_step node (step_at node (Delivery came.packet)) } =
-    λ i. record { node = came.gave.replied.node i; sessions = sessions i; streams = streams i; waiting = waiting i } in
-    let done : IsDone delivered next text after =
-    reported_so runner middle next node (Delivery came.packet) (step_at node (Delivery came.packet)) _ _ text after there came.gave.replied.given came.gave.reported told_so in
-    rw (done.next, done.text)
-    (let later : IsLeft all (settles more delivered.next) before (text ++ text_of_prints delivered.prints) = record {
-      next = ap (λ (a : Acted). a.next) (sym first) ∙ so.next;
-      written = in_turn text delivered.prints (settles more delivered.next).prints ∙ ap (λ (a : Acted). text ++ text_of_prints a.prints) (sym first) ∙ so.written;
-    } in later)
-
-none_settled : (left more : ℕ) (runner : Runner) → left ≡ suc more → runner.node.packets ≡ [] → settles left runner ≡ rests runner
-unfolding settles
-none_settled left more runner is none = rw (is, none) refl
-
--- No packet is left.
-pub all_settled : (all : Acted) (left more : ℕ) (runner next : Runner) (before text : List ℕ)
-    → IsLeft all (settles left runner) before text → left ≡ suc more → runner.node.packets ≡ [] → next ≡ runner → IsDone all next before text
-all_settled all left more runner next before text so is none same =
-    let rest = none_settled left more runner is none in
-    record {
-      next = same ∙ ap (λ (a : Acted). a.next) (sym rest) ∙ so.next;
-      text = sym (append-nil text) ∙ ap (λ (a : Acted). text ++ text_of_prints a.prints) (sym rest) ∙ so.written;
-    }
-
-no_more : (left : ℕ) (runner : Runner) → left ≡ zero → settles left runner ≡ unsettled runner
-unfolding settles
-no_more left runner none = rw none refl
-
--- As many were delivered as may be.
-not_settled : (all : Acted) (left : ℕ) (runner : Runner) (before text after : List ℕ)
-    → IsLeft all (settles left runner) before text → left ≡ zero → after ≡ text ++ unsettled_line → IsDone all runner before after
-not_settled all left runner before text after so none wrote =
-    let rest = no_more left runner none in
-    record {
-      next = ap (λ (a : Acted). a.next) (sym rest) ∙ so.next;
-      text = wrote ∙ ap (λ t. text ++ t) (sym (append-nil unsettled_line)) ∙ ap (λ (a : Acted). text ++ text_of_prints a.prints) (sym rest) ∙ so.written;
-    }
-
-pub not_settled_if : (r : Result (Unit {0}) AllocError) (all : Acted) (left : ℕ) (runner : Runner) (before text after : List ℕ)
-    → IsLeft all (settles left runner) before text → left ≡ zero → OnOk r (after ≡ text ++ unsettled_line) → OnOk r (IsDone all runner before after)
-not_settled_if (Err fault) all left runner before text after so none wrote = tt
-not_settled_if (Ok done) all left runner before text after so none wrote = not_settled all left runner before text after so none wrote
+pub stopped_if : (r : Result (Unit {0}) AllocError) (old now : Centre) (most : ℕ) (nodes : List ℕ) (from : ℕ) (before text after : List ℕ) →
+    ((w : World) → IsWorld old w → IsUnderWay (on_settle w nodes) most nodes from now before text) → most ≡ zero → OnOk r (after ≡ text ++ unsettled_line) →
+    OnOk r (Does (λ w. on_settle w nodes) old now before after)
+stopped_if (Err fault) old now most nodes from before text after way is wrote = tt
+stopped_if (Ok done) old now most nodes from before text after way is wrote =
+    λ w world. stopped_there (on_settle w nodes) most nodes from now before text after (way w world) is wrote

@@ -1,2 +1,4 @@
-pub mod Centre
+pub mod Arrivals
+pub mod Stations
+pub mod Centres
 pub mod Outcome

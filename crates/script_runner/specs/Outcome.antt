@@ -1,12 +1,15 @@
 -- What came of a script: what was read of it, and what was written.
-use Rattle.std.specs.Prelude.{◌≡◌, ◌⊎◌, ℕ, ◌≤◌, Bool, true, false, List, [], ◌∷◌, ◌++◌, Option, Some, None, Result, Ok, Err}
+use Rattle.std.specs.Prelude.{◌≡◌, ◌⊎◌, ℕ, ◌≤◌, Bool, true, false, List, [], ◌∷◌, ◌++◌, length, Option, Some, None, Result, Ok, Err, if◌then◌else◌}
 use Rattle.std.specs.Io.KnownBytes.{Consumes, Appends, Keeps, IsAtEnd}
 use Rattle.mc_model.specs.message.Ids.{IsMoment}
 use Rattle.script_lines.specs.Lines.{NeedsMore}
-use Rattle.script_lines.specs.Said.{Said, Skipped, Nodes, Octets, Deliver, Crash, Tick, Grant, Settle, Restart, Replay}
+use Rattle.script_lines.specs.Said.{Said, Skipped, Nodes, Octets, Deliver, Crash, Tick, Grant, Settle, Restart, Replay, names_within}
 use Rattle.script_text.specs.Settings.{script_settings}
-use Rattle.script_text.specs.Prints.{text_of_prints}
-use Rattle.script_text.specs.Script.{Stage, Stepped, opened, step_of, text_of, bad_line}
+use Rattle.script_world.specs.Prints.{world_text}
+use Rattle.script_world.specs.Script.{Stage, Stepped, step_by, step_of, text_of, bad_line}
+use Rattle.script_world.specs.World.{World}
+use Rattle.script_runner.specs.Centres.{IsWorld}
+use Rattle.script_runner.specs.declared.centre.Centre.{Centre}
 use Rattle.script_runner.specs.declared.fault.ScriptFault.{ScriptFault}
 use Rattle.script_runner.specs.declared.fault.ScriptFault.TheVariants.{BadLine, Read, Write, Memory}
 
@@ -15,7 +18,7 @@ use Rattle.script_runner.specs.declared.fault.ScriptFault.TheVariants.{BadLine, 
 -- a serial or moment that a line gives is one
 abbrev pub NumberFits : Said → Type 0
 NumberFits Skipped = Unit {0}
-NumberFits (Nodes count serial) = (1 ≤ serial) × (serial ≤ 99999)
+NumberFits (Nodes count serial) = (count ≤ 9) × (1 ≤ serial) × (serial ≤ 99999)
 NumberFits (Octets node session octets) = Unit {0}
 NumberFits (Deliver number node) = Unit {0}
 NumberFits (Crash node number after) = Unit {0}
@@ -25,25 +28,40 @@ NumberFits (Settle nodes) = Unit {0}
 NumberFits (Restart node) = Unit {0}
 NumberFits (Replay count) = Unit {0}
 
--- the centre is started once
-abbrev pub IsStarted : Stage → Bool → Stage → ℕ → Type 0
-IsStarted None good new serial = (good ≡ true) × (new ≡ Some (opened script_settings serial))
-IsStarted (Some runner) good new serial = (good ≡ false) × (new ≡ Some runner)
+-- the centre is as the world of a stage, if there is one
+abbrev pub StandsAt : Option Centre → Stage → Type 0
+StandsAt None None = Unit {0}
+StandsAt None (Some w) = ⊥
+StandsAt (Some centre) None = ⊥
+StandsAt (Some centre) (Some w) = IsWorld centre w
+
+-- The centre is started by a line that says so, or the line is bad.
+abbrev pub IsStarted : Option Stepped → Bool → Option Centre → Type 0
+IsStarted None good new = good ≡ false
+IsStarted (Some done) good new = (good ≡ true) × StandsAt new done.stage × (done.prints ≡ [])
 
 -- A line was good, led to this stage and added its text; or it was bad.
-abbrev pub IsStepBy : Option Stepped → Bool → Stage → List ℕ → List ℕ → Type 0
+abbrev pub IsStepBy : Option Stepped → Bool → Option Centre → List ℕ → List ℕ → Type 0
 IsStepBy None good new before after = good ≡ false
-IsStepBy (Some done) good new before after = (good ≡ true) × (new ≡ done.stage) × (after ≡ before ++ text_of_prints done.prints)
+IsStepBy (Some done) good new before after = (good ≡ true) × StandsAt new done.stage × (after ≡ before ++ world_text done.prints)
 
-abbrev pub IsStep : Stage → List ℕ → Bool → Stage → List ℕ → List ℕ → Type 0
-IsStep old line good new before after = IsStepBy (step_of script_settings old line) good new before after
+abbrev pub IsStep : Option Centre → List ℕ → Bool → Option Centre → List ℕ → List ℕ → Type 0
+IsStep old line good new before after = (stage : Stage) → StandsAt old stage → IsStepBy (step_of script_settings stage line) good new before after
+
+-- what a line says that names no other nodes
+abbrev pub said_among : ℕ → Said → Option Said
+said_among nodes said = if names_within nodes said then Some said else None
+
+abbrev pub IsAct : Centre → Said → Bool → Centre → List ℕ → List ℕ → Type 0
+IsAct old said good new before after =
+    (w : World) → IsWorld old w → IsStepBy (step_by script_settings (Some w) (said_among (length w.runners) said)) good (Some new) before after
 
 -- A good line led to this stage, and its text was written.
-pub record Writes (old : Stage) (line : List ℕ) (new : Stage) (written out : Option (List ℕ)) : Type 0 where
+pub record Writes (old : Stage) (line : List ℕ) (new : Option Centre) (written out : Option (List ℕ)) : Type 0 where
   pub done : Stepped
   pub step : step_of script_settings old line ≡ Some done
-  pub stage : new ≡ done.stage
-  pub text : Appends written out (text_of_prints done.prints)
+  pub stands : StandsAt new done.stage
+  pub text : Appends written out (world_text done.prints)
 
 -- the line of this number is bad, and nothing was written
 pub record Refuses (old : Stage) (line : List ℕ) (number told : ℕ) (written out : Option (List ℕ)) : Type 0 where
@@ -51,12 +69,16 @@ pub record Refuses (old : Stage) (line : List ℕ) (number told : ℕ) (written 
   pub counted : told ≡ number
   pub text : Keeps written out
 
-abbrev pub WritesLine : Result (Unit {0}) ScriptFault → Stage → List ℕ → ℕ → Stage → Option (List ℕ) → Option (List ℕ) → Type 0
-WritesLine (Ok done) old line number new written out = Writes old line new written out
-WritesLine (Err (BadLine told)) old line number new written out = Refuses old line number told written out
-WritesLine (Err Read) old line number new written out = ⊥
-WritesLine (Err Write) old line number new written out = Unit {0}
-WritesLine (Err Memory) old line number new written out = Keeps written out
+abbrev pub WritesLineAt : Result (Unit {0}) ScriptFault → Stage → List ℕ → ℕ → Option Centre → Option (List ℕ) → Option (List ℕ) → Type 0
+WritesLineAt (Ok done) old line number new written out = Writes old line new written out
+WritesLineAt (Err (BadLine told)) old line number new written out = Refuses old line number told written out
+WritesLineAt (Err Read) old line number new written out = ⊥
+WritesLineAt (Err Write) old line number new written out = Unit {0}
+WritesLineAt (Err Memory) old line number new written out = Keeps written out
+
+-- whatever stage the centre is at
+abbrev pub WritesLine : Result (Unit {0}) ScriptFault → Option Centre → List ℕ → ℕ → Option Centre → Option (List ℕ) → Option (List ℕ) → Type 0
+WritesLine result old line number new written out = (stage : Stage) → StandsAt old stage → WritesLineAt result stage line number new written out
 
 -- ---- a script
 

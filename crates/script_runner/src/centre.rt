@@ -1,336 +1,367 @@
-//! The centre: one node, the sessions with its ESMEs, and the receipts that wait for one.
+//! The centre: its nodes with their sessions, and the packets between them.
 
-ghost use Rattle.std.specs.Prelude.{◌≡◌, ◌≤◌, map, Some, IfOk, OnOk};
-ghost use Rattle.mc_model.specs.message.Chain.{taken_in};
-ghost use Rattle.mc_model.specs.synod.Packet.{slot_of};
-ghost use Rattle.delivery.specs.Deliveries.{EndsInAttempt};
+ghost use Rattle.std.specs.Prelude.{◌≡◌, ◌==◌, ◌&&◌, ◌<◌, ◌≤◌, length, map, not, reverse, OnOk, IfOk};
+ghost use Rattle.std.specs.List.{insert, range_with_len};
+ghost use Rattle.mc_types.specs.Nodes.{has};
+ghost use Rattle.node_core.specs.Stops.{is_after};
+ghost use Rattle.script_lines.specs.Said.{nodes_with};
+ghost use Rattle.script_runner.specs.Arrivals.{came_in};
+ghost use Rattle.script_runner.specs.Stations.{is_up};
+ghost use Rattle.script_runner.specs.Centres.{AreOpened, Does, HasShared, IsDue, IsLacking, StartsAs};
 ghost use Rattle.script_text.specs.Settings.{settings_of};
+ghost use Rattle.script_world.specs.World.{all_come, comes, comes_to, crashes, grants, hears, node_numbers, on_replay, on_settle, restarts, takes_part, ticks};
 
-use crate::serve::{serve_frame, wrong_length};
+use crate::arrivals::Arrivals;
+use crate::station::{DOWN, Station};
 use config::Config;
-use delivery::Outcome;
-use fate_chain::Chain;
-use mc_types::{Moment, MsgId, Slot};
-use pdu_codec::Text;
-use pdu_frames::Framer;
-use script_node::{Given, Granting, ScriptNode};
-use script_sessions::{
-    Connected, Streams, Waiting, post_all, post_for, post_for_all, write_all_gone, write_declined,
-    write_delivery, write_replies, write_ungranted, write_unsettled,
-};
-use sessions::{Delivery, Session};
+use mc_types::{Moment, MsgId, NodeNo, NodeSet};
+use node_core::{Found, Setup, sender};
+use script_sessions::{write_declined, write_unsettled};
+use script_site::Site;
+use sim_net::Packets;
 use std::alloc::{AllocError, Global};
+use synod_acceptor::Packet;
 
 /// How many packets a settle delivers at most.
 const MOST_DELIVERIES: u32 = 100_000;
-/// The number with which a restart is refused once the last incarnation has begun.
-const NO_INCARNATION: u8 = 6;
+/// The number with which a line is refused whose packet was not sent.
+const NO_PACKET: u8 = 1;
 
-/// The node, the sessions that are connected, of each the octets of the PDU that has not come whole, and the receipts that wait for a session.
+/// Up to nine nodes with their sessions, every packet that they sent, and which of them came to which node.
 #[derive(Drop)]
 pub struct Centre {
-    node: ScriptNode,
-    connected: Connected,
-    streams: Streams,
-    waiting: Waiting,
+    // Node n stands at the place n - 1.
+    stations: Vec<Station>,
+    packets: Packets,
+    arrivals: Arrivals,
+}
+
+/// A packet that is to come to a node.
+#[derive(Clone, Copy)]
+struct Due {
+    number: u64,
+    node: NodeNo,
 }
 
 impl Centre {
-    ghost use Rattle.node_model.specs.Reported.{receipt_of};
-    ghost use Rattle.requests.specs.Replying.{reply_given};
-    ghost use Rattle.script_runner.specs.Centre.{IsDone, keeps, put_back, runner_of, tells};
-    ghost use Rattle.script_text.specs.Runner.{ends, gives_up, held_in, makes_room, on_frame, on_grant, on_octets, on_restart, on_settle, on_tick, opened_at, posts_for, sent, settles};
-    ghost use Rattle.script_text.specs.Script.{opened};
-
-    /// A node that was asked nothing yet, and no session. The first message has this serial. An `Err` is want of memory.
-    pub fn start(alloc: Global, config: &Config, serial: u32) -> Result<Centre, AllocError>
+    /// So many nodes, 1 to 9, over new stores, and no session. The first message of each has this serial. An `Err` is want of memory.
+    pub fn start(alloc: Global, config: &Config, nodes: u8, serial: u32) -> Result<Centre, AllocError>
+        requires few { nodes ≤ 9 }
         requires least { 1 ≤ serial }
         requires most { serial ≤ 99999 }
-        ensures { IfOk result (λ centre. runner_of centre ≡ opened (settings_of config.now) serial) }
+        ensures { IfOk result (StartsAs (settings_of config.now) nodes serial) }
     {
-        let node = ScriptNode::open(alloc, config.default_validity, serial)?;
         Ok(Centre {
-            node,
-            connected: Connected::none(alloc),
-            streams: Streams::none(alloc),
-            waiting: Waiting::none(alloc),
+            stations: opened(alloc, nodes, serial, config.default_validity)?,
+            packets: Packets::none(alloc),
+            arrivals: Arrivals::none(alloc),
         })
     }
 
-    /// The next octets of a session's stream came: adds the lines of what goes out for each PDU that is whole now. After an
-    /// `Err`, which is want of memory, nothing is said of the centre.
+    /// How many nodes it has.
+    pub fn nodes(&self) -> usize
+        ensures { result ≡ length self.now.stations.items }
+    {
+        self.stations.len()
+    }
+
+    /// The next octets of a session's stream came: adds the lines of what goes out. After an `Err`, which is want of memory, nothing is said of the
+    /// centre; so it is below.
     pub fn octets(
         &mut self,
         alloc: Global,
         config: &Config,
-        number: u8,
+        node: NodeNo,
+        session: u8,
         octets: &[u8],
         text: &mut Vec<u8>,
     ) -> Result<(), AllocError>
-        ensures { OnOk result (IsDone (on_octets (settings_of config.now) (runner_of self.old) number octets.now) (runner_of self.new) text.old.items text.new.items) }
+        ensures { OnOk result (Does (λ w. hears (settings_of config.now) w node session octets.now) self.old self.new text.old.items text.new.items) }
     {
-        let mut framer = self.open(alloc, number)?;
-        let mut rest = octets;
-        loop {
-            let taken = match framer.feed(rest) {
-                Ok(count) => count,
-                Err(_) => return self.end(alloc, config, number, text),
-            };
-            rest = &rest[taken..];
-            match framer.frame() {
-                Ok(Some(frame)) => self.serve(alloc, config, number, frame, text)?,
-                Ok(None) => return self.streams.put_back(number, framer),
-                Err(_) => return self.end(alloc, config, number, text),
-            }
-            if !self.connected.has(number) {
-                return Ok(());
-            }
-            framer.let_go();
-        }
-    }
-
-    /// Hands out what the stream of a session holds; a session that is not connected begins now. An `Err` is want of memory.
-    fn open(&mut self, alloc: Global, number: u8) -> Result<Framer, AllocError>
-        ensures held { IfOk result (λ framer. framer ≡ held_in (runner_of self.old).streams number) }
-        ensures left { OnOk result (runner_of self.new ≡ opened_at (runner_of self.old) number) }
-    {
-        let session = self.connected.take_out(alloc, number)?;
-        self.connected.put_back(number, session)?;
-        match self.streams.take_out(alloc, number) {
-            Ok(framer) => Ok(framer),
-            Err(_) => Err(AllocError),
-        }
-    }
-
-    /// The octets of one frame came on a session.
-    fn serve(
-        &mut self,
-        alloc: Global,
-        config: &Config,
-        number: u8,
-        octets: &[u8],
-        text: &mut Vec<u8>,
-    ) -> Result<(), AllocError>
-        ensures { OnOk result (IsDone (on_frame (settings_of config.now) number (runner_of self.old) octets.now) (runner_of self.new) text.old.items text.new.items) }
-    {
-        let mut session = self.connected.take_out(alloc, number)?;
-        serve_frame(
-            alloc,
-            config,
-            number,
-            &mut self.node,
-            &mut session,
-            octets,
-            text,
-        )?;
-        self.keep(alloc, number, session, text)
-    }
-
-    /// A wrong length ends a session.
-    fn end(
-        &mut self,
-        alloc: Global,
-        config: &Config,
-        number: u8,
-        text: &mut Vec<u8>,
-    ) -> Result<(), AllocError>
-        ensures { OnOk result (IsDone (ends (settings_of config.now) number (runner_of self.old)) (runner_of self.new) text.old.items text.new.items) }
-    {
-        let mut session = self.connected.take_out(alloc, number)?;
-        wrong_length(alloc, config, number, &mut self.node, &mut session, text)?;
-        self.keep(alloc, number, session, text)
-    }
-
-    /// Puts a session back that was taken out and served, unless it is gone, and adds the lines of the receipts that waited for its account
-    /// and go out now.
-    fn keep(
-        &mut self,
-        alloc: Global,
-        number: u8,
-        session: Session,
-        text: &mut Vec<u8>,
-    ) -> Result<(), AllocError>
-        ensures { OnOk result (IsDone (keeps (runner_of self.old) number session) (runner_of self.new) text.old.items text.new.items) }
-    {
-        if self.waiting.is_empty() {
-            return self.put_back(number, session);
-        }
-        let Some(account) = session.account() else {
-            return self.put_back(number, session);
-        };
-        let account = account.copy()?;
-        self.put_back(number, session)?;
-        self.post_for(alloc, &account, text)
-    }
-
-    /// Puts a session back that was taken out, unless it is gone.
-    fn put_back(&mut self, number: u8, session: Session) -> Result<(), AllocError>
-        ensures { OnOk result (runner_of self.new ≡ put_back (runner_of self.old) number session) }
-    {
-        if session.state().is_gone() {
+        let at = node.number() as usize - 1;
+        if at >= self.stations.len() {
             return Ok(());
         }
-        self.connected.put_back(number, session)
+        self.stations[at].octets(alloc, config, node, session, octets, text)?;
+        self.share(at)
     }
 
-    /// Adds the lines of the receipts that wait for an account and go out now.
-    fn post_for(
-        &mut self,
-        alloc: Global,
-        account: &Text<16>,
-        text: &mut Vec<u8>,
-    ) -> Result<(), AllocError>
-        ensures { OnOk result (IsDone (posts_for (runner_of self.old) (Some account.now)) (runner_of self.new) text.old.items text.new.items) }
-    {
-        let now = self.node.clock();
-        post_for(
-            alloc,
-            text,
-            &mut self.connected,
-            &mut self.waiting,
-            now,
-            account,
-        )
-    }
-
-    /// A moment has come: adds the lines of what requests are answered that waited too long, and gives up each deliver_sm that waits for its
-    /// answer for 30 seconds or more. After an `Err`, which is want of memory, nothing is said of the centre.
+    /// A moment has come at a node.
     pub fn tick(
         &mut self,
         alloc: Global,
+        node: NodeNo,
         moment: Moment,
         text: &mut Vec<u8>,
     ) -> Result<(), AllocError>
-        ensures { OnOk result (IsDone (on_tick (runner_of self.old) moment) (runner_of self.new) text.old.items text.new.items) }
+        ensures { OnOk result (Does (λ w. ticks w node moment) self.old self.new text.old.items text.new.items) }
     {
-        let up = self.connected.accounts_up(alloc)?;
-        let replies = self.node.tick(moment, up)?;
-        write_replies(alloc, text, &mut self.connected, replies)?;
-        self.make_room(alloc, text)
-    }
-
-    /// Gives up what was pushed and waits too long, and adds the lines of the receipts that go out then.
-    fn make_room(&mut self, alloc: Global, text: &mut Vec<u8>) -> Result<(), AllocError>
-        ensures { OnOk result (IsDone (makes_room (runner_of self.old)) (runner_of self.new) text.old.items text.new.items) }
-    {
-        self.give_up(alloc)?;
-        let up = self.connected.accounts_up(alloc)?;
-        let now = self.node.clock();
-        post_for_all(
-            alloc,
-            text,
-            &mut self.connected,
-            &mut self.waiting,
-            now,
-            &up,
-        )
-    }
-
-    /// Gives up what was pushed and waits too long at the node's clock. After an `Err`, which is want of memory, nothing is said of the centre.
-    fn give_up(&mut self, alloc: Global) -> Result<(), AllocError>
-        ensures { OnOk result (runner_of self.new ≡ (gives_up (runner_of self.old) (runner_of self.old).node.kept.clock).next) }
-    {
-        let now = self.node.clock();
-        let overdue = self.connected.overdue(alloc, now)?;
-        self.node.give_up(&overdue)?;
-        self.connected.let_go_overdue(now);
-        Ok(())
-    }
-
-    /// The attempt of a message is asked for: adds the line of its deliver_sm, or the line that tells why it is not granted. After an `Err`,
-    /// which is want of memory, nothing is said of the centre.
-    pub fn grant(&mut self, alloc: Global, id: MsgId, text: &mut Vec<u8>) -> Result<(), AllocError>
-        ensures { OnOk result (IsDone (on_grant (runner_of self.old) id) (runner_of self.new) text.old.items text.new.items) }
-    {
-        match self.node.grant(id)? {
-            Granting::Refused(reason) => write_ungranted(text, reason),
-            Granting::Granted(chain) => self.send(alloc, &chain, text),
+        let at = node.number() as usize - 1;
+        if at >= self.stations.len() {
+            return Ok(());
         }
+        self.stations[at].tick(alloc, node, moment, text)?;
+        self.share(at)
     }
 
-    /// The attempt in which a chain ends goes out over a session of the account of its message; if none takes it, it has failed.
-    /// After an `Err`, which is want of memory, nothing is said of the centre.
-    fn send(&mut self, alloc: Global, chain: &Chain, text: &mut Vec<u8>) -> Result<(), AllocError>
-        requires { EndsInAttempt chain.now.decrees }
-        ensures { OnOk result (IsDone (sent (runner_of self.old) (slot_of chain.now.id chain.now.decrees) (taken_in chain.now.decrees)) (runner_of self.new) text.old.items text.new.items) }
+    /// The attempt of a message is asked for at a node.
+    pub fn grant(
+        &mut self,
+        alloc: Global,
+        node: NodeNo,
+        id: MsgId,
+        text: &mut Vec<u8>,
+    ) -> Result<(), AllocError>
+        ensures { OnOk result (Does (λ w. grants w node id) self.old self.new text.old.items text.new.items) }
     {
-        let slot = Slot {
-            id: chain.id(),
-            place: chain.place(),
+        let at = node.number() as usize - 1;
+        if at >= self.stations.len() {
+            return Ok(());
+        }
+        self.stations[at].grant(alloc, node, id, text)?;
+        self.share(at)
+    }
+
+    /// The packet of a number comes to a node.
+    pub fn deliver(
+        &mut self,
+        alloc: Global,
+        number: u64,
+        node: NodeNo,
+        text: &mut Vec<u8>,
+    ) -> Result<(), AllocError>
+        ensures comes { OnOk result (Does (λ w. comes w number node) self.old self.new text.old.items text.new.items) }
+        ensures up { OnOk result (map is_up self.new.stations.items ≡ map is_up self.old.stations.items) }
+    {
+        let Some(packet) = self.packets.get(number) else {
+            return write_declined(text, NO_PACKET);
         };
-        let now = self.node.clock();
-        let target = &chain.submission().target;
-        match self.connected.push(target, now, Delivery::Attempt(slot)) {
-            Some(pushed) => write_delivery(alloc, text, pushed, chain),
-            None => self.node.conclude(slot, Outcome::unanswered()),
+        let at = node.number() as usize - 1;
+        if at >= self.stations.len() {
+            return Ok(());
         }
-    }
-
-    /// The node starts anew: adds the line of each session that it is gone, and keeps none. If there is no next incarnation, it adds a line
-    /// that tells so, and keeps all. An `Err` is want of memory.
-    pub fn restart(self, alloc: Global, text: &mut Vec<u8>) -> Result<Centre, AllocError>
-        ensures { IfOk result (λ centre. IsDone (on_restart (runner_of self)) (runner_of centre) text.old.items text.new.items) }
-    {
-        let Centre {
-            node,
-            connected,
-            streams,
-            waiting,
-        } = self;
-        let (node, done) = node.restart()?;
-        if !done {
-            write_declined(text, NO_INCARNATION)?;
-            return Ok(Centre {
-                node,
-                connected,
-                streams,
-                waiting,
-            });
+        if !self.stations[at].is_up() {
+            return write_declined(text, DOWN);
         }
-        write_all_gone(text, &connected)?;
-        Ok(Centre {
-            node,
-            connected: Connected::none(alloc),
-            streams: Streams::none(alloc),
-            waiting: Waiting::none(alloc),
-        })
+        self.arrivals.add(number, node)?;
+        let packet = packet.copy()?;
+        self.stations[at].deliver(alloc, node, packet, text)?;
+        self.share(at)
     }
 
-    /// The packets of the node come to it, one by one, also those that it sends meanwhile: adds the lines of the replies. After 100,000 it
-    /// adds a line that tells so. After an `Err`, which is want of memory, nothing is said of the centre.
-    pub fn settle(&mut self, alloc: Global, text: &mut Vec<u8>) -> Result<(), AllocError>
-        ensures { OnOk result (IsDone (on_settle (runner_of self.old)) (runner_of self.new) text.old.items text.new.items) }
+    /// The packet of a number comes to a node, which stops in the save of that step: before it, or after it.
+    pub fn crash(
+        &mut self,
+        node: NodeNo,
+        number: u64,
+        found: Found,
+        text: &mut Vec<u8>,
+    ) -> Result<(), AllocError>
+        ensures { OnOk result (Does (λ w. crashes w node number (is_after found)) self.old self.new text.old.items text.new.items) }
     {
-        self.deliver(alloc, MOST_DELIVERIES, text)
+        let Some(packet) = self.packets.get(number) else {
+            return write_declined(text, NO_PACKET);
+        };
+        let at = node.number() as usize - 1;
+        if at >= self.stations.len() {
+            return Ok(());
+        }
+        let station = self.stations.remove(at).stop(node, packet, found, text)?;
+        self.put(at, station)?;
+        self.share(at)
     }
 
-    /// The same with so many packets at most.
-    fn deliver(&mut self, alloc: Global, most: u32, text: &mut Vec<u8>) -> Result<(), AllocError>
-        ensures { OnOk result (IsDone (settles most (runner_of self.old)) (runner_of self.new) text.old.items text.new.items) }
+    /// A node starts anew, in its next incarnation, whether it is up or down.
+    pub fn restart(
+        &mut self,
+        alloc: Global,
+        node: NodeNo,
+        text: &mut Vec<u8>,
+    ) -> Result<(), AllocError>
+        ensures { OnOk result (Does (λ w. restarts w node) self.old self.new text.old.items text.new.items) }
     {
-        for _delivered in 0..most {
-            let Some(given) = self.node.deliver_next()? else {
+        let at = node.number() as usize - 1;
+        if at >= self.stations.len() {
+            return Ok(());
+        }
+        let station = self.stations.remove(at).restart(alloc, node, text)?;
+        self.put(at, station)?;
+        self.share(at)
+    }
+
+    /// Packets come that did not come yet, between these nodes, or between all if these are none: the first by its number, to the first node that
+    /// has not got it, also those that are sent meanwhile. After 100,000 it adds a line that tells so.
+    pub fn settle(
+        &mut self,
+        alloc: Global,
+        nodes: NodeSet,
+        text: &mut Vec<u8>,
+    ) -> Result<(), AllocError>
+        ensures { OnOk result (Does (λ w. on_settle w (nodes_with (has nodes))) self.old self.new text.old.items text.new.items) }
+    {
+        let mut number = 1;
+        for _delivered in 0..MOST_DELIVERIES {
+            let Some(due) = self.due(nodes, number) else {
                 return Ok(());
             };
-            self.tell(alloc, given, text)?;
+            self.deliver(alloc, due.number, due.node, text)?;
+            number = due.number;
         }
         write_unsettled(text)
     }
 
-    /// Adds the lines of what a step gave out: its replies, and then its receipts.
-    fn tell(&mut self, alloc: Global, given: Given, text: &mut Vec<u8>) -> Result<(), AllocError>
-        ensures { OnOk result (IsDone (tells (runner_of self.old) (map reply_given given.replies.items) (map receipt_of given.receipts.items)) (runner_of self.new) text.old.items text.new.items) }
+    /// The first packet, by its number, that is to come to one of these nodes, and the first such node. Packets below this number are not looked at.
+    fn due(&self, nodes: NodeSet, from: u64) -> Option<Due>
+        ensures { IsDue self.now (nodes_with (has nodes)) from result }
     {
-        let Given { replies, receipts } = given;
-        write_replies(alloc, text, &mut self.connected, replies)?;
-        let now = self.node.clock();
-        post_all(
-            alloc,
-            text,
-            &mut self.connected,
-            &mut self.waiting,
-            now,
-            receipts,
-        )
+        for place in from.saturating_sub(1) as usize..self.packets.len() {
+            let number = place as u64 + 1;
+            if let Some(node) = self.lacking(nodes, number) {
+                return Some(Due { number, node });
+            }
+        }
+        None
     }
+
+    /// The first of these nodes that has not got the packet of a number, which one of them sent.
+    fn lacking(&self, nodes: NodeSet, number: u64) -> Option<NodeNo>
+        ensures { IsLacking self.now (nodes_with (has nodes)) number result }
+    {
+        let packet = self.packets.get(number)?;
+        if !takes_part(nodes, sender(packet)) {
+            return None;
+        }
+        for place in 0..9u8 {
+            let station = self.stations.get(place as usize)?;
+            if self.lacks(nodes, number, NodeNo::of(place + 1), station) {
+                return Some(NodeNo::of(place + 1));
+            }
+        }
+        None
+    }
+
+    /// Whether a node takes part, is up, and has not got the packet of a number.
+    fn lacks(&self, nodes: NodeSet, number: u64, node: NodeNo, station: &Station) -> bool
+        ensures { result ≡ (takes_part (nodes_with (has nodes)) node && (is_up station.now && not (came_in self.now.arrivals number node))) }
+    {
+        takes_part(nodes, node) && station.is_up() && !self.arrivals.has(number, node)
+    }
+
+    /// All packets that were sent before come again to all nodes that are up, from the highest number down, so many times.
+    pub fn replay(
+        &mut self,
+        alloc: Global,
+        count: u64,
+        text: &mut Vec<u8>,
+    ) -> Result<(), AllocError>
+        ensures { OnOk result (Does (λ w. on_replay w count) self.old self.new text.old.items text.new.items) }
+    {
+        let sent = self.packets.len() as u64;
+        if sent == 0 {
+            return Ok(());
+        }
+        for _time in 0..count {
+            self.all_come(alloc, sent, text)?;
+        }
+        Ok(())
+    }
+
+    /// The packets up to the one of this number come again to all nodes that are up, from the highest number down.
+    fn all_come(
+        &mut self,
+        alloc: Global,
+        sent: u64,
+        text: &mut Vec<u8>,
+    ) -> Result<(), AllocError>
+        ensures { OnOk result (Does (λ w. all_come (reverse (range_with_len 1 sent)) w) self.old self.new text.old.items text.new.items) }
+    {
+        let mut number = sent;
+        while number > 0 {
+            self.comes_to_all(alloc, number, text)?;
+            number -= 1;
+        }
+        Ok(())
+    }
+
+    /// The packet of a number comes again to all nodes that are up.
+    fn comes_to_all(
+        &mut self,
+        alloc: Global,
+        number: u64,
+        text: &mut Vec<u8>,
+    ) -> Result<(), AllocError>
+        ensures { OnOk result (Does (λ w. comes_to number (node_numbers w) w) self.old self.new text.old.items text.new.items) }
+    {
+        for place in 0..9u8 {
+            let Some(station) = self.stations.get(place as usize) else {
+                return Ok(());
+            };
+            if !station.is_up() {
+                continue;
+            }
+            self.deliver(alloc, number, NodeNo::of(place + 1), text)?;
+        }
+        Ok(())
+    }
+
+    /// Puts a node back that was taken from its place. An `Err` is want of memory.
+    fn put(&mut self, at: usize, station: Station) -> Result<(), AllocError>
+        requires { at ≤ length self.old.stations.items }
+        ensures stations { OnOk result (self.new.stations.items ≡ insert self.old.stations.items at station) }
+        ensures packets { self.new.packets ≡ self.old.packets }
+        ensures arrivals { self.new.arrivals ≡ self.old.arrivals }
+    {
+        match self.stations.insert(at, station) {
+            Ok(()) => Ok(()),
+            Err(_) => Err(AllocError),
+        }
+    }
+
+    /// What the node at this place sent comes behind all packets. An `Err` is want of memory.
+    fn share(&mut self, at: usize) -> Result<(), AllocError>
+        requires { at < length self.old.stations.items }
+        ensures { OnOk result (HasShared self.old at self.new) }
+    {
+        self.stations[at].give_packets(&mut self.packets)
+    }
+}
+
+/// Nodes 1 to so many, each over a new store. An `Err` is want of memory.
+fn opened(
+    alloc: Global,
+    nodes: u8,
+    serial: u32,
+    validity: u32,
+) -> Result<Vec<Station>, AllocError>
+    requires few { nodes ≤ 9 }
+    requires least { 1 ≤ serial }
+    requires most { serial ≤ 99999 }
+    ensures { IfOk result (λ stations. AreOpened nodes serial validity nodes stations.items) }
+{
+    let mut stations = Vec::with_capacity(alloc, nodes as usize)?;
+    for place in 0..nodes {
+        let setup = Setup::make(NodeNo::of(place + 1), nodes, serial, validity).unwrap();
+        let site = Site::start(alloc, setup)?;
+        stations.push(Station::Up(site))?;
+    }
+    Ok(stations)
+}
+
+/// Whether a node takes part: all do if these are none.
+fn takes_part(nodes: NodeSet, node: NodeNo) -> bool
+    ensures { result ≡ takes_part (nodes_with (has nodes)) node }
+{
+    is_nobody(nodes) || nodes.has(node)
+}
+
+/// Whether these nodes are none.
+fn is_nobody(nodes: NodeSet) -> bool
+    ensures { result ≡ (length (nodes_with (has nodes)) == 0) }
+{
+    for number in 1..10 {
+        if nodes.has(NodeNo::of(number)) {
+            return false;
+        }
+    }
+    true
 }

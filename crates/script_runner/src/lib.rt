@@ -1,11 +1,12 @@
 //! Runs a script: octets read to octets written.
 #![tactic(auto)]
 
+mod arrivals;
 mod centre;
 mod fault;
 mod program;
 mod run;
-mod serve;
+mod station;
 
 pub use fault::{ScriptFault, exit_status};
 pub use program::run_program;

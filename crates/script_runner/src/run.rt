@@ -1,22 +1,20 @@
 //! Running a script.
 
-ghost use Rattle.std.specs.Prelude.{◌≡◌, ◌≤◌, IfOk, Some};
+ghost use Rattle.std.specs.Prelude.{◌≡◌, IfOk, None};
 ghost use Rattle.script_lines.specs.Said.{said_by};
 ghost use Rattle.script_text.specs.Settings.{script_settings, settings_of};
-ghost use Rattle.script_text.specs.Script.{step_by};
-ghost use Rattle.script_runner.specs.Outcome.{IsStep, IsStepBy, NumberFits, IsStarted, WritesLine, IsOutcome};
-ghost use Rattle.script_runner.specs.Centre.{stage_of};
+ghost use Rattle.script_world.specs.Script.{opened_by};
+ghost use Rattle.script_runner.specs.Outcome.{IsAct, IsOutcome, IsStarted, IsStep, NumberFits, WritesLine};
 
 use crate::centre::Centre;
 use crate::fault::ScriptFault;
 use config::Config;
 use mc_types::Moment;
-use script_lines::{Found, Line, LineBuffer, lines_are_read, read_line, spelled_so};
+use node_core::Found;
+use script_lines::{Line, LineBuffer, lines_are_read, read_line, spelled_so};
+use script_lines::Found as FoundLine;
 use std::alloc::{AllocError, Global};
 use std::io::{Read, Write};
-
-/// A script is over so many nodes.
-const NODES: u8 = 1;
 
 /// Runs a script: reads its lines, and writes the output of each before it reads the next. `Ok` at its end.
 pub fn run_script<R: Read, W: Write>(
@@ -36,9 +34,9 @@ pub fn run_script<R: Read, W: Write>(
     let mut number = 0u64;
     'lines: loop {
         match buffer.find_line(reader)? {
-            Found::End => return Ok(()),
-            Found::TooLong => return Err(ScriptFault::BadLine(number + 1)),
-            Found::Last(count) => {
+            FoundLine::End => return Ok(()),
+            FoundLine::TooLong => return Err(ScriptFault::BadLine(number + 1)),
+            FoundLine::Last(count) => {
                 let line = &buffer.octets()[..count];
                 return write_line(
                     alloc,
@@ -50,7 +48,7 @@ pub fn run_script<R: Read, W: Write>(
                     writer,
                 );
             }
-            Found::Line(count) => {
+            FoundLine::Line(count) => {
                 let line = &buffer.octets()[..count];
                 write_line(
                     alloc,
@@ -79,7 +77,7 @@ fn write_line<W: Write>(
     writer: &mut W,
 ) -> Result<(), ScriptFault>
     requires { settings_of config.now ≡ script_settings }
-    ensures { WritesLine result (stage_of stage.old) line.now number (stage_of stage.new) (W.contents writer.old) (W.contents writer.new) }
+    ensures { WritesLine result stage.old line.now number stage.new (W.contents writer.old) (W.contents writer.new) }
 {
     text.clear();
     if !step(alloc, config, stage, line, text)? {
@@ -97,92 +95,82 @@ fn step(
     text: &mut Vec<u8>,
 ) -> Result<bool, AllocError>
     requires { settings_of config.now ≡ script_settings }
-    ensures { IfOk result (λ good. IsStep (stage_of stage.old) line.now good (stage_of stage.new) text.old.items text.new.items) }
+    ensures { IfOk result (λ good. IsStep stage.old line.now good stage.new text.old.items text.new.items) }
 {
     spelled_so();
     let Some(said) = read_line(alloc, line)? else {
         return Ok(false);
     };
-    if !said.names_within(NODES) {
-        return Ok(false);
+    match stage {
+        None => start(alloc, config, stage, said),
+        Some(centre) => act(alloc, config, centre, said, text),
     }
-    act(alloc, config, stage, said, text)
 }
 
-/// Does what a line says that names no other node, if it may stand there.
-fn act(
+/// Starts the centre, if a line says so, and answers whether it may stand there. An `Err` is want of memory.
+fn start(
     alloc: Global,
     config: &Config,
     stage: &mut Option<Centre>,
+    said: Line,
+) -> Result<bool, AllocError>
+    requires settings { settings_of config.now ≡ script_settings }
+    requires number { NumberFits (said_by said) }
+    requires none { stage.old ≡ None }
+    ensures { IfOk result (λ good. IsStarted (opened_by script_settings (said_by said)) good stage.new) }
+{
+    match said {
+        Line::Skipped => Ok(true),
+        Line::Nodes { count, serial } => {
+            *stage = Some(Centre::start(alloc, config, count, serial)?);
+            Ok(true)
+        }
+        _ => Ok(false),
+    }
+}
+
+/// Does what a line says, if it names no node that is not there, and may stand there.
+fn act(
+    alloc: Global,
+    config: &Config,
+    centre: &mut Centre,
     said: Line,
     text: &mut Vec<u8>,
 ) -> Result<bool, AllocError>
     requires settings { settings_of config.now ≡ script_settings }
     requires number { NumberFits (said_by said) }
-    ensures { IfOk result (λ good. IsStepBy (step_by script_settings (stage_of stage.old) (Some (said_by said))) good (stage_of stage.new) text.old.items text.new.items) }
+    ensures { IfOk result (λ good. IsAct centre.old (said_by said) good centre.new text.old.items text.new.items) }
 {
-    match said {
-        Line::Skipped => Ok(true),
-        Line::Nodes { serial, .. } => start(alloc, config, stage, serial),
-        Line::Octets {
-            session,
-            octets,
-            ..
-        } => match stage {
-            None => Ok(false),
-            Some(centre) => {
-                centre.octets(alloc, config, session, &octets, text)?;
-                Ok(true)
-            }
-        },
-        Line::Tick { moment, .. } => match stage {
-            None => Ok(false),
-            Some(centre) => {
-                centre.tick(alloc, Moment::make(moment).unwrap(), text)?;
-                Ok(true)
-            }
-        },
-        Line::Grant { id, .. } => match stage {
-            None => Ok(false),
-            Some(centre) => {
-                centre.grant(alloc, id, text)?;
-                Ok(true)
-            }
-        },
-        Line::Settle { .. } => match stage {
-            None => Ok(false),
-            Some(centre) => {
-                centre.settle(alloc, text)?;
-                Ok(true)
-            }
-        },
-        Line::Restart { .. } => match stage.take() {
-            None => Ok(false),
-            Some(centre) => {
-                *stage = Some(centre.restart(alloc, text)?);
-                Ok(true)
-            }
-        },
-        Line::Deliver { .. } | Line::Crash { .. } | Line::Replay { .. } => Ok(false),
-    }
-}
-
-/// Starts the centre, unless one is there, and answers whether it did. An `Err` is want of memory.
-fn start(
-    alloc: Global,
-    config: &Config,
-    stage: &mut Option<Centre>,
-    serial: u32,
-) -> Result<bool, AllocError>
-    requires settings { settings_of config.now ≡ script_settings }
-    requires least { 1 ≤ serial }
-    requires most { serial ≤ 99999 }
-    ensures { IfOk result (λ good. IsStarted (stage_of stage.old) good (stage_of stage.new) serial) }
-{
-    if stage.is_some() {
+    if !said.names_within(centre.nodes()) {
         return Ok(false);
     }
-    *stage = Some(Centre::start(alloc, config, serial)?);
+    match said {
+        Line::Skipped => {}
+        Line::Nodes { .. } => return Ok(false),
+        Line::Octets {
+            node,
+            session,
+            octets,
+        } => {
+            centre.octets(alloc, config, node, session, &octets, text)?;
+        }
+        Line::Deliver { number, node } => centre.deliver(alloc, number, node, text)?,
+        Line::Crash {
+            node,
+            number,
+            after,
+        } => {
+            let found = if after { Found::After } else { Found::Before };
+            centre.crash(node, number, found, text)?;
+        }
+        Line::Tick { node, moment } => {
+            centre.tick(alloc, node, Moment::make(moment).unwrap(), text)?;
+        }
+        Line::Grant { node, id } => centre.grant(alloc, node, id, text)?,
+        Line::Settle { nodes } => centre.settle(alloc, nodes, text)?,
+        Line::Restart { node } => centre.restart(alloc, node, text)?,
+        Line::Replay { count } => centre.replay(alloc, count, text)?,
+    }
     Ok(true)
 }
 

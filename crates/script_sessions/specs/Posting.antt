@@ -3,7 +3,7 @@ use Rattle.std.specs.Prelude.{◌≡◌, ℕ, List, [], ◌∷◌, ◌++◌, map
 use Rattle.mc_model.specs.node.Outputs.{Receipt}
 use Rattle.receipts.specs.Texts.{Report}
 use Rattle.sessions.specs.Session.{Session}
-use Rattle.script_text.specs.Prints.{Print, Reports, text_of_prints}
+use Rattle.script_text.specs.Prints.{Print, Reports, text_at}
 use Rattle.script_text.specs.Receipts.{Mail, Posted}
 use Rattle.script_sessions.specs.declared.connected.PushedOn.{PushedOn}
 
@@ -15,8 +15,8 @@ report_prints pushed (Some report) = Reports pushed.number pushed.sequence pushe
 abbrev pub mail : List (ℕ × Session) → List Receipt → Mail
 mail sessions waiting = record { sessions = sessions; waiting = waiting }
 
--- Receipts went out: they left these sessions and these receipts that wait, and added the text of what was printed.
-pub record IsPosted (posted : Posted) (left : List (ℕ × Session)) (still : List Receipt) (before after : List ℕ) : Type 0 where
+-- Receipts went out at a node: they left these sessions and these receipts that wait, and added the text of what was printed.
+pub record IsPosted (node : ℕ) (posted : Posted) (left : List (ℕ × Session)) (still : List Receipt) (before after : List ℕ) : Type 0 where
   pub sessions : left ≡ posted.mail.sessions
   pub waiting : still ≡ posted.mail.waiting
-  pub text : after ≡ before ++ text_of_prints posted.prints
+  pub text : after ≡ before ++ text_at node posted.prints

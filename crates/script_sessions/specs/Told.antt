@@ -1,14 +1,14 @@
 -- What is told on the sessions of a script, in the words of its text.
 use Rattle.std.specs.Prelude.{◌≡◌, ℕ, List, ◌++◌}
 use Rattle.sessions.specs.Session.{Session}
-use Rattle.script_text.specs.Prints.{text_of_prints}
+use Rattle.script_text.specs.Prints.{text_at}
 use Rattle.script_text.specs.Runner.{Owned, Told}
 use Rattle.script_sessions.specs.declared.connected.Owner.{Owner}
 
 abbrev pub owned_by : Owner → Owned
 owned_by owner = record { number = owner.number; request = owner.request }
 
--- Replies went out: they left these sessions, and added the text of what was printed.
-pub record AreTold (told : Told) (left : List (ℕ × Session)) (before after : List ℕ) : Type 0 where
+-- Replies went out at a node: they left these sessions, and added the text of what was printed.
+pub record AreTold (node : ℕ) (told : Told) (left : List (ℕ × Session)) (before after : List ℕ) : Type 0 where
   pub sessions : left ≡ told.sessions
-  pub text : after ≡ before ++ text_of_prints told.prints
+  pub text : after ≡ before ++ text_at node told.prints

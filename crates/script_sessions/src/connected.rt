@@ -9,8 +9,9 @@ ghost use Rattle.script_text.specs.Pushes.{accounts_up, overdue_in, session_at, 
 ghost use Rattle.script_text.specs.Runner.{owner_of, replied, session_in};
 ghost use Rattle.script_sessions.specs.Pushing.{IsPushed};
 
+use crate::session_place::SessionPlace;
 use crate::{overdue, receiving};
-use mc_types::Moment;
+use mc_types::{Moment, NodeNo};
 use pdu_codec::Text;
 use sessions::{Delivery, OpenRequest, Pushed, Session};
 use std::alloc::{AllocError, Global};
@@ -37,6 +38,19 @@ pub struct PushedOn {
     pub number: u8,
     pub sequence: u32,
     pub knows_optional: bool,
+}
+
+impl PushedOn {
+    /// The place of its session, which is one of this node.
+    pub(crate) fn place_at(self, node: NodeNo) -> SessionPlace
+        ensures node { result.node ≡ node }
+        ensures number { result.number ≡ self.number }
+    {
+        SessionPlace {
+            node,
+            number: self.number,
+        }
+    }
 }
 
 impl Model for Connected {

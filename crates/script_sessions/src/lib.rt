@@ -8,6 +8,7 @@ mod overdue;
 mod posting;
 mod receiving;
 mod response;
+mod session_place;
 mod streams;
 mod waiting;
 
@@ -17,5 +18,6 @@ pub use output::{
     write_ungranted, write_unsettled,
 };
 pub use posting::{post_all, post_for, post_for_all};
+pub use session_place::SessionPlace;
 pub use streams::Streams;
 pub use waiting::Waiting;

@@ -9,7 +9,7 @@ use crate::connected::Connected;
 use crate::output::write_receipt;
 use crate::waiting::Waiting;
 use fate_chain::Chain;
-use mc_types::Moment;
+use mc_types::{Moment, NodeNo};
 use pdu_codec::Text;
 use sessions::Delivery;
 use std::alloc::{AllocError, Global};
@@ -18,12 +18,13 @@ use std::alloc::{AllocError, Global};
 pub fn post_for(
     alloc: Global,
     text: &mut Vec<u8>,
+    node: NodeNo,
     connected: &mut Connected,
     waiting: &mut Waiting,
     now: Moment,
     account: &Text<16>,
 ) -> Result<(), AllocError>
-    ensures { OnOk result (IsPosted (posted_for now (mail connected.old waiting.old) account.now) connected.new waiting.new text.old.items text.new.items) }
+    ensures { OnOk result (IsPosted node (posted_for now (mail connected.old waiting.old) account.now) connected.new waiting.new text.old.items text.new.items) }
 {
     'receipts: loop {
         let Some(id) = waiting.first_for(account) else {
@@ -35,7 +36,7 @@ pub fn post_for(
         let Some(chain) = waiting.take_for(account) else {
             unreachable!();
         };
-        write_receipt(alloc, text, pushed, &chain)?;
+        write_receipt(alloc, text, node, pushed, &chain)?;
     }
 }
 
@@ -43,15 +44,16 @@ pub fn post_for(
 pub fn post_for_all(
     alloc: Global,
     text: &mut Vec<u8>,
+    node: NodeNo,
     connected: &mut Connected,
     waiting: &mut Waiting,
     now: Moment,
     accounts: &[Text<16>],
 ) -> Result<(), AllocError>
-    ensures { OnOk result (IsPosted (posted_for_all now (mail connected.old waiting.old) accounts.now) connected.new waiting.new text.old.items text.new.items) }
+    ensures { OnOk result (IsPosted node (posted_for_all now (mail connected.old waiting.old) accounts.now) connected.new waiting.new text.old.items text.new.items) }
 {
     for account in accounts {
-        post_for(alloc, text, connected, waiting, now, account)?;
+        post_for(alloc, text, node, connected, waiting, now, account)?;
     }
     Ok(())
 }
@@ -60,15 +62,16 @@ pub fn post_for_all(
 pub fn post_all(
     alloc: Global,
     text: &mut Vec<u8>,
+    node: NodeNo,
     connected: &mut Connected,
     waiting: &mut Waiting,
     now: Moment,
     chains: Vec<Chain>,
 ) -> Result<(), AllocError>
-    ensures { OnOk result (IsPosted (all_posted now (mail connected.old waiting.old) (map receipt_of chains.items)) connected.new waiting.new text.old.items text.new.items) }
+    ensures { OnOk result (IsPosted node (all_posted now (mail connected.old waiting.old) (map receipt_of chains.items)) connected.new waiting.new text.old.items text.new.items) }
 {
     for chain in chains {
-        post(alloc, text, connected, waiting, now, chain)?;
+        post(alloc, text, node, connected, waiting, now, chain)?;
     }
     Ok(())
 }
@@ -77,12 +80,13 @@ pub fn post_all(
 fn post(
     alloc: Global,
     text: &mut Vec<u8>,
+    node: NodeNo,
     connected: &mut Connected,
     waiting: &mut Waiting,
     now: Moment,
     chain: Chain,
 ) -> Result<(), AllocError>
-    ensures { OnOk result (IsPosted (posted now (mail connected.old waiting.old) (receipt_of chain)) connected.new waiting.new text.old.items text.new.items) }
+    ensures { OnOk result (IsPosted node (posted now (mail connected.old waiting.old) (receipt_of chain)) connected.new waiting.new text.old.items text.new.items) }
 {
     let account = match chain.submission().submitter.copy() {
         Ok(account) => account,
@@ -92,5 +96,5 @@ fn post(
         }
     };
     waiting.add(&account, chain)?;
-    post_for(alloc, text, connected, waiting, now, &account)
+    post_for(alloc, text, node, connected, waiting, now, &account)
 }

@@ -20,9 +20,12 @@ pub record Node : Type 0 where
 abbrev pub alone : ℕ → ℕ → Setup
 alone validity serial = record { node = 1; nodes = 1; first_serial = serial; default_validity = validity }
 
--- it opens with a new store
+-- a node opens with a new store
+abbrev pub opened_by : Setup → Node
+opened_by setup = record { setup = setup; kept = opened_new setup; packets = [] }
+
 abbrev pub opened : ℕ → ℕ → Node
-opened validity serial = record { setup = alone validity serial; kept = opened_new (alone validity serial); packets = [] }
+opened validity serial = opened_by (alone validity serial)
 
 -- ---- a step
 

@@ -28,21 +28,21 @@ pub data Print : Type 0 where
   -- an attempt that was asked for is not granted, for the reason of this number
   Ungranted : ℕ → Print
 
--- the line of octets that go out on a session
-abbrev pub octets_line : ℕ → List ℕ → List ℕ
-octets_line session octets = codes "pdu 1 " ++ decimal session ++ codes " " ++ encode_lower octets ++ 10 ∷ []
+-- the line of octets that go out at a node, on a session
+abbrev pub octets_line : ℕ → ℕ → List ℕ → List ℕ
+octets_line node session octets = codes "pdu " ++ decimal node ++ codes " " ++ decimal session ++ codes " " ++ encode_lower octets ++ 10 ∷ []
 
 -- the line of a PDU
-abbrev pub pdu_line : ℕ → Pdu → List ℕ
-pdu_line session pdu = octets_line session (octets_of pdu)
+abbrev pub pdu_line : ℕ → ℕ → Pdu → List ℕ
+pdu_line node session pdu = octets_line node session (octets_of pdu)
 
 -- the receipt of a report (SMPP 3.4, appendix B)
 abbrev pub report_pdu : ℕ → Bool → Report → Pdu
 report_pdu sequence optional report = deliver_sm sequence optional (receipt_message report)
 
--- the line of a session that is gone
-abbrev pub gone_line : ℕ → List ℕ
-gone_line session = codes "gone 1 " ++ decimal session ++ 10 ∷ []
+-- the line of a session of a node that is gone
+abbrev pub gone_line : ℕ → ℕ → List ℕ
+gone_line node session = codes "gone " ++ decimal node ++ codes " " ++ decimal session ++ 10 ∷ []
 
 abbrev pub unsettled_line : List ℕ
 unsettled_line = codes "unsettled" ++ 10 ∷ []
@@ -54,16 +54,21 @@ declined_line number = codes "refused " ++ decimal number ++ 10 ∷ []
 abbrev pub ungranted_line : ℕ → List ℕ
 ungranted_line reason = codes "refused 3 " ++ decimal reason ++ 10 ∷ []
 
-abbrev pub line_of : Print → List ℕ
-line_of (AtOnce session pdu) = pdu_line session pdu
-line_of (Late session id pdu) = pdu_line session pdu
-line_of (Delivers session pdu) = pdu_line session pdu
-line_of (Reports session sequence optional report) = pdu_line session (report_pdu sequence optional report)
-line_of (Gone session) = gone_line session
-line_of Unsettled = unsettled_line
-line_of (Declined number) = declined_line number
-line_of (Ungranted reason) = ungranted_line reason
+-- the line of what a node prints: a refusal does not name it
+abbrev pub line_at : ℕ → Print → List ℕ
+line_at node (AtOnce session pdu) = pdu_line node session pdu
+line_at node (Late session id pdu) = pdu_line node session pdu
+line_at node (Delivers session pdu) = pdu_line node session pdu
+line_at node (Reports session sequence optional report) = pdu_line node session (report_pdu sequence optional report)
+line_at node (Gone session) = gone_line node session
+line_at node Unsettled = unsettled_line
+line_at node (Declined number) = declined_line number
+line_at node (Ungranted reason) = ungranted_line reason
 
--- the text of what is printed
+-- the text of what a node prints
+abbrev pub text_at : ℕ → List Print → List ℕ
+text_at node prints = flat_map (line_at node) prints
+
+-- and that of the node of a script that has one alone
 abbrev pub text_of_prints : List Print → List ℕ
-text_of_prints prints = flat_map line_of prints
+text_of_prints prints = text_at 1 prints

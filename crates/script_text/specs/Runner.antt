@@ -50,6 +50,14 @@ pub record Runner : Type 0 where
   pub streams : List (ℕ × List ℕ)
   pub waiting : List Receipt
 
+-- the packets that its node sent are taken from it
+abbrev pub given_out : Runner → Runner
+given_out runner = record runner { node = awaiting runner.node [] }
+
+-- no session is connected yet
+abbrev pub runner_opened : Node → Runner
+runner_opened node = record { node = node; sessions = []; streams = []; waiting = [] }
+
 -- ---- a PDU on a session
 
 -- What serving a session leaves: the node, the session, what came to the node, and what was printed, the oldest first.

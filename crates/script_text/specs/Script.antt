@@ -6,11 +6,11 @@ use Rattle.script_text.specs.Settings.{Settings, script_settings}
 use Rattle.mc_model.specs.node.Input.{Input}
 use Rattle.script_text.specs.Node as node
 use Rattle.script_text.specs.Prints.{Print, text_of_prints}
-use Rattle.script_text.specs.Runner.{Runner, Acted, on_grant, on_octets, on_restart, on_settle, on_tick}
+use Rattle.script_text.specs.Runner.{Runner, Acted, on_grant, on_octets, on_restart, on_settle, on_tick, runner_opened}
 
 -- what is there before the first line that says something: no session is connected
 abbrev pub opened : Settings → ℕ → Runner
-opened settings serial = record { node = node.opened settings.validity serial; sessions = []; streams = []; waiting = [] }
+opened settings serial = runner_opened (node.opened settings.validity serial)
 
 -- what is there before a line, and after it: nothing yet, or a runner
 abbrev pub Stage : Type 0

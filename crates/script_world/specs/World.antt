@@ -4,11 +4,11 @@ use Rattle.std.specs.List.{range_with_len}
 use Rattle.mc_model.specs.synod.Packet.{Packet}
 use Rattle.mc_model.specs.node.Input.{Crash, Input}
 use Rattle.mc_model.specs.node.Setup.{Setup}
-use Rattle.node_model.specs.Stepped.{opened_new, sender_of}
+use Rattle.node_model.specs.Stepped.{sender_of}
 use Rattle.script_lines.specs.Said.{is_listed}
 use Rattle.script_text.specs.Settings.{Settings}
-use Rattle.script_text.specs.Node.{Node, awaiting, step_at, with_step}
-use Rattle.script_text.specs.Runner.{Runner, Acted, gone_prints, most_deliveries, on_delivery, on_grant, on_octets, on_restart, on_tick}
+use Rattle.script_text.specs.Node.{Node, opened_by, step_at, with_step}
+use Rattle.script_text.specs.Runner.{Runner, Acted, given_out, gone_prints, most_deliveries, on_delivery, on_grant, on_octets, on_restart, on_tick, runner_opened}
 use Rattle.script_world.specs.Prints.{WorldPrint, At, Refuses, StopsSettling}
 
 -- Of each node, from the node 1 on, its runner, whose node has no packet to give out between two acts; all packets that were ever sent, the
@@ -35,12 +35,6 @@ pub record Moved : Type 0 where
 abbrev pub setup_of : Settings → ℕ → ℕ → ℕ → Setup
 setup_of settings count serial node = record { node = node; nodes = count; first_serial = serial; default_validity = settings.validity }
 
-abbrev pub opened_by : Setup → Node
-opened_by setup = record { setup = setup; kept = opened_new setup; packets = [] }
-
-abbrev pub runner_opened : Node → Runner
-runner_opened node = record { node = node; sessions = []; streams = []; waiting = [] }
-
 -- so many nodes open with new stores, and no session is connected
 abbrev pub opened : Settings → ℕ → ℕ → World
 opened settings count serial = record {
@@ -58,10 +52,6 @@ stays world = record { next = world; inputs = []; prints = [] }
 -- what was done first, and then this
 abbrev pub then_moved : Moved → Moved → Moved
 then_moved first last = record { next = last.next; inputs = first.inputs ++ last.inputs; prints = first.prints ++ last.prints }
-
--- the packets that it gave out are all packets' now
-abbrev pub given_out : Runner → Runner
-given_out runner = record runner { node = awaiting runner.node [] }
 
 -- what a node did: what it sent comes behind all packets
 abbrev pub shared : World → ℕ → Acted → Moved

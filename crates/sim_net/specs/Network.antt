@@ -3,9 +3,8 @@ use Rattle.std.specs.Prelude.{ℕ, zero, suc, List, Option, None}
 use Rattle.std.specs.List.{slice_get}
 use Rattle.synod_acceptor.specs.declared.packet.Packet.{Packet}
 
--- Between so many nodes these were sent, the oldest first; there is room for so many more.
+-- These were sent, the oldest first; there is room for so many more.
 pub record Network : Type 0 where
-  pub nodes : ℕ
   pub sent : List Packet
   pub room : ℕ
 

@@ -1,13 +1,10 @@
 //! All packets that were sent.
 
-ghost use Rattle.std.specs.Prelude.{◌≡◌, ◌↔◌, ◌≤◌, ◌<◌, ◌++◌, [], length, None, Some, IfOk, IsErrOf, IsSome, OnErr, OnOk};
+ghost use Rattle.std.specs.Prelude.{◌≡◌, ◌≤◌, ◌<◌, ◌++◌, [], length, IfSome, OnErr, OnOk};
 ghost use Rattle.std.specs.Option.{option_copied};
 ghost use Rattle.mc_model.specs.synod.Lists.{In};
 ghost use Rattle.sim_net.specs.Network.{numbered};
-ghost use Rattle.sim_net.specs.declared.fault.NetFault.TheVariants.{NoSuchNode, NoSuchPacket};
 
-use crate::fault::NetFault;
-use mc_types::NodeNo;
 use std::alloc::{AllocError, Global};
 use std::marker::Model;
 use std::mem;
@@ -17,7 +14,6 @@ use synod_acceptor::Packet;
 /// nodes, any number of times or never.
 #[derive(Drop)]
 pub struct Packets {
-    nodes: u8,
     // The oldest first.
     sent: Vec<Packet>,
 }
@@ -30,20 +26,17 @@ impl Model for Packets {
     ghost Value = { Network };
 
     ghost view = { λ p. record {
-      nodes = p.nodes;
       sent = p.sent.items;
       room = vec_capacity p.sent - vec_len p.sent;
     } };
 }
 
 impl Packets {
-    /// Between so many nodes no packet was sent yet. It takes no memory.
-    pub fn make(alloc: Global, nodes: u8) -> Packets
-        ensures nodes { result.nodes ≡ nodes }
-        ensures sent { result.sent ≡ [] }
+    /// No packet was sent yet. It takes no memory.
+    pub fn none(alloc: Global) -> Packets
+        ensures { result.sent ≡ [] }
     {
         Packets {
-            nodes,
             sent: Vec::new(alloc),
         }
     }
@@ -55,25 +48,17 @@ impl Packets {
         self.sent.len()
     }
 
-    /// The packet with this number, to come to a node. NoSuchPacket exactly if no packet has that number; then NoSuchNode exactly if the
-    /// cluster has no such node. It takes no memory.
+    /// The packet with this number, if one has it. It takes no memory.
     #[tactic(auto, using(crate::proofs::Places::numbered_in))]
-    pub fn get(&self, number: u64, node: NodeNo) -> Result<&Packet, NetFault>
-        ensures packet { IfOk result (λ packet. numbered self.now.sent number ≡ Some packet.now) }
-        ensures sent { IfOk result (λ packet. In packet.now self.now.sent) }
-        ensures none { IsErrOf result NoSuchPacket ↔ (numbered self.now.sent number ≡ None) }
-        ensures nobody { IsErrOf result NoSuchNode ↔ (IsSome (numbered self.now.sent number) × (self.now.nodes < node)) }
+    pub fn get(&self, number: u64) -> Option<&Packet>
+        ensures packet { option_copied result ≡ numbered self.now.sent number }
+        ensures sent { IfSome result (λ packet. In packet.now self.now.sent) }
     {
-        let Some(packet) = self.find(number) else {
-            return Err(NetFault::NoSuchPacket);
-        };
-        if node.number() > self.nodes {
-            return Err(NetFault::NoSuchNode);
-        }
-        Ok(packet)
+        let packet = self.find(number)?;
+        Some(packet)
     }
 
-    /// The packet with this number, if one has it.
+    /// The same, by its place alone.
     fn find(&self, number: u64) -> Option<&Packet>
         ensures { option_copied result ≡ numbered self.now.sent number }
     {
@@ -87,7 +72,6 @@ impl Packets {
         ensures room { OnOk result (more ≤ self.new.room) }
         ensures memory { OnErr result (self.old.room < more) }
         ensures sent { self.new.sent ≡ self.old.sent }
-        ensures nodes { self.new.nodes ≡ self.old.nodes }
     {
         let length = self.sent.len();
         if more <= self.sent.capacity() - length {
@@ -111,11 +95,20 @@ impl Packets {
     pub fn add(&mut self, packets: Vec<Packet>)
         requires { length packets.items ≤ self.old.room }
         ensures sent { self.new.sent ≡ self.old.sent ++ packets.items }
-        ensures nodes { self.new.nodes ≡ self.old.nodes }
     {
         let mut packets = packets;
         if self.sent.append(&mut packets).is_err() {
             unreachable!();
         }
+    }
+
+    /// The packets that were sent elsewhere were sent next, in their order; there none is left. An `Err` is want of memory; then nothing changes.
+    pub fn take_from(&mut self, elsewhere: &mut Packets) -> Result<(), AllocError>
+        ensures sent { OnOk result (self.new.sent ≡ self.old.sent ++ elsewhere.old.sent) }
+        ensures none { OnOk result (elsewhere.new.sent ≡ []) }
+        ensures stays { OnErr result (self.new.sent ≡ self.old.sent) }
+        ensures waits { OnErr result (elsewhere.new.sent ≡ elsewhere.old.sent) }
+    {
+        self.sent.append(&mut elsewhere.sent)
     }
 }

@@ -12,7 +12,6 @@ use Rattle.mc_model.specs.cluster.Steps.{Cluster, setup_of}
 use Rattle.node_model.specs.Kept.{Kept}
 use Rattle.node_model.specs.Outputs.{Stepped, leaves, nothing}
 use Rattle.mc_model.specs.synod.Lists.{In}
-use Rattle.node_model.specs.Packets.{is_member}
 use Rattle.node_model.specs.Stepped.{restarted, saved_by, sender_of, stepped, stopped}
 use Rattle.node_laws.specs.Clusters.{KeptCluster, NodeInput, WasSentBefore, kept_reached, step_at}
 use Rattle.node_laws.specs.Runs.{IsOneOf, IsUpFor, MayCome}
@@ -31,11 +30,11 @@ use Rattle.world.specs.declared.fault.WorldFault.TheVariants as faults
 use Rattle.world.specs.declared.given.Given.{Given as Gives}
 use Rattle.world.specs.declared.step.Step.TheVariants as steps
 use Rattle.world.specs.Members.{CantBegin, HasBegun, HasStopped, IsAddressed, IsPlace, Keeps, away_in, undelivered_in, unsent_in}
-use Rattle.world.specs.Runs.{GoesOn, IsAt, IsDown, IsFault, IsGiven, IsMember, IsWorld, Leads, StandsAs, StaysAt, absent, at, away, or_else, refusal_of, spent, unsent}
+use Rattle.world.specs.Runs.{GoesOn, IsAt, IsDown, IsFault, IsGiven, IsMember, IsSomewhere, Leads, StandsAs, StaysAt, absent, at, away, or_else, refusal_of, spent, unsent}
 use Rattle.world.specs.Scenes.{Placed, Scene}
 use Rattle.world.proofs.Going.{goes_on, stays}
+use Rattle.world.proofs.Stopping.{stands_down}
 use Rattle.world.proofs.Leading.{away_is, away_none, is_up, kept_up, present, sent_in, setup_up, up_for}
-use Rattle.world.proofs.Placing.{stood}
 use Rattle.world.proofs.Answering.{number_is, unsent_none, unsent_some}
 
 -- what leaves something gives nothing out
@@ -80,15 +79,6 @@ module _ (cluster : Cluster) (behind : List Packet) (inputs : List NodeInput) (o
     stopped_is : stopped m.node.kept.setup (kept_of m.node.kept) (packet_of packet) after ≡ (step_at cluster here (at node (Crash (packet_of packet) after))).kept
     stopped_is = (λ i. stopped (setup_is i) (kept_is i) (packet_of packet) after) ∙ crash_is (setup_of cluster node) k (packet_of packet) after up_now
 
-    down_then : (b : Bool) → (stopped m.node.kept.setup (kept_of m.node.kept) (packet_of packet) b).up ≡ false
-    down_then true = by_member (is_member m.node.kept.setup (sender_of (packet_of packet)))
-      where
-        by_member : (member : Bool) →
-            (if member then record (saved_by m.node.kept.setup (kept_of m.node.kept) (packet_of packet)) { up = false } else record (kept_of m.node.kept) { up = false }).up ≡ false
-        by_member true = refl
-        by_member false = refl
-    down_then false = refl
-
     abbrev step : Stepped
     step = step_at cluster here (at node crash)
 
@@ -96,12 +86,7 @@ module _ (cluster : Cluster) (behind : List Packet) (inputs : List NodeInput) (o
     member_then = record {
       setup_is = has.crashed.setup ∙ setup_is;
       stands = subst (λ (b : Bool). StandsAs step.kept b has.after.node) (sym has.crashed.down)
-          (subst (λ (kept : Kept). IsDown kept has.after.node) stopped_is (record {
-            down = down_then after;
-            incarnation = has.crashed.incarnation ∙ sym has.crashed.life;
-            lists = has.crashed.lists;
-            stored = has.crashed.stored;
-          }));
+          (subst (λ (kept : Kept). IsDown kept has.after.node) stopped_is (stands_down m has.after packet after has.crashed));
     }
 
     silent : step.outputs ≡ nothing
@@ -258,17 +243,13 @@ undelivered old number node fault least is cluster behind inputs now = by_packet
 
 -- ---- it still stands somewhere
 
-pub stopped_world : (old new : Scene) (place : ℕ) (packet : Sent) (after : Bool) (gives : Gives) (before later : ℕ) → In packet old.packets →
-    HasStopped old place packet after gives new → IsWorld old before → later ≡ before → IsWorld new later
-stopped_world old new place packet after gives before later sent has is same =
-    let at = is.somewhere in
+pub stopped_somewhere : (old new : Scene) (place : ℕ) (packet : Sent) (after : Bool) (gives : Gives) → In packet old.packets →
+    HasStopped old place packet after gives new → IsSomewhere old → IsSomewhere new
+stopped_somewhere old new place packet after gives sent has at =
     let stop = stopped_at at.cluster at.behind at.inputs old new at.at (place + 1) place packet after gives refl has (sent_in at.cluster at.behind at.inputs old at.at packet sent) in
-    stood new (record { cluster = at.cluster; behind = at.behind; inputs = _; at = stop }) before later old is same
-    (ap length has.changed.members ∙ length-set old.members place has.after)
+    record { cluster = at.cluster; behind = at.behind; inputs = _; at = stop }
 
-pub begun_world : (old new : Scene) (place : ℕ) (gives : Gives) (before later : ℕ) → HasBegun old place gives new → IsWorld old before → later ≡ before → IsWorld new later
-begun_world old new place gives before later has is same =
-    let at = is.somewhere in
+pub begun_somewhere : (old new : Scene) (place : ℕ) (gives : Gives) → HasBegun old place gives new → IsSomewhere old → IsSomewhere new
+begun_somewhere old new place gives has at =
     let start = begun_at at.cluster at.behind at.inputs old new at.at (place + 1) place gives refl has in
-    stood new (record { cluster = at.cluster; behind = at.behind; inputs = _; at = start }) before later old is same
-    (ap length has.changed.members ∙ length-set old.members place has.after)
+    record { cluster = at.cluster; behind = at.behind; inputs = _; at = start }

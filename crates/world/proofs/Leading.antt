@@ -39,7 +39,7 @@ use Rattle.world.specs.declared.given.Given.{Given as Gives}
 use Rattle.world.specs.declared.step.Step.{Step}
 use Rattle.world.specs.declared.step.Step.TheVariants as steps
 use Rattle.world.specs.Members.{DoesNotTake, HasTaken, IsPlace, IsSentIn, Keeps, RefusesTo, away_in, down_in, fault_from, step_by}
-use Rattle.world.specs.Runs.{Answers, Comes, GoesOn, IsAt, IsFault, IsGiven, IsMember, IsSomewhere, IsWorld, Leads, StandsAs, StaysAt, absent, at, away, down, or_else, refusal_of}
+use Rattle.world.specs.Runs.{Answers, Comes, GoesOn, IsAt, IsFault, IsGiven, IsMember, IsSomewhere, Leads, StandsAs, StaysAt, absent, at, away, down, or_else, refusal_of}
 use Rattle.world.specs.Scenes.{Placed, Scene}
 use Rattle.world.proofs.Going.{goes_on, stays}
 

@@ -11,7 +11,7 @@ use Rattle.node_core.specs.declared.input.Input.{Input}
 use Rattle.sim_net.proofs.Numbers.{set_get}
 use Rattle.world.specs.declared.given.Given.{Given}
 use Rattle.world.specs.Members.{HasTaken, IsKept, IsSentIn, IsUnmoved, Keeps}
-use Rattle.world.specs.Runs.{IsAt, IsSomewhere, IsWorld}
+use Rattle.world.specs.Runs.{IsAt, IsSomewhere}
 use Rattle.world.specs.Scenes.{Placed, Scene}
 use Rattle.world.proofs.Going.{stays}
 use Rattle.world.proofs.Leading.{IsTaken, taken}
@@ -44,28 +44,19 @@ keeps_all old = record {
   fresh = refl;
 }
 
-pub kept_world : (old new : Scene) (before after : ℕ) → Keeps old new → IsWorld old before → after ≡ before → IsWorld new after
-kept_world old new before after keeps is same = record {
-  somewhere = record {
-    cluster = is.somewhere.cluster;
-    behind = is.somewhere.behind;
-    inputs = is.somewhere.inputs;
-    at = stays is.somewhere.cluster is.somewhere.behind is.somewhere.inputs old is.somewhere.at new keeps;
-  };
-  between = same ∙ is.between ∙ sym keeps.nodes;
+pub kept_somewhere : (old new : Scene) → Keeps old new → IsSomewhere old → IsSomewhere new
+kept_somewhere old new keeps is = record {
+  cluster = is.cluster;
+  behind = is.behind;
+  inputs = is.inputs;
+  at = stays is.cluster is.behind is.inputs old is.at new keeps;
 }
 
--- where it stands then
-pub stood : (new : Scene) → IsSomewhere new → (before after : ℕ) (old : Scene) → IsWorld old before → after ≡ before → length new.members ≡ length old.members → IsWorld new after
-stood new somewhere before after old is same nodes = record { somewhere = somewhere; between = same ∙ is.between ∙ sym nodes }
-
-pub taken_world : (old new : Scene) (node : ℕ) (input : Input) (gives : Given) (before after : ℕ) → IsSentIn old input → HasTaken old node input gives new →
-    IsWorld old before → after ≡ before → IsWorld new after
-taken_world old new node input gives before after sent has is same =
-    let at = is.somewhere in
+pub taken_somewhere : (old new : Scene) (node : ℕ) (input : Input) (gives : Given) → IsSentIn old input → HasTaken old node input gives new →
+    IsSomewhere old → IsSomewhere new
+taken_somewhere old new node input gives sent has at =
     let took = taken at.cluster at.behind at.inputs old at.at node input gives new sent has in
-    stood new (record { cluster = at.cluster; behind = at.behind; inputs = _; at = took.at_then }) before after old is same
-    (ap length has.changed.members ∙ length-set old.members has.place has.after)
+    record { cluster = at.cluster; behind = at.behind; inputs = _; at = took.at_then }
 
 -- the node that stands at a place is the one that was called
 pub same_member : (old : Scene) (items : List Placed) (place : ℕ) (m called : Placed) → items ≡ old.members → slice_get old.members place ≡ Some m →

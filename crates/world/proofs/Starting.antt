@@ -19,7 +19,7 @@ use Rattle.node_core.specs.Nodes.{HasOpened, Standing}
 use Rattle.node_core.specs.Setups.{setup_of}
 use Rattle.sim_net.specs.Network.{numbered}
 use Rattle.world.specs.Members.{AreOpened, IsOpened}
-use Rattle.world.specs.Runs.{IsAt, IsMember, IsWorld, StandsAs, cluster_with}
+use Rattle.world.specs.Runs.{IsAt, IsMember, IsSomewhere, StandsAs, cluster_with}
 use Rattle.world.specs.Scenes.{Placed, Scene}
 
 pub is_opened : (setup : Setup) (entries : List (Slot × SlotRecord)) (started : ℕ) (m : Placed) (life : Life) → entries ≡ [] → started ≡ 0 → m.up ≡ true →
@@ -38,7 +38,7 @@ is_opened setup entries started m life new never up opened = record {
 some_is : {A : Type 0} {a b : A} → Some a ≡ Some b → a ≡ b
 some_is same = cc
 
-get_push : {A : Type 0} (xs : List A) (k : ℕ) (x y : A) → slice_get (xs ++ x ∷ []) k ≡ Some y → ((k ≡ length xs) × (y ≡ x)) ⊎ (slice_get xs k ≡ Some y)
+pub get_push : {A : Type 0} (xs : List A) (k : ℕ) (x y : A) → slice_get (xs ++ x ∷ []) k ≡ Some y → ((k ≡ length xs) × (y ≡ x)) ⊎ (slice_get xs k ≡ Some y)
 get_push [] zero x y is = inl (refl, sym (some_is is))
 get_push [] (suc k) x y is = absurd cc
 get_push (z ∷ xs) zero x y is = inr is
@@ -81,8 +81,6 @@ starts nodes serial validity w are none = record {
           stands = subst (λ (up : Bool). StandsAs (opened_new (setup_of (suc place) nodes serial validity)) up m.node) (sym it.up) kept;
         }
 
-pub starts_world : (nodes serial validity between : ℕ) (w : Scene) → AreOpened nodes serial validity nodes w.members → w.packets ≡ [] → between ≡ nodes → IsWorld w between
-starts_world nodes serial validity between w are none is = record {
-  somewhere = record { cluster = cluster_with nodes serial validity; behind = []; inputs = []; at = starts nodes serial validity w are none };
-  between = is ∙ sym are.count_is;
-}
+pub starts_somewhere : (nodes serial validity : ℕ) (w : Scene) → AreOpened nodes serial validity nodes w.members → w.packets ≡ [] → IsSomewhere w
+starts_somewhere nodes serial validity w are none =
+    record { cluster = cluster_with nodes serial validity; behind = []; inputs = []; at = starts nodes serial validity w are none }

@@ -1,9 +1,13 @@
 -- A node of a world stops, and starts anew.
 use Rattle.std.proofs.Common.{◌≡◌, ℕ, suc, ◌+◌, ◌<◌, ◌≤◌, Bool, true, false, refl, sym, ap, subst, ◌∙◌, arith}
+use Rattle.std.specs.Prelude.{if◌then◌else◌}
 use Rattle.mc_model.specs.synod.Acceptor.{Records}
 use Rattle.mc_model.specs.node.Input.{Restart}
 use Rattle.node_model.specs.Kept.{Kept}
-use Rattle.node_model.specs.Stepped.{stepped, stopped}
+use Rattle.node_model.specs.Packets.{is_member}
+use Rattle.node_model.specs.Stepped.{saved_by, sender_of, stepped, stopped}
+use Rattle.mc_model.specs.node.Setup.{Setup}
+use Rattle.mc_model.specs.synod.Packet.{Packet as Told}
 use Rattle.node_model.proofs.Stops.{saved_so}
 use Rattle.node_laws.specs.Runs.{IsOneOf}
 use Rattle.node_laws.specs.Steps.{IsWellMade}
@@ -64,6 +68,24 @@ has_saved old new packet input outputs came taken saved up =
       incarnation = took.incarnation;
       stored = record { each = λ slot. (saved took.works).each slot ∙ ap (λ (k : Kept). k.records slot) took.kept };
     }
+
+down_then : (setup : Setup) (k : Kept) (packet : Told) (after : Bool) → (stopped setup k packet after).up ≡ false
+down_then setup k packet true = by_member (is_member setup (sender_of packet))
+  where
+    by_member : (member : Bool) → (if member then record (saved_by setup k packet) { up = false } else record k { up = false }).up ≡ false
+    by_member true = refl
+    by_member false = refl
+down_then setup k packet false = refl
+
+-- it stands as the model's node that stopped
+pub stands_down : (old new : Placed) (packet : Packet) (after : Bool) → HasCrashed old packet after new →
+    IsDown (stopped old.node.kept.setup (kept_of old.node.kept) (packet_of packet) after) new.node
+stands_down old new packet after crashed = record {
+  down = down_then old.node.kept.setup (kept_of old.node.kept) (packet_of packet) after;
+  incarnation = crashed.incarnation ∙ sym crashed.life;
+  lists = crashed.lists;
+  stored = crashed.stored;
+}
 
 restarts_as : (old : Placed) (node : Standing Listed) (life : Life) (k : Kept) → ListsRecorded (kept_of old.node.kept) →
     AreSame (record_at old.node.store.entries) (kept_of old.node.kept).records → old.node.store.started ≡ old.node.kept.incarnation →

@@ -25,10 +25,8 @@ use Rattle.node_core.specs.Keeping.{kept_of}
 use Rattle.node_core.specs.Nodes.{IsLifeOf, Standing}
 use Rattle.node_core.specs.Restarts.{ListsRecorded}
 use Rattle.node_core.specs.Setups.{setup_of}
-use Rattle.node_core.specs.Steps.{IsFault as IsStepFault, input_of, refused_by}
+use Rattle.node_core.specs.Steps.{GrantsKnown, IsFault as IsStepFault, input_of, refused_by}
 use Rattle.node_runs.specs.Runs.{may_come_to}
-use Rattle.sim_net.specs.declared.fault.NetFault.{NetFault}
-use Rattle.sim_net.specs.declared.fault.NetFault.TheVariants as nets
 use Rattle.world.specs.declared.fault.WorldFault.{WorldFault}
 use Rattle.world.specs.declared.fault.WorldFault.TheVariants as faults
 use Rattle.world.specs.declared.given.Given.{Given}
@@ -37,10 +35,6 @@ use Rattle.world.specs.Scenes.{Placed, Scene}
 use Rattle.world.specs.Runs.{IsGiven, StandsAs, or_else}
 
 -- ---- faults
-
-abbrev pub fault_of_net : NetFault → WorldFault
-fault_of_net nets.NoSuchPacket = faults.NoSuchPacket
-fault_of_net nets.NoSuchNode = faults.NoSuchNode
 
 abbrev pub fault_of_store : StoreFault → WorldFault
 fault_of_store stores.Incarnations = faults.Spent
@@ -95,6 +89,7 @@ pub record HasSent (old : Placed) (input : Input) (before : List Packet) (given 
   pub setup : new.node.kept.setup ≡ old.node.kept.setup
   pub kept : kept_of new.node.kept ≡ (step_by old input).kept
   pub gives : IsGiven given (step_by old input).outputs
+  pub granted : GrantsKnown (kept_of old.node.kept) input given.granted
   pub packets : map packet_of after ≡ map packet_of before ++ (step_by old input).outputs.packets
 
 -- It took the step of a packet, of which nothing was sent.

@@ -161,11 +161,6 @@ pub record IsSomewhere (w : Scene) : Type 0 where
   pub inputs : List NodeInput
   pub at : IsAt cluster behind inputs w
 
--- and between as many nodes its packets go
-pub record IsWorld (w : Scene) (nodes : ℕ) : Type 0 where
-  pub somewhere : IsSomewhere w
-  pub between : nodes ≡ length w.members
-
 -- ---- from one step to the next
 
 -- The step was taken: this came to a node, and this is what the model's cluster gives out.

@@ -3,10 +3,9 @@
 ghost use Rattle.std.specs.Prelude.{◌≡◌};
 ghost use Rattle.world.specs.declared.fault.StartFault.TheVariants as starts;
 ghost use Rattle.world.specs.declared.fault.WorldFault.TheVariants.{Memory};
-ghost use Rattle.world.specs.Members.{fault_from, fault_of_net, fault_of_store};
+ghost use Rattle.world.specs.Members.{fault_from, fault_of_store};
 
 use node_core::{GrantRefusal, StepFault};
-use sim_net::NetFault;
 use stable_store::StoreFault;
 use std::alloc::AllocError;
 
@@ -34,17 +33,6 @@ impl From<AllocError> for WorldFault {
 
     fn from(_error: AllocError) -> WorldFault {
         WorldFault::Memory
-    }
-}
-
-impl From<NetFault> for WorldFault {
-    ghost from_gives = { λ net fault. fault ≡ fault_of_net net };
-
-    fn from(fault: NetFault) -> WorldFault {
-        match fault {
-            NetFault::NoSuchPacket => WorldFault::NoSuchPacket,
-            NetFault::NoSuchNode => WorldFault::NoSuchNode,
-        }
     }
 }
 

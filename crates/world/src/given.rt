@@ -48,8 +48,8 @@ impl Given {
     pub(crate) fn send(outputs: Outputs, packets: &mut Packets) -> Given
         requires { length outputs.packets.items ≤ packets.old.room }
         ensures given { IsGiven result (outputs_of outputs) }
+        ensures granted { result.granted ≡ outputs.granted }
         ensures sent { packets.new.sent ≡ packets.old.sent ++ outputs.packets.items }
-        ensures nodes { packets.new.nodes ≡ packets.old.nodes }
     {
         let Outputs {
             ticket,

@@ -9,5 +9,6 @@ mod world;
 
 pub use fault::{StartFault, WorldFault};
 pub use given::Given;
+pub use member::Member;
 pub use step::Step;
 pub use world::World;

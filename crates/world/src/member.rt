@@ -10,6 +10,7 @@ ghost use Rattle.stable_store.specs.declared.fault.StoreFault.TheVariants as sto
 ghost use Rattle.world.specs.Members.{HasCrashed, HasRestarted, HasSaved, HasSent, IsOpened, IsUnmoved};
 
 use crate::given::Given;
+use mc_types::Moment;
 use node_core::{
     Found, Input, Life, Node, Outputs, Pending, Setup, StepFault, open_node, opens_as_restarted,
 };
@@ -46,7 +47,7 @@ impl Model for Member {
 
 impl Member {
     /// A node over a new store. An `Err` is want of memory.
-    pub(crate) fn open(alloc: Global, setup: Setup) -> Result<Member, AllocError>
+    pub fn open(alloc: Global, setup: Setup) -> Result<Member, AllocError>
         ensures { IfOk result (IsOpened setup) }
     {
         match open_node(alloc, ListStore::make(alloc), setup) {
@@ -60,21 +61,27 @@ impl Member {
     }
 
     /// Whether it is up.
-    pub(crate) fn is_up(&self) -> bool
+    pub fn is_up(&self) -> bool
         ensures { result ≡ self.now.up }
     {
         self.up
     }
 
+    /// The clock of its node.
+    pub fn clock(&self) -> Moment
+        ensures { result ≡ self.now.node.kept.clock }
+    {
+        self.node.clock()
+    }
+
     /// Takes the step of an input, and sends its packets. Grant and NotGranted exactly as `Node::prepare_step` says; else an `Err` is want of
     /// memory. Then nothing changes.
-    pub(crate) fn take(&mut self, input: Input, packets: &mut Packets) -> Result<Given, StepFault>
+    pub fn take(&mut self, input: Input, packets: &mut Packets) -> Result<Given, StepFault>
         requires { self.old.up ≡ true }
         ensures taken { IfOk result (λ given. HasSent self.old input packets.old.sent given self.new packets.new.sent) }
         ensures faults { IfErr result (IsFault (refused_by self.old.node.kept.setup (kept_of self.old.node.kept) input)) }
         ensures stays { OnErr result (IsUnmoved self.old self.new) }
         ensures sent { OnErr result (packets.new.sent ≡ packets.old.sent) }
-        ensures nodes { packets.new.nodes ≡ packets.old.nodes }
     {
         self.node.bounds();
         may_come(&self.node, &input);
@@ -100,7 +107,7 @@ impl Member {
     }
 
     /// Stops as a packet comes, before the save of its step or after it. An `Err` is want of memory; then nothing changes.
-    pub(crate) fn crash(&mut self, packet: &Packet, found: Found) -> Result<(), StepFault>
+    pub fn crash(&mut self, packet: &Packet, found: Found) -> Result<(), StepFault>
         requires { self.old.up ≡ true }
         ensures crashed { OnOk result (HasCrashed self.old packet.now (is_after found) self.new) }
         ensures faults { IfErr result (λ fault. fault ≡ Memory) }
@@ -138,7 +145,7 @@ impl Member {
 
     /// Starts anew, in its next incarnation, with what its store has and nothing else. Incarnations exactly if it has begun its last one;
     /// else an `Err` is want of memory. Then nothing changes.
-    pub(crate) fn restart(&mut self) -> Result<(), StoreFault>
+    pub fn restart(&mut self) -> Result<(), StoreFault>
         ensures restarted { OnOk result (HasRestarted self.old self.new) }
         ensures spent { IsErrOf result stores.Incarnations ↔ (9999 ≤ self.old.node.kept.incarnation) }
         ensures faults { IfErr result (λ fault. (fault ≡ stores.Incarnations) ⊎ (fault ≡ stores.Memory)) }

@@ -38,11 +38,11 @@ impl Model for World {
 
     ghost Value = { Scene };
 
-    ghost use Rattle.world.specs.Runs.{IsWorld};
+    ghost use Rattle.world.specs.Runs.{IsSomewhere};
 
     ghost view = { λ w. record { members = w.members.items; packets = w.packets.sent; fresh = w.fresh } };
 
-    ghost invariant = { λ w. IsWorld (record { members = w.members.items; packets = w.packets.sent; fresh = w.fresh }) w.packets.nodes };
+    ghost invariant = { λ w. IsSomewhere (record { members = w.members.items; packets = w.packets.sent; fresh = w.fresh }) };
 }
 
 impl World {
@@ -68,7 +68,7 @@ impl World {
         Ok(World {
             alloc,
             members: opened(alloc, nodes, first_serial, default_validity)?,
-            packets: Packets::make(alloc, nodes),
+            packets: Packets::none(alloc),
             fresh: true,
         })
     }
@@ -152,7 +152,9 @@ impl World {
         ensures fault { IfErr result (IsFault (undelivered_in self.now number node)) }
         ensures least { 1 ≤ node }
     {
-        let packet = self.packets.get(number, node)?;
+        let Some(packet) = self.packets.get(number) else {
+            return Err(WorldFault::NoSuchPacket);
+        };
         let place = self.place_up(node)?;
         Ok((place, packet.copy()?))
     }

@@ -9,11 +9,12 @@ use Rattle.node_laws.specs.Clusters.{NodeInput}
 use Rattle.node_laws.specs.Runs.{IsOneOf}
 use Rattle.script_lines.specs.Said.{Said, Skipped, Nodes, Octets, Deliver, Crash, Tick, Grant, Settle, Restart, Replay, said_within}
 use Rattle.script_lines.proofs.SaidLemmas.{spells_within}
-use Rattle.script_text.specs.Runner.{Runner}
+use Rattle.script_text.specs.Runner.{Runner, runner_opened}
 use Rattle.script_text.specs.Settings.{Settings}
 use Rattle.script_world.specs.Prints.{WorldPrint}
 use Rattle.script_world.specs.Script.{Joins, Stage, Stepped, after, moved_by, prints_from, step_by, step_of, stepped}
-use Rattle.script_world.specs.World.{Moved, NodeInput as LineInput, World, comes, crashes, grants, hears, on_replay, on_settle, opened, opened_by, restarts, runner_opened, setup_of, ticks}
+use Rattle.script_text.specs.Node.{opened_by}
+use Rattle.script_world.specs.World.{Moved, NodeInput as LineInput, World, comes, crashes, grants, hears, on_replay, on_settle, opened, restarts, setup_of, ticks}
 use Rattle.fate_laws.proofs.Behind.{behind}
 use Rattle.fate_laws.proofs.Standing.{opened_fit}
 use Rattle.fate_laws.proofs.Tellings.{FactOfPrints, IsTelling, NodePrint, TakesDeliveries}

@@ -16,10 +16,10 @@ use Rattle.node_laws.specs.Clusters.{NodeInput, kept_reached, step_at}
 use Rattle.node_laws.specs.Runs.{IsOneOf}
 use Rattle.script_text.specs.Node.{Node, awaiting}
 use Rattle.script_text.specs.Prints.{Print}
-use Rattle.script_text.specs.Runner.{Acted, Runner, most_deliveries, on_delivery, on_grant, on_octets, on_restart, on_tick}
+use Rattle.script_text.specs.Runner.{Acted, Runner, given_out, most_deliveries, on_delivery, on_grant, on_octets, on_restart, on_tick}
 use Rattle.script_text.specs.Settings.{Settings}
 use Rattle.script_world.specs.Prints.{At, Refuses, StopsSettling, WorldPrint}
-use Rattle.script_world.specs.World.{Due, Moved, NodeInput as LineInput, World, acts, all_come, comes, comes_again, comes_if, comes_to, crashed, crashes, crashes_if, due, due_among, due_at, due_first, given_out, grants, hears, if_due, if_up, is_down, is_up, is_up_at, lacks, marked, no_packet, node_numbers, on_replay, on_settle, packet_of, refuses, replays, restarts, restarts_if, runner_at, settles, shared, stays, takes_part, then_moved, ticks, unsettled, up_or_refuses}
+use Rattle.script_world.specs.World.{Due, Moved, NodeInput as LineInput, World, acts, all_come, comes, comes_again, comes_if, comes_to, crashed, crashes, crashes_if, due, due_among, due_at, due_first, grants, hears, if_due, if_up, is_down, is_up, is_up_at, lacks, marked, no_packet, node_numbers, on_replay, on_settle, packet_of, refuses, replays, restarts, restarts_if, runner_at, settles, shared, stays, takes_part, then_moved, ticks, unsettled, up_or_refuses}
 use Rattle.fate_laws.proofs.Posting.{found_in}
 use Rattle.fate_laws.proofs.Behind.{behind, behind_then, came_to, input_to, sent_later}
 use Rattle.fate_laws.proofs.ReceiptsOut.{AreReceiptsOut, receipts_out_later}

@@ -7,5 +7,5 @@ use Rattle.script_sessions.proofs.posting.post_all.Given as goal
 
 abbrev pub invariant-loop-chain : goal.invariant-loop-chain
 invariant-loop-chain l =
-    IsLeft (all_posted l.now (mail l.fn.connected l.fn.waiting) (map receipt_of l.fn.chains.items))
+    IsLeft l.node (all_posted l.now (mail l.fn.connected l.fn.waiting) (map receipt_of l.fn.chains.items))
     (all_posted l.now (mail l.connected l.waiting) (map receipt_of l.chain-iterator.rest.items)) l.fn.text.items l.text.items

@@ -1,6 +1,6 @@
 use Rattle.std.proofs.Common.{◌≡◌, drop}
 use Rattle.script_text.specs.Attempts.{all_given_up}
-use Rattle.script_node.specs.Steps.{node_of}
+use Rattle.script_node.specs.Nodes.{node_of}
 use Rattle.script_node.proofs.node.ScriptNode.give_up.Given as goal
 
 -- what is left to give up leads to what all leads to

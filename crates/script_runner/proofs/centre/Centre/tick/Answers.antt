@@ -1,10 +1,10 @@
-use Rattle.std.proofs.Common.{refl}
-use Rattle.script_runner.specs.Centre.{runner_of}
-use Rattle.script_runner.proofs.Ticking.{tick_done_if}
+use Rattle.std.proofs.Common.{arith}
+use Rattle.script_text.specs.Runner.{on_tick}
+use Rattle.script_runner.proofs.Moving.{acts_does_if}
 use Rattle.script_runner.proofs.centre.Centre.tick.Goals as goal
 
 pub returns : goal.returns
 returns c =
-    tick_done_if c.make_room.result (runner_of c.args.self.now) (runner_of (record c.args.self.now { node = c.tick.new.self; connected = c.write_replies.new.connected })) (runner_of c.make_room.new.self)
-    c.args.moment c.in_ok-up.up.items c.in_ok-replies.replies c.args.text.now.items c.write_replies.new.text.items c.make_room.new.text.items
-    c.in_ok-up.ensures c.in_ok-replies.ensures c.in_ok-write_replies.ensures refl refl c.make_room.ensures
+    acts_does_if c.share.result c.args.self.now c.share.new.self c.args.node c.number.result (λ runner. on_tick runner c.args.moment)
+    c.index_mut.result.now c.tick.new.self c.args.text.now.items c.tick.new.text.items c.number.ensures.value c.number.ensures.range.least
+    (omega (arith, c.len.ensures, c.if-at-len.false)) c.index_mut.ensures.value c.in_ok-tick.ensures.acts c.share.ensures

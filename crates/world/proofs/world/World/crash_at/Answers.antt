@@ -2,10 +2,10 @@ use Rattle.std.proofs.Common.{◌≡◌, ◌⊎◌, ◌<◌, ◌≤◌, ℕ, Lis
 use Rattle.std.proofs.Math.ListN.{set}
 use Rattle.node_core.specs.Stops.{is_after}
 use Rattle.world.specs.Members.{HasChanged, HasCrashed, HasStopped, IsUnmoved, Keeps}
-use Rattle.world.specs.Runs.{IsWorld}
+use Rattle.world.specs.Runs.{IsSomewhere}
 use Rattle.world.specs.Scenes.{Placed, Scene}
-use Rattle.world.proofs.Ending.{stopped_world}
-use Rattle.world.proofs.Placing.{kept_world, keeps_one, same_member}
+use Rattle.world.proofs.Ending.{stopped_somewhere}
+use Rattle.world.proofs.Placing.{kept_somewhere, keeps_one, same_member}
 use Rattle.world.proofs.world.World.crash_at.Goals as goal
 
 pub returns-in-Ok-clause-stopped : goal.returns-in-Ok-clause-stopped
@@ -45,8 +45,8 @@ invariant_of-self c =
       packets = ap (λ (w : Scene). w.packets) c.self.view_is;
       gives = c.nothing.ensures;
     } in
-    stopped_world old new c.args.place c.args.packet.now (is_after c.args.found) c.nothing.result c.self.inside.packets.nodes c.self.inside.packets.nodes c.requires.sent has
-    (subst (λ (w : Scene). IsWorld w c.self.inside.packets.nodes) c.self.view_is c.self.invariant) refl
+    stopped_somewhere old new c.args.place c.args.packet.now (is_after c.args.found) c.nothing.result c.requires.sent has
+    (subst (λ (w : Scene). IsSomewhere w) c.self.view_is c.self.invariant)
 
 pub returns-in-Err-clause-stays : goal.returns-in-Err-clause-stays
 returns-in-Err-clause-stays c =
@@ -74,5 +74,5 @@ invariant_of-self-in-Err c =
     (ap (λ (ms : List Placed). set ms c.args.place c.crash.new.self) members)
     (ap (λ (w : Scene). w.packets) c.self.view_is)
     (ap (λ (w : Scene). w.fresh) c.self.view_is) in
-    kept_world old new c.self.inside.packets.nodes c.self.inside.packets.nodes stays
-    (subst (λ (w : Scene). IsWorld w c.self.inside.packets.nodes) c.self.view_is c.self.invariant) refl
+    kept_somewhere old new stays
+    (subst (λ (w : Scene). IsSomewhere w) c.self.view_is c.self.invariant)

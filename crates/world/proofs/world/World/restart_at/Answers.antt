@@ -5,10 +5,10 @@ use Rattle.stable_store.specs.declared.fault.StoreFault.TheVariants.{Incarnation
 use Rattle.world.specs.declared.fault.WorldFault.{WorldFault}
 use Rattle.world.specs.declared.fault.WorldFault.TheVariants as faults
 use Rattle.world.specs.Members.{CantBegin, HasBegun, HasChanged, HasRestarted, IsPlace, Keeps, fault_of_store}
-use Rattle.world.specs.Runs.{IsWorld}
+use Rattle.world.specs.Runs.{IsSomewhere}
 use Rattle.world.specs.Scenes.{Placed, Scene}
-use Rattle.world.proofs.Ending.{begun_world}
-use Rattle.world.proofs.Placing.{found_member, kept_world, keeps_one}
+use Rattle.world.proofs.Ending.{begun_somewhere}
+use Rattle.world.proofs.Placing.{found_member, kept_somewhere, keeps_one}
 use Rattle.world.proofs.world.World.restart_at.Goals as goal
 
 pub returns-in-Ok-clause-begun : goal.returns-in-Ok-clause-begun
@@ -50,8 +50,8 @@ invariant_of-self c =
       packets = ap (λ (w : Scene). w.packets) c.self.view_is;
       gives = c.nothing.ensures;
     } in
-    begun_world old new c.args.place c.nothing.result c.self.inside.packets.nodes c.self.inside.packets.nodes has
-    (subst (λ (w : Scene). IsWorld w c.self.inside.packets.nodes) c.self.view_is c.self.invariant) refl
+    begun_somewhere old new c.args.place c.nothing.result has
+    (subst (λ (w : Scene). IsSomewhere w) c.self.view_is c.self.invariant)
 
 below : (n : ℕ) → (9999 ≤ n → ⊥) → n < 9999
 below n past = omega (arith, past)
@@ -110,5 +110,5 @@ invariant_of-self-in-Err c =
     (ap (λ (ms : List Placed). set ms c.args.place c.restart.new.self) members)
     (ap (λ (w : Scene). w.packets) c.self.view_is)
     (ap (λ (w : Scene). w.fresh) c.self.view_is) in
-    kept_world old new c.self.inside.packets.nodes c.self.inside.packets.nodes stays
-    (subst (λ (w : Scene). IsWorld w c.self.inside.packets.nodes) c.self.view_is c.self.invariant) refl
+    kept_somewhere old new stays
+    (subst (λ (w : Scene). IsSomewhere w) c.self.view_is c.self.invariant)

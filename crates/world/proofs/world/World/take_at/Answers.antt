@@ -4,9 +4,9 @@ use Rattle.synod_acceptor.specs.declared.packet.Packet.{Packet}
 use Rattle.node_core.specs.Keeping.{kept_of}
 use Rattle.node_core.specs.Steps.{IsFault, refused_by}
 use Rattle.world.specs.Members.{HasChanged, HasSent, HasTaken, IsUnmoved, Keeps, RefusesTo}
-use Rattle.world.specs.Runs.{IsWorld}
+use Rattle.world.specs.Runs.{IsSomewhere}
 use Rattle.world.specs.Scenes.{Placed, Scene}
-use Rattle.world.proofs.Placing.{kept_world, keeps_one, same_member, taken_world}
+use Rattle.world.proofs.Placing.{kept_somewhere, keeps_one, same_member, taken_somewhere}
 use Rattle.world.proofs.world.World.take_at.Goals as goal
 
 pub invariant_of-self : goal.invariant_of-self
@@ -24,8 +24,8 @@ invariant_of-self c =
     let changed : HasChanged old place c.take.new.self new = record { members = ap (λ (ms : List Placed). set ms place c.take.new.self) members; fresh = refl } in
     let has : HasTaken old c.args.node c.args.input c.in-Ok.given new =
     record { place = place; member = m; is = c.requires.up.is; up = c.requires.up.up; after = c.take.new.self; sent = sent; changed = changed } in
-    taken_world old new c.args.node c.args.input c.in-Ok.given c.self.inside.packets.nodes c.take.new.packets.nodes c.requires.sent has
-    (subst (λ (w : Scene). IsWorld w c.self.inside.packets.nodes) c.self.view_is c.self.invariant) c.take.ensures.nodes
+    taken_somewhere old new c.args.node c.args.input c.in-Ok.given c.requires.sent has
+    (subst (λ (w : Scene). IsSomewhere w) c.self.view_is c.self.invariant)
 
 pub returns-in-Ok-clause-taken : goal.returns-in-Ok-clause-taken
 returns-in-Ok-clause-taken c =
@@ -84,5 +84,5 @@ invariant_of-self-in-Err c =
     (ap (λ (ms : List Placed). set ms c.args.place c.take.new.self) members)
     (c.in-Err.ensures.sent ∙ ap (λ (w : Scene). w.packets) c.self.view_is)
     (ap (λ (w : Scene). w.fresh) c.self.view_is) in
-    kept_world old new c.self.inside.packets.nodes c.take.new.packets.nodes stays
-    (subst (λ (w : Scene). IsWorld w c.self.inside.packets.nodes) c.self.view_is c.self.invariant) c.take.ensures.nodes
+    kept_somewhere old new stays
+    (subst (λ (w : Scene). IsSomewhere w) c.self.view_is c.self.invariant)

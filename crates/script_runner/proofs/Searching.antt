@@ -1,0 +1,98 @@
+-- The first of some numbers, in ascending order.
+use Rattle.std.proofs.Common.{◌≡◌, ℕ, zero, suc, ◌+◌, ◌<◌, ◌≤◌, Bool, true, false, cond, List, [], ◌∷◌, ◌++◌, length, map, find, Option, Some, None, refl, sym, ap, subst, ◌∙◌, arith}
+use Rattle.std.specs.Prelude.{◌&&◌, not, slice_get, option_map, if◌then◌else◌}
+use Rattle.std.specs.List.{range_with_len}
+use Rattle.mc_model.specs.synod.Packet.{Packet}
+use Rattle.node_model.specs.Stepped.{sender_of}
+use Rattle.sim_net.specs.Network.{numbered}
+use Rattle.script_text.specs.Runner.{Runner}
+use Rattle.script_world.specs.World.{Due, World, due, due_among, due_at, due_first, is_up_at, lacks, node_numbers, packet_of, runner_at, takes_part}
+use Rattle.script_runner.specs.Arrivals.{came_in}
+use Rattle.script_runner.specs.Centres.{IsWorld, NothingBefore}
+use Rattle.script_runner.specs.Stations.{is_up}
+use Rattle.script_runner.specs.declared.centre.Centre.{Centre}
+use Rattle.script_runner.specs.declared.station.Station.{Station}
+use Rattle.script_runner.proofs.Moving.{found_too}
+
+-- ---- of numbers from one on
+
+later : (start j : ℕ) → start + suc j ≡ (start + 1) + j
+later start j = omega arith
+
+pub first_found : (test : ℕ → Bool) (start count k : ℕ) → k < count → ((j : ℕ) → j < k → test (start + j) ≡ false) → test (start + k) ≡ true →
+    find test (range_with_len start count) ≡ Some (start + k)
+first_found test start zero k within before is = absurd (omega (arith, within))
+first_found test start (suc count) zero within before is =
+    let here : start + 0 ≡ start = omega arith in
+    let yes : test start ≡ true = sym (ap test here) ∙ is in
+    ap (λ (b : Bool). cond b (Some start) (find test (range_with_len (start + 1) count))) yes ∙ ap Some (sym here)
+first_found test start (suc count) (suc k) within before is =
+    let here : start + 0 ≡ start = omega arith in
+    let no : test start ≡ false = sym (ap test here) ∙ before 0 (omega arith) in
+    ap (λ (b : Bool). cond b (Some start) (find test (range_with_len (start + 1) count))) no
+    ∙ first_found test (start + 1) count k (omega (arith, within)) (λ j below. ap test (sym (later start j)) ∙ before (suc j) (omega (arith, below))) (ap test (sym (later start k)) ∙ is)
+    ∙ ap Some (sym (later start k))
+
+pub none_found : (test : ℕ → Bool) (start count : ℕ) → ((j : ℕ) → j < count → test (start + j) ≡ false) → find test (range_with_len start count) ≡ None
+none_found test start zero none = refl
+none_found test start (suc count) none =
+    let here : start + 0 ≡ start = omega arith in
+    ap (λ (b : Bool). cond b (Some start) (find test (range_with_len (start + 1) count))) (sym (ap test here) ∙ none 0 (omega arith))
+    ∙ none_found test (start + 1) count (λ j below. ap test (sym (later start j)) ∙ none (suc j) (omega (arith, below)))
+
+-- what none passes, none passes that is passed by fewer
+pub none_of_fewer : (test fewer : ℕ → Bool) (numbers : List ℕ) → ((n : ℕ) → test n ≡ false → fewer n ≡ false) → find test numbers ≡ None → find fewer numbers ≡ None
+none_of_fewer test fewer [] weaker none = refl
+none_of_fewer test fewer (n ∷ numbers) weaker none = by_test (test n) refl none (none_of_fewer test fewer numbers weaker)
+  where
+    by_test : (b : Bool) → test n ≡ b → cond b (Some n) (find test numbers) ≡ None → (find test numbers ≡ None → find fewer numbers ≡ None) →
+        cond (fewer n) (Some n) (find fewer numbers) ≡ None
+    by_test true is none others = absurd cc
+    by_test false is none others = ap (λ (b : Bool). cond b (Some n) (find fewer numbers)) (weaker n is) ∙ others none
+
+-- ---- the first packet that is due
+
+module _ (w : World) (nodes : List ℕ) where
+  abbrev to : ℕ → Option ℕ
+  to number = due_at w nodes number (packet_of w.packets number)
+
+  due_found : (start count k node : ℕ) → k < count → ((j : ℕ) → j < k → to (start + j) ≡ None) → to (start + k) ≡ Some node →
+      due_among w nodes (range_with_len start count) ≡ Some (record { number = start + k; node = node })
+  unfolding due_among
+  due_found start zero k node within before is = absurd (omega (arith, within))
+  due_found start (suc count) zero node within before is =
+      let here : start + 0 ≡ start = omega arith in
+      ap (λ (found : Option ℕ). due_first start found (due_among w nodes (range_with_len (start + 1) count))) (sym (ap to here) ∙ is)
+      ∙ ap (λ (n : ℕ). Some (record { number = n; node = node })) (sym here)
+  due_found start (suc count) (suc k) node within before is =
+      let here : start + 0 ≡ start = omega arith in
+      ap (λ (found : Option ℕ). due_first start found (due_among w nodes (range_with_len (start + 1) count))) (sym (ap to here) ∙ before 0 (omega arith))
+      ∙ due_found (start + 1) count k node (omega (arith, within)) (λ j below. ap to (sym (later start j)) ∙ before (suc j) (omega (arith, below))) (ap to (sym (later start k)) ∙ is)
+      ∙ ap (λ (n : ℕ). Some (record { number = n; node = node })) (sym (later start k))
+
+  due_none : (start count : ℕ) → ((j : ℕ) → j < count → to (start + j) ≡ None) → due_among w nodes (range_with_len start count) ≡ None
+  unfolding due_among
+  due_none start zero none = refl
+  due_none start (suc count) none =
+      let here : start + 0 ≡ start = omega arith in
+      ap (λ (found : Option ℕ). due_first start found (due_among w nodes (range_with_len (start + 1) count))) (sym (ap to here) ∙ none 0 (omega arith))
+      ∙ due_none (start + 1) count (λ j below. ap to (sym (later start j)) ∙ none (suc j) (omega (arith, below)))
+
+  pub first_due : (number node : ℕ) → NothingBefore w nodes number → number < suc (length w.packets) → to number ≡ Some node → Some (record { number = number; node = node }) ≡ due w nodes
+  first_due zero node before within is = absurd (let none : None ≡ Some node = is in cc)
+  first_due (suc k) node before within is =
+      let same : 1 + k ≡ suc k = omega arith in
+      sym (due_found 1 (length w.packets) k node (omega (arith, within)) (λ j below. before (1 + j) (omega (arith, below))) (ap to same ∙ is)
+      ∙ ap (λ (n : ℕ). Some (record { number = n; node = node })) same)
+
+  pub nothing_due : (from : ℕ) → NothingBefore w nodes from → length w.packets < from → None ≡ due w nodes
+  nothing_due from before past = sym (due_none 1 (length w.packets) (λ j below. before (1 + j) (omega (arith, below, past))))
+
+-- ---- a packet that a node lacks
+
+pub lacks_is : (centre : Centre) (w : World) (nodes : List ℕ) (number place : ℕ) (station : Station) → IsWorld centre w → slice_get centre.stations.items place ≡ Some station →
+    lacks w nodes number (suc place) ≡ (takes_part nodes (suc place) && (is_up station && not (came_in centre.arrivals number (suc place))))
+lacks_is centre w nodes number place station is found =
+    let there = found_too centre.stations.items w.runners place station is.nodes found in
+    let up : is_up_at (runner_at w (suc place)) ≡ is_up station = ap is_up_at there.1 ∙ (is.each place station there.0 found there.1).up in
+    (λ i. takes_part nodes (suc place) && (up i && not (sym (is.came number (suc place)) i)))
