@@ -14,7 +14,7 @@ use Rattle.script_runner.specs.Stations.{is_up}
 use Rattle.script_runner.specs.declared.centre.Centre.{Centre}
 use Rattle.script_runner.specs.declared.station.Station.{Station}
 use Rattle.script_runner.proofs.Coming.{packet_in}
-use Rattle.script_runner.proofs.Searching.{first_found, lacks_is, none_found}
+use Rattle.script_runner.proofs.Searching.{at_or_below, first_found, lacks_is, none_found}
 
 module _ (centre : Centre) (w : World) (nodes : List ℕ) (number : ℕ) (packet : Sent) (is : IsWorld centre w) (sent : Some packet ≡ numbered centre.packets.sent number)
     (part : takes_part nodes (sender_of (packet_by packet)) ≡ true) where
@@ -43,11 +43,5 @@ lacks_so centre w nodes number place node station b is found same tested =
     ap (lacks w nodes number) first ∙ lacks_is centre w nodes number place station is found
     ∙ ap (λ (n : ℕ). takes_part nodes n && (is_up station && not (came_in centre.arrivals number n))) last ∙ sym tested
 
-at_or_before : (a b : ℕ) → a < b + 1 → (a < b) ⊎ (a ≡ b)
-at_or_before zero zero below = inr refl
-at_or_before zero (suc b) below = inl (omega arith)
-at_or_before (suc a) zero below = absurd (omega (arith, below))
-at_or_before (suc a) (suc b) below = elim (at_or_before a b (omega (arith, below))) [ | inl less ↦ inl (omega (arith, less)) | inr same ↦ inr (ap suc same) ]
-
 pub one_further : (test : ℕ → Bool) (place : ℕ) → ((j : ℕ) → j < place → test (1 + j) ≡ false) → test (1 + place) ≡ false → (j : ℕ) → j < place + 1 → test (1 + j) ≡ false
-one_further test place none here j below = elim (at_or_before j place below) [ | inl less ↦ none j less | inr same ↦ ap (λ (n : ℕ). test (1 + n)) same ∙ here ]
+one_further test place none here j below = elim (at_or_below j place below) [ | inl less ↦ none j less | inr same ↦ ap (λ (n : ℕ). test (1 + n)) same ∙ here ]

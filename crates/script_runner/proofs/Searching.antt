@@ -1,5 +1,5 @@
 -- The first of some numbers, in ascending order.
-use Rattle.std.proofs.Common.{◌≡◌, ℕ, zero, suc, ◌+◌, ◌<◌, ◌≤◌, Bool, true, false, cond, List, [], ◌∷◌, ◌++◌, length, map, find, Option, Some, None, refl, sym, ap, subst, ◌∙◌, arith}
+use Rattle.std.proofs.Common.{◌≡◌, ◌⊎◌, inl, inr, ℕ, zero, suc, ◌+◌, ◌-◌, ◌<◌, ◌≤◌, Bool, true, false, cond, List, [], ◌∷◌, ◌++◌, length, map, find, Option, Some, None, refl, sym, ap, subst, ◌∙◌, arith}
 use Rattle.std.specs.Prelude.{◌&&◌, not, slice_get, option_map, if◌then◌else◌}
 use Rattle.std.specs.List.{range_with_len}
 use Rattle.mc_model.specs.synod.Packet.{Packet}
@@ -24,12 +24,12 @@ pub first_found : (test : ℕ → Bool) (start count k : ℕ) → k < count → 
 first_found test start zero k within before is = absurd (omega (arith, within))
 first_found test start (suc count) zero within before is =
     let here : start + 0 ≡ start = omega arith in
-    let yes : test start ≡ true = sym (ap test here) ∙ is in
-    ap (λ (b : Bool). cond b (Some start) (find test (range_with_len (start + 1) count))) yes ∙ ap Some (sym here)
+    let passes : test start ≡ true = sym (ap test here) ∙ is in
+    ap (λ (b : Bool). cond b (Some start) (find test (range_with_len (start + 1) count))) passes ∙ ap Some (sym here)
 first_found test start (suc count) (suc k) within before is =
     let here : start + 0 ≡ start = omega arith in
-    let no : test start ≡ false = sym (ap test here) ∙ before 0 (omega arith) in
-    ap (λ (b : Bool). cond b (Some start) (find test (range_with_len (start + 1) count))) no
+    let fails : test start ≡ false = sym (ap test here) ∙ before 0 (omega arith) in
+    ap (λ (b : Bool). cond b (Some start) (find test (range_with_len (start + 1) count))) fails
     ∙ first_found test (start + 1) count k (omega (arith, within)) (λ j below. ap test (sym (later start j)) ∙ before (suc j) (omega (arith, below))) (ap test (sym (later start k)) ∙ is)
     ∙ ap Some (sym (later start k))
 
@@ -95,4 +95,25 @@ pub lacks_is : (centre : Centre) (w : World) (nodes : List ℕ) (number place : 
 lacks_is centre w nodes number place station is found =
     let there = found_too centre.stations.items w.runners place station is.nodes found in
     let up : is_up_at (runner_at w (suc place)) ≡ is_up station = ap is_up_at there.1 ∙ (is.each place station there.0 found there.1).up in
-    (λ i. takes_part nodes (suc place) && (up i && not (sym (is.came number (suc place)) i)))
+    ap (λ (b : Bool). takes_part nodes (suc place) && (b && not (w.came number (suc place)))) up
+    ∙ ap (λ (b : Bool). takes_part nodes (suc place) && (is_up station && not b)) (sym (is.came number (suc place)))
+
+-- ---- no packet below a number is due
+
+pub from_first : (w : World) (nodes : List ℕ) (from start : ℕ) → start ≡ from - 1 → NothingBefore w nodes from → NothingBefore w nodes (start + 1)
+from_first w nodes zero start is none zero below = refl
+from_first w nodes zero start is none (suc n) below = absurd (omega (arith, below, is))
+from_first w nodes (suc from) start is none n below = none n (omega (arith, below, is))
+
+pub at_or_below : (a b : ℕ) → a < b + 1 → (a < b) ⊎ (a ≡ b)
+at_or_below zero zero below = inr refl
+at_or_below zero (suc b) below = inl (omega arith)
+at_or_below (suc a) zero below = absurd (omega (arith, below))
+at_or_below (suc a) (suc b) below = elim (at_or_below a b (omega (arith, below))) [ | inl less ↦ inl (omega (arith, less)) | inr same ↦ inr (ap suc same) ]
+
+pub one_passed : (w : World) (nodes : List ℕ) (number : ℕ) → NothingBefore w nodes number → None ≡ due_at w nodes number (packet_of w.packets number) →
+    NothingBefore w nodes (number + 1)
+one_passed w nodes number none here n below = elim (at_or_below n number below) [
+  | inl less ↦ none n less
+  | inr same ↦ ap (λ (m : ℕ). due_at w nodes m (packet_of w.packets m)) same ∙ sym here
+]
