@@ -7,7 +7,7 @@
 The examples are the first script, each line of which has to stand in README; those of the folder `examples`, NAME.script with NAME.expected and, if they
 are not 0 and empty, NAME.status and NAME.stderr; and the fenced blocks of `docs/SCRIPTS.md`: one marked `script`, one marked `output` after it and, if a
 line is bad, one marked `stderr`. With --try what is written on standard error is not compared, since `rt try` does not hand it on; the exit status is.
-This is beside the gate.
+The gate runs them, too, as rows of `script_tests` (`tools/rows.py`).
 """
 import pathlib
 import re

@@ -1,6 +1,6 @@
 #!/usr/bin/env python3
 """The worked scripts of `crates/centre/data/rows`: NAME.script with NAME.expected, and, if they are not 0 and empty, NAME.status
-and NAME.stderr.
+and NAME.stderr; and after them the examples of `tools/examples.py`: the first script, the folder `examples`, and `docs/SCRIPTS.md`.
 
     python3 tools/rows.py --write            # writes the tests' crates/script_tests/src/rows.rt
     python3 tools/rows.py --check            # says if that file is not what the folder says
@@ -12,12 +12,14 @@ import pathlib
 import subprocess
 import sys
 
+import examples
+
 ROOT = pathlib.Path(__file__).resolve().parent.parent
 FOLDER = ROOT / "crates/centre/data/rows"
 FILE = ROOT / "crates/script_tests/src/rows.rt"
 LONGEST = 8_000
 
-HEAD = '''//! The worked scripts of `crates/centre/data/rows`. Written by `tools/rows.py`.
+HEAD = '''//! The worked scripts of `crates/centre/data/rows`, and the examples. Written by `tools/rows.py`.
 
 /// Each with what it writes, a line each: its name, its lines, the lines of its output, its exit status, and its line on standard
 /// error. A semicolon ends a line.
@@ -32,6 +34,9 @@ def rows():
             return other.read_text() if other.exists() else ""
 
         yield path.stem, path.read_text(), text(".expected"), int(text(".status") or 0), text(".stderr")
+    yield from examples.first_script()
+    yield from examples.in_folder()
+    yield from examples.in_page()
 
 
 def rust():
@@ -61,7 +66,7 @@ def main():
             FILE.write_text(rust())
         case ["--check"]:
             if FILE.read_text() != rust():
-                sys.exit(f"{FILE.relative_to(ROOT)} is not what {FOLDER.relative_to(ROOT)} says: python3 tools/rows.py --write")
+                sys.exit(f"{FILE.relative_to(ROOT)} is not what the scripts and examples say: python3 tools/rows.py --write")
         case ["--run", program]:
             sys.exit(0 if run(program) else 1)
         case _:

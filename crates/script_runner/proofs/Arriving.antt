@@ -1,9 +1,13 @@
 -- Which packets came to which nodes: a packet comes to one more.
-use Rattle.std.proofs.Common.{◌≡◌, ℕ, zero, suc, ◌+◌, ◌-◌, ◌<◌, ◌≤◌, Bool, true, false, List, [], ◌∷◌, ◌++◌, length, Option, Some, None, refl, sym, ap, ◌∙◌, arith, length-append}
+use Rattle.std.proofs.Common.{◌≡◌, ℕ, zero, suc, ◌+◌, ◌-◌, ◌<◌, ◌≤◌, Bool, true, false, List, [], ◌∷◌, ◌++◌, length, Option, Some, None, refl, sym, ap, ◌∙◌, inl, inr, eq-or-lt_of_le, arith, length-append}
 use Rattle.std.proofs.lemmas.Bool.{eq-eqb, eqb-false, eqb-true, ne_eqb}
 use Rattle.std.specs.Prelude.{pred, ◌==◌, ◌&&◌, ◌||◌, slice_get, slice_index_or, slice_set}
 use Rattle.mc_types.specs.Nodes.{has}
-use Rattle.script_runner.specs.Arrivals.{came_in, is_among}
+use Rattle.sim_net.specs.Network.{numbered}
+use Rattle.script_runner.specs.Arrivals.{CameToAll, HaveCome, is_among}
+
+abbrev came_in : List ℕ → ℕ → ℕ → Bool
+came_in sets number node = is_among (numbered sets number) node
 
 none_at : (place : ℕ) → slice_get {X = ℕ} [] place ≡ None
 none_at zero = refl
@@ -79,3 +83,40 @@ one_came sets place was now node zero at found is =
 one_came sets place was now node (suc k) at found is =
     set_at sets place k was now node at found is
     ∙ ap (λ (same : Bool). (same && at == node) || is_among (slice_get sets k) at) (sym (same_after k place))
+
+-- ---- packets that came to all nodes
+
+or_true : (one other : Bool) → other ≡ true → (one || other) ≡ true
+or_true true other is = refl
+or_true false other is = is
+
+pub nothing_whole : (nodes : ℕ) → nodes ≤ 9 → HaveCome [] nodes 0
+nothing_whole nodes few = (few, λ number at least most first last. absurd (omega (arith, least, most)))
+
+pub still_whole : (sets : List ℕ) (place was now node nodes count : ℕ) → slice_get sets place ≡ Some was → ((other : ℕ) → has now other ≡ (has was other || other == node)) →
+    HaveCome sets nodes count → HaveCome (slice_set sets place now) nodes count
+still_whole sets place was now node nodes count found is whole =
+    (whole.0, λ number at least most first last.
+      one_came sets place was now node number at found is ∙ or_true (number == suc place && at == node) (came_in sets number at) (whole.1 number at least most first last))
+
+pub longer_whole : (sets : List ℕ) (empty nodes count : ℕ) → ((node : ℕ) → has empty node ≡ false) → HaveCome sets nodes count → HaveCome (sets ++ empty ∷ []) nodes count
+longer_whole sets empty nodes count none whole =
+    (whole.0, λ number at least most first last. one_more sets empty number at (none at) ∙ whole.1 number at least most first last)
+
+pub one_whole : (sets : List ℕ) (nodes count set : ℕ) → slice_get sets count ≡ Some set → CameToAll set nodes → HaveCome sets nodes count → HaveCome sets nodes (count + 1)
+one_whole sets nodes count set found all whole =
+    (whole.0, λ number at least most first last. elim (eq-or-lt_of_le {n = number} {m = count + 1} most) [
+      | inl same ↦
+          let next : number ≡ suc count = omega (arith, same) in
+          ap (λ (n : ℕ). came_in sets n at) next ∙ ap (λ (s : Option ℕ). is_among s at) found ∙ all at first last
+      | inr before ↦ whole.1 number at least (omega (arith, before)) first last
+    ])
+
+-- ---- nodes that are all in a set
+
+pub has_one_more : (set place : ℕ) → ((node : ℕ) → 1 ≤ node → node ≤ place → has set node ≡ true) → has set (place + 1) ≡ true →
+    (node : ℕ) → 1 ≤ node → node ≤ place + 1 → has set node ≡ true
+has_one_more set place all here node least most = elim (eq-or-lt_of_le {n = node} {m = place + 1} most) [
+  | inl same ↦ ap (has set) same ∙ here
+  | inr before ↦ all node least (omega (arith, before))
+]

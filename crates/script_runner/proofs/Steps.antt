@@ -1,8 +1,9 @@
 -- What a line does, by what it says.
-use Rattle.std.proofs.Common.{◌≡◌, ◌↔◌, ℕ, ◌≤◌, true, false, Bool, List, [], ◌++◌, length, Option, Some, None, refl, sym, ap, subst, ◌∙◌, arith}
+use Rattle.std.proofs.Common.{◌≡◌, ◌↔◌, ℕ, ◌≤◌, true, false, Bool, List, [], ◌++◌, length, Option, Some, None, Result, Ok, Err, refl, sym, ap, subst, ◌∙◌, arith}
 use Rattle.std.proofs.lemmas.Bool.Decides.{nat_tests}
 use Rattle.std.proofs.lemmas.List.{append-nil}
-use Rattle.std.specs.Prelude.{nat_le, if◌then◌else◌}
+use Rattle.std.specs.Prelude.{IfOk, nat_le, if◌then◌else◌}
+use Rattle.std.specs.declared.alloc.AllocError.{AllocError}
 use Rattle.script_lines.specs.Said.{Said, Skipped, Nodes, Octets, Deliver, Crash, Tick, Grant, Settle, Restart, Replay, Spells, names_within, said_of}
 use Rattle.script_text.specs.Settings.{script_settings}
 use Rattle.script_world.specs.Script.{Stage, Stepped, moved_by, nodes_of, opened_by, step_by, step_of, stepped}
@@ -86,6 +87,16 @@ next_line old centre new line said good before after is e act stage stands = by_
     by_stage : (s : Stage) → StandsAt (Some centre) s → IsStepBy (step_of script_settings s line) good (Some new) before after
     by_stage None at = absurd at
     by_stage (Some w) at = subst (λ (step : Option Stepped). IsStepBy step good (Some new) before after) (sym (step_of-said (Some w) line said e)) (act w at)
+
+pub first_line_if : (r : Result Bool AllocError) (old new : Option Centre) (line : List ℕ) (said : Said) (text : List ℕ) → old ≡ None → said_of line ≡ Some said → NumberFits said →
+    IfOk r (λ good. IsStarted (opened_by script_settings said) good new) → IfOk r (λ good. IsStep old line good new text text)
+first_line_if (Err fault) old new line said text none e fits is = tt
+first_line_if (Ok good) old new line said text none e fits is = first_line old new line said good text none e fits is
+
+pub next_line_if : (r : Result Bool AllocError) (old : Option Centre) (centre new : Centre) (line : List ℕ) (said : Said) (before after : List ℕ) → old ≡ Some centre → said_of line ≡ Some said →
+    IfOk r (λ good. IsAct centre said good new before after) → IfOk r (λ good. IsStep old line good (Some new) before after)
+next_line_if (Err fault) old centre new line said before after is e act = tt
+next_line_if (Ok good) old centre new line said before after is e act = next_line old centre new line said good before after is e act
 
 -- ---- what a line does
 

@@ -21,6 +21,7 @@ pub record IsWorld (centre : Centre) (w : World) : Type 0 where
       Stands station runner
   pub packets : map packet_by centre.packets.sent ≡ w.packets
   pub came : (number node : ℕ) → came_in centre.arrivals number node ≡ w.came number node
+  pub counted : centre.arrivals.nodes ≡ length w.runners
 
 -- as so many nodes with new stores
 abbrev pub StartsAs : Settings → ℕ → ℕ → Centre → Type 0

@@ -54,7 +54,7 @@ impl Centre {
         Ok(Centre {
             stations: opened(alloc, nodes, serial, config.default_validity)?,
             packets: Packets::none(alloc),
-            arrivals: Arrivals::none(alloc),
+            arrivals: Arrivals::none(alloc, nodes),
         })
     }
 
@@ -199,7 +199,7 @@ impl Centre {
     ) -> Result<(), AllocError>
         ensures { OnOk result (Does (λ w. on_settle w (nodes_with (has nodes))) self.old self.new text.old.items text.new.items) }
     {
-        let mut number = 1;
+        let mut number = self.arrivals.first_open();
         for _delivered in 0..MOST_DELIVERIES {
             let Some(due) = self.due(nodes, number) else {
                 return Ok(());
