@@ -4,7 +4,8 @@ use Rattle.std.proofs.lemmas.Bool.{eq-eqb, eqb-false, eqb-true, ne_eqb}
 use Rattle.std.specs.Prelude.{pred, ◌==◌, ◌&&◌, ◌||◌, slice_get, slice_index_or, slice_set}
 use Rattle.mc_types.specs.Nodes.{has}
 use Rattle.sim_net.specs.Network.{numbered}
-use Rattle.script_runner.specs.Arrivals.{CameToAll, HaveCome, is_among}
+use Rattle.script_runner.specs.Arrivals.{Came, CameToAll, HaveCome, is_among}
+use Rattle.script_runner.specs.Arrivals.{came_in as came_by}
 
 abbrev came_in : List ℕ → ℕ → ℕ → Bool
 came_in sets number node = is_among (numbered sets number) node
@@ -120,3 +121,11 @@ has_one_more set place all here node least most = elim (eq-or-lt_of_le {n = node
   | inl same ↦ ap (has set) same ∙ here
   | inr before ↦ all node least (omega (arith, before))
 ]
+
+-- ---- while places are made, and packets counted
+
+-- the same packets came to the same nodes
+pub record IsSame (sets : List ℕ) (nodes whole : ℕ) (was : Came) : Type 0 where
+  pub came : (number node : ℕ) → came_in sets number node ≡ came_by was number node
+  pub nodes : nodes ≡ was.nodes
+  pub whole : HaveCome sets nodes whole

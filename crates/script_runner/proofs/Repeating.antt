@@ -8,7 +8,7 @@ use Rattle.script_runner.specs.declared.centre.Centre.{Centre}
 use Rattle.script_runner.proofs.Following.{IsLeft, replays_nothing}
 
 -- as many packets as the world has
-sent_count : (centre : Centre) (w : World) → IsWorld centre w → length centre.packets.sent ≡ length w.packets
+pub sent_count : (centre : Centre) (w : World) → IsWorld centre w → length centre.packets.sent ≡ length w.packets
 sent_count centre w is = sym (length-map centre.packets.sent packet_by) ∙ ap length is.packets
 
 pub begins : (old : Centre) (w : World) (times left : ℕ) (before : List ℕ) → left ≡ times → IsWorld old w →

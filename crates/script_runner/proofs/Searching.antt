@@ -90,13 +90,18 @@ module _ (w : World) (nodes : List ℕ) where
 
 -- ---- a packet that a node lacks
 
+all_three : (one other last : Bool) → ((one && other) && last) ≡ (one && (other && last))
+all_three true other last = refl
+all_three false other last = refl
+
 pub lacks_is : (centre : Centre) (w : World) (nodes : List ℕ) (number place : ℕ) (station : Station) → IsWorld centre w → slice_get centre.stations.items place ≡ Some station →
     lacks w nodes number (suc place) ≡ (takes_part nodes (suc place) && (is_up station && not (came_in centre.arrivals number (suc place))))
 lacks_is centre w nodes number place station is found =
     let there = found_too centre.stations.items w.runners place station is.nodes found in
     let up : is_up_at (runner_at w (suc place)) ≡ is_up station = ap is_up_at there.1 ∙ (is.each place station there.0 found there.1).up in
-    ap (λ (b : Bool). takes_part nodes (suc place) && (b && not (w.came number (suc place)))) up
-    ∙ ap (λ (b : Bool). takes_part nodes (suc place) && (is_up station && not b)) (sym (is.came number (suc place)))
+    ap (λ (b : Bool). (takes_part nodes (suc place) && b) && not (w.came number (suc place))) up
+    ∙ ap (λ (b : Bool). (takes_part nodes (suc place) && is_up station) && not b) (sym (is.came number (suc place)))
+    ∙ all_three (takes_part nodes (suc place)) (is_up station) (not (came_in centre.arrivals number (suc place)))
 
 -- ---- no packet below a number is due
 
@@ -120,7 +125,7 @@ one_passed w nodes number none here n below = elim (at_or_below n number below) 
 
 -- ---- packets that came to all nodes
 
-got_it : (part up came : Bool) → came ≡ true → (part && (up && not came)) ≡ false
+got_it : (part up came : Bool) → came ≡ true → ((part && up) && not came) ≡ false
 got_it false up came is = refl
 got_it true false came is = refl
 got_it true true true is = refl

@@ -137,7 +137,7 @@ in_front ps more (suc k) below = at_place ps k (omega (arith, below))
     at_place (q ∷ qs) zero below = refl
     at_place (q ∷ qs) (suc k) below = at_place qs k (omega (arith, below))
 
-fewer_lack : (part up before now : Bool) → (before ≡ true → now ≡ true) → (part && (up && not before)) ≡ false → (part && (up && not now)) ≡ false
+fewer_lack : (part up before now : Bool) → (before ≡ true → now ≡ true) → ((part && up) && not before) ≡ false → ((part && up) && not now) ≡ false
 fewer_lack false up before now more none = refl
 fewer_lack true false before now more none = refl
 fewer_lack true true true now more none = ap not (more refl)
@@ -164,9 +164,9 @@ nothing_more old new w nodes number node was is up within none n below = by_pack
         up_as old w (pred m) was ∙ ap or_down (ups_at old.stations.items new.stations.items (pred m) (sym up)) ∙ sym (up_as new next (pred m) is)
 
     weaker : (m : ℕ) → lacks w nodes n m ≡ false → lacks next nodes n m ≡ false
-    weaker m no =
-        ap (λ (b : Bool). takes_part nodes m && (b && not (next.came n m))) (sym (up_same m))
-        ∙ fewer_lack (takes_part nodes m) (is_up_at (runner_at w m)) (w.came n m) (next.came n m) (grown.came n m) no
+    weaker m fails =
+        ap (λ (b : Bool). (takes_part nodes m && b) && not (next.came n m)) (sym (up_same m))
+        ∙ fewer_lack (takes_part nodes m) (is_up_at (runner_at w m)) (w.came n m) (next.came n m) (grown.came n m) fails
 
     by_part : (packet : Packet) (part : Bool) → (if part then find (lacks w nodes n) (node_numbers w) else None) ≡ None →
         (if part then find (lacks next nodes n) (node_numbers next) else None) ≡ None
@@ -176,10 +176,10 @@ nothing_more old new w nodes number node was is up within none n below = by_pack
         ∙ none_of_fewer (lacks w nodes n) (lacks next nodes n) (node_numbers w) weaker nobody
 
     by_packet : (found : Option Packet) → packet_of w.packets n ≡ found → due_at next nodes n (packet_of next.packets n) ≡ None
-    by_packet None no = ap (due_at next nodes n) (packet_same ∙ no)
-    by_packet (Some packet) yes =
-        ap (due_at next nodes n) (packet_same ∙ yes)
-        ∙ by_part packet (takes_part nodes (sender_of packet)) (sym (ap (due_at w nodes n) yes) ∙ none n below)
+    by_packet None is_so = ap (due_at next nodes n) (packet_same ∙ is_so)
+    by_packet (Some packet) is_so =
+        ap (due_at next nodes n) (packet_same ∙ is_so)
+        ∙ by_part packet (takes_part nodes (sender_of packet)) (sym (ap (due_at w nodes n) is_so) ∙ none n below)
 
 -- ---- a settle
 
