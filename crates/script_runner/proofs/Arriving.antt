@@ -125,7 +125,7 @@ has_one_more set place all here node least most = elim (eq-or-lt_of_le {n = node
 -- ---- while places are made, and packets counted
 
 -- the same packets came to the same nodes
-pub record IsSame (sets : List ℕ) (nodes whole : ℕ) (was : Came) : Type 0 where
+pub record IsSame (sets : List ℕ) (nodes count : ℕ) (was : Came) : Type 0 where
   pub came : (number node : ℕ) → came_in sets number node ≡ came_by was number node
-  pub nodes : nodes ≡ was.nodes
-  pub whole : HaveCome sets nodes whole
+  pub among : nodes ≡ was.nodes
+  pub whole : HaveCome sets nodes count

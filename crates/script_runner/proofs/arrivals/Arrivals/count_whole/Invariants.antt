@@ -1,4 +1,4 @@
-use Rattle.std.proofs.Common.{◌≡◌, ◌×◌, ◌-◌, length}
+use Rattle.std.proofs.Common.{◌≡◌, ◌-◌, length}
 use Rattle.script_runner.specs.Arrivals.{HaveCome}
 use Rattle.script_runner.proofs.arrivals.Arrivals.count_whole.Given as goal
 
