@@ -23,7 +23,7 @@ pub all_left : (line : World → Moved) (old : Centre) (w : World) (before : Lis
 all_left line old w before is = record { world = w; is = is; next = refl; written = refl }
 
 -- One thing was done.
-pub one_done : (all : Moved) (rest others first : World → Moved) (now new : Centre) (before text after : List ℕ) (left : IsLeft all rest now before text) →
+unfoldable pub one_done : (all : Moved) (rest others first : World → Moved) (now new : Centre) (before text after : List ℕ) (left : IsLeft all rest now before text) →
     rest left.world ≡ then_moved (first left.world) (others (first left.world).next) → IsMoved (first left.world) new text after → IsLeft all others new before after
 one_done all rest others first now new before text after left is moved = record {
   world = (first left.world).next;

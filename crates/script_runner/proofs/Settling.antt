@@ -1,5 +1,5 @@
 -- Packets come that are due, one after another.
-use Rattle.std.proofs.Common.{◌≡◌, ◌⊎◌, ℕ, zero, suc, ◌+◌, ◌-◌, ◌<◌, ◌≤◌, Bool, true, false, cond, List, [], ◌∷◌, ◌++◌, find, length, map, Option, Some, None, Result, Ok, Err, refl, sym, ap, subst, ◌∙◌, inl, inr, arith}
+use Rattle.std.proofs.Common.{◌≡◌, ◌⊎◌, ℕ, zero, suc, ◌+◌, ◌-◌, ◌<◌, ◌≤◌, Bool, true, false, cond, List, [], ◌∷◌, ◌++◌, find, length, map, Option, Some, None, Result, Ok, Err, refl, sym, ap, subst, ◌∙◌, inl, inr, eq-or-lt_of_le, arith}
 use Rattle.std.specs.Prelude.{◌&&◌, ◌||◌, ◌==◌, OnOk, not, pred, slice_get, option_map, if◌then◌else◌}
 use Rattle.std.specs.List.{range_with_len}
 use Rattle.std.specs.declared.alloc.AllocError.{AllocError}
@@ -28,23 +28,17 @@ module _ (w : World) (nodes : List ℕ) where
   none_before : (start count : ℕ) (next : WorldDue) → due_among w nodes (range_with_len start count) ≡ Some next → (n : ℕ) → start ≤ n → n < next.number → to n ≡ None
   unfolding due_among
   none_before start zero next is n from below = absurd cc
-  none_before start (suc count) next is n from below = by_first (to start) refl is
+  none_before start (suc count) next is n from below = by_first (λ rest more. none_before (start + 1) count next rest n more below) (to start) refl is
     where
-      by_first : (found : Option ℕ) → to start ≡ found → due_first start found (due_among w nodes (range_with_len (start + 1) count)) ≡ Some next → to n ≡ None
-      by_first (Some node) here is =
+      by_first : (due_among w nodes (range_with_len (start + 1) count) ≡ Some next → start + 1 ≤ n → to n ≡ None) → (found : Option ℕ) → to start ≡ found →
+          due_first start found (due_among w nodes (range_with_len (start + 1) count)) ≡ Some next → to n ≡ None
+      by_first others (Some node) here is =
           let same : start ≡ next.number = ap (λ (d : WorldDue). d.number) (some_same is) in
           absurd (omega (arith, same, from, below))
-      by_first None here is = by_place (nat_cases start n from)
-        where
-          nat_cases : (a b : ℕ) → a ≤ b → (a ≡ b) ⊎ (a + 1 ≤ b)
-          nat_cases zero zero le = inl refl
-          nat_cases zero (suc b) le = inr (omega arith)
-          nat_cases (suc a) zero le = absurd (omega (arith, le))
-          nat_cases (suc a) (suc b) le = elim (nat_cases a b (omega (arith, le))) [ | inl same ↦ inl (ap suc same) | inr more ↦ inr (omega (arith, more)) ]
-
-          by_place : (start ≡ n) ⊎ (start + 1 ≤ n) → to n ≡ None
-          by_place (inl same) = ap to (sym same) ∙ here
-          by_place (inr more) = none_before (start + 1) count next is n more below
+      by_first others None here is = elim (eq-or-lt_of_le {n = start} {m = n} from) [
+        | inl same ↦ ap to (sym same) ∙ here
+        | inr before ↦ others is (omega (arith, before))
+      ]
 
   pub due_before : (next : WorldDue) → due w nodes ≡ Some next → NothingBefore w nodes next.number
   due_before next is zero below = refl
@@ -53,11 +47,12 @@ module _ (w : World) (nodes : List ℕ) where
   among_within : (start count : ℕ) (next : WorldDue) → due_among w nodes (range_with_len start count) ≡ Some next → (start ≤ next.number) × (next.number < start + count)
   unfolding due_among
   among_within start zero next is = absurd cc
-  among_within start (suc count) next is = by_first (to start) is
+  among_within start (suc count) next is = by_first (λ rest. among_within (start + 1) count next rest) (to start) is
     where
-      by_first : (found : Option ℕ) → due_first start found (due_among w nodes (range_with_len (start + 1) count)) ≡ Some next → (start ≤ next.number) × (next.number < start + suc count)
-      by_first (Some node) is = let same : start ≡ next.number = ap (λ (d : WorldDue). d.number) (some_same is) in (omega (arith, same), omega (arith, same))
-      by_first None is = let rest = among_within (start + 1) count next is in (omega (arith, rest.0), omega (arith, rest.1))
+      by_first : (due_among w nodes (range_with_len (start + 1) count) ≡ Some next → (start + 1 ≤ next.number) × (next.number < (start + 1) + count)) → (found : Option ℕ) →
+          due_first start found (due_among w nodes (range_with_len (start + 1) count)) ≡ Some next → (start ≤ next.number) × (next.number < start + suc count)
+      by_first others (Some node) is = let same : start ≡ next.number = ap (λ (d : WorldDue). d.number) (some_same is) in (omega (arith, same), omega (arith, same))
+      by_first others None is = let rest = others is in (omega (arith, rest.0), omega (arith, rest.1))
 
   pub due_within : (next : WorldDue) → due w nodes ≡ Some next → next.number < suc (length w.packets)
   due_within next is = omega (arith, (among_within 1 (length w.packets) next is).1)
@@ -213,6 +208,7 @@ begins old w most from nodes before is came = record {
 pub one_came : (all : Moved) (most more : ℕ) (nodes : List ℕ) (from : ℕ) (now new : Centre) (found : Due) (before text after : List ℕ) (way : IsUnderWay all most nodes from now before text) →
     most ≡ suc more → Some (due_of found) ≡ due way.left.world nodes → IsMoved (comes way.left.world found.number found.node) new text after →
     map is_up new.stations.items ≡ map is_up now.stations.items → IsUnderWay all more nodes found.number new before after
+unfolding one_done
 one_came all most more nodes from now new found before text after way is due_is moved up =
     let w = way.left.world in
     let next = due_of found in
