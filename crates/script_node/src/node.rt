@@ -134,7 +134,10 @@ impl ScriptNode {
     pub fn conclude(&mut self, slot: Slot, outcome: Outcome) -> Result<(), AllocError>
         ensures { OnOk result ((node_of self.new) ≡ (concluded (node_of self.old) slot (outcome_kept outcome)).node) }
     {
-        match self.member.take(Input::Answered(slot, outcome), &mut self.sent) {
+        match self
+            .member
+            .take(Input::Answered(slot, outcome), &mut self.sent)
+        {
             Ok(_) | Err(StepFault::NotGranted) => Ok(()),
             Err(StepFault::Memory) => Err(AllocError),
             Err(_) => unreachable!(),

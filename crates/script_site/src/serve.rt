@@ -59,7 +59,9 @@ pub fn serve_frame(
     };
     match decode(alloc, octets) {
         Ok(pdu) => serve_pdu(alloc, config, home, number, node, session, pdu, text),
-        Err(fault) => serve_fault(alloc, config, home, number, node, session, header, fault, text),
+        Err(fault) => serve_fault(
+            alloc, config, home, number, node, session, header, fault, text,
+        ),
     }
 }
 
@@ -242,11 +244,23 @@ fn react(
 {
     match reaction {
         Reaction::Respond(outgoing) => {
-            write_outgoing(alloc, text, SessionPlace { node: home, number }, &config.system_id, outgoing)
+            write_outgoing(
+                alloc,
+                text,
+                SessionPlace { node: home, number },
+                &config.system_id,
+                outgoing,
+            )
         }
         Reaction::Leave(outgoing, abandoned) => {
             node.give_up(abandoned.as_slice())?;
-            write_outgoing(alloc, text, SessionPlace { node: home, number }, &config.system_id, outgoing)?;
+            write_outgoing(
+                alloc,
+                text,
+                SessionPlace { node: home, number },
+                &config.system_id,
+                outgoing,
+            )?;
             write_gone(text, SessionPlace { node: home, number })
         }
         Reaction::Nothing | Reaction::Ask(_) | Reaction::Answered(_) => Ok(()),

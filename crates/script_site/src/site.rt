@@ -16,8 +16,8 @@ use pdu_codec::Text;
 use pdu_frames::Framer;
 use script_node::{Granting, ScriptNode, StoppedNode};
 use script_sessions::{
-    Connected, Streams, Waiting, post_all, post_for, post_for_all, write_all_gone,
-    write_declined, write_delivery, write_replies, write_ungranted,
+    Connected, Streams, Waiting, post_all, post_for, post_for_all, write_all_gone, write_declined,
+    write_delivery, write_replies, write_ungranted,
 };
 use sessions::{Delivery, Session};
 use sim_net::Packets;
@@ -155,7 +155,15 @@ impl Site {
         ensures { OnOk result (IsDone home (ends (settings_of config.now) number (runner_of self.old)) (runner_of self.new) text.old.items text.new.items) }
     {
         let mut session = self.connected.take_out(alloc, number)?;
-        wrong_length(alloc, config, home, number, &mut self.node, &mut session, text)?;
+        wrong_length(
+            alloc,
+            config,
+            home,
+            number,
+            &mut self.node,
+            &mut session,
+            text,
+        )?;
         self.keep(alloc, home, number, session, text)
     }
 
@@ -372,7 +380,9 @@ impl Site {
         ensures { OnOk result (IsDone node (tells (runner_of self.old) (map reply_given given.replies.items) (map receipt_of given.receipts.items)) (runner_of self.new) text.old.items text.new.items) }
     {
         let Given {
-            replies, receipts, ..
+            replies,
+            receipts,
+            ..
         } = given;
         write_replies(alloc, text, node, &mut self.connected, replies)?;
         let now = self.node.clock();
