@@ -82,7 +82,8 @@ impl Site {
         octets: &[u8],
         text: &mut Vec<u8>,
     ) -> Result<(), AllocError>
-        ensures { OnOk result (IsDone home (on_octets (settings_of config.now) (runner_of self.old) number octets.now) (runner_of self.new) text.old.items text.new.items) }
+        ensures { OnOk result (IsDone home (on_octets (settings_of config.now) (runner_of self.old) number octets.now)
+            (runner_of self.new) text.old.items text.new.items) }
     {
         let mut framer = self.open(alloc, number)?;
         let mut rest = octets;
@@ -127,7 +128,8 @@ impl Site {
         octets: &[u8],
         text: &mut Vec<u8>,
     ) -> Result<(), AllocError>
-        ensures { OnOk result (IsDone home (on_frame (settings_of config.now) number (runner_of self.old) octets.now) (runner_of self.new) text.old.items text.new.items) }
+        ensures { OnOk result (IsDone home (on_frame (settings_of config.now) number (runner_of self.old) octets.now)
+            (runner_of self.new) text.old.items text.new.items) }
     {
         let mut session = self.connected.take_out(alloc, number)?;
         serve_frame(
@@ -300,7 +302,8 @@ impl Site {
         text: &mut Vec<u8>,
     ) -> Result<(), AllocError>
         requires { EndsInAttempt chain.now.decrees }
-        ensures { OnOk result (IsDone node (sent (runner_of self.old) (slot_of chain.now.id chain.now.decrees) (taken_in chain.now.decrees)) (runner_of self.new) text.old.items text.new.items) }
+        ensures { OnOk result (IsDone node (sent (runner_of self.old) (slot_of chain.now.id chain.now.decrees) (taken_in chain.now.decrees))
+            (runner_of self.new) text.old.items text.new.items) }
     {
         let slot = Slot {
             id: chain.id(),
@@ -343,7 +346,8 @@ impl Site {
         found: Found,
         text: &mut Vec<u8>,
     ) -> Result<StoppedNode, AllocError>
-        ensures stopped { IfOk result (IsStopped (runner_of self).node.setup (stopped (runner_of self).node.setup (runner_of self).node.kept (packet_of packet.now) (is_after found))) }
+        ensures stopped { IfOk result (IsStopped (runner_of self).node.setup
+            (stopped (runner_of self).node.setup (runner_of self).node.kept (packet_of packet.now) (is_after found))) }
         ensures text { OnOk result (text.new.items ≡ text.old.items ++ text_at node (gone_prints (runner_of self).sessions)) }
     {
         let Site {
@@ -377,7 +381,8 @@ impl Site {
         given: Given,
         text: &mut Vec<u8>,
     ) -> Result<(), AllocError>
-        ensures { OnOk result (IsDone node (tells (runner_of self.old) (map reply_given given.replies.items) (map receipt_of given.receipts.items)) (runner_of self.new) text.old.items text.new.items) }
+        ensures { OnOk result (IsDone node (tells (runner_of self.old) (map reply_given given.replies.items) (map receipt_of given.receipts.items))
+            (runner_of self.new) text.old.items text.new.items) }
     {
         let Given {
             replies,
