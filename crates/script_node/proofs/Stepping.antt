@@ -23,7 +23,8 @@ node_with m packets = node_of (record { node = m.node; sent = packets })
 earlier : (n : ℕ) → n < 9999 → nat_lt n last_incarnation ≡ true
 earlier n left = grind (arith, nat_tests)
 
-pub restarted_so : (old new : Placed) (packets : List Packet) → old.up ≡ true → HasRestarted old new → Restarts (node_with old packets) (node_with new packets) true
+pub restarted_so : (old new : Placed) (packets : List Packet) → old.up ≡ true → HasRestarted old new
+    → Restarts (node_with old packets) (node_with new packets) true
 restarted_so old new packets up has =
     subst (λ (test : Bool). RestartsIf test (node_with old packets) (node_with new packets) true) (sym (earlier old.node.kept.incarnation has.left))
     (refl, λ i. record { setup = has.setup i; kept = kept i; packets = sym (append-nil (map packet_of packets)) i })

@@ -80,7 +80,8 @@ impl ScriptNode {
 
     /// A request of an account comes to the node. After an `Err`, which is want of memory, nothing is said of the node.
     pub fn request(&mut self, account: &Text<16>, request: Request) -> Result<Given, AllocError>
-        ensures { IfOk result (λ given. HasStepped (step_at (node_of self.old) (request_at (node_of self.old) account.now request)) (node_of self.old) given (node_of self.new)) }
+        ensures { IfOk result (λ given.
+            HasStepped (step_at (node_of self.old) (request_at (node_of self.old) account.now request)) (node_of self.old) given (node_of self.new)) }
     {
         let account = account.copy()?;
         self.step(Input::Request(account, request))
@@ -134,7 +135,10 @@ impl ScriptNode {
     pub fn conclude(&mut self, slot: Slot, outcome: Outcome) -> Result<(), AllocError>
         ensures { OnOk result ((node_of self.new) ≡ (concluded (node_of self.old) slot (outcome_kept outcome)).node) }
     {
-        match self.member.take(Input::Answered(slot, outcome), &mut self.sent) {
+        match self
+            .member
+            .take(Input::Answered(slot, outcome), &mut self.sent)
+        {
             Ok(_) | Err(StepFault::NotGranted) => Ok(()),
             Err(StepFault::Memory) => Err(AllocError),
             Err(_) => unreachable!(),
@@ -209,7 +213,8 @@ impl ScriptNode {
     /// want of memory, nothing is said of the node.
     fn step(&mut self, input: Input) -> Result<Given, AllocError>
         requires { refused_by (node_of self.old).setup (node_of self.old).kept input ≡ None }
-        ensures { IfOk result (λ given. HasStepped (step_at (node_of self.old) (input_of (node_of self.old).setup (node_of self.old).kept input)) (node_of self.old) given (node_of self.new)) }
+        ensures { IfOk result (λ given. HasStepped (step_at (node_of self.old) (input_of (node_of self.old).setup (node_of self.old).kept input))
+            (node_of self.old) given (node_of self.new)) }
     {
         match self.member.take(input, &mut self.sent) {
             Ok(given) => Ok(given),

@@ -78,7 +78,8 @@ module _ (node : ℕ) where
   }
 
   -- Nothing is left.
-  all_out : (all rest : Posted) (sessions : List (ℕ × Session)) (waiting : List Receipt) (before text : List ℕ) → IsLeft node all rest before text → rest ≡ stays (mail sessions waiting)
+  all_out : (all rest : Posted) (sessions : List (ℕ × Session)) (waiting : List Receipt) (before text : List ℕ) → IsLeft node all rest before text
+      → rest ≡ stays (mail sessions waiting)
       → IsPosted node all sessions waiting before text
   all_out all rest sessions waiting before text so is =
       let left : mail sessions waiting ≡ all.mail = ap (λ (p : Posted). p.mail) (sym is) ∙ so.mail in
@@ -95,7 +96,8 @@ module _ (node : ℕ) where
     posts_one m receipt number found over =
         ap (λ (n : ℕ). goes_out_up_to n now account m) (one_fewer (is_for account) m.waiting receipt found)
         ∙ (λ i. with_both (stays m)
-        (λ r n. then_posted (goes_out now account m r n) (goes_out_up_to (length (without_first (is_for account) m.waiting)) now account (goes_out now account m r n).mail))
+        (λ r n. then_posted (goes_out now account m r n)
+        (goes_out_up_to (length (without_first (is_for account) m.waiting)) now account (goes_out now account m r n).mail))
         (found i) (over i))
 
     at_most : (most : ℕ) (m : Mail) → (find (is_for account) m.waiting ≡ None) → goes_out_up_to most now account m ≡ stays m
@@ -103,7 +105,8 @@ module _ (node : ℕ) where
     at_most zero m none = refl
     at_most (suc more) m none =
         ap (λ (first : Option Receipt). with_both (stays m)
-        (λ r n. then_posted (goes_out now account m r n) (goes_out_up_to more now account (goes_out now account m r n).mail)) first (target_in m.sessions account)) none
+        (λ r n. then_posted (goes_out now account m r n) (goes_out_up_to more now account (goes_out now account m r n).mail)) first
+        (target_in m.sessions account)) none
 
     both_none : {A B C : Type 0} (none : C) (both : A → B → C) (first : Option A) → with_both none both first None ≡ none
     both_none none both None = refl
@@ -118,7 +121,8 @@ module _ (node : ℕ) where
 
     -- none waits
     pub none_waits : (all : Posted) (sessions : List (ℕ × Session)) (waiting : List Receipt) (before text : List ℕ)
-        → IsLeft node all (posted_for now (mail sessions waiting) account) before text → None ≡ option_map (λ (r : Receipt). r.id) (find (is_for account) waiting)
+        → IsLeft node all (posted_for now (mail sessions waiting) account) before text
+        → None ≡ option_map (λ (r : Receipt). r.id) (find (is_for account) waiting)
         → IsPosted node all sessions waiting before text
     none_waits all sessions waiting before text so none =
         all_out all (posted_for now (mail sessions waiting) account) sessions waiting before text so
@@ -136,13 +140,16 @@ module _ (node : ℕ) where
         subst (λ (s : List (ℕ × Session)). IsPosted node all s waiting before text) (sym same)
         (all_out all (posted_for now (mail sessions waiting) account) sessions waiting before text so (to_nobody (length waiting) (mail sessions waiting) none))
 
-    report_so : (pushed : PushedOn) (session : Session) (report : Option Report) → pushed.sequence ≡ session.next_sequence → pushed.knows_optional ≡ knows_optional session
+    report_so : (pushed : PushedOn) (session : Session) (report : Option Report) → pushed.sequence ≡ session.next_sequence
+        → pushed.knows_optional ≡ knows_optional session
         → report_prints pushed report ≡ reports_on pushed.number (Some session) report
     report_so pushed session None sequence knows = refl
-    report_so pushed session (Some report) sequence knows = λ i. report_prints (record { number = pushed.number; sequence = sequence i; knows_optional = knows i }) (Some report)
+    report_so pushed session (Some report) sequence knows =
+        λ i. report_prints (record { number = pushed.number; sequence = sequence i; knows_optional = knows i }) (Some report)
 
     -- One more goes out.
-    pub one_posted : (all : Posted) (sessions left : List (ℕ × Session)) (waiting still : List Receipt) (id : ℕ) (pushed : PushedOn) (chain : Chain) (before text after : List ℕ)
+    pub one_posted : (all : Posted) (sessions left : List (ℕ × Session)) (waiting still : List Receipt) (id : ℕ) (pushed : PushedOn) (chain : Chain)
+        (before text after : List ℕ)
         → IsLeft node all (posted_for now (mail sessions waiting) account) before text
         → Some id ≡ option_map (λ (r : Receipt). r.id) (find (is_for account) waiting) → Some (receipt_of chain) ≡ find (is_for account) waiting
         → GoesOut sessions account now (deliveries.Receipt id) pushed left → still ≡ without_first (is_for account) waiting
@@ -163,9 +170,11 @@ module _ (node : ℕ) where
         (wrote ∙ ap (λ (ps : List Print). text ++ text_at node ps) prints)
 
   -- One more account has got what waits for it.
-  pub one_served : (all : Posted) (now : ℕ) (sessions left : List (ℕ × Session)) (waiting still : List Receipt) (accounts others : List (List ℕ)) (account : List ℕ) (before text after : List ℕ)
+  pub one_served : (all : Posted) (now : ℕ) (sessions left : List (ℕ × Session)) (waiting still : List Receipt) (accounts others : List (List ℕ))
+      (account : List ℕ) (before text after : List ℕ)
       → IsLeft node all (posted_for_all now (mail sessions waiting) accounts) before text → accounts ≡ account ∷ others
-      → IsPosted node (posted_for now (mail sessions waiting) account) left still text after → IsLeft node all (posted_for_all now (mail left still) others) before after
+      → IsPosted node (posted_for now (mail sessions waiting) account) left still text after
+      → IsLeft node all (posted_for_all now (mail left still) others) before after
   one_served all now sessions left waiting still accounts others account before text after so are done =
       let one = posted_for now (mail sessions waiting) account in
       let mails : one.mail ≡ mail left still = λ i. mail (sym done.sessions i) (sym done.waiting i) in
@@ -178,26 +187,32 @@ module _ (node : ℕ) where
       all_out all (posted_for_all now (mail sessions waiting) accounts) sessions waiting before text so (none_for_all now (mail sessions waiting) accounts none)
 
   -- One more was due.
-  pub one_due : (all : Posted) (now : ℕ) (sessions left : List (ℕ × Session)) (waiting still : List Receipt) (chains others : List Chain) (chain : Chain) (before text after : List ℕ)
+  pub one_due : (all : Posted) (now : ℕ) (sessions left : List (ℕ × Session)) (waiting still : List Receipt) (chains others : List Chain) (chain : Chain)
+      (before text after : List ℕ)
       → IsLeft node all (all_posted now (mail sessions waiting) (map receipt_of chains)) before text → chains ≡ chain ∷ others
-      → IsPosted node (posted now (mail sessions waiting) (receipt_of chain)) left still text after → IsLeft node all (all_posted now (mail left still) (map receipt_of others)) before after
+      → IsPosted node (posted now (mail sessions waiting) (receipt_of chain)) left still text after
+      → IsLeft node all (all_posted now (mail left still) (map receipt_of others)) before after
   one_due all now sessions left waiting still chains others chain before text after so are done =
       let one = posted now (mail sessions waiting) (receipt_of chain) in
       let mails : one.mail ≡ mail left still = λ i. mail (sym done.sessions i) (sym done.waiting i) in
-      first_out all (all_posted now (mail sessions waiting) (map receipt_of chains)) one (all_posted now (mail left still) (map receipt_of others)) before text after so
+      first_out all (all_posted now (mail sessions waiting) (map receipt_of chains)) one
+      (all_posted now (mail left still) (map receipt_of others)) before text after so
       (posts_first now (mail sessions waiting) (map receipt_of chains) (map receipt_of others) (receipt_of chain) (ap (map receipt_of) are)
       ∙ ap (λ (m : Mail). then_posted one (all_posted now m (map receipt_of others))) mails) done.text
 
   pub all_due : (all : Posted) (now : ℕ) (sessions : List (ℕ × Session)) (waiting : List Receipt) (chains : List Chain) (before text : List ℕ)
-      → IsLeft node all (all_posted now (mail sessions waiting) (map receipt_of chains)) before text → chains ≡ [] → IsPosted node all sessions waiting before text
+      → IsLeft node all (all_posted now (mail sessions waiting) (map receipt_of chains)) before text → chains ≡ []
+      → IsPosted node all sessions waiting before text
   all_due all now sessions waiting chains before text so none =
       all_out all (all_posted now (mail sessions waiting) (map receipt_of chains)) sessions waiting before text so
       (none_due now (mail sessions waiting) (map receipt_of chains) (ap (map receipt_of) none))
 
   -- It waits for its account, and goes out if it can.
-  pub posted_if : (r : Result (Unit {0}) AllocError) (now : ℕ) (sessions left : List (ℕ × Session)) (waiting with still : List Receipt) (chain : Chain) (account : List ℕ) (before after : List ℕ)
+  pub posted_if : (r : Result (Unit {0}) AllocError) (now : ℕ) (sessions left : List (ℕ × Session)) (waiting with still : List Receipt) (chain : Chain)
+      (account : List ℕ) (before after : List ℕ)
       → submitter_of (receipt_of chain) ≡ Some account → with ≡ waits_for account waiting (receipt_of chain)
-      → OnOk r (IsPosted node (posted_for now (mail sessions with) account) left still before after) → OnOk r (IsPosted node (posted now (mail sessions waiting) (receipt_of chain)) left still before after)
+      → OnOk r (IsPosted node (posted_for now (mail sessions with) account) left still before after)
+      → OnOk r (IsPosted node (posted now (mail sessions waiting) (receipt_of chain)) left still before after)
   posted_if (Err fault) now sessions left waiting with still chain account before after from waits done = tt
   posted_if (Ok fine) now sessions left waiting with still chain account before after from waits done =
       subst (λ (to : Option (List ℕ)). IsPosted node (posted_to now (mail sessions waiting) (receipt_of chain) to) left still before after) (sym from)

@@ -21,5 +21,6 @@ IsText-decimal id is =
     record {
       short = omega (arith, length-decimal-le 10 id (omega arith) small (omega arith));
       no_zero = All-from_recursion (λ octet. 0 < octet) (decimal id)
-          (decimal_by_steps (λ n digits. IsPositive digits) (λ n below. (omega arith, tt)) (λ n digits above all. IsPositive-push digits (48 + n % 10) all (omega arith)) id (omega arith));
+          (decimal_by_steps (λ n digits. IsPositive digits) (λ n below. (omega arith, tt))
+          (λ n digits above all. IsPositive-push digits (48 + n % 10) all (omega arith)) id (omega arith));
     }

@@ -1,5 +1,5 @@
 -- Receipts that wait, by their chains: the first that is for an account, and the others.
-use Rattle.std.proofs.Common.{◌≡◌, ℕ, ◌<◌, ◌≤◌, Bool, true, false, cond, List, [], ◌∷◌, ◌++◌, map, filter, find, get_or, length, Option, Some, None, refl, sym, ap, ◌∙◌, arith}
+use Rattle.std.proofs.Common.{◌≡◌, ℕ, ◌<◌, ◌≤◌, Bool, true, false, cond, List, [], ◌∷◌, ◌++◌, map, filter, find, get_or, length, Some, None, refl, sym, ap, ◌∙◌, arith}
 use Rattle.std.specs.Prelude.{nat_lt, option_map}
 use Rattle.std.specs.List.{position, remove}
 use Rattle.std.proofs.lemmas.Bool.Decides.{nat_tests}
@@ -61,12 +61,14 @@ module _ {A B : Type 0} (f : A → B) (test : B → Bool) where
 
 -- ---- one more
 
-pub counted : (account : List ℕ) (chains : List Chain) → length (filter (λ chain. is_for account (receipt_of chain)) chains) ≡ length (filter (is_for account) (map receipt_of chains))
+pub counted : (account : List ℕ) (chains : List Chain)
+    → length (filter (λ chain. is_for account (receipt_of chain)) chains) ≡ length (filter (is_for account) (map receipt_of chains))
 counted account chains =
     sym (length-map (filter (λ chain. is_for account (receipt_of chain)) chains) receipt_of) ∙ ap length (filter_mapped receipt_of (is_for account) chains)
 
 -- as many wait as may
-pub full : (account : List ℕ) (waiting : List Receipt) (receipt : Receipt) → 10000 ≤ length (filter (is_for account) waiting) → waiting ≡ waits_for account waiting receipt
+pub full : (account : List ℕ) (waiting : List Receipt) (receipt : Receipt) → 10000 ≤ length (filter (is_for account) waiting)
+    → waiting ≡ waits_for account waiting receipt
 full account waiting receipt over =
     let test : nat_lt (length (filter (is_for account) waiting)) most_waiting ≡ false = grind (arith, nat_tests) in
     ap (λ (b : Bool). cond b (waiting ++ receipt ∷ []) waiting) (sym test)

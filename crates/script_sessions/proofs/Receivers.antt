@@ -77,7 +77,8 @@ pub no_target : (connected : List (ℕ × Session)) (target : List ℕ) (number 
 unfolding target_from
 no_target connected target number over = ap (find (λ one. takes_for target (session_at connected one))) (from_the_end number 100 (omega arith))
 
-pub next_target : (connected : List (ℕ × Session)) (target : List ℕ) (number : ℕ) (takes : Bool) → number ≤ 99 → takes ≡ takes_for target (session_at connected number)
+pub next_target : (connected : List (ℕ × Session)) (target : List ℕ) (number : ℕ) (takes : Bool) → number ≤ 99
+    → takes ≡ takes_for target (session_at connected number)
     → target_from connected target number ≡ (if takes then Some number else target_from connected target (number + 1))
 unfolding target_from
 next_target connected target number takes most is =
@@ -87,7 +88,8 @@ next_target connected target number takes most is =
 -- ---- the session that takes it
 
 -- it takes it
-pub takes_it : (connected : List (ℕ × Session)) (target : List ℕ) (number : ℕ) → Some number ≡ target_in connected target → takes_for target (session_at connected number) ≡ true
+pub takes_it : (connected : List (ℕ × Session)) (target : List ℕ) (number : ℕ) → Some number ≡ target_in connected target
+    → takes_for target (session_at connected number) ≡ true
 unfolding target_in
 takes_it connected target number is = find-passes (λ one. takes_for target (session_at connected one)) session_numbers number (sym is)
 

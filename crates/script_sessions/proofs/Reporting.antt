@@ -1,6 +1,6 @@
 -- The report of a chain of which a receipt was asked.
-use Rattle.std.proofs.Common.{◌≡◌, ◌⊎◌, ℕ, Bool, true, List, [], ◌∷◌, Option, Some, None, refl, sym, ap, ◌∙◌, subst, inl, inr}
-use Rattle.std.specs.Prelude.{◌==◌, ◌||◌, ◌%◌, reverse, slice_get, option_map}
+use Rattle.std.proofs.Common.{◌≡◌, ◌⊎◌, ℕ, Bool, true, List, [], ◌∷◌, Option, Some, refl, sym, ap, ◌∙◌, inl, inr}
+use Rattle.std.specs.Prelude.{◌==◌, ◌||◌, ◌%◌, slice_get, option_map}
 use Rattle.std.proofs.lemmas.Bool.{eq-eqb, or_left, or_right}
 use Rattle.mc_model.specs.message.Chain.{Chain, taken_in}
 use Rattle.mc_model.specs.message.Decree.{Decree, Deleted, Delivered, Expired, Fate, Final, Kind, Rejected, Undeliverable}
@@ -35,11 +35,13 @@ reported_first : (id : ℕ) (newest : Decree) (older : List Decree) (report : Re
     → is_asked report.final report.taken ≡ true → reported_as id began taken newest.moment kind ≡ Some report
 reported_first id newest older report began taken kind when what fate same ended asks =
     (λ i. reported_as id (when i) (what i) newest.moment (fate i))
-    ∙ ap (λ (asked : Bool). report_if asked (record { id = id; taken = report.taken; began = report.began; final = report.final; error = report.error; ended = newest.moment })) asks
+    ∙ ap (λ (asked : Bool). report_if asked
+    (record { id = id; taken = report.taken; began = report.began; final = report.final; error = report.error; ended = newest.moment })) asks
     ∙ (λ i. Some (record { id = sym same i; taken = report.taken; began = report.began; final = report.final; error = report.error; ended = sym ended i }))
 
 -- What a chain reports of which a receipt was asked is its report.
-pub reported_so : (chain : Chain) (report : Report) → Reports chain report → AsksReceipt report.final report.taken → reported_on chain.id chain.decrees ≡ Some report
+pub reported_so : (chain : Chain) (report : Report) → Reports chain report → AsksReceipt report.final report.taken
+    → reported_on chain.id chain.decrees ≡ Some report
 reported_so chain report reports asks = by_chain chain.decrees refl
   where
     by_chain : (decrees : List Decree) → chain.decrees ≡ decrees → reported_on chain.id decrees ≡ Some report

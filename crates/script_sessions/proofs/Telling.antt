@@ -22,7 +22,8 @@ pub record AreLeft (node : ℕ) (all rest : Told) (before text : List ℕ) : Typ
   pub written : text ++ text_at node rest.prints ≡ before ++ text_at node all.prints
 
 first_told : (connected : List (ℕ × Session)) (all replies : List Reply) (reply : Reply) → all ≡ reply ∷ replies
-    → told connected all ≡ in_front (reply_prints reply (owner_of connected reply.ticket)) (told (replied connected reply.ticket (owner_of connected reply.ticket)) replies)
+    → told connected all ≡ in_front (reply_prints reply (owner_of connected reply.ticket))
+    (told (replied connected reply.ticket (owner_of connected reply.ticket)) replies)
 unfolding told
 first_told connected all replies reply is = rw is refl
 
@@ -33,7 +34,8 @@ told_nothing connected waiting none = rw none refl
 module _ (node : ℕ) where
   -- what was written, these prints and the prints behind them, in another order of joining
   pub in_turn : (text : List ℕ) (first others : List Print) → (text ++ text_at node first) ++ text_at node others ≡ text ++ text_at node (first ++ others)
-  in_turn text first others = append_assoc text (text_at node first) (text_at node others) ∙ ap (λ t. text ++ t) (sym (flat_map-append (line_at node) first others))
+  in_turn text first others =
+      append_assoc text (text_at node first) (text_at node others) ∙ ap (λ t. text ++ t) (sym (flat_map-append (line_at node) first others))
 
   pub all_left : (all : Told) (before : List ℕ) → AreLeft node all all before before
   all_left all before = record { sessions = refl; written = refl }
@@ -48,14 +50,16 @@ module _ (node : ℕ) where
       let first = first_told connected (map reply_given waiting) (map reply_given others) (reply_given reply) (ap (map reply_given) is) in
       let prints = reply_prints (reply_given reply) (owner_of connected reply.ticket) in
       rw (took, wrote)
-      (let next : AreLeft node all (told (replied connected reply.ticket (owner_of connected reply.ticket)) (map reply_given others)) before (text ++ text_at node prints) = record {
+      (let next : AreLeft node all (told (replied connected reply.ticket (owner_of connected reply.ticket)) (map reply_given others)) before
+      (text ++ text_at node prints) = record {
         sessions = ap (λ (t : Told). t.sessions) (sym first) ∙ so.sessions;
         written = in_turn text prints _ ∙ ap (λ (t : Told). text ++ text_at node t.prints) (sym first) ∙ so.written;
       } in next)
 
   -- the line of a reply, as the text of what is printed
   pub late_line : (r : Result (Unit {0}) AllocError) (connected : List (ℕ × Session)) (reply : Sent) (owner : Owned) (octets text after : List ℕ)
-      → Some owner ≡ owner_of connected reply.ticket → octets ≡ octets_of (reply_pdu owner.request.requested owner.request.sequence reply.id (answer_given reply.answer))
+      → Some owner ≡ owner_of connected reply.ticket
+      → octets ≡ octets_of (reply_pdu owner.request.requested owner.request.sequence reply.id (answer_given reply.answer))
       → OnOk r (after ≡ text ++ octets_line node owner.number octets)
       → OnOk r (after ≡ text ++ text_at node (reply_prints (reply_given reply) (owner_of connected reply.ticket)))
   late_line (Err fault) connected reply owner octets text after found are wrote = tt

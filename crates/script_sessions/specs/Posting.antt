@@ -1,5 +1,5 @@
 -- Receipts that go out on the sessions of a script, in the words of its text.
-use Rattle.std.specs.Prelude.{◌≡◌, ℕ, List, [], ◌∷◌, ◌++◌, map, Option, Some, None}
+use Rattle.std.specs.Prelude.{◌≡◌, ℕ, List, [], ◌∷◌, ◌++◌, Option, Some, None}
 use Rattle.mc_model.specs.node.Outputs.{Receipt}
 use Rattle.receipts.specs.Texts.{Report}
 use Rattle.sessions.specs.Session.{Session}

@@ -6,7 +6,8 @@ use Rattle.script_text.specs.Pushes.{knows_optional, session_at, target_in, with
 use Rattle.script_sessions.specs.declared.connected.PushedOn.{PushedOn}
 
 -- It goes out next on the session that takes it for this account, and waits there for its answer.
-pub record GoesOut (before : List (ℕ × Session)) (target : List ℕ) (now : ℕ) (delivery : Delivery) (pushed : PushedOn) (after : List (ℕ × Session)) : Type 0 where
+pub record GoesOut (before : List (ℕ × Session)) (target : List ℕ) (now : ℕ) (delivery : Delivery) (pushed : PushedOn) (after : List (ℕ × Session))
+    : Type 0 where
   pub session : Session
   pub takes : target_in before target ≡ Some pushed.number
   pub stands : session_at before pushed.number ≡ Some session

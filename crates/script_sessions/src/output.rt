@@ -188,7 +188,11 @@ pub fn write_ungranted(text: &mut Vec<u8>, reason: u8) -> Result<(), AllocError>
 }
 
 /// Adds the line of each of these sessions that it is gone.
-pub fn write_all_gone(text: &mut Vec<u8>, node: NodeNo, connected: &Connected) -> Result<(), AllocError>
+pub fn write_all_gone(
+    text: &mut Vec<u8>,
+    node: NodeNo,
+    connected: &Connected,
+) -> Result<(), AllocError>
     ensures { OnOk result (text.new.items ≡ text.old.items ++ text_at node (gone_prints connected.now)) }
 {
     for (number, _) in connected.sessions() {

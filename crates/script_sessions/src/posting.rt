@@ -24,7 +24,8 @@ pub fn post_for(
     now: Moment,
     account: &Text<16>,
 ) -> Result<(), AllocError>
-    ensures { OnOk result (IsPosted node (posted_for now (mail connected.old waiting.old) account.now) connected.new waiting.new text.old.items text.new.items) }
+    ensures { OnOk result (IsPosted node (posted_for now (mail connected.old waiting.old) account.now)
+        connected.new waiting.new text.old.items text.new.items) }
 {
     'receipts: loop {
         let Some(id) = waiting.first_for(account) else {
@@ -50,7 +51,8 @@ pub fn post_for_all(
     now: Moment,
     accounts: &[Text<16>],
 ) -> Result<(), AllocError>
-    ensures { OnOk result (IsPosted node (posted_for_all now (mail connected.old waiting.old) accounts.now) connected.new waiting.new text.old.items text.new.items) }
+    ensures { OnOk result (IsPosted node (posted_for_all now (mail connected.old waiting.old) accounts.now)
+        connected.new waiting.new text.old.items text.new.items) }
 {
     for account in accounts {
         post_for(alloc, text, node, connected, waiting, now, account)?;
@@ -68,7 +70,8 @@ pub fn post_all(
     now: Moment,
     chains: Vec<Chain>,
 ) -> Result<(), AllocError>
-    ensures { OnOk result (IsPosted node (all_posted now (mail connected.old waiting.old) (map receipt_of chains.items)) connected.new waiting.new text.old.items text.new.items) }
+    ensures { OnOk result (IsPosted node (all_posted now (mail connected.old waiting.old) (map receipt_of chains.items))
+        connected.new waiting.new text.old.items text.new.items) }
 {
     for chain in chains {
         post(alloc, text, node, connected, waiting, now, chain)?;
@@ -86,7 +89,8 @@ fn post(
     now: Moment,
     chain: Chain,
 ) -> Result<(), AllocError>
-    ensures { OnOk result (IsPosted node (posted now (mail connected.old waiting.old) (receipt_of chain)) connected.new waiting.new text.old.items text.new.items) }
+    ensures { OnOk result (IsPosted node (posted now (mail connected.old waiting.old) (receipt_of chain))
+        connected.new waiting.new text.old.items text.new.items) }
 {
     let account = match chain.submission().submitter.copy() {
         Ok(account) => account,

@@ -90,7 +90,8 @@ fn query_answer(
     ended: Option<Moment>,
     error_code: u8,
 ) -> Result<QueryAnswer, AllocError>
-    ensures { IfOk result (λ answer. answer ≡ record { message_id = decimal id; final_date = final_date_of ended; message_state = state_code state; error_code = error_code }) }
+    ensures { IfOk result (λ answer.
+        answer ≡ record { message_id = decimal id; final_date = final_date_of ended; message_state = state_code state; error_code = error_code }) }
 {
     Ok(QueryAnswer {
         message_id: text_of_id(alloc, id)?,

@@ -1,5 +1,5 @@
 -- What serving a session does: a frame, and the octets of a stream, frame by frame.
-use Rattle.std.proofs.Common.{◌≡◌, ℕ, ◌+◌, ◌-◌, ◌<◌, ◌≤◌, Bool, true, false, ◌⊎◌, inl, inr, List, [], ◌∷◌, ◌++◌, length, take, drop, Option, Some, None, Result, Ok, Err, refl, sym, ap, ◌∙◌, subst, arith, append_assoc}
+use Rattle.std.proofs.Common.{◌≡◌, ℕ, ◌<◌, ◌≤◌, true, false, ◌⊎◌, inl, inr, List, [], ◌++◌, length, Option, Some, None, Result, Ok, Err, refl, sym, ap, ◌∙◌}
 use Rattle.std.proofs.lemmas.Bool.{lt-ltb, cases_lt}
 use Rattle.std.specs.declared.alloc.AllocError.{AllocError}
 use Rattle.std.specs.Prelude.{IsErr, OnOk}
@@ -10,7 +10,6 @@ use Rattle.pdu_bodies.specs.declared.pdu.Pdu.{Pdu}
 use Rattle.pdu_fields.specs.declared.fault.PduFault.{PduFault}
 use Rattle.pdu_fields.specs.declared.fault.PduFault.TheVariants as faults
 use Rattle.sessions.specs.Session.{Session}
-use Rattle.sessions.specs.States.{is_gone}
 use Rattle.sessions.specs.Responses.{requested_by}
 use Rattle.sessions.specs.Steps.{Done, on_fault, on_pdu, on_wrong_length}
 use Rattle.sessions.specs.declared.pushed.Delivery.{Delivery}
@@ -21,14 +20,15 @@ use Rattle.sessions.specs.declared.reaction.Reaction.TheVariants.{Nothing, Respo
 use Rattle.script_text.specs.Settings.{Settings}
 use Rattle.script_text.specs.Node.{Node}
 use Rattle.script_text.specs.Attempts.{Went, delivered_so, rests_at}
-use Rattle.script_text.specs.Prints.{Print, line_at, text_at}
+use Rattle.script_text.specs.Prints.{Print, text_at}
 use Rattle.script_text.specs.Runner.{Came, Served, came_by, nothing_came, on_done, on_reaction, on_read, on_request, reaction_prints, unasked}
 use Rattle.script_site.specs.Sites.{IsLeft, IsReacted, IsServed, node_by}
 
 -- ---- a frame
 
 -- nothing goes to the node without a request
-unasked_by : (number : ℕ) (node : Node) (session : Session) (requested : Requested) (sequence : ℕ) (account : Option (List ℕ)) → on_request number node session requested sequence account None ≡ unasked node session []
+unasked_by : (number : ℕ) (node : Node) (session : Session) (requested : Requested) (sequence : ℕ) (account : Option (List ℕ))
+    → on_request number node session requested sequence account None ≡ unasked node session []
 unasked_by number node session requested sequence None = refl
 unasked_by number node session requested sequence (Some account) = refl
 
@@ -85,7 +85,8 @@ pub frame-ok : (settings : Settings) (number : ℕ) (node : Node) (session : Ses
 frame-ok settings number node session octets pdu read = ap (on_read settings number node session octets) read
 
 pub frame-err : (settings : Settings) (number : ℕ) (node : Node) (session : Session) (octets : List ℕ) (fault : PduFault) → read_pdu octets ≡ Err fault
-    → served_by settings number node session octets ≡ on_done settings number node nothing_came (on_fault session fault (requested_by (command_of (word_at 4 octets))) (word_at 12 octets))
+    → served_by settings number node session octets ≡ on_done settings number node nothing_came
+    (on_fault session fault (requested_by (command_of (word_at 4 octets))) (word_at 12 octets))
 frame-err settings number node session octets fault read = ap (on_read settings number node session octets) read
 
 pub frame-short : (settings : Settings) (number : ℕ) (node : Node) (session : Session) (octets : List ℕ) → length octets < 16
@@ -121,31 +122,39 @@ module _ (home : ℕ) where
     text = reacted.text ∙ ap (λ (prints : List Print). before ++ text_at home prints) (sym so.prints_are);
   }
 
-  pub own_served_if : (settings : Settings) (number : ℕ) (node left : Node) (came : Came) (done : Done) (remains : Session) (before after : List ℕ) (r : Result (Unit {0}) AllocError)
+  pub own_served_if : (settings : Settings) (number : ℕ) (node left : Node) (came : Came) (done : Done) (remains : Session) (before after : List ℕ)
+      (r : Result (Unit {0}) AllocError)
       → IsOwn done.reaction → remains ≡ done.next → OnOk r (IsReacted home settings number node done.reaction left before after)
       → OnOk r (IsServed home (on_done settings number node came done) left remains before after)
   own_served_if settings number node left came done remains before after (Ok u) own same reacted =
-      reacted_so settings number node left done.next remains done.reaction _ before after (own_so settings number node came done.next done.reaction own) same reacted
+      reacted_so settings number node left done.next remains done.reaction _ before after
+      (own_so settings number node came done.next done.reaction own) same reacted
   own_served_if settings number node left came done remains before after (Err e) own same reacted = tt
 
   -- An event that asks for nothing was served.
   pub left_served : (settings : Settings) (number : ℕ) (node left : Node) (done : Done) (remains : Session) (before after : List ℕ)
-      → IsLeft home settings number node done left remains before after → IsServed home (on_done settings number node nothing_came done) left remains before after
+      → IsLeft home settings number node done left remains before after
+      → IsServed home (on_done settings number node nothing_came done) left remains before after
   left_served settings number node left done remains before after is =
-      reacted_so settings number node left done.next remains done.reaction _ before after (served_so settings number node done.next done.reaction) is.session is.reacted
+      reacted_so settings number node left done.next remains done.reaction _ before after
+      (served_so settings number node done.next done.reaction) is.session is.reacted
 
-  pub left_served_if : (settings : Settings) (number : ℕ) (node left : Node) (done : Done) (remains : Session) (before after : List ℕ) (r : Result (Unit {0}) AllocError)
-      → OnOk r (IsLeft home settings number node done left remains before after) → OnOk r (IsServed home (on_done settings number node nothing_came done) left remains before after)
+  pub left_served_if : (settings : Settings) (number : ℕ) (node left : Node) (done : Done) (remains : Session) (before after : List ℕ)
+      (r : Result (Unit {0}) AllocError)
+      → OnOk r (IsLeft home settings number node done left remains before after)
+      → OnOk r (IsServed home (on_done settings number node nothing_came done) left remains before after)
   left_served_if settings number node left done remains before after (Ok u) is = left_served settings number node left done remains before after is
   left_served_if settings number node left done remains before after (Err e) is = tt
 
   -- what a fault did, told of the octets
-  pub fault_served : (settings : Settings) (number : ℕ) (node left : Node) (session remains : Session) (octets before after : List ℕ) (sequence command : ℕ) (fault : PduFault) (r : Result (Unit {0}) AllocError)
+  pub fault_served : (settings : Settings) (number : ℕ) (node left : Node) (session remains : Session) (octets before after : List ℕ) (sequence command : ℕ)
+      (fault : PduFault) (r : Result (Unit {0}) AllocError)
       → sequence ≡ word_at 12 octets → command ≡ word_at 4 octets → Gives (Err fault) (read_pdu octets) → (fault ≡ faults.Memory → IsErr r)
       → OnOk r (IsLeft home settings number node (on_fault session fault (requested_by (command_of command)) sequence) left remains before after)
       → OnOk r (IsServed home (served_by settings number node session octets) left remains before after)
   fault_served settings number node left session remains octets before after sequence command fault r at12 at4 gives memory is =
       elim (is_fault fault (read_pdu octets) gives) [
         | inl out ↦ on_ok-err r (IsServed home (served_by settings number node session octets) left remains before after) (memory out)
-        | inr read ↦ rw (frame-err settings number node session octets fault read, ← at12, ← at4) (left_served_if settings number node left _ remains before after r is)
+        | inr read ↦ rw (frame-err settings number node session octets fault read, ← at12, ← at4)
+            (left_served_if settings number node left _ remains before after r is)
       ]

@@ -19,7 +19,9 @@ use Rattle.script_site.specs.Sites.{IsDone}
 
 frame_cut : (frame after : List ℕ) → IsFrame frame → cut (frame ++ after) ≡ record { frames = frame ∷ (cut after).frames; rest = (cut after).rest }
 frame_cut frame after is =
-    let one = frames_one (frame ++ after) (cut (frame ++ after)).frames (frame ∷ (cut after).frames) (cut (frame ++ after)).rest (cut after).rest (streams_cut (frame ++ after)) (is, (after, refl, streams_cut after)) in
+    let one =
+    frames_one (frame ++ after) (cut (frame ++ after)).frames (frame ∷ (cut after).frames) (cut (frame ++ after)).rest (cut after).rest
+    (streams_cut (frame ++ after)) (is, (after, refl, streams_cut after)) in
     λ i. record { frames = one.0 i; rest = one.1 i }
 
 rest_cut : (rest : List ℕ) → IsPart rest ⊎ HasWrongLength rest → cut rest ≡ record { frames = []; rest = rest }
@@ -35,12 +37,15 @@ pub record Continues (home : ℕ) (settings : Settings) (number : ℕ) (all : Ac
   pub written : text ++ text_at home (on_cut settings number runner (cut octets)).prints ≡ before ++ text_at home all.prints
 
 -- a frame that leaves the session, and one that ends it
-frame_stays : (settings : Settings) (number : ℕ) (runner : Runner) (frame rest : List ℕ) (frames : List (List ℕ)) → is_none (session_at (on_frame settings number runner frame).next.sessions number) ≡ false
-    → on_frames settings number runner (frame ∷ frames) rest ≡ followed_by (on_frame settings number runner frame) (on_frames settings number (on_frame settings number runner frame).next frames rest)
+frame_stays : (settings : Settings) (number : ℕ) (runner : Runner) (frame rest : List ℕ) (frames : List (List ℕ))
+    → is_none (session_at (on_frame settings number runner frame).next.sessions number) ≡ false
+    → on_frames settings number runner (frame ∷ frames) rest ≡ followed_by (on_frame settings number runner frame)
+    (on_frames settings number (on_frame settings number runner frame).next frames rest)
 unfolding on_frames
 frame_stays settings number runner frame rest frames stays = rw stays refl
 
-frame_ends : (settings : Settings) (number : ℕ) (runner : Runner) (frame rest : List ℕ) (frames : List (List ℕ)) → is_none (session_at (on_frame settings number runner frame).next.sessions number) ≡ true
+frame_ends : (settings : Settings) (number : ℕ) (runner : Runner) (frame rest : List ℕ) (frames : List (List ℕ))
+    → is_none (session_at (on_frame settings number runner frame).next.sessions number) ≡ true
     → on_frames settings number runner (frame ∷ frames) rest ≡ on_frame settings number runner frame
 unfolding on_frames
 frame_ends settings number runner frame rest frames ends = rw ends refl
@@ -59,7 +64,8 @@ joined held piece mid count taken = rw (taken, take_rest, append_assoc) (ap (λ 
 pub fewer : (held piece mid : List ℕ) (count : ℕ) → mid ≡ held ++ take count piece → count ≤ length piece → IsFrame mid
     → length (take (length piece - count) (drop count piece)) < length held + length piece
 fewer held piece mid count taken within is =
-    let length-mid : length mid ≡ length held + count = ap (λ s. length s) taken ∙ (length-append held (take count piece) ∙ ap (λ n. length held + n) (length-take-le count piece within)) in
+    let length-mid : length mid ≡ length held + count =
+    ap (λ s. length s) taken ∙ (length-append held (take count piece) ∙ ap (λ n. length held + n) (length-take-le count piece within)) in
     let rest : length (take (length piece - count) (drop count piece)) ≡ length piece - count = rw (take_rest) (length-drop count piece) in
     omega (arith, length-mid, rest, within, within_limits (length mid) is.allowed)
 
@@ -84,20 +90,24 @@ is_there None has is holds = absurd (let clash = sym is ∙ holds in cc)
 is_there (Some x) has is holds = refl
 
 module _ (home : ℕ) where
-  pub nothing_done : (settings : Settings) (number : ℕ) (old runner : Runner) (held octets before : List ℕ) → held ≡ held_in old.streams number → runner ≡ opened_at old number
+  pub nothing_done : (settings : Settings) (number : ℕ) (old runner : Runner) (held octets before : List ℕ) → held ≡ held_in old.streams number
+      → runner ≡ opened_at old number
       → Continues home settings number (on_octets settings old number octets) before runner (held ++ octets) before
   unfolding on_octets
   nothing_done settings number old runner held octets before is opens = rw (is, opens) (record { next = refl; written = refl })
 
   -- A frame was served that leaves the session: what stands behind it is left.
   after_frame : (settings : Settings) (number : ℕ) (all : Acted) (before : List ℕ) (runner left : Runner) (frame after text told : List ℕ)
-      → Continues home settings number all before runner (frame ++ after) text → IsFrame frame → IsDone home (on_frame settings number runner frame) left text told
+      → Continues home settings number all before runner (frame ++ after) text → IsFrame frame
+      → IsDone home (on_frame settings number runner frame) left text told
       → is_none (session_at left.sessions number) ≡ false → Continues home settings number all before left after told
   after_frame settings number all before runner left frame after text told so is done stays =
       let served = first_frame settings number runner frame after is
-      ∙ frame_stays settings number runner frame (cut after).rest (cut after).frames (ap (λ (r : Runner). is_none (session_at r.sessions number)) (sym done.next) ∙ stays) in
+      ∙ frame_stays settings number runner frame (cut after).rest (cut after).frames
+      (ap (λ (r : Runner). is_none (session_at r.sessions number)) (sym done.next) ∙ stays) in
       rw (done.next, done.text)
-      (let next : Continues home settings number all before (on_frame settings number runner frame).next after (text ++ text_at home (on_frame settings number runner frame).prints) = record {
+      (let next : Continues home settings number all before (on_frame settings number runner frame).next after
+      (text ++ text_at home (on_frame settings number runner frame).prints) = record {
         next = ap (λ (a : Acted). a.next) (sym served) ∙ so.next;
         written = append_assoc text (text_at home (on_frame settings number runner frame).prints) _
             ∙ ap (λ t. text ++ t) (sym (flat_map-append (line_at home) (on_frame settings number runner frame).prints _))
@@ -106,7 +116,8 @@ module _ (home : ℕ) where
 
   -- what is done as these octets do it is all that is done
   done_so : (settings : Settings) (number : ℕ) (all last : Acted) (before : List ℕ) (runner left : Runner) (octets text told : List ℕ)
-      → Continues home settings number all before runner octets text → on_cut settings number runner (cut octets) ≡ last → IsDone home last left text told → IsDone home all left before told
+      → Continues home settings number all before runner octets text → on_cut settings number runner (cut octets) ≡ last → IsDone home last left text told
+      → IsDone home all left before told
   done_so settings number all last before runner left octets text told so is done = record {
     next = done.next ∙ ap (λ (a : Acted). a.next) (sym is) ∙ so.next;
     text = done.text ∙ ap (λ (a : Acted). text ++ text_at home a.prints) (sym is) ∙ so.written;
@@ -114,16 +125,20 @@ module _ (home : ℕ) where
 
   -- A frame was served that ends the session: nothing is left.
   after_end : (settings : Settings) (number : ℕ) (all : Acted) (before : List ℕ) (runner left : Runner) (frame after text told : List ℕ)
-      → Continues home settings number all before runner (frame ++ after) text → IsFrame frame → IsDone home (on_frame settings number runner frame) left text told
+      → Continues home settings number all before runner (frame ++ after) text → IsFrame frame
+      → IsDone home (on_frame settings number runner frame) left text told
       → is_none (session_at left.sessions number) ≡ true → IsDone home all left before told
   after_end settings number all before runner left frame after text told so is done gone =
       let ends_so = first_frame settings number runner frame after is
-      ∙ frame_ends settings number runner frame (cut after).rest (cut after).frames (ap (λ (r : Runner). is_none (session_at r.sessions number)) (sym done.next) ∙ gone) in
+      ∙ frame_ends settings number runner frame (cut after).rest (cut after).frames
+      (ap (λ (r : Runner). is_none (session_at r.sessions number)) (sym done.next) ∙ gone) in
       done_so settings number all (on_frame settings number runner frame) before runner left (frame ++ after) text told so ends_so done
 
   -- What is left is no whole frame: it waits for more.
-  pub after_kept_if : (settings : Settings) (number : ℕ) (all : Acted) (before : List ℕ) (runner : Runner) (octets text held : List ℕ) (streams : List (ℕ × List ℕ)) (r : Result (Unit {0}) AllocError)
-      → Continues home settings number all before runner octets text → IsPart octets → held ≡ octets → OnOk r (streams ≡ insert_entry nat_cmp runner.streams number held)
+  pub after_kept_if : (settings : Settings) (number : ℕ) (all : Acted) (before : List ℕ) (runner : Runner) (octets text held : List ℕ)
+      (streams : List (ℕ × List ℕ)) (r : Result (Unit {0}) AllocError)
+      → Continues home settings number all before runner octets text → IsPart octets → held ≡ octets
+      → OnOk r (streams ≡ insert_entry nat_cmp runner.streams number held)
       → OnOk r (IsDone home all (record runner { streams = streams }) before text)
   unfolding on_frames
   after_kept_if settings number all before runner octets text held streams (Err fault) so part same keeps = tt
@@ -134,8 +149,10 @@ module _ (home : ℕ) where
       (record { next = λ i. record runner { streams = stays i }; text = sym (append-nil text) })
 
   -- A wrong length ends the session.
-  pub after_wrong_if : (settings : Settings) (number : ℕ) (all : Acted) (before : List ℕ) (runner left : Runner) (octets text told : List ℕ) (r : Result (Unit {0}) AllocError)
-      → Continues home settings number all before runner octets text → HasWrongLength octets → OnOk r (IsDone home (ends settings number runner) left text told) → OnOk r (IsDone home all left before told)
+  pub after_wrong_if : (settings : Settings) (number : ℕ) (all : Acted) (before : List ℕ) (runner left : Runner) (octets text told : List ℕ)
+      (r : Result (Unit {0}) AllocError)
+      → Continues home settings number all before runner octets text → HasWrongLength octets → OnOk r (IsDone home (ends settings number runner) left text told)
+      → OnOk r (IsDone home all left before told)
   unfolding on_frames
   after_wrong_if settings number all before runner left octets text told (Err fault) so wrong done = tt
   after_wrong_if settings number all before runner left octets text told (Ok fine) so wrong done =
@@ -143,20 +160,24 @@ module _ (home : ℕ) where
       done_so settings number all (ends settings number runner) before runner left octets text told so here done
 
   -- The frame that was taken is served, and what is left stands behind it.
-  pub after_take : (settings : Settings) (number : ℕ) (all : Acted) (before : List ℕ) (runner left : Runner) (held piece mid frame new text told : List ℕ) (count : ℕ)
+  pub after_take : (settings : Settings) (number : ℕ) (all : Acted) (before : List ℕ) (runner left : Runner) (held piece mid frame new text told : List ℕ)
+      (count : ℕ)
       → Continues home settings number all before runner (held ++ piece) text → mid ≡ held ++ take count piece → IsFrame frame × (mid ≡ frame) × (new ≡ [])
       → IsDone home (on_frame settings number runner frame) left text told → is_none (session_at left.sessions number) ≡ false
       → Continues home settings number all before left (new ++ take (length piece - count) (drop count piece)) told
   after_take settings number all before runner left held piece mid frame new text told count so taken gave done stays =
       let rest = take (length piece - count) (drop count piece) in
       let parts : held ++ piece ≡ frame ++ rest = sym (joined held piece mid count taken) ∙ ap (λ s. s ++ rest) gave.1 in
-      rw gave.2 (after_frame settings number all before runner left frame rest text told (subst (λ s. Continues home settings number all before runner s text) parts so) gave.0 done stays)
+      rw gave.2 (after_frame settings number all before runner left frame rest text told
+      (subst (λ s. Continues home settings number all before runner s text) parts so) gave.0 done stays)
 
   -- The frame that was taken ends the session.
-  pub after_last : (settings : Settings) (number : ℕ) (all : Acted) (before : List ℕ) (runner left : Runner) (held piece mid frame text told : List ℕ) (count : ℕ)
+  pub after_last : (settings : Settings) (number : ℕ) (all : Acted) (before : List ℕ) (runner left : Runner) (held piece mid frame text told : List ℕ)
+      (count : ℕ)
       → Continues home settings number all before runner (held ++ piece) text → mid ≡ held ++ take count piece → IsFrame frame × (mid ≡ frame)
       → IsDone home (on_frame settings number runner frame) left text told → is_none (session_at left.sessions number) ≡ true → IsDone home all left before told
   after_last settings number all before runner left held piece mid frame text told count so taken gave done gone =
       let rest = take (length piece - count) (drop count piece) in
       let parts : held ++ piece ≡ frame ++ rest = sym (joined held piece mid count taken) ∙ ap (λ s. s ++ rest) gave.1 in
-      after_end settings number all before runner left frame rest text told (subst (λ s. Continues home settings number all before runner s text) parts so) gave.0 done gone
+      after_end settings number all before runner left frame rest text told
+      (subst (λ s. Continues home settings number all before runner s text) parts so) gave.0 done gone

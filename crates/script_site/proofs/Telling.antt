@@ -1,5 +1,5 @@
 -- A step is taken, and its replies and receipts go out.
-use Rattle.std.proofs.Common.{◌≡◌, ℕ, List, ◌++◌, map, Result, Ok, Err, refl, sym, ◌∙◌, ap, append_assoc, subst}
+use Rattle.std.proofs.Common.{◌≡◌, ℕ, List, ◌++◌, map, Result, Ok, Err, sym, ◌∙◌, ap, append_assoc, subst}
 use Rattle.std.proofs.lemmas.Grind.{flat_map-append}
 use Rattle.std.specs.Global.{Vec}
 use Rattle.std.specs.Prelude.{OnOk}
@@ -24,7 +24,8 @@ use Rattle.script_site.specs.Sites.{IsDone, comes_to, replies_to, tells}
 module _ (home : ℕ) where
   -- what was written, these prints and the prints behind them, in another order of joining
   pub in_turn : (text : List ℕ) (first others : List Print) → (text ++ text_at home first) ++ text_at home others ≡ text ++ text_at home (first ++ others)
-  in_turn text first others = append_assoc text (text_at home first) (text_at home others) ∙ ap (λ t. text ++ t) (sym (flat_map-append (line_at home) first others))
+  in_turn text first others =
+      append_assoc text (text_at home first) (text_at home others) ∙ ap (λ t. text ++ t) (sym (flat_map-append (line_at home) first others))
 
   -- What was done first, and then this.
   pub then_done : (first : Acted) (later : Runner → Acted) (middle last : Runner) (before text after : List ℕ)
@@ -60,11 +61,14 @@ module _ (home : ℕ) where
   }
 
   -- The replies of a step went out, and then its receipts.
-  pub told_then_posted_if : (r : Result (Unit {0}) AllocError) (runner middle left : Runner) (replies : List Reply) (receipts : List Receipt) (now : ℕ) (before text after : List ℕ)
-      → AreTold home (told runner.sessions replies) middle.sessions before text → middle.node ≡ runner.node → middle.streams ≡ runner.streams → middle.waiting ≡ runner.waiting
+  pub told_then_posted_if : (r : Result (Unit {0}) AllocError) (runner middle left : Runner) (replies : List Reply) (receipts : List Receipt) (now : ℕ)
+      (before text after : List ℕ)
+      → AreTold home (told runner.sessions replies) middle.sessions before text → middle.node ≡ runner.node → middle.streams ≡ runner.streams
+      → middle.waiting ≡ runner.waiting
       → now ≡ middle.node.kept.clock → OnOk r (IsPosted home (all_posted now (mail_of middle) receipts) left.sessions left.waiting text after)
       → left.node ≡ middle.node → left.streams ≡ middle.streams → OnOk r (IsDone home (tells runner replies receipts) left before after)
-  told_then_posted_if (Err fault) runner middle left replies receipts now before text after went_out node streams waiting clock posted node_left streams_left = tt
+  told_then_posted_if (Err fault) runner middle left replies receipts now before text after went_out node streams waiting clock posted node_left streams_left =
+      tt
   told_then_posted_if (Ok fine) runner middle left replies receipts now before text after went_out node streams waiting clock posted node_left streams_left =
       let first = replies_to runner (told runner.sessions replies) in
       let one : IsDone home first middle before text = record {
@@ -78,7 +82,8 @@ module _ (home : ℕ) where
   -- ---- a packet
 
   -- What a step gave out was told: it was taken, its replies went out, and then its receipts.
-  reported_so : (runner middle left : Runner) (node : Node) (input : Input) (step : Stepped) (replies : List Reply) (receipts : List Receipt) (before after : List ℕ)
+  reported_so : (runner middle left : Runner) (node : Node) (input : Input) (step : Stepped) (replies : List Reply) (receipts : List Receipt)
+      (before after : List ℕ)
       → middle ≡ record runner { node = with_step node step } → replies ≡ step.outputs.replies → receipts ≡ step.outputs.receipts
       → IsDone home (tells middle replies receipts) left before after → IsDone home (reports_by runner node input step) left before after
   reported_so runner middle left node input step replies receipts before after is same given done =
@@ -95,4 +100,5 @@ module _ (home : ℕ) where
   delivered_if (Ok fine) runner middle left packet given before after came sessions streams waiting done =
       let there : middle ≡ record runner { node = with_step runner.node (step_at runner.node (Delivery packet)) } =
       λ i. record { node = came.replied.node i; sessions = sessions i; streams = streams i; waiting = waiting i } in
-      reported_so runner middle left runner.node (Delivery packet) (step_at runner.node (Delivery packet)) _ _ before after there came.replied.given came.reported done
+      reported_so runner middle left runner.node (Delivery packet) (step_at runner.node (Delivery packet)) _ _ before after there came.replied.given
+      came.reported done

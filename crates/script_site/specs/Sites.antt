@@ -42,7 +42,8 @@ pub record IsReacted (home : ℕ) (settings : Settings) (number : ℕ) (old : No
   pub text : after ≡ before ++ text_at home (reaction_prints settings number reaction)
 
 -- Such an event led to this session.
-pub record IsLeft (home : ℕ) (settings : Settings) (number : ℕ) (old : Node) (done : Done) (left : Node) (remains : Session) (before after : List ℕ) : Type 0 where
+pub record IsLeft (home : ℕ) (settings : Settings) (number : ℕ) (old : Node) (done : Done) (left : Node) (remains : Session) (before after : List ℕ)
+    : Type 0 where
   pub session : remains ≡ done.next
   pub reacted : IsReacted home settings number old done.reaction left before after
 

@@ -35,7 +35,8 @@ pub fn wrong_length(
     session: &mut Session,
     text: &mut Vec<u8>,
 ) -> Result<(), AllocError>
-    ensures { OnOk result (IsLeft home (settings_of config.now) number (node_of node.old) (on_wrong_length session.old) (node_of node.new) session.new text.old.items text.new.items) }
+    ensures { OnOk result (IsLeft home (settings_of config.now) number (node_of node.old) (on_wrong_length session.old)
+        (node_of node.new) session.new text.old.items text.new.items) }
 {
     let reaction = session.on_wrong_length();
     react(alloc, config, home, number, node, reaction, text)
@@ -52,14 +53,17 @@ pub fn serve_frame(
     octets: &[u8],
     text: &mut Vec<u8>,
 ) -> Result<(), AllocError>
-    ensures { OnOk result (IsServed home (on_read (settings_of config.now) number (node_of node.old) session.old octets.now (read_pdu octets.now)) (node_of node.new) session.new text.old.items text.new.items) }
+    ensures { OnOk result (IsServed home (on_read (settings_of config.now) number (node_of node.old) session.old octets.now (read_pdu octets.now))
+        (node_of node.new) session.new text.old.items text.new.items) }
 {
     let Some(header) = read_header(octets) else {
         return wrong_length(alloc, config, home, number, node, session, text);
     };
     match decode(alloc, octets) {
         Ok(pdu) => serve_pdu(alloc, config, home, number, node, session, pdu, text),
-        Err(fault) => serve_fault(alloc, config, home, number, node, session, header, fault, text),
+        Err(fault) => serve_fault(
+            alloc, config, home, number, node, session, header, fault, text,
+        ),
     }
 }
 
@@ -75,7 +79,9 @@ fn serve_fault(
     fault: PduFault,
     text: &mut Vec<u8>,
 ) -> Result<(), AllocError>
-    ensures done { OnOk result (IsLeft home (settings_of config.now) number (node_of node.old) (on_fault session.old fault (requested_by (command_of header.command)) header.sequence) (node_of node.new) session.new text.old.items text.new.items) }
+    ensures done { OnOk result (IsLeft home (settings_of config.now) number (node_of node.old)
+        (on_fault session.old fault (requested_by (command_of header.command)) header.sequence)
+        (node_of node.new) session.new text.old.items text.new.items) }
     ensures memory { fault ≡ PduFault.Memory → IsErr result }
 {
     if let PduFault::Memory = fault {
@@ -96,7 +102,9 @@ fn serve_pdu(
     pdu: Pdu,
     text: &mut Vec<u8>,
 ) -> Result<(), AllocError>
-    ensures { OnOk result (IsServed home (on_done (settings_of config.now) number (node_of node.old) (came_by (settings_of config.now) pdu) (on_pdu config.now.accounts session.old pdu)) (node_of node.new) session.new text.old.items text.new.items) }
+    ensures { OnOk result (IsServed home
+        (on_done (settings_of config.now) number (node_of node.old) (came_by (settings_of config.now) pdu) (on_pdu config.now.accounts session.old pdu))
+        (node_of node.new) session.new text.old.items text.new.items) }
 {
     let sequence = pdu.sequence;
     let Ok(reaction) = session.on_pdu(&config.accounts, &pdu) else {
@@ -134,7 +142,9 @@ fn ask(
     body: Body,
     text: &mut Vec<u8>,
 ) -> Result<(), AllocError>
-    ensures { OnOk result (IsServed home (on_request number (node_of node.old) session.old requested sequence session.old.account (request_of (settings_of config.now) body)) (node_of node.new) session.new text.old.items text.new.items) }
+    ensures { OnOk result (IsServed home
+        (on_request number (node_of node.old) session.old requested sequence session.old.account (request_of (settings_of config.now) body))
+        (node_of node.new) session.new text.old.items text.new.items) }
 {
     let Some(account) = session.account() else {
         drop(body);
@@ -242,11 +252,23 @@ fn react(
 {
     match reaction {
         Reaction::Respond(outgoing) => {
-            write_outgoing(alloc, text, SessionPlace { node: home, number }, &config.system_id, outgoing)
+            write_outgoing(
+                alloc,
+                text,
+                SessionPlace { node: home, number },
+                &config.system_id,
+                outgoing,
+            )
         }
         Reaction::Leave(outgoing, abandoned) => {
             node.give_up(abandoned.as_slice())?;
-            write_outgoing(alloc, text, SessionPlace { node: home, number }, &config.system_id, outgoing)?;
+            write_outgoing(
+                alloc,
+                text,
+                SessionPlace { node: home, number },
+                &config.system_id,
+                outgoing,
+            )?;
             write_gone(text, SessionPlace { node: home, number })
         }
         Reaction::Nothing | Reaction::Ask(_) | Reaction::Answered(_) => Ok(()),

@@ -16,8 +16,8 @@ use pdu_codec::Text;
 use pdu_frames::Framer;
 use script_node::{Granting, ScriptNode, StoppedNode};
 use script_sessions::{
-    Connected, Streams, Waiting, post_all, post_for, post_for_all, write_all_gone,
-    write_declined, write_delivery, write_replies, write_ungranted,
+    Connected, Streams, Waiting, post_all, post_for, post_for_all, write_all_gone, write_declined,
+    write_delivery, write_replies, write_ungranted,
 };
 use sessions::{Delivery, Session};
 use sim_net::Packets;
@@ -82,7 +82,8 @@ impl Site {
         octets: &[u8],
         text: &mut Vec<u8>,
     ) -> Result<(), AllocError>
-        ensures { OnOk result (IsDone home (on_octets (settings_of config.now) (runner_of self.old) number octets.now) (runner_of self.new) text.old.items text.new.items) }
+        ensures { OnOk result (IsDone home (on_octets (settings_of config.now) (runner_of self.old) number octets.now)
+            (runner_of self.new) text.old.items text.new.items) }
     {
         let mut framer = self.open(alloc, number)?;
         let mut rest = octets;
@@ -127,7 +128,8 @@ impl Site {
         octets: &[u8],
         text: &mut Vec<u8>,
     ) -> Result<(), AllocError>
-        ensures { OnOk result (IsDone home (on_frame (settings_of config.now) number (runner_of self.old) octets.now) (runner_of self.new) text.old.items text.new.items) }
+        ensures { OnOk result (IsDone home (on_frame (settings_of config.now) number (runner_of self.old) octets.now)
+            (runner_of self.new) text.old.items text.new.items) }
     {
         let mut session = self.connected.take_out(alloc, number)?;
         serve_frame(
@@ -155,7 +157,15 @@ impl Site {
         ensures { OnOk result (IsDone home (ends (settings_of config.now) number (runner_of self.old)) (runner_of self.new) text.old.items text.new.items) }
     {
         let mut session = self.connected.take_out(alloc, number)?;
-        wrong_length(alloc, config, home, number, &mut self.node, &mut session, text)?;
+        wrong_length(
+            alloc,
+            config,
+            home,
+            number,
+            &mut self.node,
+            &mut session,
+            text,
+        )?;
         self.keep(alloc, home, number, session, text)
     }
 
@@ -292,7 +302,8 @@ impl Site {
         text: &mut Vec<u8>,
     ) -> Result<(), AllocError>
         requires { EndsInAttempt chain.now.decrees }
-        ensures { OnOk result (IsDone node (sent (runner_of self.old) (slot_of chain.now.id chain.now.decrees) (taken_in chain.now.decrees)) (runner_of self.new) text.old.items text.new.items) }
+        ensures { OnOk result (IsDone node (sent (runner_of self.old) (slot_of chain.now.id chain.now.decrees) (taken_in chain.now.decrees))
+            (runner_of self.new) text.old.items text.new.items) }
     {
         let slot = Slot {
             id: chain.id(),
@@ -335,7 +346,8 @@ impl Site {
         found: Found,
         text: &mut Vec<u8>,
     ) -> Result<StoppedNode, AllocError>
-        ensures stopped { IfOk result (IsStopped (runner_of self).node.setup (stopped (runner_of self).node.setup (runner_of self).node.kept (packet_of packet.now) (is_after found))) }
+        ensures stopped { IfOk result (IsStopped (runner_of self).node.setup
+            (stopped (runner_of self).node.setup (runner_of self).node.kept (packet_of packet.now) (is_after found))) }
         ensures text { OnOk result (text.new.items ≡ text.old.items ++ text_at node (gone_prints (runner_of self).sessions)) }
     {
         let Site {
@@ -369,10 +381,13 @@ impl Site {
         given: Given,
         text: &mut Vec<u8>,
     ) -> Result<(), AllocError>
-        ensures { OnOk result (IsDone node (tells (runner_of self.old) (map reply_given given.replies.items) (map receipt_of given.receipts.items)) (runner_of self.new) text.old.items text.new.items) }
+        ensures { OnOk result (IsDone node (tells (runner_of self.old) (map reply_given given.replies.items) (map receipt_of given.receipts.items))
+            (runner_of self.new) text.old.items text.new.items) }
     {
         let Given {
-            replies, receipts, ..
+            replies,
+            receipts,
+            ..
         } = given;
         write_replies(alloc, text, node, &mut self.connected, replies)?;
         let now = self.node.clock();

@@ -1,5 +1,5 @@
 -- Places of a list, and the numbers of packets.
-use Rattle.std.proofs.Common.{◌≡◌, ◌⊎◌, ℕ, zero, suc, ◌+◌, ◌<◌, ◌≤◌, pred, Bool, true, false, List, [], ◌∷◌, ◌++◌, length, map, Option, Some, None, refl, sym, ap, subst, ◌∙◌, inl, inr, arith, append_assoc, length-append}
+use Rattle.std.proofs.Common.{◌≡◌, ◌⊎◌, ℕ, zero, suc, ◌+◌, ◌<◌, ◌≤◌, true, false, List, [], ◌∷◌, ◌++◌, length, map, Some, None, refl, sym, ap, subst, ◌∙◌, inl, inr, arith, append_assoc, length-append}
 use Rattle.std.specs.Prelude.{reverse, nat_lt, nat_le, ◌&&◌}
 use Rattle.std.specs.List.{slice_get}
 use Rattle.std.proofs.Math.ListN.{set}
@@ -68,7 +68,8 @@ module _ {A : Type 0} (f : A → Packet) where
   has_number xs (suc place) x behind is =
       let here = split_at xs place x is in
       let lengths : length (reverse (map f here.front) ++ behind) ≡ place + length behind =
-      length-append (reverse (map f here.front)) behind ∙ ap (λ n. n + length behind) (length-reverse (map f here.front) ∙ map_length f here.front ∙ here.place_is) in
+      length-append (reverse (map f here.front)) behind ∙ ap (λ n. n + length behind)
+      (length-reverse (map f here.front) ∙ map_length f here.front ∙ here.place_is) in
       record {
         newer = reverse (map f here.back);
         older = reverse (map f here.front) ++ behind;

@@ -1,5 +1,5 @@
 -- What stands at a place of a list is a member of it.
-use Rattle.std.proofs.Common.{◌≡◌, ℕ, zero, suc, List, [], ◌∷◌, Option, Some, None, sym, inl, inr}
+use Rattle.std.proofs.Common.{◌≡◌, ℕ, zero, suc, List, [], ◌∷◌, Some, sym, inl, inr}
 use Rattle.std.specs.List.{slice_get}
 use Rattle.mc_model.specs.synod.Lists.{In}
 use Rattle.sim_net.specs.Network.{numbered}

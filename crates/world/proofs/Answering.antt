@@ -1,8 +1,7 @@
 -- What a world answers to a step, as a step of the run in which it stands.
-use Rattle.std.proofs.Common.{◌≡◌, ◌⊎◌, ℕ, zero, suc, ◌+◌, ◌<◌, ◌≤◌, Bool, true, false, List, [], ◌∷◌, ◌++◌, length, map, Option, Some, None, Result, Ok, Err, refl, sym, ap, subst, ◌∙◌, inl, inr, arith, length-append}
-use Rattle.std.specs.Prelude.{IfErr, IfOk, OnErr, nat_le, nat_lt, option_map, reverse, ◌&&◌, if◌then◌else◌}
+use Rattle.std.proofs.Common.{◌≡◌, ℕ, ◌+◌, ◌≤◌, Bool, true, false, List, length, map, Option, Some, None, Result, Ok, Err, refl, sym, ap, subst, ◌∙◌, inl, inr, length-append}
+use Rattle.std.specs.Prelude.{IfErr, IfOk, OnErr, option_map, reverse, if◌then◌else◌}
 use Rattle.std.proofs.lemmas.List.{length-reverse}
-use Rattle.std.proofs.lemmas.Bool.Decides.{nat_tests}
 use Rattle.mc_model.specs.synod.Packet.{Packet}
 use Rattle.mc_model.specs.node.Grant.{GrantRefusal}
 use Rattle.mc_model.specs.node.Outputs.{HasNumber}
@@ -26,10 +25,10 @@ use Rattle.world.specs.declared.given.Given.{Given as Gives}
 use Rattle.world.specs.declared.step.Step.{Step}
 use Rattle.world.specs.declared.step.Step.TheVariants as steps
 use Rattle.world.specs.Members.{DoesNotTake, HasTaken, IsSentIn, Keeps, fault_from}
-use Rattle.world.specs.Runs.{Answers, Comes, GoesOn, IsAt, IsFault, Leads, StaysAt, at, away, or_else, refusal_of, unsent}
-use Rattle.world.specs.Scenes.{Placed, Scene}
+use Rattle.world.specs.Runs.{Comes, GoesOn, IsAt, IsFault, Leads, StaysAt, at, away, or_else, refusal_of, unsent}
+use Rattle.world.specs.Scenes.{Scene}
 use Rattle.world.proofs.Going.{stays}
-use Rattle.world.proofs.Leading.{IsNotTaken, IsTaken, not_taken, taken}
+use Rattle.world.proofs.Leading.{not_taken, taken}
 
 abbrev pub after : Cluster → List NodeInput → KeptCluster
 after cluster inputs = kept_reached cluster inputs
@@ -44,7 +43,8 @@ pub record IsInputOf (old : Scene) (step : Step) (node : ℕ) (input : Given) : 
       refusal_of cluster (length behind) (after cluster inputs) step
       ≡ or_else (away cluster (after cluster inputs) node) (option_map fault_from (refused_by (setup_of cluster node) ((after cluster inputs).kept node) input))
 
-is_fault : (refused : Option StepFault) (cause : StepFault) (fault : WorldFault) → IsStepFault refused cause → fault ≡ fault_from cause → IsFault (option_map fault_from refused) fault
+is_fault : (refused : Option StepFault) (cause : StepFault) (fault : WorldFault) → IsStepFault refused cause → fault ≡ fault_from cause
+    → IsFault (option_map fault_from refused) fault
 is_fault None cause fault is same = same ∙ ap fault_from is
 is_fault (Some refusal) cause fault is same = same ∙ ap fault_from is
 
@@ -64,7 +64,8 @@ module _ (old new : Scene) (step : Step) (node : ℕ) (input : Given) (is : IsIn
   abbrev why : Cluster → List NodeInput → Option WorldFault
   why cluster inputs = option_map fault_from (refused_by (setup_of cluster node) ((after cluster inputs).kept node) input)
 
-  did_not : (fault : WorldFault) → 1 ≤ node → DoesNotTake old node input fault → Keeps old new → (cluster : Cluster) (behind : List Packet) (inputs : List NodeInput) →
+  did_not : (fault : WorldFault) → 1 ≤ node → DoesNotTake old node input fault → Keeps old new →
+      (cluster : Cluster) (behind : List Packet) (inputs : List NodeInput) →
       IsAt cluster behind inputs old → StaysAt cluster behind inputs step fault new
   did_not fault least does keeps cluster behind inputs now =
       let it = not_taken cluster behind inputs old now node input fault least does in
@@ -101,14 +102,16 @@ tick_is old node moment up = record {
 }
 
 granted_so : (refusal : Option GrantRefusal) →
-    option_map (λ (r : GrantRefusal). faults.Grant (reason_of r)) refusal ≡ option_map fault_from (option_map (λ (r : GrantRefusal). causes.Grant (reason_of r)) refusal)
+    option_map (λ (r : GrantRefusal). faults.Grant (reason_of r)) refusal
+    ≡ option_map fault_from (option_map (λ (r : GrantRefusal). causes.Grant (reason_of r)) refusal)
 granted_so None = refl
 granted_so (Some refusal) = refl
 
 pub grant_is : (old : Scene) (node id : ℕ) → IsInputOf old (steps.Grant node id) node (given.Grant id)
 grant_is old node id = record {
   comes = λ cluster behind inputs now. refl;
-  refused = λ cluster behind inputs now. ap (or_else (away cluster (after cluster inputs) node)) (granted_so (grant_refusal (setup_of cluster node) ((after cluster inputs).kept node) id));
+  refused = λ cluster behind inputs now. ap (or_else (away cluster (after cluster inputs) node))
+      (granted_so (grant_refusal (setup_of cluster node) ((after cluster inputs).kept node) id));
 }
 
 open_so : (open_is : Bool) → (if open_is then None else Some faults.NotGranted) ≡ option_map fault_from (if open_is then None else Some causes.NotGranted)
@@ -133,15 +136,20 @@ module _ (cluster : Cluster) (behind : List Packet) (inputs : List NodeInput) (o
   unsent_none number is = ap (λ (b : Bool). if b then None else Some faults.NoSuchPacket) (none_given old.packets number (length behind) _ total is)
 
   pub unsent_some : (number : ℕ) (packet : Sent) → numbered old.packets number ≡ Some packet → unsent (length behind) (after cluster inputs) number ≡ None
-  unsent_some number packet is = ap (λ (b : Bool). if b then None else Some faults.NoSuchPacket) (some_given old.packets number (length behind) _ packet total is)
+  unsent_some number packet is =
+      ap (λ (b : Bool). if b then None else Some faults.NoSuchPacket) (some_given old.packets number (length behind) _ packet total is)
 
-  pub number_is : (number : ℕ) (packet : Sent) → numbered old.packets number ≡ Some packet → HasNumber (after cluster inputs).packets (number + length behind) (packet_of packet)
+  pub number_is : (number : ℕ) (packet : Sent) → numbered old.packets number ≡ Some packet
+      → HasNumber (after cluster inputs).packets (number + length behind) (packet_of packet)
   number_is number packet is =
-      subst (λ (ps : List Packet). HasNumber ps (number + length behind) (packet_of packet)) (sym now.packets) (has_number packet_of old.packets number packet behind is)
+      subst (λ (ps : List Packet). HasNumber ps (number + length behind) (packet_of packet)) (sym now.packets)
+      (has_number packet_of old.packets number packet behind is)
 
-pub deliver_is : (old : Scene) (number node : ℕ) (packet : Sent) → numbered old.packets number ≡ Some packet → IsInputOf old (steps.Deliver number node) node (given.Packet packet)
+pub deliver_is : (old : Scene) (number node : ℕ) (packet : Sent) → numbered old.packets number ≡ Some packet
+    → IsInputOf old (steps.Deliver number node) node (given.Packet packet)
 deliver_is old number node packet is = record {
   comes = λ cluster behind inputs now. (packet_of packet, number_is cluster behind inputs old now number packet is, refl);
   refused = λ cluster behind inputs now.
-      ap (λ (o : Option WorldFault). or_else o (away cluster (after cluster inputs) node)) (unsent_some cluster behind inputs old now number packet is) ∙ or_none _;
+      ap (λ (o : Option WorldFault). or_else o (away cluster (after cluster inputs) node)) (unsent_some cluster behind inputs old now number packet is)
+      ∙ or_none _;
 }

@@ -1,9 +1,8 @@
 -- A node of a world that stops, and one that starts anew, as steps of the run in which it stands.
-use Rattle.std.proofs.Common.{◌≡◌, ◌⊎◌, ℕ, zero, suc, ◌+◌, ◌<◌, ◌≤◌, Bool, true, false, List, [], ◌∷◌, ◌++◌, length, map, Option, Some, None, Result, Ok, Err, refl, sym, ap, subst, ◌∙◌, inl, inr, arith}
-use Rattle.std.specs.Prelude.{IfErr, IfOk, OnErr, nat_le, nat_lt, if◌then◌else◌}
-use Rattle.std.specs.List.{slice_get}
+use Rattle.std.proofs.Common.{◌≡◌, ◌⊎◌, ℕ, suc, ◌+◌, ◌<◌, ◌≤◌, Bool, true, false, List, ◌∷◌, ◌++◌, length, map, Option, Some, None, Result, Ok, Err, refl, sym, ap, subst, ◌∙◌, inl, inr, arith}
+use Rattle.std.specs.Prelude.{IfErr, IfOk, OnErr, nat_lt, if◌then◌else◌}
 use Rattle.std.proofs.lemmas.Bool.Decides.{nat_tests}
-use Rattle.std.proofs.lemmas.List.{append-nil, length-set}
+use Rattle.std.proofs.lemmas.List.{append-nil}
 use Rattle.mc_model.specs.synod.Packet.{Packet}
 use Rattle.mc_model.specs.node.Input.{Crash, Input, Restart}
 use Rattle.mc_model.specs.node.Outputs.{Outputs}
@@ -12,25 +11,23 @@ use Rattle.mc_model.specs.cluster.Steps.{Cluster, setup_of}
 use Rattle.node_model.specs.Kept.{Kept}
 use Rattle.node_model.specs.Outputs.{Stepped, leaves, nothing}
 use Rattle.mc_model.specs.synod.Lists.{In}
-use Rattle.node_model.specs.Stepped.{restarted, saved_by, sender_of, stepped, stopped}
-use Rattle.node_laws.specs.Clusters.{KeptCluster, NodeInput, WasSentBefore, kept_reached, step_at}
-use Rattle.node_laws.specs.Runs.{IsOneOf, IsUpFor, MayCome}
-use Rattle.stable_store.specs.Stored.{AreSame}
+use Rattle.node_model.specs.Stepped.{restarted, stepped, stopped}
+use Rattle.node_laws.specs.Clusters.{KeptCluster, NodeInput, kept_reached, step_at}
+use Rattle.node_laws.specs.Runs.{IsOneOf}
 use Rattle.synod_acceptor.specs.Packets.{packet_of}
-use Rattle.synod_acceptor.specs.Records.{record_at}
 use Rattle.synod_acceptor.specs.declared.packet.Packet.{Packet as Sent}
 use Rattle.node_core.specs.declared.stopped.Found.{Found}
 use Rattle.node_core.specs.Keeping.{kept_of}
 use Rattle.node_core.specs.Stops.{is_after}
-use Rattle.node_core.proofs.Restarts.{crash_is, stop_lists}
+use Rattle.node_core.proofs.Restarts.{crash_is}
 use Rattle.sim_net.specs.Network.{numbered}
 use Rattle.sim_net.proofs.Numbers.{number_in}
 use Rattle.world.specs.declared.fault.WorldFault.{WorldFault}
 use Rattle.world.specs.declared.fault.WorldFault.TheVariants as faults
 use Rattle.world.specs.declared.given.Given.{Given as Gives}
 use Rattle.world.specs.declared.step.Step.TheVariants as steps
-use Rattle.world.specs.Members.{CantBegin, HasBegun, HasStopped, IsAddressed, IsPlace, Keeps, away_in, undelivered_in, unsent_in}
-use Rattle.world.specs.Runs.{GoesOn, IsAt, IsDown, IsFault, IsGiven, IsMember, IsSomewhere, Leads, StandsAs, StaysAt, absent, at, away, or_else, refusal_of, spent, unsent}
+use Rattle.world.specs.Members.{CantBegin, HasBegun, HasStopped, IsPlace, Keeps, away_in, undelivered_in, unsent_in}
+use Rattle.world.specs.Runs.{IsAt, IsDown, IsFault, IsGiven, IsMember, IsSomewhere, Leads, StandsAs, at, away, or_else, spent, unsent}
 use Rattle.world.specs.Scenes.{Placed, Scene}
 use Rattle.world.proofs.Going.{goes_on, stays}
 use Rattle.world.proofs.Stopping.{stands_down}
@@ -54,7 +51,8 @@ module _ (cluster : Cluster) (behind : List Packet) (inputs : List NodeInput) (o
 
   -- ---- a stop
 
-  module _ (node place : ℕ) (packet : Sent) (after : Bool) (gives : Gives) (place_is : node ≡ place + 1) (has : HasStopped old place packet after gives new) where
+  module _ (node place : ℕ) (packet : Sent) (after : Bool) (gives : Gives) (place_is : node ≡ place + 1)
+      (has : HasStopped old place packet after gives new) where
     abbrev m : Placed
     m = has.member
 
@@ -76,7 +74,8 @@ module _ (cluster : Cluster) (behind : List Packet) (inputs : List NodeInput) (o
     up_now : k.up ≡ true
     up_now = is_up cluster behind inputs old now node place m is_place has.up
 
-    stopped_is : stopped m.node.kept.setup (kept_of m.node.kept) (packet_of packet) after ≡ (step_at cluster here (at node (Crash (packet_of packet) after))).kept
+    stopped_is : stopped m.node.kept.setup (kept_of m.node.kept) (packet_of packet) after
+        ≡ (step_at cluster here (at node (Crash (packet_of packet) after))).kept
     stopped_is = (λ i. stopped (setup_is i) (kept_is i) (packet_of packet) after) ∙ crash_is (setup_of cluster node) k (packet_of packet) after up_now
 
     abbrev step : Stepped
@@ -158,8 +157,8 @@ module _ (cluster : Cluster) (behind : List Packet) (inputs : List NodeInput) (o
 
 pub crash_leads : (old new : Scene) (node number place : ℕ) (packet : Sent) (found : Found) (result : Result Gives WorldFault) → node ≡ place + 1 →
     numbered old.packets number ≡ Some packet → (up : Placed) → IsPlace old node place up → up.up ≡ true →
-    IfOk result (λ gives. HasStopped old place packet (is_after found) gives new) → IfErr result (λ fault. fault ≡ faults.Memory) → OnErr result (Keeps old new) →
-    Leads old (steps.Crash node number found) result new
+    IfOk result (λ gives. HasStopped old place packet (is_after found) gives new) → IfErr result (λ fault. fault ≡ faults.Memory) →
+    OnErr result (Keeps old new) → Leads old (steps.Crash node number found) result new
 crash_leads old new node number place packet found (Ok gives) place_is packet_is up is is_up has fault keeps = record {
   each = λ cluster behind inputs now.
       let sent = number_is cluster behind inputs old now number packet packet_is in
@@ -186,7 +185,9 @@ pub restart_leads : (old new : Scene) (node place : ℕ) (result : Result Gives 
     Leads old (steps.Restart node) result new
 restart_leads old new node place (Ok gives) place_is has cant keeps = record {
   each = λ cluster behind inputs now. record {
-    allowed = (λ i. or_else (present cluster behind inputs old now node place has.member (record { place_is = place_is; found = has.is.found }) i) (spent (kept_reached cluster inputs) node))
+    allowed =
+        (λ i. or_else (present cluster behind inputs old now node place has.member (record { place_is = place_is; found = has.is.found }) i)
+        (spent (kept_reached cluster inputs) node))
         ∙ not_spent cluster behind inputs old new now node place gives place_is has;
     next = at node (Restart 0);
     comes = refl;
@@ -201,7 +202,9 @@ restart_leads old new node place (Err fault) place_is has cant keeps = record {
       let member : IsMember (setup_of cluster node) (here.kept node) cant.member =
       now.members node cant.member (subst (λ (n : ℕ). numbered old.members n ≡ Some cant.member) (one_more place ∙ sym place_is) cant.is.found) in
       record {
-        refused = subst (λ (o : Option WorldFault). IsFault (or_else o (spent here node)) fault) (sym (present cluster behind inputs old now node place cant.member is))
+        refused =
+            subst (λ (o : Option WorldFault). IsFault (or_else o (spent here node)) fault)
+            (sym (present cluster behind inputs old now node place cant.member is))
             (by_life here node fault cant.member.node.kept.incarnation (life_of (here.kept node) cant.member cant.member.up member.stands) cant.why);
         at = stays cluster behind inputs old now new keeps;
       };
@@ -234,10 +237,12 @@ undelivered old number node fault least is cluster behind inputs now = by_packet
     by_packet : (packet : Option Sent) → numbered old.packets number ≡ packet →
         IsFault (or_else (unsent (length behind) (kept_reached cluster inputs) number) (away cluster (kept_reached cluster inputs) node)) fault
     by_packet None none =
-        subst (λ (o : Option WorldFault). IsFault (or_else o (away cluster (kept_reached cluster inputs) node)) fault) (sym (unsent_none cluster behind inputs old now number none))
+        subst (λ (o : Option WorldFault). IsFault (or_else o (away cluster (kept_reached cluster inputs) node)) fault)
+        (sym (unsent_none cluster behind inputs old now number none))
         (subst (λ (o : Option Sent). IsFault (or_else (unsent_in o) (away_in old node)) fault) none is)
     by_packet (Some packet) some =
-        subst (λ (o : Option WorldFault). IsFault (or_else o (away cluster (kept_reached cluster inputs) node)) fault) (sym (unsent_some cluster behind inputs old now number packet some))
+        subst (λ (o : Option WorldFault). IsFault (or_else o (away cluster (kept_reached cluster inputs) node)) fault)
+        (sym (unsent_some cluster behind inputs old now number packet some))
         (subst (λ (o : Option WorldFault). IsFault o fault) same
         (subst (λ (o : Option Sent). IsFault (or_else (unsent_in o) (away_in old node)) fault) some is))
 
@@ -246,7 +251,9 @@ undelivered old number node fault least is cluster behind inputs now = by_packet
 pub stopped_somewhere : (old new : Scene) (place : ℕ) (packet : Sent) (after : Bool) (gives : Gives) → In packet old.packets →
     HasStopped old place packet after gives new → IsSomewhere old → IsSomewhere new
 stopped_somewhere old new place packet after gives sent has at =
-    let stop = stopped_at at.cluster at.behind at.inputs old new at.at (place + 1) place packet after gives refl has (sent_in at.cluster at.behind at.inputs old at.at packet sent) in
+    let stop =
+    stopped_at at.cluster at.behind at.inputs old new at.at (place + 1) place packet after gives refl has
+    (sent_in at.cluster at.behind at.inputs old at.at packet sent) in
     record { cluster = at.cluster; behind = at.behind; inputs = _; at = stop }
 
 pub begun_somewhere : (old new : Scene) (place : ℕ) (gives : Gives) → HasBegun old place gives new → IsSomewhere old → IsSomewhere new

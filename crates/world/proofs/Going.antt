@@ -1,5 +1,5 @@
 -- A step of one node is a step of the world.
-use Rattle.std.proofs.Common.{◌≡◌, ◌⊎◌, ℕ, zero, suc, ◌+◌, ◌<◌, ◌≤◌, Bool, true, false, List, [], ◌∷◌, ◌++◌, length, map, Option, Some, None, refl, sym, ap, subst, ◌∙◌, inl, inr, arith, append_assoc, length-append}
+use Rattle.std.proofs.Common.{◌≡◌, ℕ, zero, suc, ◌+◌, Bool, true, false, List, ◌∷◌, ◌++◌, length, map, Some, refl, sym, ap, subst, ◌∙◌, inl, inr, arith, append_assoc}
 use Rattle.std.specs.Prelude.{reverse, ◌==◌, if◌then◌else◌}
 use Rattle.std.specs.List.{slice_get}
 use Rattle.std.proofs.Math.ListN.{set}
@@ -11,18 +11,16 @@ use Rattle.mc_model.specs.node.Input.{Input}
 use Rattle.mc_model.specs.cluster.Steps.{Cluster, setup_of}
 use Rattle.node_model.specs.Kept.{Kept}
 use Rattle.node_model.specs.Outputs.{Stepped}
-use Rattle.node_laws.specs.Clusters.{KeptCluster, MayHappen, NodeInput, WasSentBefore, kept_next, kept_reached, step_at}
+use Rattle.node_laws.specs.Clusters.{KeptCluster, NodeInput, WasSentBefore, kept_next, kept_reached, step_at}
 use Rattle.node_laws.specs.Runs.{IsOneOf, IsUpFor, MayCome}
-use Rattle.stable_store.specs.Stored.{AreSame}
 use Rattle.synod_acceptor.specs.Packets.{packet_of}
-use Rattle.synod_acceptor.specs.Records.{record_at}
 use Rattle.synod_acceptor.specs.declared.packet.Packet.{Packet as Sent}
 use Rattle.node_core.specs.declared.kept.Kept.{Kept as Holding}
 use Rattle.node_core.specs.Keeping.{kept_of}
 use Rattle.sim_net.specs.Network.{numbered}
 use Rattle.sim_net.proofs.Numbers.{set_get}
-use Rattle.world.specs.Members.{HasChanged, IsPlace, IsUnmoved, Keeps}
-use Rattle.world.specs.Runs.{IsAt, IsDown, IsMember, StandsAs, at}
+use Rattle.world.specs.Members.{HasChanged, IsUnmoved, Keeps}
+use Rattle.world.specs.Runs.{IsAt, IsMember, StandsAs, at}
 use Rattle.world.specs.Scenes.{Placed, Scene}
 
 -- ---- nothing changed
@@ -40,7 +38,8 @@ module _ (cluster : Cluster) (behind : List Packet) (inputs : List NodeInput) (o
   abbrev here : KeptCluster
   here = kept_reached cluster inputs
 
-  kept_member : (new : Scene) → Keeps old new → (node : ℕ) (m : Placed) → numbered new.members node ≡ Some m → IsMember (setup_of cluster node) (here.kept node) m
+  kept_member : (new : Scene) → Keeps old new → (node : ℕ) (m : Placed) → numbered new.members node ≡ Some m
+      → IsMember (setup_of cluster node) (here.kept node) m
   kept_member new keeps zero m is = absurd cc
   kept_member new keeps (suc place) m is =
       let was = keeps.members place m is in
@@ -69,7 +68,8 @@ module _ (cluster : Cluster) (behind : List Packet) (inputs : List NodeInput) (o
     abbrev then : KeptCluster
     then = kept_next here node step
 
-    member_here : (k : ℕ) → k ≡ place → (other : Placed) → other ≡ m → IsMember (setup_of cluster node) step.kept m → IsMember (setup_of cluster (suc k)) (then.kept (suc k)) other
+    member_here : (k : ℕ) → k ≡ place → (other : Placed) → other ≡ m → IsMember (setup_of cluster node) step.kept m
+        → IsMember (setup_of cluster (suc k)) (then.kept (suc k)) other
     member_here k same other is member =
         let one : suc k ≡ node = omega arith in
         let test : (suc k == node) ≡ true = grind (arith, nat_tests) in
@@ -77,7 +77,8 @@ module _ (cluster : Cluster) (behind : List Packet) (inputs : List NodeInput) (o
         (subst (λ (n : ℕ). IsMember (setup_of cluster n) step.kept other) (sym one)
         (subst (λ (p : Placed). IsMember (setup_of cluster node) step.kept p) (sym is) member))
 
-    member_there : (k : ℕ) → (k ≡ place → ⊥) → (other : Placed) → slice_get old.members k ≡ Some other → IsMember (setup_of cluster (suc k)) (then.kept (suc k)) other
+    member_there : (k : ℕ) → (k ≡ place → ⊥) → (other : Placed) → slice_get old.members k ≡ Some other
+        → IsMember (setup_of cluster (suc k)) (then.kept (suc k)) other
     member_there k apart other is =
         let test : (suc k == node) ≡ false = not_same (suc k == node) refl in
         subst (λ (b : Bool). IsMember (setup_of cluster (suc k)) (if b then step.kept else here.kept (suc k)) other) (sym test)

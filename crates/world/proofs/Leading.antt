@@ -1,19 +1,14 @@
 -- What a node does by an input, as a step of the world.
-use Rattle.std.proofs.Common.{◌≡◌, ◌⊎◌, ℕ, zero, suc, ◌+◌, ◌<◌, ◌≤◌, Bool, true, false, List, [], ◌∷◌, ◌++◌, length, map, Option, Some, None, Result, Ok, Err, refl, sym, ap, subst, ◌∙◌, inl, inr, arith}
-use Rattle.std.specs.Prelude.{reverse, nat_le, option_map, if◌then◌else◌}
+use Rattle.std.proofs.Common.{◌≡◌, ◌⊎◌, ℕ, zero, suc, ◌<◌, ◌≤◌, Bool, true, false, List, [], ◌∷◌, ◌++◌, length, map, Option, Some, None, Result, Ok, Err, refl, sym, ap, subst, ◌∙◌, inl, inr, arith}
+use Rattle.std.specs.Prelude.{reverse, nat_le, if◌then◌else◌}
 use Rattle.std.specs.List.{slice_get}
 use Rattle.std.proofs.lemmas.Bool.Decides.{nat_tests}
-use Rattle.mc_model.specs.message.Ids.{IsNode}
 use Rattle.mc_model.specs.synod.Lists.{In}
 use Rattle.mc_model.specs.synod.Packet.{Packet}
 use Rattle.mc_model.specs.node.Actor.{Request as Asked}
-use Rattle.mc_model.specs.node.Grant.{GrantRefusal}
 use Rattle.mc_model.specs.node.Input.{Arrival, Crash, Delivery, Grant, Input, Refusal, Response, Restart, Tick}
-use Rattle.mc_model.specs.node.Outputs.{Outputs}
 use Rattle.mc_model.specs.node.Setup.{Setup}
 use Rattle.mc_model.specs.cluster.Steps.{Cluster, setup_of}
-use Rattle.node_model.specs.Attempts.{grant_refusal}
-use Rattle.node_model.specs.Granted.{is_open}
 use Rattle.node_model.specs.Kept.{Kept}
 use Rattle.node_model.specs.Outputs.{Stepped}
 use Rattle.node_model.specs.Stepped.{stepped}
@@ -26,22 +21,18 @@ use Rattle.desk.specs.Arrivals.{door_at, judged_as, next_id}
 use Rattle.synod_acceptor.specs.Packets.{packet_of}
 use Rattle.synod_acceptor.specs.declared.packet.Packet.{Packet as Sent}
 use Rattle.node_core.specs.declared.fault.StepFault.{StepFault}
-use Rattle.node_core.specs.declared.fault.StepFault.TheVariants as causes
 use Rattle.node_core.specs.declared.input.Input.{Input as Given}
 use Rattle.node_core.specs.declared.input.Input.TheVariants as given
-use Rattle.node_core.specs.Attempting.{reason_of}
 use Rattle.node_core.specs.Keeping.{kept_of}
 use Rattle.node_core.specs.Steps.{IsFault as IsStepFault, input_of, refused_by}
 use Rattle.sim_net.specs.Network.{numbered}
 use Rattle.world.specs.declared.fault.WorldFault.{WorldFault}
 use Rattle.world.specs.declared.fault.WorldFault.TheVariants as faults
 use Rattle.world.specs.declared.given.Given.{Given as Gives}
-use Rattle.world.specs.declared.step.Step.{Step}
-use Rattle.world.specs.declared.step.Step.TheVariants as steps
-use Rattle.world.specs.Members.{DoesNotTake, HasTaken, IsPlace, IsSentIn, Keeps, RefusesTo, away_in, down_in, fault_from, step_by}
-use Rattle.world.specs.Runs.{Answers, Comes, GoesOn, IsAt, IsFault, IsGiven, IsMember, IsSomewhere, Leads, StandsAs, StaysAt, absent, at, away, down, or_else, refusal_of}
+use Rattle.world.specs.Members.{DoesNotTake, HasTaken, IsPlace, IsSentIn, away_in, down_in, fault_from, step_by}
+use Rattle.world.specs.Runs.{IsAt, IsGiven, IsMember, StandsAs, absent, at, away, down, or_else}
 use Rattle.world.specs.Scenes.{Placed, Scene}
-use Rattle.world.proofs.Going.{goes_on, stays}
+use Rattle.world.proofs.Going.{goes_on}
 
 -- to a node that is up anything may come
 pub up_for : (k : Kept) (input : Input) → k.up ≡ true → IsUpFor k input
@@ -75,7 +66,8 @@ module _ (cluster : Cluster) (behind : List Packet) (inputs : List NodeInput) (o
   pub sent_in : (packet : Sent) → In packet old.packets → In (packet_of packet) here.packets
   sent_in packet is =
       subst (In (packet_of packet)) (sym now.packets)
-      (in_front (reverse (map packet_of old.packets)) behind (packet_of packet) (reverse_in (packet_of packet) (map packet_of old.packets) (mapped_in packet_of old.packets packet is)))
+      (in_front (reverse (map packet_of old.packets)) behind (packet_of packet)
+      (reverse_in (packet_of packet) (map packet_of old.packets) (mapped_in packet_of old.packets packet is)))
 
   was_sent : (setup : Setup) (k : Kept) (input : Given) → IsSentIn old input → WasSentBefore here.packets (input_of setup k input)
   was_sent setup k (given.Packet packet) sent = sent_in packet sent
@@ -195,7 +187,8 @@ module _ (cluster : Cluster) (behind : List Packet) (inputs : List NodeInput) (o
 
   pub record IsNotTaken (node : ℕ) (input : Given) (fault : WorldFault) : Type 0 where
     pub why : (away cluster here node ≡ Some fault)
-        ⊎ ((away cluster here node ≡ None) × ((cause : StepFault) × IsStepFault (refused_by (setup_of cluster node) (here.kept node) input) cause × (fault ≡ fault_from cause)))
+        ⊎ ((away cluster here node ≡ None)
+        × ((cause : StepFault) × IsStepFault (refused_by (setup_of cluster node) (here.kept node) input) cause × (fault ≡ fault_from cause)))
 
   pub not_taken : (node : ℕ) (input : Given) (fault : WorldFault) → 1 ≤ node → DoesNotTake old node input fault → IsNotTaken node input fault
   not_taken node input fault least (inl is) = record { why = inl (sym (away_is node least) ∙ is) }

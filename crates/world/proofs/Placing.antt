@@ -1,20 +1,17 @@
 -- One node of a world changed, or none did.
-use Rattle.std.proofs.Common.{◌≡◌, ◌⊎◌, ℕ, suc, ◌<◌, Bool, true, false, List, get_or, length, Option, Some, None, Result, Ok, Err, refl, sym, ap, subst, ◌∙◌, inl, inr}
-use Rattle.std.specs.Prelude.{IfErr, OnErr}
+use Rattle.std.proofs.Common.{◌≡◌, ℕ, ◌<◌, List, get_or, length, Some, refl, sym, ap, subst, ◌∙◌, inl, inr}
 use Rattle.std.specs.List.{slice_get}
 use Rattle.std.proofs.Math.ListN.{set}
 use Rattle.std.proofs.lemmas.List.{length-set}
 use Rattle.std.proofs.lemmas.Option.{get_or_from_slice_get, slice_get-get_or}
-use Rattle.mc_model.specs.synod.Packet.{Packet}
-use Rattle.node_laws.specs.Clusters.{NodeInput}
 use Rattle.node_core.specs.declared.input.Input.{Input}
 use Rattle.sim_net.proofs.Numbers.{set_get}
 use Rattle.world.specs.declared.given.Given.{Given}
-use Rattle.world.specs.Members.{HasTaken, IsKept, IsSentIn, IsUnmoved, Keeps}
-use Rattle.world.specs.Runs.{IsAt, IsSomewhere}
+use Rattle.world.specs.Members.{HasTaken, IsSentIn, IsUnmoved, Keeps}
+use Rattle.world.specs.Runs.{IsSomewhere}
 use Rattle.world.specs.Scenes.{Placed, Scene}
 use Rattle.world.proofs.Going.{stays}
-use Rattle.world.proofs.Leading.{IsTaken, taken}
+use Rattle.world.proofs.Leading.{taken}
 
 pub unmoved : (m : Placed) → IsUnmoved m m
 unmoved m = record { kept = refl; up = refl; stored = record { each = λ slot. refl } }

@@ -1,6 +1,5 @@
 -- What a node of a world sends, and whose it is.
-use Rattle.std.proofs.Common.{◌≡◌, ℕ, length, Option, Some, None, sym, ap, subst, ◌∙◌, arith}
-use Rattle.std.specs.Prelude.{map}
+use Rattle.std.proofs.Common.{◌≡◌, length, Option, Some, sym, ap, subst, ◌∙◌}
 use Rattle.mc_model.specs.message.Ids.{IsNode}
 use Rattle.mc_model.specs.node.Outputs.{Outputs}
 use Rattle.mc_model.specs.node.Setup.{Setup}

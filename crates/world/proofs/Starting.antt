@@ -1,5 +1,5 @@
 -- A world that starts over new stores.
-use Rattle.std.proofs.Common.{◌≡◌, ◌⊎◌, ℕ, zero, suc, ◌+◌, ◌≤◌, true, List, [], ◌∷◌, ◌++◌, length, Some, refl, sym, ap, subst, ◌∙◌, inl, inr, arith, length-append}
+use Rattle.std.proofs.Common.{◌≡◌, ◌⊎◌, ℕ, zero, suc, ◌+◌, true, List, [], ◌∷◌, ◌++◌, length, Some, refl, sym, ap, subst, ◌∙◌, inl, inr, arith, length-append}
 use Rattle.std.specs.Prelude.{Bool, map, reverse}
 use Rattle.std.specs.List.{slice_get}
 use Rattle.mc_model.specs.node.Setup.{Setup}
@@ -7,15 +7,13 @@ use Rattle.mc_model.specs.cluster.Steps.{setup_of as numbers}
 use Rattle.mc_model.specs.synod.Packet.{Slot}
 use Rattle.mc_model.specs.synod.Acceptor.{SlotRecord}
 use Rattle.node_model.specs.Stepped.{opened_new}
-use Rattle.node_runs.specs.Runs.{OpensNew}
 use Rattle.node_runs.proofs.Running.{opened_so}
-use Rattle.stable_store.specs.Stored.{Listed}
 use Rattle.synod_acceptor.specs.Packets.{packet_of}
 use Rattle.synod_acceptor.specs.Records.{record_at}
 use Rattle.synod_acceptor.specs.declared.packet.Packet.{Packet}
 use Rattle.node_core.specs.declared.life.Life.{Life}
 use Rattle.node_core.specs.Keeping.{kept_of}
-use Rattle.node_core.specs.Nodes.{HasOpened, Standing}
+use Rattle.node_core.specs.Nodes.{HasOpened}
 use Rattle.node_core.specs.Setups.{setup_of}
 use Rattle.sim_net.specs.Network.{numbered}
 use Rattle.world.specs.Members.{AreOpened, IsOpened}
@@ -60,7 +58,8 @@ pushed nodes serial validity count members m after are is same =
       ];
     })
 
-pub starts : (nodes serial validity : ℕ) (w : Scene) → AreOpened nodes serial validity nodes w.members → w.packets ≡ [] → IsAt (cluster_with nodes serial validity) [] [] w
+pub starts : (nodes serial validity : ℕ) (w : Scene) → AreOpened nodes serial validity nodes w.members → w.packets ≡ []
+    → IsAt (cluster_with nodes serial validity) [] [] w
 starts nodes serial validity w are none = record {
   may = tt;
   nodes = are.count_is;
@@ -69,7 +68,8 @@ starts nodes serial validity w are none = record {
   fresh = λ is. (refl, refl);
 }
   where
-    member : (node : ℕ) (m : Placed) → numbered w.members node ≡ Some m → IsMember (numbers (cluster_with nodes serial validity) node) (opened_new (numbers (cluster_with nodes serial validity) node)) m
+    member : (node : ℕ) (m : Placed) → numbered w.members node ≡ Some m
+        → IsMember (numbers (cluster_with nodes serial validity) node) (opened_new (numbers (cluster_with nodes serial validity) node)) m
     member zero m is = absurd cc
     member (suc place) m is =
         let it = are.each place m is in

@@ -1,5 +1,5 @@
 -- A node of a world stops, and starts anew.
-use Rattle.std.proofs.Common.{◌≡◌, ℕ, suc, ◌+◌, ◌<◌, ◌≤◌, Bool, true, false, refl, sym, ap, subst, ◌∙◌, arith}
+use Rattle.std.proofs.Common.{◌≡◌, ℕ, ◌+◌, ◌<◌, Bool, true, false, refl, sym, ap, subst, ◌∙◌, arith}
 use Rattle.std.specs.Prelude.{if◌then◌else◌}
 use Rattle.mc_model.specs.synod.Acceptor.{Records}
 use Rattle.mc_model.specs.node.Input.{Restart}
@@ -27,8 +27,9 @@ use Rattle.world.specs.Members.{HasCrashed, HasRestarted, HasSaved}
 use Rattle.world.specs.Runs.{IsDown, StandsAs}
 use Rattle.world.specs.Scenes.{Placed}
 
-pub crashed_before : (old new : Placed) (packet : Packet) → IsOneOf old.node.kept.setup → IsWellMade (packet_of packet) → ListsRecorded (kept_of old.node.kept) →
-    AreSame (record_at old.node.store.entries) (kept_of old.node.kept).records → new.node ≡ old.node → new.up ≡ false → HasCrashed old packet false new
+pub crashed_before : (old new : Placed) (packet : Packet) → IsOneOf old.node.kept.setup → IsWellMade (packet_of packet) →
+    ListsRecorded (kept_of old.node.kept) → AreSame (record_at old.node.store.entries) (kept_of old.node.kept).records →
+    new.node ≡ old.node → new.up ≡ false → HasCrashed old packet false new
 crashed_before old new packet one well lists saved same down = record {
   one = one;
   well = well;
@@ -40,7 +41,8 @@ crashed_before old new packet one well lists saved same down = record {
   stored = record { each = λ slot. ap (λ (n : Standing Listed). record_at n.store.entries slot) same ∙ saved.each slot };
 }
 
-pub crashed_after : (old mid new : Placed) (packet : Packet) → IsOneOf old.node.kept.setup → IsWellMade (packet_of packet) → ListsRecorded (kept_of old.node.kept) →
+pub crashed_after : (old mid new : Placed) (packet : Packet) → IsOneOf old.node.kept.setup → IsWellMade (packet_of packet) →
+    ListsRecorded (kept_of old.node.kept) →
     HasSaved old packet mid → new.node ≡ mid.node → new.up ≡ false → HasCrashed old packet true new
 crashed_after old mid new packet one well lists saved same down = record {
   one = one;
@@ -58,7 +60,8 @@ crashed_after old mid new packet one well lists saved same down = record {
   };
 }
 
-pub has_saved : (old new : Placed) (packet : Packet) (input : Input) (outputs : Outputs) → input ≡ inputs.Packet packet → HasTaken old.node input new.node outputs →
+pub has_saved : (old new : Placed) (packet : Packet) (input : Input) (outputs : Outputs) → input ≡ inputs.Packet packet →
+    HasTaken old.node input new.node outputs →
     (new.node.broken ≡ false → AreSame (record_at new.node.store.entries) (kept_of new.node.kept).records) → new.up ≡ old.up → HasSaved old packet new
 has_saved old new packet input outputs came taken saved up =
     let took = subst (λ (i : Input). HasTaken old.node i new.node outputs) came taken in

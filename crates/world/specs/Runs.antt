@@ -1,7 +1,6 @@
 -- The steps of a world of nodes of the code, as a run of a cluster of nodes by what they keep (own).
-use Rattle.std.specs.Prelude.{◌≡◌, ℕ, ◌+◌, ◌≤◌, nat_lt, nat_le, ◌&&◌, not, Bool, true, false, List, [], ◌∷◌, ◌++◌, length, map, reverse, option_map, Option, Some, None, Result, Ok, Err, if◌then◌else◌}
+use Rattle.std.specs.Prelude.{◌≡◌, ℕ, ◌+◌, nat_lt, nat_le, ◌&&◌, not, Bool, true, false, List, [], ◌∷◌, ◌++◌, length, map, reverse, option_map, Option, Some, None, Result, Ok, Err, if◌then◌else◌}
 use Rattle.mc_model.specs.synod.Packet.{Packet}
-use Rattle.mc_model.specs.synod.Acceptor.{blank}
 use Rattle.mc_model.specs.node.Input.{Crash, Delivery, Grant, Input, Response, Restart, Tick}
 use Rattle.mc_model.specs.node.Outputs.{HasNumber, Outputs}
 use Rattle.mc_model.specs.node.Setup.{Setup}
@@ -48,7 +47,8 @@ Comes cluster behind w (steps.Request node account request) next = next ≡ at n
 Comes cluster behind w (steps.Tick node moment up) next = next ≡ at node (Tick moment (is_up up.items))
 Comes cluster behind w (steps.Grant node id) next = next ≡ at node (Grant (known_slot (w.kept node) id))
 Comes cluster behind w (steps.Answered node slot outcome) next = next ≡ at node (Response slot (outcome_kept outcome))
-Comes cluster behind w (steps.Crash node number found) next = (packet : Packet) × HasNumber w.packets (number + behind) packet × (next ≡ at node (Crash packet (is_after found)))
+Comes cluster behind w (steps.Crash node number found) next =
+    (packet : Packet) × HasNumber w.packets (number + behind) packet × (next ≡ at node (Crash packet (is_after found)))
 Comes cluster behind w (steps.Restart node) next = next ≡ at node (Restart 0)
 
 -- ---- why a step is refused: the lowest number that fits, but that a node is down before why an attempt is not granted
@@ -182,4 +182,5 @@ Answers cluster behind inputs step (Err fault) new = StaysAt cluster behind inpu
 
 -- Wherever the world stood in a run, the run goes on so.
 pub record Leads (old : Scene) (step : Step) (result : Result Given WorldFault) (new : Scene) : Type 0 where
-  pub each : (cluster : Cluster) (behind : List Packet) (inputs : List NodeInput) → IsAt cluster behind inputs old → Answers cluster behind inputs step result new
+  pub each : (cluster : Cluster) (behind : List Packet) (inputs : List NodeInput) → IsAt cluster behind inputs old
+      → Answers cluster behind inputs step result new

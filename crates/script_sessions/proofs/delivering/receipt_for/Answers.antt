@@ -10,4 +10,5 @@ pub returns-in-Ok : goal.returns-in-Ok
 returns-in-Ok c =
     let is = c.in-Ok.ensures.pdu in
     ap Some (c.fitted.ensures (receipt_message is.report) is.pdu_is)
-    ∙ ap (λ (found : Option Report). option_map (report_pdu c.args.pushed.sequence c.args.pushed.knows_optional) found) (sym (reported_so c.args.chain.now is.report is.reports is.asked))
+    ∙ ap (λ (found : Option Report). option_map (report_pdu c.args.pushed.sequence c.args.pushed.knows_optional) found)
+    (sym (reported_so c.args.chain.now is.report is.reports is.asked))

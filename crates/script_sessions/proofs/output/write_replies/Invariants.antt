@@ -5,4 +5,6 @@ use Rattle.script_sessions.proofs.Telling.{AreLeft}
 use Rattle.script_sessions.proofs.output.write_replies.Given as goal
 
 abbrev pub invariant-loop-reply : goal.invariant-loop-reply
-invariant-loop-reply l = AreLeft l.node (told l.fn.connected (map reply_given l.fn.replies.items)) (told l.connected (map reply_given l.reply-iterator.rest.items)) l.fn.text.items l.text.items
+invariant-loop-reply l =
+    AreLeft l.node (told l.fn.connected (map reply_given l.fn.replies.items))
+    (told l.connected (map reply_given l.reply-iterator.rest.items)) l.fn.text.items l.text.items

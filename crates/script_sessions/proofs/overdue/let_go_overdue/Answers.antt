@@ -6,4 +6,5 @@ use Rattle.script_sessions.proofs.overdue.let_go_overdue.Goals as goal
 
 pub returns : goal.returns
 returns c =
-    map_same_pairs _ (λ (session : Session). on_tick session c.args.now) _ (λ k v b w f' t. search rules) c.args.sessions.now.entries c.retain.new.self.entries c.retain.ensures.filtered
+    map_same_pairs _ (λ (session : Session). on_tick session c.args.now) _
+    (λ k v b w f' t. search rules) c.args.sessions.now.entries c.retain.new.self.entries c.retain.ensures.filtered

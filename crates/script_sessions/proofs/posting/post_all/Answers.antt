@@ -5,10 +5,12 @@ use Rattle.script_sessions.proofs.posting.post_all.Goals as goal
 
 pub loop-chain-preserved : goal.loop-chain-preserved
 loop-chain-preserved c =
-    one_due c.args.node _ c.args.now c.loop-chain.connected c.post.new.connected c.loop-chain.waiting c.post.new.waiting c.loop-chain.chain-iterator.rest.items c.next.new.self.rest.items c.in-Some.chain
+    one_due c.args.node _ c.args.now c.loop-chain.connected c.post.new.connected c.loop-chain.waiting c.post.new.waiting c.loop-chain.chain-iterator.rest.items
+    c.next.new.self.rest.items c.in-Some.chain
     c.args.text.now.items c.loop-chain.text.items c.post.new.text.items c.loop-chain.invariant c.in-Some.ensures.steps.0 c.in_ok-post.ensures
 
 pub returns : goal.returns
 returns c =
-    all_due c.args.node _ c.args.now c.loop-chain.connected c.loop-chain.waiting c.loop-chain.chain-iterator.rest.items c.args.text.now.items c.loop-chain.text.items c.loop-chain.invariant
+    all_due c.args.node _ c.args.now c.loop-chain.connected c.loop-chain.waiting c.loop-chain.chain-iterator.rest.items c.args.text.now.items
+    c.loop-chain.text.items c.loop-chain.invariant
     (grind (arith, common_steps, c.in-None.ensures.steps.0))

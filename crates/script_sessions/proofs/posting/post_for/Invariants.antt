@@ -6,7 +6,8 @@ use Rattle.script_sessions.proofs.posting.post_for.Given as goal
 
 abbrev pub invariant-receipts : goal.invariant-receipts
 invariant-receipts l =
-    IsLeft l.node (posted_for l.now (mail l.fn.connected l.fn.waiting) l.account) (posted_for l.now (mail l.connected l.waiting) l.account) l.fn.text.items l.text.items
+    IsLeft l.node (posted_for l.now (mail l.fn.connected l.fn.waiting) l.account)
+    (posted_for l.now (mail l.connected l.waiting) l.account) l.fn.text.items l.text.items
 
 abbrev pub decreases-receipts : goal.decreases-receipts
 decreases-receipts l = length l.waiting

@@ -5,11 +5,14 @@ use Rattle.script_sessions.proofs.posting.post_for_all.Goals as goal
 
 pub loop-account-preserved : goal.loop-account-preserved
 loop-account-preserved c =
-    one_served c.args.node _ c.args.now c.loop-account.connected c.post_for.new.connected c.loop-account.waiting c.post_for.new.waiting (drop c.loop-account.account-index c.args.accounts.now)
-    (drop (c.loop-account.account-index + 1) c.args.accounts.now) c.account-item.result c.args.text.now.items c.loop-account.text.items c.post_for.new.text.items c.loop-account.invariant
+    one_served c.args.node _ c.args.now c.loop-account.connected c.post_for.new.connected c.loop-account.waiting c.post_for.new.waiting
+    (drop c.loop-account.account-index c.args.accounts.now)
+    (drop (c.loop-account.account-index + 1) c.args.accounts.now) c.account-item.result c.args.text.now.items c.loop-account.text.items
+    c.post_for.new.text.items c.loop-account.invariant
     (behind_it c.args.accounts.now c.loop-account.account-index c.account-item.result c.loop-account-test.true c.account-item.is) c.in_ok-post_for.ensures
 
 pub returns : goal.returns
 returns c =
-    all_served c.args.node _ c.args.now c.loop-account.connected c.loop-account.waiting (drop c.loop-account.account-index c.args.accounts.now) c.args.text.now.items c.loop-account.text.items
+    all_served c.args.node _ c.args.now c.loop-account.connected c.loop-account.waiting (drop c.loop-account.account-index c.args.accounts.now)
+    c.args.text.now.items c.loop-account.text.items
     c.loop-account.invariant (drop_all c.loop-account.account-index c.args.accounts.now c.loop-account-test.false)

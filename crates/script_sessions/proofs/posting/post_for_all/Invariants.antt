@@ -6,5 +6,6 @@ use Rattle.script_sessions.proofs.posting.post_for_all.Given as goal
 
 abbrev pub invariant-loop-account : goal.invariant-loop-account
 invariant-loop-account l =
-    IsLeft l.node (posted_for_all l.now (mail l.fn.connected l.fn.waiting) l.accounts) (posted_for_all l.now (mail l.connected l.waiting) (drop l.account-index l.accounts))
+    IsLeft l.node (posted_for_all l.now (mail l.fn.connected l.fn.waiting) l.accounts)
+    (posted_for_all l.now (mail l.connected l.waiting) (drop l.account-index l.accounts))
     l.fn.text.items l.text.items

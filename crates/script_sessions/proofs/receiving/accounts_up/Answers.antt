@@ -13,7 +13,8 @@ pub loop-number-preserved : goal.loop-number-preserved
 loop-number-preserved c =
     elim c.match-receiver_of.branch [
       | in-Some+in_ok-copy+in_ok-push w ↦
-          one_looked_at c.args.sessions.now.entries c.loop-number.number-counter (Some w.in_ok-copy.field-0) c.loop-number.accounts.items c.match-receiver_of.accounts.items
+          one_looked_at c.args.sessions.now.entries c.loop-number.number-counter (Some w.in_ok-copy.field-0) c.loop-number.accounts.items
+          c.match-receiver_of.accounts.items
           (accounts_up c.args.sessions.now.entries) c.loop-number-test.true c.loop-number.invariant
           (ap Some w.in_ok-copy.ensures ∙ w.in-Some.ensures ∙ ap receiver_of c.get.ensures.value) ((λ i. (w.accounts-is i).items) ∙ w.in_ok-push.ensures.items)
       | in_default w ↦

@@ -8,7 +8,8 @@ use Rattle.script_sessions.proofs.receiving.push.Goals as goal
 
 pub unreachable-requires : goal.unreachable-requires
 unreachable-requires c =
-    is_there c.args.target.now (session_at c.args.sessions.now.entries c.in_ok-number.number) (takes_it c.args.sessions.now.entries c.args.target.now c.in_ok-number.number c.in_ok-number.ensures)
+    is_there c.args.target.now (session_at c.args.sessions.now.entries c.in_ok-number.number)
+    (takes_it c.args.sessions.now.entries c.args.target.now c.in_ok-number.number c.in_ok-number.ensures)
     (sym c.in_default.ensures.value)
 
 pub unreachable-requires-in_default-push_request : goal.unreachable-requires-in_default-push_request
@@ -19,7 +20,9 @@ unreachable-requires-in_default-push_request c =
 
 pub returns : goal.returns
 returns c =
-    goes_out c.args.sessions.now.entries (c.get_mut.follows.lender c.push_request.new.self).entries c.args.target.now c.args.now c.in-Ok.sequence c.args.delivery c.in_ok-number.number
+    goes_out c.args.sessions.now.entries (c.get_mut.follows.lender c.push_request.new.self).entries c.args.target.now c.args.now c.in-Ok.sequence
+    c.args.delivery c.in_ok-number.number
     c.knows_optional-knows_optional.result c.in-Some.session.now c.in_ok-number.ensures (sym c.in-Some.ensures.value) (sym c.in-Ok.ensures.sequence)
     c.knows_optional-knows_optional.ensures
-    ((c.get_mut.follows.holds c.push_request.new.self).0 ∙ ap (set_value (is_at (nat_cmp c.in_ok-number.number)) c.args.sessions.now.entries) c.push_request.ensures.after)
+    ((c.get_mut.follows.holds c.push_request.new.self).0 ∙ ap (set_value (is_at (nat_cmp c.in_ok-number.number)) c.args.sessions.now.entries)
+    c.push_request.ensures.after)

@@ -1,4 +1,4 @@
-use Rattle.std.proofs.Common.{◌≡◌, ◌+◌, ℕ, Result, Ok, Err, ap, subst, ◌∙◌}
+use Rattle.std.proofs.Common.{◌≡◌, ◌+◌, ℕ, Result, Ok, ap, subst, ◌∙◌}
 use Rattle.std.specs.Prelude.{IfOk}
 use Rattle.mc_model.specs.node.Setup.{Setup}
 use Rattle.mc_types.specs.declared.fault.TypeFault.{TypeFault}
@@ -13,7 +13,8 @@ made result setup one is value = subst (λ (r : Result Setup TypeFault). IfOk r 
 pub loop-place-preserved : goal.loop-place-preserved
 loop-place-preserved c =
     let setup : c.unwrap-setup.result ≡ setup_of (c.loop-place.place + 1) c.args.nodes c.args.first_serial c.args.default_validity =
-    made c.make.result c.unwrap-setup.result (setup_of c.of.result c.args.nodes c.args.first_serial c.args.default_validity) c.unwrap-setup.ensures c.make.ensures.value
+    made c.make.result c.unwrap-setup.result (setup_of c.of.result c.args.nodes c.args.first_serial c.args.default_validity) c.unwrap-setup.ensures
+    c.make.ensures.value
     ∙ ap (λ (n : ℕ). setup_of n c.args.nodes c.args.first_serial c.args.default_validity) c.of.ensures in
     pushed c.args.nodes c.args.first_serial c.args.default_validity c.loop-place.place c.loop-place.members.items c.in_ok-open.field-0 c.push.new.self.items
     c.loop-place.invariant (subst (λ (s : Setup). IsOpened s c.in_ok-open.field-0) setup c.in_ok-open.ensures) c.in_ok-push.ensures.items

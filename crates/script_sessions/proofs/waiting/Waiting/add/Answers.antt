@@ -14,7 +14,8 @@ returns-then-is_full c =
     let count = ap (λ (cs : List Chain). length (filter (λ chain. is_for account (receipt_of chain)) cs)) c.deref.ensures.value ∙ counted account chains in
     let over : 10000 ≤ length (filter (is_for account) (map receipt_of chains)) =
     subst (λ (n : ℕ). 10000 ≤ n) count (c.is_full.ensures.0 c.if-is_full.true) in
-    subst (λ (w : List Receipt). w ≡ waits_for account w (receipt_of c.args.chain)) c.self.view_is (full account (map receipt_of chains) (receipt_of c.args.chain) over)
+    subst (λ (w : List Receipt). w ≡ waits_for account w (receipt_of c.args.chain)) c.self.view_is
+    (full account (map receipt_of chains) (receipt_of c.args.chain) over)
 
 pub returns : goal.returns
 returns c =

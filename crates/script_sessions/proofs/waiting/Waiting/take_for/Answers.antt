@@ -1,4 +1,4 @@
-use Rattle.std.proofs.Common.{◌≡◌, Option, Some, None, List, find, map, sym, ap, ◌∙◌, subst}
+use Rattle.std.proofs.Common.{◌≡◌, Some, None, List, find, map, sym, ap, ◌∙◌, subst}
 use Rattle.std.specs.Prelude.{option_map}
 use Rattle.std.specs.List.{position}
 use Rattle.mc_model.specs.message.Chain.{Chain}
@@ -27,7 +27,8 @@ returns-clause-taken c =
     let test = is_for c.args.account.now in
     let stands = ap (position (λ (chain : Chain). test (receipt_of chain))) (sym c.deref.ensures.value) ∙ (sym c.place_for.ensures ∙ c.in_ok-place.was) in
     subst (λ (w : List Receipt). Some (receipt_of c.remove.result) ≡ find test w) c.self.view_is
-    (ap (λ (chain : Chain). Some (receipt_of chain)) c.remove.ensures.value ∙ found_there receipt_of test c.self.inside.chains.items c.in_ok-place.place c.remove.result stands)
+    (ap (λ (chain : Chain). Some (receipt_of chain)) c.remove.ensures.value
+    ∙ found_there receipt_of test c.self.inside.chains.items c.in_ok-place.place c.remove.result stands)
 
 pub returns-clause-rest : goal.returns-clause-rest
 returns-clause-rest c =

@@ -7,7 +7,8 @@ use Rattle.script_site.proofs.site.Site.octets.Given as goal
 
 abbrev pub invariant-loop-count : goal.invariant-loop-count
 invariant-loop-count l =
-    Continues l.home (settings_of l.config) l.number (on_octets (settings_of l.config) (runner_of l.fn.self) l.number l.octets) l.fn.text.items (runner_of l.self) (l.framer ++ l.rest) l.text.items
+    Continues l.home (settings_of l.config) l.number (on_octets (settings_of l.config) (runner_of l.fn.self) l.number l.octets) l.fn.text.items
+    (runner_of l.self) (l.framer ++ l.rest) l.text.items
 
 abbrev pub decreases-loop-count : goal.decreases-loop-count
 decreases-loop-count l = length l.framer + length l.rest

@@ -7,6 +7,8 @@ use Rattle.script_site.proofs.site.Site.post_for.Goals as goal
 
 pub returns : goal.returns
 returns c =
-    posted_done_if c.args.node c.post_for.result (runner_of c.args.self.now) (runner_of (record c.args.self.now { connected = c.post_for.new.connected; waiting = c.post_for.new.waiting }))
-    (posted_for (runner_of c.args.self.now).node.kept.clock (mail_of (runner_of c.args.self.now)) c.args.account.now) c.args.text.now.items c.post_for.new.text.items
+    posted_done_if c.args.node c.post_for.result (runner_of c.args.self.now)
+    (runner_of (record c.args.self.now { connected = c.post_for.new.connected; waiting = c.post_for.new.waiting }))
+    (posted_for (runner_of c.args.self.now).node.kept.clock (mail_of (runner_of c.args.self.now)) c.args.account.now) c.args.text.now.items
+    c.post_for.new.text.items
     (rw c.clock-now.ensures at c.post_for.ensures) refl refl

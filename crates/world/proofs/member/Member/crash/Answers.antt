@@ -1,4 +1,4 @@
-use Rattle.std.proofs.Common.{◌≡◌, true, false, refl, sym, ap, subst}
+use Rattle.std.proofs.Common.{true, false, refl, sym, subst}
 use Rattle.node_core.specs.declared.stopped.Found.{Found}
 use Rattle.node_core.specs.Stops.{is_after}
 use Rattle.world.specs.Members.{HasCrashed, HasSaved}

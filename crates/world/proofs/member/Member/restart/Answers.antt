@@ -1,4 +1,4 @@
-use Rattle.std.proofs.Common.{◌≡◌, ◌<◌, true, refl, sym, ap, subst, ◌∙◌, arith}
+use Rattle.std.proofs.Common.{◌<◌, true, refl, sym, subst, ◌∙◌, arith}
 use Rattle.world.specs.Members.{HasRestarted}
 use Rattle.world.specs.Scenes.{Placed}
 use Rattle.world.proofs.Sending.{lived, one_of}

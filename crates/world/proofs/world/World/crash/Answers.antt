@@ -1,5 +1,3 @@
-use Rattle.std.proofs.Common.{◌≡◌, arith}
-use Rattle.world.specs.Runs.{StaysAt}
 use Rattle.world.proofs.Ending.{crash_leads, undelivered}
 use Rattle.world.proofs.Going.{stays}
 use Rattle.world.proofs.Placing.{keeps_all}

@@ -1,4 +1,4 @@
-use Rattle.std.proofs.Common.{◌≡◌, ◌⊎◌, ◌<◌, ◌≤◌, ℕ, List, Some, Ok, Err, Result, false, refl, sym, ap, subst, ◌∙◌, inl, inr, arith}
+use Rattle.std.proofs.Common.{◌≡◌, List, false, refl, ap, subst}
 use Rattle.std.proofs.Math.ListN.{set}
 use Rattle.node_core.specs.Stops.{is_after}
 use Rattle.world.specs.Members.{HasChanged, HasCrashed, HasStopped, IsUnmoved, Keeps}
@@ -13,9 +13,11 @@ returns-in-Ok-clause-stopped c =
     let old = c.args.self.now in
     let m = c.requires.up.member in
     let members : c.self.inside.members.items ≡ old.members = ap (λ (w : Scene). w.members) c.self.view_is in
-    let same : c.index_mut.result.now ≡ m = same_member old c.self.inside.members.items c.args.place m c.index_mut.result.now members c.requires.up.is.found c.index_mut.ensures.value in
+    let same : c.index_mut.result.now ≡ m =
+    same_member old c.self.inside.members.items c.args.place m c.index_mut.result.now members c.requires.up.is.found c.index_mut.ensures.value in
     let new : Scene = record { members = set c.self.inside.members.items c.args.place c.crash.new.self; packets = c.self.inside.packets.sent; fresh = false } in
-    let changed : HasChanged old c.args.place c.crash.new.self new = record { members = ap (λ (ms : List Placed). set ms c.args.place c.crash.new.self) members; fresh = refl } in
+    let changed : HasChanged old c.args.place c.crash.new.self new =
+    record { members = ap (λ (ms : List Placed). set ms c.args.place c.crash.new.self) members; fresh = refl } in
     record {
       member = m;
       is = c.requires.up.is;
@@ -32,9 +34,11 @@ invariant_of-self c =
     let old = c.args.self.now in
     let m = c.requires.up.member in
     let members : c.self.inside.members.items ≡ old.members = ap (λ (w : Scene). w.members) c.self.view_is in
-    let same : c.index_mut.result.now ≡ m = same_member old c.self.inside.members.items c.args.place m c.index_mut.result.now members c.requires.up.is.found c.index_mut.ensures.value in
+    let same : c.index_mut.result.now ≡ m =
+    same_member old c.self.inside.members.items c.args.place m c.index_mut.result.now members c.requires.up.is.found c.index_mut.ensures.value in
     let new : Scene = record { members = set c.self.inside.members.items c.args.place c.crash.new.self; packets = c.self.inside.packets.sent; fresh = false } in
-    let changed : HasChanged old c.args.place c.crash.new.self new = record { members = ap (λ (ms : List Placed). set ms c.args.place c.crash.new.self) members; fresh = refl } in
+    let changed : HasChanged old c.args.place c.crash.new.self new =
+    record { members = ap (λ (ms : List Placed). set ms c.args.place c.crash.new.self) members; fresh = refl } in
     let has : HasStopped old c.args.place c.args.packet.now (is_after c.args.found) c.nothing.result new = record {
       member = m;
       is = c.requires.up.is;
@@ -53,8 +57,10 @@ returns-in-Err-clause-stays c =
     let old = c.args.self.now in
     let m = c.requires.up.member in
     let members : c.self.inside.members.items ≡ old.members = ap (λ (w : Scene). w.members) c.self.view_is in
-    let same : c.index_mut.result.now ≡ m = same_member old c.self.inside.members.items c.args.place m c.index_mut.result.now members c.requires.up.is.found c.index_mut.ensures.value in
-    let new : Scene = record { members = set c.self.inside.members.items c.args.place c.crash.new.self; packets = c.self.inside.packets.sent; fresh = c.self.inside.fresh } in
+    let same : c.index_mut.result.now ≡ m =
+    same_member old c.self.inside.members.items c.args.place m c.index_mut.result.now members c.requires.up.is.found c.index_mut.ensures.value in
+    let new : Scene =
+    record { members = set c.self.inside.members.items c.args.place c.crash.new.self; packets = c.self.inside.packets.sent; fresh = c.self.inside.fresh } in
     keeps_one old c.args.place m c.crash.new.self new c.requires.up.is.found
     (subst (λ (p : Placed). IsUnmoved p c.crash.new.self) same c.in-Err.ensures.stays)
     (ap (λ (ms : List Placed). set ms c.args.place c.crash.new.self) members)
@@ -66,8 +72,10 @@ invariant_of-self-in-Err c =
     let old = c.args.self.now in
     let m = c.requires.up.member in
     let members : c.self.inside.members.items ≡ old.members = ap (λ (w : Scene). w.members) c.self.view_is in
-    let same : c.index_mut.result.now ≡ m = same_member old c.self.inside.members.items c.args.place m c.index_mut.result.now members c.requires.up.is.found c.index_mut.ensures.value in
-    let new : Scene = record { members = set c.self.inside.members.items c.args.place c.crash.new.self; packets = c.self.inside.packets.sent; fresh = c.self.inside.fresh } in
+    let same : c.index_mut.result.now ≡ m =
+    same_member old c.self.inside.members.items c.args.place m c.index_mut.result.now members c.requires.up.is.found c.index_mut.ensures.value in
+    let new : Scene =
+    record { members = set c.self.inside.members.items c.args.place c.crash.new.self; packets = c.self.inside.packets.sent; fresh = c.self.inside.fresh } in
     let stays : Keeps old new =
     keeps_one old c.args.place m c.crash.new.self new c.requires.up.is.found
     (subst (λ (p : Placed). IsUnmoved p c.crash.new.self) same c.in-Err.ensures.stays)

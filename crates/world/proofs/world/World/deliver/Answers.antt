@@ -1,4 +1,4 @@
-use Rattle.std.proofs.Common.{◌≡◌, Result, Ok, Err, inr, subst, sym}
+use Rattle.std.proofs.Common.{Result, Ok, Err, inr}
 use Rattle.std.specs.Prelude.{IfErr}
 use Rattle.node_core.specs.declared.input.Input.{Input}
 use Rattle.node_core.specs.declared.input.Input.TheVariants as given
@@ -12,7 +12,8 @@ use Rattle.world.proofs.Going.{stays}
 use Rattle.world.proofs.Placing.{keeps_all}
 use Rattle.world.proofs.world.World.deliver.Goals as goal
 
-refuses : (old : Scene) (node : _) (input : Input) (result : Result Given WorldFault) → IfErr result (RefusesTo old node input) → IfErr result (DoesNotTake old node input)
+refuses : (old : Scene) (node : _) (input : Input) (result : Result Given WorldFault) → IfErr result (RefusesTo old node input)
+    → IfErr result (DoesNotTake old node input)
 refuses old node input (Ok given) is = tt
 refuses old node input (Err fault) is = inr is
 
@@ -22,7 +23,8 @@ returns-in-Ok c =
     let found = c.in-Ok.ensures.found in
     let input = given.Packet c.in-Ok.packet in
     input_leads old c.take_at.new.self _ c.args.node input (deliver_is old c.args.number c.args.node c.in-Ok.packet found.packet_is) c.take_at.result
-    c.addressed.ensures.least found.sent c.take_at.ensures.taken (refuses old c.args.node input c.take_at.result c.take_at.ensures.refused) c.take_at.ensures.stays
+    c.addressed.ensures.least found.sent c.take_at.ensures.taken (refuses old c.args.node input c.take_at.result c.take_at.ensures.refused)
+    c.take_at.ensures.stays
 
 pub returns-in-Err : goal.returns-in-Err
 returns-in-Err c =

@@ -1,10 +1,8 @@
-use Rattle.std.proofs.Common.{◌≡◌, ◌⊎◌, ◌<◌, ◌≤◌, ℕ, List, length, Some, Ok, Err, Result, false, refl, sym, ap, subst, ◌∙◌, inl, inr, arith}
+use Rattle.std.proofs.Common.{◌≡◌, ◌<◌, ◌≤◌, ℕ, List, length, Err, Result, false, refl, sym, ap, subst, ◌∙◌, inl, inr, arith}
 use Rattle.std.proofs.Math.ListN.{set}
 use Rattle.stable_store.specs.declared.fault.StoreFault.{StoreFault}
 use Rattle.stable_store.specs.declared.fault.StoreFault.TheVariants.{Incarnations, Memory}
-use Rattle.world.specs.declared.fault.WorldFault.{WorldFault}
-use Rattle.world.specs.declared.fault.WorldFault.TheVariants as faults
-use Rattle.world.specs.Members.{CantBegin, HasBegun, HasChanged, HasRestarted, IsPlace, Keeps, fault_of_store}
+use Rattle.world.specs.Members.{HasBegun, HasChanged, Keeps, fault_of_store}
 use Rattle.world.specs.Runs.{IsSomewhere}
 use Rattle.world.specs.Scenes.{Placed, Scene}
 use Rattle.world.proofs.Ending.{begun_somewhere}
@@ -20,7 +18,8 @@ returns-in-Ok-clause-begun c =
     let inside = ap (λ (ms : List Placed). length ms) members in
     let found = found_member old items c.args.place m members (omega (arith, inside, c.requires)) c.index_mut.ensures.value in
     let new : Scene = record { members = set items c.args.place c.restart.new.self; packets = c.self.inside.packets.sent; fresh = false } in
-    let changed : HasChanged old c.args.place c.restart.new.self new = record { members = ap (λ (ms : List Placed). set ms c.args.place c.restart.new.self) members; fresh = refl } in
+    let changed : HasChanged old c.args.place c.restart.new.self new =
+    record { members = ap (λ (ms : List Placed). set ms c.args.place c.restart.new.self) members; fresh = refl } in
     record {
       member = m;
       is = record { place_is = refl; found = found };
@@ -40,7 +39,8 @@ invariant_of-self c =
     let inside = ap (λ (ms : List Placed). length ms) members in
     let found = found_member old items c.args.place m members (omega (arith, inside, c.requires)) c.index_mut.ensures.value in
     let new : Scene = record { members = set items c.args.place c.restart.new.self; packets = c.self.inside.packets.sent; fresh = false } in
-    let changed : HasChanged old c.args.place c.restart.new.self new = record { members = ap (λ (ms : List Placed). set ms c.args.place c.restart.new.self) members; fresh = refl } in
+    let changed : HasChanged old c.args.place c.restart.new.self new =
+    record { members = ap (λ (ms : List Placed). set ms c.args.place c.restart.new.self) members; fresh = refl } in
     let has : HasBegun old c.args.place c.nothing.result new = record {
       member = m;
       is = record { place_is = refl; found = found };
