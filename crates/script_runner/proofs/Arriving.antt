@@ -96,22 +96,26 @@ nothing_whole nodes few = (few, λ number at least most first last. absurd (omeg
 
 pub still_whole : (sets : List ℕ) (place was now node nodes count : ℕ) → slice_get sets place ≡ Some was → ((other : ℕ) → has now other ≡ (has was other || other == node)) →
     HaveCome sets nodes count → HaveCome (slice_set sets place now) nodes count
-still_whole sets place was now node nodes count found is whole =
-    (whole.0, λ number at least most first last.
-      one_came sets place was now node number at found is ∙ or_true (number == suc place && at == node) (came_in sets number at) (whole.1 number at least most first last))
+still_whole sets place was now node nodes count found is whole = (
+  whole.0,
+  λ number at least most first last.
+      one_came sets place was now node number at found is ∙ or_true (number == suc place && at == node) (came_in sets number at) (whole.1 number at least most first last),
+)
 
 pub longer_whole : (sets : List ℕ) (empty nodes count : ℕ) → ((node : ℕ) → has empty node ≡ false) → HaveCome sets nodes count → HaveCome (sets ++ empty ∷ []) nodes count
 longer_whole sets empty nodes count none whole =
     (whole.0, λ number at least most first last. one_more sets empty number at (none at) ∙ whole.1 number at least most first last)
 
 pub one_whole : (sets : List ℕ) (nodes count set : ℕ) → slice_get sets count ≡ Some set → CameToAll set nodes → HaveCome sets nodes count → HaveCome sets nodes (count + 1)
-one_whole sets nodes count set found all whole =
-    (whole.0, λ number at least most first last. elim (eq-or-lt_of_le {n = number} {m = count + 1} most) [
-      | inl same ↦
-          let next : number ≡ suc count = omega (arith, same) in
-          ap (λ (n : ℕ). came_in sets n at) next ∙ ap (λ (s : Option ℕ). is_among s at) found ∙ all at first last
-      | inr before ↦ whole.1 number at least (omega (arith, before)) first last
-    ])
+one_whole sets nodes count set found all whole = (
+  whole.0,
+  λ number at least most first last. elim (eq-or-lt_of_le {n = number} {m = count + 1} most) [
+    | inl same ↦
+        let next : number ≡ suc count = omega (arith, same) in
+        ap (λ (n : ℕ). came_in sets n at) next ∙ ap (λ (s : Option ℕ). is_among s at) found ∙ all at first last
+    | inr before ↦ whole.1 number at least (omega (arith, before)) first last
+  ],
+)
 
 -- ---- nodes that are all in a set
 

@@ -1,5 +1,5 @@
 -- A packet comes to a node of the centre, which takes it or stops, and a node starts anew.
-use Rattle.std.proofs.Common.{◌≡◌, ℕ, zero, suc, ◌+◌, ◌-◌, ◌<◌, ◌≤◌, Bool, true, false, List, [], ◌∷◌, ◌++◌, get_or, length, map, take, drop, Option, Some, None, Result, Ok, Err, refl, sym, ap, subst, ◌∙◌, arith}
+use Rattle.std.proofs.Common.{◌≡◌, ℕ, zero, suc, ◌-◌, ◌<◌, ◌≤◌, Bool, true, false, List, [], ◌∷◌, ◌++◌, get_or, length, map, Option, Some, None, Result, Ok, Err, refl, sym, ap, subst, ◌∙◌, arith}
 use Rattle.std.specs.Prelude.{◌==◌, ◌&&◌, ◌||◌, OnOk, option_map, pred, slice_get, slice_set}
 use Rattle.std.specs.List.{insert, remove}
 use Rattle.std.specs.declared.alloc.AllocError.{AllocError}
@@ -9,12 +9,12 @@ use Rattle.sim_net.specs.Network.{numbered}
 use Rattle.synod_acceptor.specs.Packets.{packet_of as packet_by}
 use Rattle.synod_acceptor.specs.declared.packet.Packet.{Packet as Sent}
 use Rattle.script_site.specs.Sites.{comes_to}
-use Rattle.script_text.specs.Prints.{declined_line, text_at}
+use Rattle.script_text.specs.Prints.{declined_line}
 use Rattle.script_text.specs.Runner.{Acted, Runner, on_delivery, on_restart}
-use Rattle.script_world.specs.World.{Moved, World, acts, comes, comes_if, crashed, crashes, crashes_if, if_up, is_down, marked, no_packet, packet_of, refuses, restarts, restarts_if, runner_at, shared, stays}
+use Rattle.script_world.specs.World.{World, acts, comes, comes_if, crashed, crashes, crashes_if, is_down, marked, no_packet, packet_of, restarts, restarts_if, runner_at, shared}
 use Rattle.script_runner.specs.Arrivals.{Came, came_in}
 use Rattle.script_runner.specs.Centres.{Does, HasShared, IsMoved, IsWorld}
-use Rattle.script_runner.specs.Stations.{ActsAt, ActsIf, Begins, HasActed, HasStopped, IsAs, Stands, is_up}
+use Rattle.script_runner.specs.Stations.{ActsAt, ActsIf, Begins, HasActed, HasStopped, is_up}
 use Rattle.script_runner.specs.declared.centre.Centre.{Centre}
 use Rattle.script_runner.specs.declared.station.Station.{Station}
 use Rattle.script_runner.proofs.Moving.{absent_moved, acts_moved, but_there, found_too, if_up_moved, none_too, number_is, refused_moved, set_there, shared_moved, stood_at}
@@ -122,10 +122,10 @@ comes_does_if (Ok done) old mid new node k number packet station left before aft
     subst (λ (sent : Option Packet). IsMoved (comes_if w number node sent) new before after) (sym (packet_in old w number (Some packet) world found))
     (if_up_moved new w node (k - 1) (λ r. shared (marked w number node) node (on_delivery r (packet_by packet) [])) runner before after place there.1
     (λ is_so.
-      shared_moved mid new (marked w number node) node (k - 1) (on_delivery runner (packet_by packet) []) left before after place
-      (but_there old mid w (marked w number node) (k - 1) left world set packets refl refl
-      (λ other at. came other at ∙ ap (λ (before : Bool). (other == number && at == node) || before) (world.came other at)) counted)
-      there_now delivered.like has delivered.text)
+    shared_moved mid new (marked w number node) node (k - 1) (on_delivery runner (packet_by packet) []) left before after place
+    (but_there old mid w (marked w number node) (k - 1) left world set packets refl refl
+    (λ other at. came other at ∙ ap (λ (before : Bool). (other == number && at == node) || before) (world.came other at)) counted)
+    there_now delivered.like has delivered.text)
     (λ is_not. absurd (let clash : true ≡ false = sym up ∙ sym stands.up ∙ is_not in cc)))
 
 -- ---- a node stops

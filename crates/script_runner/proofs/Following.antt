@@ -1,16 +1,13 @@
 -- The centre does one thing after another, as the world of a script does.
-use Rattle.std.proofs.Common.{◌≡◌, ℕ, zero, suc, ◌+◌, ◌-◌, ◌<◌, ◌≤◌, Bool, true, false, cond, List, [], ◌∷◌, ◌++◌, length, map, Option, Some, None, Result, Ok, Err, refl, sym, ap, subst, ◌∙◌, append_assoc, arith}
+use Rattle.std.proofs.Common.{◌≡◌, ℕ, zero, suc, ◌+◌, Bool, true, false, cond, List, [], ◌∷◌, ◌++◌, refl, sym, ap, subst, ◌∙◌, append_assoc, arith}
 use Rattle.std.proofs.lemmas.Grind.{flat_map-append}
 use Rattle.std.proofs.lemmas.List.{append-nil, reverse-append}
-use Rattle.std.specs.Prelude.{OnOk, reverse}
+use Rattle.std.specs.Prelude.{reverse}
 use Rattle.std.specs.List.{range_with_len}
-use Rattle.std.specs.declared.alloc.AllocError.{AllocError}
 use Rattle.script_world.specs.Prints.{WorldPrint, world_line, world_text}
 use Rattle.script_world.specs.World.{Moved, World, all_come, comes, comes_again, comes_to, is_up_at, node_numbers, replays, runner_at, stays, then_moved}
-use Rattle.script_runner.specs.Centres.{Does, IsMoved, IsWorld}
-use Rattle.script_runner.specs.Stations.{is_up}
+use Rattle.script_runner.specs.Centres.{IsMoved, IsWorld}
 use Rattle.script_runner.specs.declared.centre.Centre.{Centre}
-use Rattle.script_runner.specs.declared.station.Station.{Station}
 
 -- What was written, and what is still to be done from the world that the centre is, is all that was to be done.
 pub record IsLeft (all : Moved) (rest : World → Moved) (now : Centre) (before text : List ℕ) : Type 0 where

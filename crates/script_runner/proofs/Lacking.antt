@@ -1,8 +1,6 @@
 -- The first node that lacks a packet.
-use Rattle.std.proofs.Common.{◌≡◌, ◌⊎◌, ℕ, zero, suc, ◌+◌, ◌<◌, ◌≤◌, Bool, true, false, find, length, map, List, Option, Some, None, refl, sym, ap, subst, ◌∙◌, inl, inr, arith}
+use Rattle.std.proofs.Common.{◌≡◌, ℕ, suc, ◌+◌, ◌<◌, ◌≤◌, Bool, true, false, find, length, List, Some, None, sym, ap, ◌∙◌, inl, inr, arith}
 use Rattle.std.specs.Prelude.{◌&&◌, not, slice_get, if◌then◌else◌}
-use Rattle.std.specs.List.{range_with_len}
-use Rattle.mc_model.specs.synod.Packet.{Packet}
 use Rattle.node_model.specs.Stepped.{sender_of}
 use Rattle.sim_net.specs.Network.{numbered}
 use Rattle.synod_acceptor.specs.Packets.{packet_of as packet_by}
@@ -44,4 +42,4 @@ lacks_so centre w nodes number place node station b is found same tested =
     ∙ ap (λ (n : ℕ). takes_part nodes n && (is_up station && not (came_in centre.arrivals number n))) last ∙ sym tested
 
 pub one_further : (test : ℕ → Bool) (place : ℕ) → ((j : ℕ) → j < place → test (1 + j) ≡ false) → test (1 + place) ≡ false → (j : ℕ) → j < place + 1 → test (1 + j) ≡ false
-one_further test place none here j below = elim (at_or_below j place below) [ | inl less ↦ none j less | inr same ↦ ap (λ (n : ℕ). test (1 + n)) same ∙ here ]
+one_further test place none here j below = elim (at_or_below j place below) [ inl less ↦ none j less | inr same ↦ ap (λ (n : ℕ). test (1 + n)) same ∙ here ]

@@ -1,5 +1,5 @@
 -- A node of the centre does something, and what it sent comes behind all packets.
-use Rattle.std.proofs.Common.{◌≡◌, ◌⊎◌, ℕ, zero, suc, ◌+◌, ◌-◌, ◌<◌, ◌≤◌, pred, Bool, true, false, List, [], ◌∷◌, ◌++◌, length, map, get_or, Option, Some, None, Result, Ok, Err, refl, sym, ap, subst, ◌∙◌, inl, inr, arith}
+use Rattle.std.proofs.Common.{◌≡◌, ℕ, zero, suc, ◌-◌, ◌<◌, ◌≤◌, pred, Bool, true, false, List, [], ◌∷◌, ◌++◌, length, map, get_or, Option, Some, None, Result, Ok, Err, refl, sym, ap, subst, ◌∙◌, inl, inr, arith}
 use Rattle.std.specs.Prelude.{OnOk, slice_get, slice_set, if◌then◌else◌}
 use Rattle.std.specs.Vec.{with_item}
 use Rattle.std.specs.declared.alloc.AllocError.{AllocError}
@@ -8,15 +8,13 @@ use Rattle.std.proofs.lemmas.List.{append-nil, length-set}
 use Rattle.mc_model.specs.synod.Packet.{Packet}
 use Rattle.sim_net.proofs.Numbers.{set_get}
 use Rattle.synod_acceptor.specs.Packets.{packet_of as packet_by}
-use Rattle.script_text.specs.Node.{awaiting}
 use Rattle.script_text.specs.Prints.{declined_line, text_at}
 use Rattle.script_text.specs.Runner.{Acted, Runner, given_out}
 use Rattle.script_world.proofs.Texts.{at_node}
-use Rattle.script_world.specs.Prints.{world_text}
-use Rattle.script_world.specs.World.{Moved, World, acts, if_up, is_down, is_up as is_up_in, refuses, runner_at, shared, stays, up_or_refuses}
+use Rattle.script_world.specs.World.{Moved, World, acts, if_up, is_down, refuses, runner_at, shared, up_or_refuses}
 use Rattle.script_runner.specs.Arrivals.{Came, came_in}
 use Rattle.script_runner.specs.Centres.{Does, HasShared, IsMoved, IsWorld}
-use Rattle.script_runner.specs.Stations.{ActsAt, ActsIf, GivesAll, HasActed, HasDeclined, IsAs, IsDownAs, Stands, is_up}
+use Rattle.script_runner.specs.Stations.{ActsAt, ActsIf, GivesAll, HasActed, HasDeclined, IsAs, Stands, is_up}
 use Rattle.script_runner.specs.declared.centre.Centre.{Centre}
 use Rattle.script_runner.specs.declared.station.Station.{Station}
 
@@ -142,13 +140,13 @@ still_world old mid new w place station left runner is found there set at packet
     stands k other r seen stood =
         elim (set_get mid.stations.items place k has.left other (subst (λ (ss : List Station). slice_get ss k ≡ Some other) has.stations seen)) [
           | inl both ↦
-            let this : runner ≡ r = some_same (sym there ∙ subst (λ (n : ℕ). slice_get w.runners n ≡ Some r) both.0 stood) in
-            subst (λ (s : Station). Stands s r) (sym both.1) (subst (λ (x : Runner). Stands has.left x) this now)
+              let this : runner ≡ r = some_same (sym there ∙ subst (λ (n : ℕ). slice_get w.runners n ≡ Some r) both.0 stood) in
+              subst (λ (s : Station). Stands s r) (sym both.1) (subst (λ (x : Runner). Stands has.left x) this now)
           | inr that ↦
-            elim (set_get old.stations.items place k left other (subst (λ (ss : List Station). slice_get ss k ≡ Some other) set that.1)) [
-              | inl both ↦ absurd (that.0 both.0)
-              | inr found_there ↦ is.each k other r found_there.1 stood
-            ]
+              elim (set_get old.stations.items place k left other (subst (λ (ss : List Station). slice_get ss k ≡ Some other) set that.1)) [
+                | inl both ↦ absurd (that.0 both.0)
+                | inr found_there ↦ is.each k other r found_there.1 stood
+              ]
         ]
 
 -- a line that is refused adds its line
@@ -200,13 +198,13 @@ acts_moved old mid new w node place act station left before after is world found
     let did = acts runner stands in
     if_up_moved new w node place (λ (r : Runner). shared w node (act r)) runner before after is there.1
     (λ up.
-      let done = acted_if (is_up station) node act runner left before after did (sym stands.up ∙ up) in
-      shared_moved mid new w node place (act runner) left before after is
-      (but_there old mid w w place left world set packets refl refl (λ number n. ap (λ (all : Came). came_in all number n) arrivals ∙ world.came number n)
-      (ap (λ (all : Came). all.nodes) arrivals)) at done.like has done.text)
+    let done = acted_if (is_up station) node act runner left before after did (sym stands.up ∙ up) in
+    shared_moved mid new w node place (act runner) left before after is
+    (but_there old mid w w place left world set packets refl refl (λ number n. ap (λ (all : Came). came_in all number n) arrivals ∙ world.came number n)
+    (ap (λ (all : Came). all.nodes) arrivals)) at done.like has done.text)
     (λ down.
-      let done = declined_if (is_up station) node act runner left before after did (sym stands.up ∙ down) in
-      refused_moved new w is_down before after (still_world old mid new w place station left runner world found there.1 set at packets arrivals done.like has) done.text)
+    let done = declined_if (is_up station) node act runner left before after did (sym stands.up ∙ down) in
+    refused_moved new w is_down before after (still_world old mid new w place station left runner world found there.1 set at packets arrivals done.like has) done.text)
 
 -- ---- as the code does it
 

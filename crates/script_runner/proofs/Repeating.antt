@@ -1,5 +1,5 @@
 -- All packets come again, so many times.
-use Rattle.std.proofs.Common.{◌≡◌, ℕ, List, length, map, refl, sym, ap, subst, ◌∙◌}
+use Rattle.std.proofs.Common.{◌≡◌, ℕ, List, length, refl, sym, ap, subst, ◌∙◌}
 use Rattle.std.proofs.lemmas.List.{append-nil, length-map}
 use Rattle.synod_acceptor.specs.Packets.{packet_of as packet_by}
 use Rattle.script_world.specs.World.{Moved, World, on_replay, replays, stays}

@@ -1,12 +1,10 @@
 -- The first of some numbers, in ascending order.
-use Rattle.std.proofs.Common.{◌≡◌, ◌⊎◌, inl, inr, ℕ, zero, suc, ◌+◌, ◌-◌, ◌<◌, ◌≤◌, Bool, true, false, cond, List, [], ◌∷◌, ◌++◌, length, map, find, Option, Some, None, refl, sym, ap, subst, ◌∙◌, arith}
-use Rattle.std.specs.Prelude.{◌&&◌, not, slice_get, option_map, if◌then◌else◌}
+use Rattle.std.proofs.Common.{◌≡◌, ◌⊎◌, inl, inr, ℕ, zero, suc, ◌+◌, ◌-◌, ◌<◌, ◌≤◌, Bool, true, false, cond, List, [], ◌∷◌, length, find, Option, Some, None, refl, sym, ap, ◌∙◌, arith}
+use Rattle.std.specs.Prelude.{◌&&◌, not, slice_get, if◌then◌else◌}
 use Rattle.std.specs.List.{range_with_len}
 use Rattle.mc_model.specs.synod.Packet.{Packet}
 use Rattle.node_model.specs.Stepped.{sender_of}
-use Rattle.sim_net.specs.Network.{numbered}
-use Rattle.script_text.specs.Runner.{Runner}
-use Rattle.script_world.specs.World.{Due, World, due, due_among, due_at, due_first, is_up_at, lacks, node_numbers, packet_of, runner_at, takes_part}
+use Rattle.script_world.specs.World.{World, due, due_among, due_at, due_first, is_up_at, lacks, node_numbers, packet_of, runner_at, takes_part}
 use Rattle.script_runner.specs.Arrivals.{came_in}
 use Rattle.script_runner.specs.Centres.{IsWorld, NothingBefore}
 use Rattle.script_runner.specs.Stations.{is_up}
@@ -114,7 +112,7 @@ pub at_or_below : (a b : ℕ) → a < b + 1 → (a < b) ⊎ (a ≡ b)
 at_or_below zero zero below = inr refl
 at_or_below zero (suc b) below = inl (omega arith)
 at_or_below (suc a) zero below = absurd (omega (arith, below))
-at_or_below (suc a) (suc b) below = elim (at_or_below a b (omega (arith, below))) [ | inl less ↦ inl (omega (arith, less)) | inr same ↦ inr (ap suc same) ]
+at_or_below (suc a) (suc b) below = elim (at_or_below a b (omega (arith, below))) [ inl less ↦ inl (omega (arith, less)) | inr same ↦ inr (ap suc same) ]
 
 pub one_passed : (w : World) (nodes : List ℕ) (number : ℕ) → NothingBefore w nodes number → None ≡ due_at w nodes number (packet_of w.packets number) →
     NothingBefore w nodes (number + 1)
@@ -140,9 +138,9 @@ all_came centre w nodes from is came (suc n) below = by_packet (packet_of w.pack
     none =
         none_found (lacks w nodes (suc n)) 1 (length w.runners)
         (λ j within.
-          let same = is.counted in
-          got_it (takes_part nodes (1 + j)) (is_up_at (runner_at w (1 + j))) (w.came (suc n) (1 + j))
-          (sym (is.came (suc n) (1 + j)) ∙ came (suc n) (1 + j) (omega arith) below (omega arith) (omega (arith, within, same))))
+        let same = is.counted in
+        got_it (takes_part nodes (1 + j)) (is_up_at (runner_at w (1 + j))) (w.came (suc n) (1 + j))
+        (sym (is.came (suc n) (1 + j)) ∙ came (suc n) (1 + j) (omega arith) below (omega arith) (omega (arith, within, same))))
 
     by_part : (part : Bool) → (if part then find (lacks w nodes (suc n)) (node_numbers w) else None) ≡ None
     by_part true = none

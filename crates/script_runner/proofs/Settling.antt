@@ -1,5 +1,5 @@
 -- Packets come that are due, one after another.
-use Rattle.std.proofs.Common.{◌≡◌, ◌⊎◌, ℕ, zero, suc, ◌+◌, ◌-◌, ◌<◌, ◌≤◌, Bool, true, false, cond, List, [], ◌∷◌, ◌++◌, find, length, map, Option, Some, None, Result, Ok, Err, refl, sym, ap, subst, ◌∙◌, inl, inr, eq-or-lt_of_le, arith}
+use Rattle.std.proofs.Common.{◌≡◌, ℕ, zero, suc, ◌+◌, ◌<◌, ◌≤◌, Bool, true, false, List, [], ◌∷◌, ◌++◌, find, length, map, Option, Some, None, Result, Ok, Err, refl, sym, ap, ◌∙◌, inl, inr, eq-or-lt_of_le, arith}
 use Rattle.std.specs.Prelude.{◌&&◌, ◌||◌, ◌==◌, OnOk, not, pred, slice_get, option_map, if◌then◌else◌}
 use Rattle.std.specs.List.{range_with_len}
 use Rattle.std.specs.declared.alloc.AllocError.{AllocError}
@@ -8,7 +8,7 @@ use Rattle.mc_model.specs.synod.Packet.{Packet}
 use Rattle.node_model.specs.Stepped.{sender_of}
 use Rattle.script_text.specs.Prints.{unsettled_line}
 use Rattle.script_text.specs.Runner.{Runner, on_delivery}
-use Rattle.script_world.specs.World.{Due as WorldDue, Moved, World, comes, comes_if, due, due_among, due_at, due_first, if_due, if_up, is_down, is_up as is_up_in, is_up_at, lacks, marked, node_numbers, on_settle, packet_of, refuses, runner_at, settles, shared, stays, takes_part, then_moved, unsettled, up_or_refuses}
+use Rattle.script_world.specs.World.{Due as WorldDue, Moved, World, comes, comes_if, due, due_among, due_at, due_first, is_down, is_up_at, lacks, marked, node_numbers, on_settle, packet_of, refuses, runner_at, settles, shared, stays, takes_part, then_moved, unsettled, up_or_refuses}
 use Rattle.script_runner.specs.Arrivals.{came_in}
 use Rattle.script_runner.specs.Centres.{Does, IsMoved, IsWorld, NothingBefore, due_of}
 use Rattle.script_runner.specs.Stations.{is_up}

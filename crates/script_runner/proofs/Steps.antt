@@ -1,5 +1,5 @@
 -- What a line does, by what it says.
-use Rattle.std.proofs.Common.{◌≡◌, ◌↔◌, ℕ, ◌≤◌, true, false, Bool, List, [], ◌++◌, length, Option, Some, None, Result, Ok, Err, refl, sym, ap, subst, ◌∙◌, arith}
+use Rattle.std.proofs.Common.{◌≡◌, ◌↔◌, ℕ, true, false, Bool, List, ◌++◌, length, Option, Some, None, Result, Ok, Err, refl, sym, ap, subst, ◌∙◌, arith}
 use Rattle.std.proofs.lemmas.Bool.Decides.{nat_tests}
 use Rattle.std.proofs.lemmas.List.{append-nil}
 use Rattle.std.specs.Prelude.{IfOk, nat_le, if◌then◌else◌}
@@ -119,8 +119,8 @@ pub moves_by : (old new : Centre) (said : Said) (line : World → Moved) (before
 moves_by old new said line before after within same does =
     acts_by old new said true before after within
     (λ w is.
-      let moved = does w is in
-      subst (λ (step : Option Stepped). IsStepBy step true (Some new) before after) (sym (same w)) (refl, moved.next, moved.text))
+    let moved = does w is in
+    subst (λ (step : Option Stepped). IsStepBy step true (Some new) before after) (sym (same w)) (refl, moved.next, moved.text))
 
 pub skips : (old : Centre) (text : List ℕ) → IsAct old Skipped true old text text
 skips old text w is = (refl, is, sym (append-nil text))

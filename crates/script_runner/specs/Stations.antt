@@ -1,7 +1,6 @@
 -- What a node of the centre does, in the words of the text of a script.
 use Rattle.std.specs.Prelude.{◌≡◌, ℕ, Bool, true, false, List, [], ◌++◌}
 use Rattle.mc_model.specs.synod.Packet.{Packet}
-use Rattle.node_model.specs.Stepped.{stopped}
 use Rattle.stable_store.specs.Stored.{Listed}
 use Rattle.node_core.specs.Nodes.{Standing}
 use Rattle.synod_acceptor.specs.Packets.{packet_of}

@@ -45,7 +45,12 @@ struct Due {
 
 impl Centre {
     /// So many nodes, 1 to 9, over new stores, and no session. The first message of each has this serial. An `Err` is want of memory.
-    pub fn start(alloc: Global, config: &Config, nodes: u8, serial: u32) -> Result<Centre, AllocError>
+    pub fn start(
+        alloc: Global,
+        config: &Config,
+        nodes: u8,
+        serial: u32,
+    ) -> Result<Centre, AllocError>
         requires few { nodes ≤ 9 }
         requires least { 1 ≤ serial }
         requires most { serial ≤ 99999 }
@@ -267,12 +272,7 @@ impl Centre {
     }
 
     /// The packets up to the one of this number come again to all nodes that are up, from the highest number down.
-    fn all_come(
-        &mut self,
-        alloc: Global,
-        sent: u64,
-        text: &mut Vec<u8>,
-    ) -> Result<(), AllocError>
+    fn all_come(&mut self, alloc: Global, sent: u64, text: &mut Vec<u8>) -> Result<(), AllocError>
         ensures { OnOk result (Does (λ w. all_come (reverse (range_with_len 1 sent)) w) self.old self.new text.old.items text.new.items) }
     {
         let mut number = sent;
@@ -327,12 +327,7 @@ impl Centre {
 }
 
 /// Nodes 1 to so many, each over a new store. An `Err` is want of memory.
-fn opened(
-    alloc: Global,
-    nodes: u8,
-    serial: u32,
-    validity: u32,
-) -> Result<Vec<Station>, AllocError>
+fn opened(alloc: Global, nodes: u8, serial: u32, validity: u32) -> Result<Vec<Station>, AllocError>
     requires few { nodes ≤ 9 }
     requires least { 1 ≤ serial }
     requires most { serial ≤ 99999 }

@@ -11,8 +11,7 @@ use crate::fault::ScriptFault;
 use config::Config;
 use mc_types::Moment;
 use node_core::Found;
-use script_lines::{Line, LineBuffer, lines_are_read, read_line, spelled_so};
-use script_lines::Found as FoundLine;
+use script_lines::{Found as FoundLine, Line, LineBuffer, lines_are_read, read_line, spelled_so};
 use std::alloc::{AllocError, Global};
 use std::io::{Read, Write};
 

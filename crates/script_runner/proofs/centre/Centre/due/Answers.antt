@@ -1,4 +1,4 @@
-use Rattle.std.proofs.Common.{◌+◌, length, sym, ◌∙◌, arith}
+use Rattle.std.proofs.Common.{◌+◌, sym, ◌∙◌, arith}
 use Rattle.mc_types.specs.Nodes.{has}
 use Rattle.script_lines.specs.Said.{nodes_with}
 use Rattle.script_runner.proofs.Repeating.{sent_count}
