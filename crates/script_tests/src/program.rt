@@ -99,7 +99,7 @@ fn statuses_do_not_need_standard_error(rt: HostRuntime) -> Result<(), Fail> {
     let mut output = Vec::new(alloc);
     let bad = run_program(
         &arguments,
-        &mut b"nodes 2\n".as_slice(),
+        &mut b"nodes 10\n".as_slice(),
         &mut output,
         &mut Closed,
     );
