@@ -1,9 +1,10 @@
 //! Scripts over several nodes: each of nine is down in turn, and packets come twice and in reverse.
 
-use crate::worked::rows;
+use crate::worked::{Row, rows};
 use script_runner::run_script;
 use std::alloc::{AllocError, Global};
 use std::process::Abort;
+use std::str;
 use std::test::Fail;
 
 // In the scripts and the outputs below, A, B and C stand for nodes, and each line with an S for lines at which packets come.
@@ -191,6 +192,36 @@ fn packets_come_twice_and_in_reverse(rt: HostRuntime) -> Result<(), Fail> {
         let words: [&[u8]; 4] = [b"", b"", b"", come];
         is_written(&rt, alloc, DELIVERED, DELIVERED_WRITES, words)?;
         is_written(&rt, alloc, DELETED, DELETED_WRITES, words)?;
+    }
+    Ok(())
+}
+
+/// The script of a row over one node, over nine, of which node 2 goes down behind the first settle; `None` if it is another row, or has no settle.
+fn over_nine_nodes(alloc: Global, row: &Row) -> Result<Option<String>, Fail> {
+    if row.status != 0 {
+        return Ok(None);
+    }
+    let Some(rest) = str::from_utf8(&row.script)?.strip_prefix("nodes 1") else {
+        return Ok(None);
+    };
+    let Some((before, behind)) = rest.split_once("\nsettle\n") else {
+        return Ok(None);
+    };
+    let crash = "crash 2 1 before";
+    Ok(Some(format!(in alloc; "nodes 9{before}\nsettle\n{crash}\n{behind}")?))
+}
+
+/// What the rows over one node write is the same over nine: the others only take part in the rounds.
+#[test]
+fn rows_are_written_over_nine_nodes(rt: HostRuntime) -> Result<(), Fail> {
+    let alloc = rt.alloc();
+    for row in &rows(alloc)? {
+        if let Some(script) = over_nine_nodes(alloc, row)? {
+            let mut written = Vec::new(alloc);
+            let outcome = run_script(alloc, &mut script.as_bytes(), &mut written);
+            assert_eq!(rt; outcome, Ok(()), "{}", row.name);
+            assert!(rt; written == row.output, "{}", row.name);
+        }
     }
     Ok(())
 }
