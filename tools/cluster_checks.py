@@ -10,14 +10,15 @@ The families:
 
     one_down         nine nodes, of which one is down: each in turn, as a bystander, as the author of the message or as its worker, from each phase on
     many_down        one to nine nodes, of which as many are down as leave a majority, and one more
+    parted           two to nine nodes in two parts, in one of which a message is delivered, and in the other one cancelled; then the parts meet
     replayed         one to nine nodes, each packet at least twice, and in reverse: behind each settle, or in its place
     crashed          three nodes, of which one stops at each packet that comes to it, before its save and after; then it starts anew
     random           three to five nodes, lines drawn by lot: packets lost, repeated and in any order, stops, starts anew, cancels
 
-In each of the first four a message is driven to an end, DELIVERED, REJECTED, UNDELIVERABLE, DELETED or EXPIRED, and what its queries have to be
+In each but the last a message is driven to an end, DELIVERED, REJECTED, UNDELIVERABLE, DELETED or EXPIRED, and what its queries have to be
 answered is known from the script. Behind each line of a script stands an enquire_link on a session of its own, at a node that never
 stops, so that each line of the output has its line of the script. A family prints one line: its scripts, and how many ended how. At a promise that is
-not kept, and at another answer, the script is printed, and the exit status is 1. This is beside the gate.
+not kept, and at another answer, the script is printed, and the exit status is 1. This is beside the gate. What `rt try` builds takes half an hour for all.
 """
 import collections
 import pathlib
@@ -35,6 +36,8 @@ TRANSMITTER, TRANSCEIVER, ENQUIRE = 0x02, 0x09, 0x15
 NOON = 1_706_659_200
 # What the ESME answers to an attempt, or None if the end does not come of one.
 ANSWERS = {"DELIVERED": OK, "REJECTED": 0x66, "UNDELIVERABLE": 0x65, "DELETED": None, "EXPIRED": None}
+# The lines of the random scripts, each as often as it is drawn.
+DRAWN = ["come"] * 5 + ["settle"] * 3 + ["tick", "grant"] * 2 + ["replay", "answer", "query", "cancel", "submit", "crash", "restart"]
 UNKNOWN, LATE = "ESME_RINVMSGID", "ESME_RSYSERR"
 MINUTE = b"000000000100000R\0"
 
@@ -237,6 +240,31 @@ def many_are_down(name, course, nodes, down):
     return script
 
 
+def parted():
+    for nodes in range(2, 10):
+        for size in range(1, nodes):
+            yield are_parted(f"{size}_of_{nodes}", Course("DELIVERED", 1, 1, nodes), nodes, size)
+
+
+def are_parted(name, course, nodes, size):
+    """The first part tries to deliver a message that all know, the other one cancels it. What has a majority does; what has none is told nothing."""
+    script = Script(name, nodes, 1)
+    course.begin(script, nodes)
+    parts = ["settle " + " ".join(map(str, part)) for part in (range(1, size + 1), range(size + 1, nodes + 1))]
+    script.submit(1)
+    script.say("settle", f"tick 1 {NOON}")
+    script.cancel(nodes, course.message)
+    script.say(*parts)
+    course.grant(script)
+    script.say(*parts)
+    delivers, cancels = 2 * size > nodes, 2 * (nodes - size) > nodes
+    script.query(1, course.message, "DELIVERED" if delivers else LATE)
+    script.query(nodes, course.message, "DELETED" if cancels else LATE)
+    script.say(*parts, *(f"tick {node} {NOON + 30}" for node in (1, nodes)), "settle")
+    course.ask(script, [1, nodes], *(["DELIVERED"] if delivers else ["DELETED"] if cancels else ["ENROUTE", "DELIVERED", "DELETED"]))
+    return script
+
+
 def replayed():
     """With up to four nodes for each end; above that, since packets grow with the nodes, for an attempt and for a cancel_sm."""
     for nodes in range(1, 10):
@@ -317,7 +345,7 @@ def one_stops(name, course, number, node, found):
 
 
 def by_lot():
-    for seed in range(150):
+    for seed in range(100):
         yield of_seed(seed)
 
 
@@ -346,7 +374,7 @@ def of_seed(seed):
 
 def by_lot_once(lot, script, nodes, node, message, clocks, packets):
     number = lot.randrange(1, packets)
-    match lot.choice(["come"] * 5 + ["settle", "settle", "settle", "replay", "tick", "tick", "grant", "grant", "answer", "query", "cancel", "submit", "crash", "restart"]):
+    match lot.choice(DRAWN):
         case "come":
             script.say(*(f"deliver {lot.randrange(1, packets)} {lot.randrange(1, nodes + 1)}" for _ in range(10)))
         case "settle":
@@ -376,7 +404,7 @@ def by_lot_once(lot, script, nodes, node, message, clocks, packets):
             script.bind(node, True)
 
 
-FAMILIES = {"one_down": one_down, "many_down": many_down, "replayed": replayed, "crashed": crashed, "random": by_lot}
+FAMILIES = {"one_down": one_down, "many_down": many_down, "parted": parted, "replayed": replayed, "crashed": crashed, "random": by_lot}
 
 
 def outputs(program, scripts):
