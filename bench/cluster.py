@@ -1,0 +1,101 @@
+#!/usr/bin/env python3
+"""Prints what a message costs from its submit_sm to its delivery receipt, over 1, 3, 5 and 9 nodes, with 100, 1,000 and 10,000 messages.
+
+An ESME submits ten messages at node 1, with receipts; behind their settle comes a tick, by which the attempts are agreed on; they are granted, answered
+and reported, and the receipts answered; then the next ten. So a message takes three rounds, of a Prepare, a Promise of each node, a Propose and a Voted of
+each, which come to all nodes. Printed are the processor time of a message, less that of a script without messages, how many times that of a tenth of the
+messages it is (the goal is at most 1.3), the time of each packet that comes to a node, what a settle with nothing to deliver costs at the end, and the
+peak memory of each packet that was sent, which has what the nodes keep of it. The time is the best of three runs, or that of one if it takes above
+ten seconds; GNU time measures the memory in a run of its own, in which the receipts are counted. Give the built program, and how many
+seconds a run may take: a longer one, as the tenth of its messages tells, is left out (300 if none are given).
+
+    python3 bench/cluster.py crates/centre/out/centre [SECONDS]
+
+It runs an unproved program as well; what `rt try` builds looks for faults of memory as it runs, which takes a hundred times as long, and more memory.
+"""
+import os
+import subprocess
+import sys
+import tempfile
+
+from one_node import BIND, START, processor_time
+
+SUBMIT = "0000002900000004000000000000000200010131343400010131353500000000000001000000024869"
+RECEIPT = b"stat:DELIVRD".hex().encode()
+WINDOW = 10
+SETTLES = 100
+RUNS = 3
+LONG = 10
+
+
+def answers(first):
+    return [f"pdu 1 1 000000118000000500000000{sequence:08x}00" for sequence in range(first, first + WINDOW)]
+
+
+def ten_messages(batch):
+    serials = range(WINDOW * batch + 1, WINDOW * (batch + 1) + 1)
+    sequence = 2 * WINDOW * batch + 1
+    submits = [f"pdu 1 1 {SUBMIT}"] * WINDOW
+    grants = [f"grant 1 10001{serial:05d}" for serial in serials]
+    decided = [*submits, "settle", f"tick 1 {START}", "settle"]
+    return [*decided, *grants, *answers(sequence), "settle", *answers(sequence + WINDOW)]
+
+
+def script(nodes, messages):
+    return [f"nodes {nodes}", f"pdu 1 1 {BIND}"] + [line for batch in range(messages // WINDOW) for line in ten_messages(batch)]
+
+
+def packets(nodes):
+    """How many packets are sent for one message."""
+    return 3 * (2 + 2 * nodes)
+
+
+def seconds_of(program, lines):
+    with tempfile.TemporaryFile() as source, open(os.devnull, "wb") as nowhere:
+        source.write(("\n".join(lines) + "\n").encode())
+        source.flush()
+        first = processor_time(program, source, nowhere)
+        return min([first] + [processor_time(program, source, nowhere) for _ in range(RUNS - 1) if first < LONG])
+
+
+def peak_of(program, lines, receipts):
+    """The peak memory in octets of a run that writes so many receipts."""
+    with tempfile.TemporaryFile() as source:
+        source.write(("\n".join(lines) + "\n").encode())
+        source.seek(0)
+        run = subprocess.run(["/usr/bin/time", "-f", "%M", program, "script"], stdin=source, capture_output=True)
+    if run.returncode != 0 or run.stdout.count(RECEIPT) != receipts:
+        sys.exit(f"the program ended with status {run.returncode} and {run.stdout.count(RECEIPT)} receipts")
+    return 1024 * int(run.stderr.split()[-1])
+
+
+def rows(program, nodes, most):
+    """A row for each number of messages."""
+    empty = script(nodes, 0)
+    start, least, before = seconds_of(program, empty), peak_of(program, empty, 0), None
+    for messages in (100, 1_000, 10_000):
+        if before and before * messages > most:
+            return
+        lines = script(nodes, messages)
+        whole = seconds_of(program, lines)
+        each = (whole - start) / messages
+        settle = (seconds_of(program, lines + ["settle"] * SETTLES) - whole) / SETTLES
+        memory = (peak_of(program, lines, messages) - least) / (messages * packets(nodes))
+        times = f"{each / before:.2f}" if before else ""
+        yield nodes, messages, f"{1e6 * each:.0f}", times, f"{1e6 * each / (nodes * packets(nodes)):.1f}", f"{1e6 * settle:.1f}", f"{memory:.0f}"
+        before = each
+
+
+def main():
+    if len(sys.argv) not in (2, 3):
+        sys.exit(__doc__)
+    program, most = os.path.abspath(sys.argv[1]), float(sys.argv[2]) if len(sys.argv) == 3 else 300
+    print("| Nodes | Messages | A message, µs | Times a tenth | A packet that comes, µs | A settle of nothing, µs | Octets of memory a packet |")
+    print("|---|---|---|---|---|---|---|")
+    for nodes in (1, 3, 5, 9):
+        for row in rows(program, nodes, most):
+            print("|", " | ".join(map(str, row)), "|", flush=True)
+
+
+if __name__ == "__main__":
+    main()
