@@ -18,7 +18,7 @@ The families:
 In each but the last a message is driven to an end, DELIVERED, REJECTED, UNDELIVERABLE, DELETED or EXPIRED, and what its queries have to be
 answered is known from the script. Behind each line of a script stands an enquire_link on a session of its own, at a node that never
 stops, so that each line of the output has its line of the script. A family prints one line: its scripts, and how many ended how. At a promise that is
-not kept, and at another answer, the script is printed, and the exit status is 1. This is beside the gate. What `rt try` builds takes half an hour for all.
+not kept, and at another answer, the script is printed, and the exit status is 1. This is beside the gate. What `rt try` builds takes about 20 minutes for all.
 """
 import collections
 import pathlib
