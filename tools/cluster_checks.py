@@ -18,7 +18,7 @@ The families:
 In each but the last a message is driven to an end, DELIVERED, REJECTED, UNDELIVERABLE, DELETED or EXPIRED, and what its queries have to be
 answered is known from the script. Behind each line of a script stands an enquire_link on a session of its own, at a node that never
 stops, so that each line of the output has its line of the script. A family prints one line: its scripts, and how many ended how. At a promise that is
-not kept, and at another answer, the script is printed, and the exit status is 1. This is beside the gate. What `rt try` builds takes half an hour for all.
+not kept, and at another answer, the script is printed, and the exit status is 1. This is beside the gate. What `rt try` builds takes about 20 minutes for all.
 """
 import collections
 import pathlib
@@ -33,7 +33,7 @@ from judge import CANCEL, DELIVER, OK, QUERY, RESPONSE, SUBMIT, Breach, judged
 ROOT = pathlib.Path(__file__).resolve().parent.parent
 CASE = re.compile(r"^case=(\S+) run=(\S+) status=(\d+)", re.MULTILINE)
 TRANSMITTER, TRANSCEIVER, ENQUIRE = 0x02, 0x09, 0x15
-NOON = 1_706_659_200
+MIDNIGHT = 1_706_659_200
 # What the ESME answers to an attempt, or None if the end does not come of one.
 ANSWERS = {"DELIVERED": OK, "REJECTED": 0x66, "UNDELIVERABLE": 0x65, "DELETED": None, "EXPIRED": None}
 # The lines of the random scripts, each as often as it is drawn.
@@ -128,18 +128,18 @@ class Course:
 
     def begin(self, script, nodes):
         for node in range(1, nodes + 1):
-            script.say(f"tick {node} {NOON}")
+            script.say(f"tick {node} {MIDNIGHT}")
             script.bind(node, self.receives(node))
 
     def come_back(self, script, node):
-        script.say(f"restart {node}", f"tick {node} {NOON}")
+        script.say(f"restart {node}", f"tick {node} {MIDNIGHT}")
         script.bind(node, self.receives(node))
 
     def phases(self):
         """The phases of the course: each is called with the script, and then packets come between the nodes."""
         yield lambda script: script.submit(self.author, MINUTE if self.end == "EXPIRED" else b"\0")
         if ANSWERS[self.end] is not None:
-            yield lambda script: script.say(f"tick {self.worker} {NOON}")
+            yield lambda script: script.say(f"tick {self.worker} {MIDNIGHT}")
             yield self.grant
         else:
             yield self.close
@@ -153,11 +153,11 @@ class Course:
         if self.end == "DELETED":
             script.cancel(node, self.message)
         else:
-            script.say(f"tick {node} {NOON + 60}")
+            script.say(f"tick {node} {MIDNIGHT + 60}")
 
     def recover(self, script):
         """Goes for the end again, whatever is open: an attempt that was granted fails as its node starts anew, and the next one is due a minute later."""
-        for moment in (NOON + 60, NOON + 61, NOON + 180, NOON + 181):
+        for moment in (MIDNIGHT + 60, MIDNIGHT + 61, MIDNIGHT + 180, MIDNIGHT + 181):
             if ANSWERS[self.end] is not None:
                 script.say(f"tick {self.worker} {moment}", "settle")
                 self.grant(script)
@@ -232,7 +232,7 @@ def many_are_down(name, course, nodes, down):
         script.say("settle")
     has_majority = 2 * (nodes - down) > nodes
     course.ask(script, [1], course.end if has_majority else LATE)
-    script.say(f"tick 1 {NOON + 90}")
+    script.say(f"tick 1 {MIDNIGHT + 90}")
     for node in stopped:
         course.come_back(script, node)
     script.say("settle")
@@ -252,7 +252,7 @@ def are_parted(name, course, nodes, size):
     course.begin(script, nodes)
     parts = ["settle " + " ".join(map(str, part)) for part in (range(1, size + 1), range(size + 1, nodes + 1))]
     script.submit(1)
-    script.say("settle", f"tick 1 {NOON}")
+    script.say("settle", f"tick 1 {MIDNIGHT}")
     script.cancel(nodes, course.message)
     script.say(*parts)
     course.grant(script)
@@ -260,7 +260,7 @@ def are_parted(name, course, nodes, size):
     delivers, cancels = 2 * size > nodes, 2 * (nodes - size) > nodes
     script.query(1, course.message, "DELIVERED" if delivers else LATE)
     script.query(nodes, course.message, "DELETED" if cancels else LATE)
-    script.say(*parts, *(f"tick {node} {NOON + 30}" for node in (1, nodes)), "settle")
+    script.say(*parts, *(f"tick {node} {MIDNIGHT + 30}" for node in (1, nodes)), "settle")
     course.ask(script, [1, nodes], *(["DELIVERED"] if delivers else ["DELETED"] if cancels else ["ENROUTE", "DELIVERED", "DELETED"]))
     return script
 
@@ -354,10 +354,10 @@ def of_seed(seed):
     lot = random.Random(seed)
     nodes = lot.choice([3, 3, 4, 5])
     script = Script(f"seed_{seed}", nodes, nodes)
-    clocks = dict.fromkeys(range(1, nodes + 1), NOON)
+    clocks = dict.fromkeys(range(1, nodes + 1), MIDNIGHT)
     messages = [f"{node}000{life}0000{serial}" for node in (1, 2) for life in (1, 2) for serial in (1, 2)]
     for node in clocks:
-        script.say(f"tick {node} {NOON}")
+        script.say(f"tick {node} {MIDNIGHT}")
         script.bind(node, True)
     script.submit(1, lot.choice([b"\0", MINUTE]))
     script.say(lot.choice(["settle", "settle 1 2", "replay 1"]))

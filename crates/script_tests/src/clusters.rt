@@ -128,15 +128,15 @@ pdu 2 1 00000010800000080000000000000005
 refused 3 1
 ";
 
-/// A text with other words in the place of its capitals A, B, C and S.
-fn filled(alloc: Global, text: &str, words: [&[u8]; 4]) -> Result<Vec<u8>, AllocError> {
+/// A text with three nodes in the place of A, B and C, and lines in the place of S.
+fn filled(alloc: Global, text: &str, nodes: &[u8; 3], come: &[u8]) -> Result<Vec<u8>, AllocError> {
     let mut octets = Vec::new(alloc);
     for octet in text.as_bytes() {
         match *octet {
-            b'A' => octets.extend_from_slice(words[0])?,
-            b'B' => octets.extend_from_slice(words[1])?,
-            b'C' => octets.extend_from_slice(words[2])?,
-            b'S' => octets.extend_from_slice(words[3])?,
+            b'A' => octets.push(nodes[0])?,
+            b'B' => octets.push(nodes[1])?,
+            b'C' => octets.push(nodes[2])?,
+            b'S' => octets.extend_from_slice(come)?,
             other => octets.push(other)?,
         }
     }
@@ -147,35 +147,26 @@ fn filled(alloc: Global, text: &str, words: [&[u8]; 4]) -> Result<Vec<u8>, Alloc
 fn is_written(
     rt: &impl Abort,
     alloc: Global,
-    script: &str,
-    output: &str,
-    words: [&[u8]; 4],
+    (script, output): (&str, &str),
+    nodes: &[u8; 3],
+    come: &[u8],
 ) -> Result<(), Fail> {
-    let filled_script = filled(alloc, script, words)?;
+    let octets = filled(alloc, script, nodes, come)?;
     let mut written = Vec::new(alloc);
-    let outcome = run_script(alloc, &mut filled_script.as_slice(), &mut written);
+    let outcome = run_script(alloc, &mut octets.as_slice(), &mut written);
     assert_eq!(rt; outcome, Ok(()));
-    assert!(rt; written == filled(alloc, output, words)?, "{script}");
+    assert!(rt; written == filled(alloc, output, nodes, come)?, "{script}");
     Ok(())
 }
 
 #[test]
 fn each_of_nine_nodes_is_down(rt: HostRuntime) -> Result<(), Fail> {
     let alloc = rt.alloc();
-    let nodes: [[&[u8]; 4]; 9] = [
-        [b"2", b"1", b"3", b""],
-        [b"3", b"2", b"4", b""],
-        [b"4", b"3", b"5", b""],
-        [b"5", b"4", b"6", b""],
-        [b"6", b"5", b"7", b""],
-        [b"7", b"6", b"8", b""],
-        [b"8", b"7", b"9", b""],
-        [b"9", b"8", b"1", b""],
-        [b"1", b"9", b"2", b""],
-    ];
-    for words in nodes {
-        is_written(&rt, alloc, BYSTANDER, BYSTANDER_WRITES, words)?;
-        is_written(&rt, alloc, AUTHOR, AUTHOR_WRITES, words)?;
+    for nodes in [
+        b"213", b"324", b"435", b"546", b"657", b"768", b"879", b"981", b"192",
+    ] {
+        is_written(&rt, alloc, (BYSTANDER, BYSTANDER_WRITES), nodes, b"")?;
+        is_written(&rt, alloc, (AUTHOR, AUTHOR_WRITES), nodes, b"")?;
     }
     Ok(())
 }
@@ -184,14 +175,12 @@ fn each_of_nine_nodes_is_down(rt: HostRuntime) -> Result<(), Fail> {
 #[test]
 fn packets_come_twice_and_in_reverse(rt: HostRuntime) -> Result<(), Fail> {
     let alloc = rt.alloc();
-    let ways: [&[u8]; 2] = [
-        b"settle\nreplay 2\nsettle",
-        b"replay 1\nreplay 1\nreplay 1\nreplay 1\nreplay 1\nreplay 1\nreplay 1",
-    ];
-    for come in ways {
-        let words: [&[u8]; 4] = [b"", b"", b"", come];
-        is_written(&rt, alloc, DELIVERED, DELIVERED_WRITES, words)?;
-        is_written(&rt, alloc, DELETED, DELETED_WRITES, words)?;
+    let behind = b"settle\nreplay 2\nsettle".as_slice();
+    let in_place =
+        b"replay 1\nreplay 1\nreplay 1\nreplay 1\nreplay 1\nreplay 1\nreplay 1".as_slice();
+    for come in [behind, in_place] {
+        is_written(&rt, alloc, (DELIVERED, DELIVERED_WRITES), b"123", come)?;
+        is_written(&rt, alloc, (DELETED, DELETED_WRITES), b"123", come)?;
     }
     Ok(())
 }
