@@ -7,7 +7,7 @@ use Rattle.mc_model.specs.node.Setup.{Setup}
 use Rattle.node_model.specs.Stepped.{sender_of}
 use Rattle.script_lines.specs.Said.{is_listed}
 use Rattle.script_text.specs.Settings.{Settings}
-use Rattle.script_text.specs.Node.{Node, opened_by, step_at, with_step}
+use Rattle.script_text.specs.Node.{opened_by, step_at, with_step}
 use Rattle.script_text.specs.Runner.{Runner, Acted, given_out, gone_prints, most_deliveries, on_delivery, on_grant, on_octets, on_restart, on_tick, runner_opened}
 use Rattle.script_world.specs.Prints.{WorldPrint, At, Refuses, StopsSettling}
 
