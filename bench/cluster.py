@@ -10,6 +10,7 @@ ten seconds; GNU time measures the memory in a run of its own, in which the rece
 seconds a run may take: a longer one, as the tenth of its messages tells, is left out (300 if none are given).
 
     python3 bench/cluster.py crates/centre/out/centre [SECONDS]
+    python3 bench/cluster.py --instructions crates/centre/out/centre      # counts with Valgrind's callgrind, up to 1,000 messages: ten minutes
 
 It runs an unproved program as well; what `rt try` builds looks for faults of memory as it runs, which takes a hundred times as long, and more memory.
 """
@@ -18,6 +19,7 @@ import subprocess
 import sys
 import tempfile
 
+from instructions import instructions
 from one_node import BIND, START, processor_time
 
 SUBMIT = "0000002900000004000000000000000200010131343400010131353500000000000001000000024869"
@@ -86,7 +88,27 @@ def rows(program, nodes, most):
         before = each
 
 
+def counts(program, nodes):
+    """A row for each number of messages, in instructions."""
+    start, before = instructions(program, script(nodes, 0)), None
+    for messages in (100, 1_000):
+        lines = script(nodes, messages)
+        whole = instructions(program, lines)
+        each = (whole - start) / messages
+        settle = (instructions(program, lines + ["settle"] * SETTLES) - whole) / SETTLES
+        times = f"{each / before:.2f}" if before else ""
+        yield nodes, messages, f"{each:,.0f}", times, f"{each / (nodes * packets(nodes)):,.0f}", f"{settle:,.0f}"
+        before = each
+
+
 def main():
+    if len(sys.argv) == 3 and sys.argv[1] == "--instructions":
+        print("| Nodes | Messages | A message | Times a tenth | A packet that comes | A settle of nothing |")
+        print("|---|---|---|---|---|---|")
+        for nodes in (1, 3, 5, 9):
+            for row in counts(os.path.abspath(sys.argv[2]), nodes):
+                print("|", " | ".join(map(str, row)), "|", flush=True)
+        return
     if len(sys.argv) not in (2, 3):
         sys.exit(__doc__)
     program, most = os.path.abspath(sys.argv[1]), float(sys.argv[2]) if len(sys.argv) == 3 else 300
