@@ -67,7 +67,7 @@ impl Accounts {
         }
     }
 
-    /// Adds an account behind the others. It is `Repeated` if the system_id has an account already, and `Memory` if it has not
+    /// Adds an account after the others. It is `Repeated` if the system_id has an account already, and `Memory` if it has not
     /// and memory is wanting; then nothing is changed.
     pub fn add(&mut self, account: Account) -> Result<(), AccountsFault>
         ensures ok { OnOk result (self.new ≡ self.old ++ account ∷ []) }

@@ -47,7 +47,7 @@ impl Routes {
         }
     }
 
-    /// Adds a route behind the others. It is `Repeated` if the prefix has a route already, and `Memory` if it has not and memory
+    /// Adds a route after the others. It is `Repeated` if the prefix has a route already, and `Memory` if it has not and memory
     /// is wanting; then nothing is changed.
     pub fn add(&mut self, route: Route) -> Result<(), AccountsFault>
         ensures ok { OnOk result (self.new ≡ self.old ++ route ∷ []) }

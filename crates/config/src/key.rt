@@ -129,7 +129,7 @@ impl Key {
     }
 }
 
-/// The name, behind that of its tables and a dot.
+/// The name, after that of its tables and a dot.
 impl fmt::Display for Key {
     fn fmt<W: fmt::Write>(&self, f: &mut fmt::Formatter<W>) -> fmt::Result {
         match self.part() {

@@ -20,7 +20,7 @@ pub fn read_listen(text: &str) -> Option<SocketAddrV4>
     }
 }
 
-/// What is behind the first colon.
+/// What follows the first colon.
 fn port_digits(text: &[u8]) -> &[u8]
     ensures { result.now ≡ spec.port_digits text.now }
 {

@@ -6,7 +6,7 @@ ghost use Rattle.delivery.specs.Due.{kind_due};
 
 use fate_chain::{ErrorCode, Final, Kind};
 
-/// The decree that a node puts behind the chain of a message that waits, once its time has come.
+/// The decree that a node puts after the chain of a message that waits, once its time has come.
 #[derive(Clone, Copy, Debug, PartialEq, Eq)]
 pub enum DueDecree {
     /// The message expires.

@@ -5,7 +5,7 @@ use receipts::{ReceiptFault, receipt_text};
 use std::alloc::Global;
 use std::test::Fail;
 
-/// The text of the receipt after these decrees, behind the word before; if there is none, why.
+/// The text of the receipt after these decrees, after the word before; if there is none, why.
 fn text(
     alloc: Global,
     registered_delivery: u8,
@@ -70,7 +70,7 @@ fn fits(place: u8, octet: u8) -> bool {
     }
 }
 
-/// How many octets stand behind the pattern, if a text has it.
+/// How many octets stand after the pattern, if a text has it.
 fn behind_the_pattern(text: &[u8]) -> Option<usize> {
     let front = text.get(..PATTERN.len())?;
     let is_there = PATTERN

@@ -41,7 +41,7 @@ impl Model for Chain {
 }
 
 impl Chain {
-    /// The chain of a message that is taken by the node and incarnation that its id names. NotPermitted where its
+    /// The chain of a message that is taken by the node and incarnation that its id names. NotPermitted if its
     /// expiry is not later than the moment, or its schedule not earlier than its expiry.
     pub fn begin(
         alloc: Global,
@@ -117,7 +117,7 @@ impl Chain {
         }
     }
 
-    /// The error of its last failure or fate, 0 to 999, and 0 where there is none.
+    /// The error of its last failure or fate, 0 to 999, and 0 if there is none.
     pub fn error(&self) -> u16
         ensures error { result ≡ error_in self.now.decrees }
         ensures range { result ≤ 999 }
@@ -155,7 +155,7 @@ impl Chain {
         self.standing().permits(&decree.mark())
     }
 
-    /// The chain with one more decree at its end. NotPermitted where the decree may not come next.
+    /// The chain with one more decree at its end. NotPermitted if the decree may not come next.
     pub fn extended(&self, decree: Decree) -> Result<Chain, ChainFault>
         ensures id { IfOk result (λ chain. chain.id ≡ self.now.id) }
         ensures decrees { IfOk result (λ chain. chain.decrees ≡ decree ∷ self.now.decrees) }
@@ -171,7 +171,7 @@ impl Chain {
         })
     }
 
-    /// Its decrees, the oldest first, and this one behind them.
+    /// Its decrees, the oldest first, and this one after them.
     fn followed_by(&self, decree: Decree) -> Result<Vec<Decree>, AllocError>
         ensures { IfOk result (λ decrees. reverse decrees.items ≡ decree ∷ self.now.decrees) }
     {
@@ -219,8 +219,8 @@ impl Chain {
         Ok(octets)
     }
 
-    /// The chain whose octets these are. NotBytes where they are not the octets of an id and of decrees, from the
-    /// first octet to the last; NotPermitted where they are, and the decrees are no permitted chain. Memory is taken
+    /// The chain whose octets these are. NotBytes if they are not the octets of an id and of decrees, from the
+    /// first octet to the last; NotPermitted if they are, and the decrees are no permitted chain. Memory is taken
     /// once they are found to be a chain's.
     pub fn read(alloc: Global, octets: &[u8]) -> Result<Chain, ChainFault>
         // What is read is spelled so.

@@ -39,7 +39,7 @@ impl Model for ErrorCode {
 }
 
 impl ErrorCode {
-    /// The error of this number; none where it is above 999.
+    /// The error of this number; none if it is above 999.
     pub fn make(number: u16) -> Option<ErrorCode>
         ensures made { IsSome result ↔ (number ≤ 999) }
         ensures value { IfSome result (λ error. error ≡ number) }
@@ -78,7 +78,7 @@ pub enum Final {
 }
 
 impl Final {
-    /// The one whose message_state has this code; none where there is none.
+    /// The one whose message_state has this code; none if there is none.
     #[tactic(auto, unfolding(crate::specs::States::final_in))]
     pub(crate) fn of_code(code: u8) -> Option<Final>
         ensures { option_map final_of result ≡ final_in code }

@@ -1,4 +1,4 @@
-//! The fields of chains at the front of octets, each with the octets behind it. Nothing here takes memory.
+//! The fields of chains at the front of octets, each with the octets after it. Nothing here takes memory.
 
 ghost use Rattle.std.specs.Prelude.{◌≡◌, ◌↔◌, IsTrue, IfOk};
 ghost use Rattle.pdu_codec.specs.Text.{IsText, IsShortMessage};
@@ -111,7 +111,7 @@ fn is_text(limit: usize, octets: &[u8]) -> bool
     octets.len() < limit && !octets.contains(&0)
 }
 
-/// A text below a limit, behind the number of its octets.
+/// A text below a limit, after the number of its octets.
 #[tactic(auto, unfolding(octet_fields::specs::Reading::content_at))]
 pub fn text_at(limit: usize, octets: &[u8]) -> Result<(&[u8], &[u8]), Defect>
     ensures read { IsRead (λ x. (x.0.now, x.1.now)) result
@@ -132,7 +132,7 @@ fn is_optional(octets: &[u8]) -> bool
     check_optional(octets).is_ok()
 }
 
-/// The octets of optional parameters, behind their number.
+/// The octets of optional parameters, after their number.
 #[tactic(auto, unfolding(octet_fields::specs::Reading::content_at))]
 pub fn parameters_at(octets: &[u8]) -> Result<(&[u8], &[u8]), Defect>
     ensures read { IsRead (λ x. (x.0.now, x.1.now)) result

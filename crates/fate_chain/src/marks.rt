@@ -46,7 +46,7 @@ pub struct Mark {
 }
 
 impl Act {
-    /// One where it begins an attempt, else none.
+    /// One if it begins an attempt, else none.
     fn attempts(self) -> usize
         ensures attempts { result ≡ attempts_of (bare_kind self) }
         ensures range { result ≤ 1 }

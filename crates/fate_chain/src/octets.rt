@@ -190,7 +190,7 @@ fn decided_at(kind: u8, octets: &[u8]) -> Result<(KindOctets<'_>, &[u8]), Defect
     }
 }
 
-/// A decree at the front of octets, and the octets behind it; none where there is none.
+/// A decree at the front of octets, and the octets after it; none if there is none.
 #[tactic(auto, unfolding(crate::specs::Bytes::decree_at))]
 pub fn decree_at(octets: &[u8]) -> Result<(DecreeOctets<'_>, &[u8]), Defect>
     ensures read { IsRead (λ x. (decree_seen x.0, x.1.now)) result (decree_at octets.now) }

@@ -63,7 +63,7 @@ fn begun(id: MsgId, first: Mark) -> Progress
     }
 }
 
-/// The term of what is taken by a decree of this mark; none where it may not begin the chain of the id.
+/// The term of what is taken by a decree of this mark; none if it may not begin the chain of the id.
 fn first_term(id: MsgId, first: &Mark) -> Option<Term>
     ensures { MatchOption result
         (MayBegin id (author_of first.now.author) first.now.moment (bare_kind first.now.act) → ⊥)
@@ -79,7 +79,7 @@ fn first_term(id: MsgId, first: &Mark) -> Option<Term>
     term.may_begin(first.moment).then_some(*term)
 }
 
-/// With one more decree behind a permitted chain.
+/// With one more decree after a permitted chain.
 fn extended(standing: Standing, next: Mark) -> Progress
     ensures { (id : ℕ) (decrees : List DecreeValue) (decree : DecreeValue) →
         IsPermitted id decrees → IsStandingOf decrees standing →

@@ -14,7 +14,7 @@ use mc_types::MsgId;
 use octet_fields::{Defect, u16_at};
 use std::alloc::{AllocError, Global};
 
-/// An id, and how many decrees are in the octets behind.
+/// An id, and how many decrees are in the octets after.
 #[derive(Clone, Copy)]
 pub struct Head<'a> {
     pub id: MsgId,

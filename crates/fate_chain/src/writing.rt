@@ -15,7 +15,7 @@ use octet_fields::{put_counted, put_long_counted, put_octets};
 use pdu_codec::{Address, ShortMessage, Text, Tlvs};
 use std::alloc::AllocError;
 
-/// A text behind the number of its octets.
+/// A text after the number of its octets.
 fn put_text<const LIMIT: usize>(out: &mut Vec<u8>, text: &Text<LIMIT>) -> Result<(), AllocError>
     requires { LIMIT ≤ 256 }
     ensures ok { OnOk result (out.new.items ≡ out.old.items ++ (length text.now ∷ text.now)) }
@@ -24,7 +24,7 @@ fn put_text<const LIMIT: usize>(out: &mut Vec<u8>, text: &Text<LIMIT>) -> Result
     put_counted(out, text.octets())
 }
 
-/// A short_message behind the number of its octets.
+/// A short_message after the number of its octets.
 fn put_short_message(out: &mut Vec<u8>, message: &ShortMessage) -> Result<(), AllocError>
     ensures ok { OnOk result (out.new.items ≡ out.old.items ++ (length message.now ∷ message.now)) }
     ensures short { IsShortMessage message.now }
@@ -32,7 +32,7 @@ fn put_short_message(out: &mut Vec<u8>, message: &ShortMessage) -> Result<(), Al
     put_counted(out, message.octets())
 }
 
-/// Optional parameters behind the number of their octets.
+/// Optional parameters after the number of their octets.
 fn put_optional(out: &mut Vec<u8>, tlvs: &Tlvs) -> Result<(), AllocError>
     ensures ok { OnOk result (out.new.items
         ≡ out.old.items ++ (to_be_bytes w16 (length (optional_octets tlvs.now)) ++ optional_octets tlvs.now)) }

@@ -79,7 +79,7 @@ pub fn nodes_make_a_run_of_steps()
 {}
 
 /// A run over stores that were not new: the run that left them, a start anew of each node whose store was not new, and the
-/// later acts are together one run, in which the packets are numbered on; and so it is where the later acts are those of steps.
+/// later acts are together one run, in which the packets are numbered on; and so it is if the later acts are those of steps.
 pub fn a_run_over_old_stores_goes_on()
     ensures run { (run : Run) (fresh : ℕ → Bool) (lost serials : ℕ → ℕ) (later : List (ℕ × Act)) →
         AreLeft run fresh lost →

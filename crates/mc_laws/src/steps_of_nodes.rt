@@ -92,14 +92,14 @@ pub fn a_tick_starts_a_round()
 {}
 
 /// Among three nodes a query_sm of another node's message comes and is asked, node 2 has nothing to tell, and node 3 tells of a
-/// vote. So a round is started for the chain of that vote; and where nodes 2 and 3 promise and report no vote, that chain is
+/// vote. So a round is started for the chain of that vote; and if nodes 2 and 3 promise and report no vote, that chain is
 /// proposed.
 pub fn a_told_vote_is_followed()
     ensures { (account source : List ℕ) (vote : Vote) →
         AreStepsAlone among_three (opened_new 1) (following account source vote) }
 {}
 
-/// A node of three is asked for a promise and gives it; where it stops after the save, it answers nothing.
+/// A node of three is asked for a promise and gives it; if it stops after the save, it answers nothing.
 pub fn an_acceptor_promises_or_stops()
     ensures promises { IsStepAlone among_three (opened_new 1) (Delivery (Prepare 2 (slot_at first_id 0) first_ballot))
         (Promises (slot_at first_id 0) first_ballot true ∷ Receives (Prepare 2 (slot_at first_id 0) first_ballot) ∷ []) }
@@ -141,7 +141,7 @@ pub fn each_cancel_starts_a_round()
 {}
 
 /// A node began its second incarnation with a vote, and started a round for that vote's chain. It has voted for another chain
-/// since, but where a majority has promised and reports no vote, the chain of the round is proposed.
+/// since, but if a majority has promised and reports no vote, the chain of the round is proposed.
 pub fn a_voted_chain_is_carried_on()
     ensures { (vote : Vote) (other : List Decree) →
         IsStepAlone among_three (carrying vote other) (Delivery (Promise 3 second_slot second_ballot None)) (carrying_on vote) }

@@ -31,7 +31,7 @@ impl Model for MsgId {
 }
 
 impl MsgId {
-    /// The id of the serial in the incarnation of the node; OutOfRange where the serial is not 1 to 99999.
+    /// The id of the serial in the incarnation of the node; OutOfRange if the serial is not 1 to 99999.
     pub fn make(node: NodeNo, incarnation: Incarnation, serial: u32) -> Result<MsgId, TypeFault>
         ensures made { IsOk result ↔ IsSerial serial }
         ensures value { IfOk result (λ id. id ≡ id_of node incarnation serial) }
@@ -47,7 +47,7 @@ impl MsgId {
         })
     }
 
-    /// The id of this number; OutOfRange where its node, its incarnation or its serial is outside its range.
+    /// The id of this number; OutOfRange if its node, its incarnation or its serial is outside its range.
     pub fn of_number(number: u64) -> Result<MsgId, TypeFault>
         ensures made { IsOk result ↔ IsId number }
         ensures value { IfOk result (λ id. id ≡ number) }
@@ -59,7 +59,7 @@ impl MsgId {
         Ok(MsgId { number })
     }
 
-    /// The id that a text names. NotAnId where the text is not ten decimal digits; OutOfRange where it is, and its
+    /// The id that a text names. NotAnId if the text is not ten decimal digits; OutOfRange if it is, and its
     /// node, its incarnation or its serial is outside its range.
     #[tactic(auto, using(crate::proofs::Texts::named, crate::proofs::Texts::not_digits, crate::proofs::Texts::no_id))]
     pub fn read(text: &[u8]) -> Result<MsgId, TypeFault>

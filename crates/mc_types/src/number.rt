@@ -24,7 +24,7 @@ impl Model for NodeNo {
 }
 
 impl NodeNo {
-    /// The node of this number; OutOfRange where it is not 1 to 9.
+    /// The node of this number; OutOfRange if it is not 1 to 9.
     pub fn make(number: u8) -> Result<NodeNo, TypeFault>
         ensures made { IsOk result ↔ IsNode number }
         ensures value { IfOk result (λ node. node ≡ number) }
@@ -70,7 +70,7 @@ impl Model for Incarnation {
 }
 
 impl Incarnation {
-    /// The incarnation of this number; OutOfRange where it is not 1 to 9999.
+    /// The incarnation of this number; OutOfRange if it is not 1 to 9999.
     pub fn make(number: u16) -> Result<Incarnation, TypeFault>
         ensures made { IsOk result ↔ IsIncarnation number }
         ensures value { IfOk result (λ incarnation. incarnation ≡ number) }
@@ -124,7 +124,7 @@ impl Moment {
         Moment { seconds: 946684800 }
     }
 
-    /// The moment of so many seconds; OutOfRange where they are none.
+    /// The moment of so many seconds; OutOfRange if they are none.
     pub fn make(seconds: u32) -> Result<Moment, TypeFault>
         ensures made { IsOk result ↔ IsMoment seconds }
         ensures value { IfOk result (λ moment. moment ≡ seconds) }
@@ -144,7 +144,7 @@ impl Moment {
         self.seconds
     }
 
-    /// So many seconds later, and the greatest moment, 4102444799, where that would be past it.
+    /// So many seconds later, and the greatest moment, 4102444799, if that would be past it.
     pub fn later(self, seconds: u32) -> Moment
         ensures { result ≡ min (self + seconds) 4102444799 }
     {

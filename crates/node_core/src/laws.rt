@@ -10,13 +10,13 @@ pub fn opens_as_restarted<S: StableStore>()
 {}
 
 /// A node that was stopped in the save of a packet's step and opens again keeps what the model's does after a crash at that packet, which
-/// comes before the save or behind it, and a restart.
+/// comes before the save or after it, and a restart.
 pub fn opens_as_crashed<S: StableStore>()
     ensures { OpensAsCrashed S }
 {}
 
 /// A node that was stopped in a save and opened again tells the packet that came, and keeps what the model's does after a crash at that
-/// packet, before the save or behind it as it tells, and a restart.
+/// packet, before the save or after it as it tells, and a restart.
 pub fn reopens_as_crashed<S: StableStore>()
     ensures { ReopensAsCrashed S }
 {}

@@ -320,7 +320,7 @@ impl Message {
     }
 
     /// What a tick decides on the message of this id by the first rule that fits, if one does: it is taken for a submit_sm that waits, the
-    /// highest vote beyond what is known is followed that is its own or was told to a request, or it is decided what is due behind that. `up`
+    /// highest vote beyond what is known is followed that is its own or was told to a request, or it is decided what is due after that. `up`
     /// has the accounts of which a session may receive, `queue` the requests that wait, of which those count that did not wait too long. It
     /// takes memory only if a rule fits.
     pub fn ruling(
@@ -359,7 +359,7 @@ impl Message {
         }
     }
 
-    /// What a tick decides behind a chain of the message that is known, if anything is due there. It takes memory only if something is.
+    /// What a tick decides after a chain of the message that is known, if anything is due there. It takes memory only if something is.
     fn ruling_behind(
         &self,
         chain: &Chain,
@@ -430,7 +430,7 @@ impl Message {
     }
 }
 
-/// The place of the attempt that is given up, if that is due behind the chain at this place.
+/// The place of the attempt that is given up, if that is due after the chain at this place.
 fn given_up(due: &Due, place: u8) -> Option<u8>
     ensures place { result ≡ (if gives_up (rule_of due.now) then Some place else None) }
     ensures same { IfSome result (λ found. found ≡ place) }
@@ -441,7 +441,7 @@ fn given_up(due: &Due, place: u8) -> Option<u8>
     }
 }
 
-/// The chain that is known, with the decree behind it on the attempt in which it ends, that of this slot, if it ends there.
+/// The chain that is known, with the decree after it on the attempt in which it ends, that of this slot, if it ends there.
 fn next_behind(
     learner: &Learner,
     slot: Slot,

@@ -159,7 +159,7 @@ fn least_from(ids: &[MsgId], from: u64) -> Option<MsgId>
     }
 }
 
-/// The id at a place; none behind the last.
+/// The id at a place; none after the last.
 fn at(ids: &[MsgId], place: usize) -> Option<MsgId>
     ensures { result ≡ slice_get ids.now place }
 {

@@ -9,7 +9,7 @@ use requests::Held;
 pub enum QueueChange {
     /// They stay as they are.
     Same,
-    /// One more waits, behind all others.
+    /// One more waits, after all others.
     Push(Box<Held>),
     /// One takes the place of the one of its ticket.
     Replace(Box<Held>),

@@ -140,7 +140,7 @@ impl Kept {
         Ok(turns)
     }
 
-    /// Where a walk stands behind the message of this id, its next one. It takes no memory.
+    /// Where a walk stands after the message of this id, its next one. It takes no memory.
     fn passed(&self, clock: Moment, walk: Walk, id: MsgId) -> Walk
         ensures from { result.from ≡ suc id }
         ensures same_live { walk.live ≢ Some id → result.live ≡ walk.live }
@@ -155,7 +155,7 @@ impl Kept {
         }
     }
 
-    /// The next message that is live, behind the one of this id.
+    /// The next message that is live, after the one of this id.
     fn live_behind(&self, live: Option<MsgId>, id: MsgId) -> Option<MsgId>
         ensures same { live ≢ Some id → result ≡ live }
         ensures next { live ≡ Some id → IsNextLive self.now.messages.entries (suc id) result }
@@ -166,7 +166,7 @@ impl Kept {
         }
     }
 
-    /// The next message of which a request asks, behind the one of this id.
+    /// The next message of which a request asks, after the one of this id.
     fn asked_behind(&self, clock: Moment, asked: Option<MsgId>, id: MsgId) -> Option<MsgId>
         ensures same { asked ≢ Some id → result ≡ asked }
         ensures next { asked ≡ Some id → IsLeastFrom (suc id) (λ other. In other (ids_in (timely clock (held_in self.now.queue)))) result }

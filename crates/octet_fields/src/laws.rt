@@ -7,7 +7,7 @@ pub fn read_is_spelled<E>()
     ensures { ReadIsSpelled E }
 {}
 
-/// What is within its limits and spelled so is read, whatever stands behind it.
+/// What is within its limits and spelled so is read, whatever stands after it.
 pub fn spelled_is_read<E>()
     ensures { SpelledIsRead E }
 {}

@@ -1,4 +1,4 @@
-//! Fields at the front of octets, each with the octets behind it. Nothing here takes memory.
+//! Fields at the front of octets, each with the octets after it. Nothing here takes memory.
 
 ghost use Rattle.std.specs.Prelude.{◌≡◌, ◌≤◌, ◌==◌, ℕ, List, [], length, position, IfOk, MatchOption, MatchResult};
 ghost use Rattle.octet_fields.specs.Texts.{IsText};
@@ -97,7 +97,7 @@ fn taken_at(most: usize, count: usize, octets: &[u8]) -> Result<(&[u8], &[u8]), 
     Ok(octets.split_at(count))
 }
 
-/// Octets behind their number, which has one octet: Cut if there is none, Long if the number is above `most`, and Few if
+/// Octets after their number, which has one octet: Cut if there is none, Long if the number is above `most`, and Few if
 /// fewer octets follow.
 #[tactic(auto, unfolding(crate::specs::Reading::content_at))]
 pub fn counted_at(most: usize, octets: &[u8]) -> Result<(&[u8], &[u8]), Defect>
@@ -111,7 +111,7 @@ pub fn counted_at(most: usize, octets: &[u8]) -> Result<(&[u8], &[u8]), Defect>
     Ok(counted)
 }
 
-/// Octets behind their number, which has two octets: Cut if there are fewer, Long if the number is above `most`, and Few
+/// Octets after their number, which has two octets: Cut if there are fewer, Long if the number is above `most`, and Few
 /// if fewer octets follow.
 #[tactic(auto, unfolding(crate::specs::Reading::content_at))]
 pub fn long_counted_at(most: usize, octets: &[u8]) -> Result<(&[u8], &[u8]), Defect>
@@ -125,7 +125,7 @@ pub fn long_counted_at(most: usize, octets: &[u8]) -> Result<(&[u8], &[u8]), Def
     Ok(counted)
 }
 
-/// An optional parameter (SMPP 3.4, section 3.2.4.1): its tag and its value; none where it is cut.
+/// An optional parameter (SMPP 3.4, section 3.2.4.1): its tag and its value; none if it is cut.
 #[tactic(auto, unfolding(crate::specs::Reading::tlv_at))]
 pub fn tlv_at(octets: &[u8]) -> Option<(u16, &[u8], &[u8])>
     ensures { MatchOption result
@@ -143,7 +143,7 @@ pub fn tlv_at(octets: &[u8]) -> Option<(u16, &[u8], &[u8])>
     Some((u16::from_be_bytes([*a, *b]), value, rest))
 }
 
-/// Optional parameters up to the end, and nothing behind them. Long if their octets are more than `most`, and Cut if one of
+/// Optional parameters up to the end, and nothing after them. Long if their octets are more than `most`, and Cut if one of
 /// them is.
 #[tactic(auto, unfolding(crate::specs::Reading::parameters_at, crate::specs::Reading::content_at))]
 pub fn check_parameters(most: usize, octets: &[u8]) -> Result<(), Defect>

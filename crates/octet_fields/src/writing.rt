@@ -1,4 +1,4 @@
-//! Fields behind octets. An `Err` is want of memory: the octets that were there are there still, and some may follow them.
+//! Fields after octets. An `Err` is want of memory: the octets that were there are there still, and some may follow them.
 
 ghost use Rattle.std.specs.Prelude.{◌≡◌, ◌<◌, ◌≤◌, ◌+◌, ◌^◌, ◌++◌, ◌∷◌, [], length, vec_capacity, OnOk, OnErr};
 ghost use Rattle.std.specs.Int.{w16, to_be_bytes};
@@ -16,7 +16,7 @@ pub fn put_octets(out: &mut Vec<u8>, octets: &[u8]) -> Result<(), AllocError>
     out.extend_from_slice(octets)
 }
 
-/// Octets behind their number, which has one octet.
+/// Octets after their number, which has one octet.
 pub fn put_counted(out: &mut Vec<u8>, octets: &[u8]) -> Result<(), AllocError>
     requires { length octets.now < 2 ^ 8 }
     ensures ok { OnOk result (out.new.items ≡ out.old.items ++ (length octets.now ∷ octets.now)) }
@@ -27,7 +27,7 @@ pub fn put_counted(out: &mut Vec<u8>, octets: &[u8]) -> Result<(), AllocError>
     Ok(())
 }
 
-/// Octets behind their number, which has two octets.
+/// Octets after their number, which has two octets.
 pub fn put_long_counted(out: &mut Vec<u8>, octets: &[u8]) -> Result<(), AllocError>
     requires { length octets.now < 2 ^ 16 }
     ensures ok { OnOk result (out.new.items

@@ -271,7 +271,7 @@ fn the_longest_line_is_9996_octets_on_a_session(rt: HostRuntime) -> Result<(), F
     Ok(())
 }
 
-/// The lines that a reader gives, each with a bar behind it.
+/// The lines that a reader gives, each with a bar after it.
 fn barred_lines<R: Read>(alloc: Global, reader: &mut R) -> Result<Vec<u8>, Fail> {
     let mut buffer = LineBuffer::make(alloc)?;
     let mut lines = Vec::new(alloc);

@@ -49,7 +49,7 @@ fn body_of(alloc: Global, command: Option<Command>, octets: &[u8]) -> Result<Bod
     }
 }
 
-/// A body of no field, if no octet stands behind the header.
+/// A body of no field, if no octet stands after the header.
 fn bare(body: Body, octets: &[u8]) -> Result<Body, PduFault>
     ensures { IsMade (λ body. body) result (bare_at body octets.now) }
 {

@@ -17,7 +17,7 @@ use pdu_fields::Text;
 use pdu_tables::{Command, limits};
 use std::alloc::AllocError;
 
-/// The numbers of a header behind command_length.
+/// The numbers of a header after command_length.
 #[derive(Clone, Copy)]
 struct Head {
     command: u32,

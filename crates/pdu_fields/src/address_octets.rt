@@ -38,7 +38,7 @@ impl AddressOctets<'_> {
     }
 }
 
-/// The source address at the front of octets, and the octets behind it. It takes no memory.
+/// The source address at the front of octets, and the octets after it. It takes no memory.
 pub fn source_at(octets: &[u8]) -> Result<(AddressOctets<'_>, &[u8]), PduFault>
     ensures read { IsRead (λ x. (spec.address_contents x.0, x.1.now)) result (spec.source_at octets.now) }
     ensures text { IfOk result (λ x. IsText 21 x.0.digits.now) }
@@ -51,7 +51,7 @@ pub fn source_at(octets: &[u8]) -> Result<(AddressOctets<'_>, &[u8]), PduFault>
     )
 }
 
-/// The destination address at the front of octets, and the octets behind it. It takes no memory.
+/// The destination address at the front of octets, and the octets after it. It takes no memory.
 pub fn destination_at(octets: &[u8]) -> Result<(AddressOctets<'_>, &[u8]), PduFault>
     ensures read { IsRead (λ x. (spec.address_contents x.0, x.1.now)) result (spec.destination_at octets.now) }
     ensures text { IfOk result (λ x. IsText 21 x.0.digits.now) }

@@ -1,4 +1,4 @@
-//! The fields of PDUs at the front of octets, each with the octets behind it. Nothing here takes memory.
+//! The fields of PDUs at the front of octets, each with the octets after it. Nothing here takes memory.
 
 ghost use Rattle.std.specs.Prelude.{◌≡◌, [], IfOk, MatchResult, List, ℕ};
 ghost use Rattle.octet_fields.specs.Reading.{content_at, told};
@@ -44,7 +44,7 @@ pub fn octet_at(field: Field, octets: &[u8]) -> Result<(u8, &[u8]), PduFault>
     }
 }
 
-/// Octets one behind another, each of them one of these fields.
+/// Octets one after another, each of them one of these fields.
 pub fn octets_at<const N: usize>(
     fields: [Field; N],
     octets: &[u8],
@@ -90,7 +90,7 @@ pub fn nothing_at(octets: &[u8]) -> Result<(), PduFault>
     }
 }
 
-/// Optional parameters, of at most 7,000 octets, and nothing behind them.
+/// Optional parameters, of at most 7,000 octets, and nothing after them.
 pub fn check_optional(octets: &[u8]) -> Result<(), PduFault>
     ensures { MatchResult result
         (λ _. (tlvs : List (ℕ × List ℕ)) × (optional_at octets.now ≡ Ok (tlvs, [])))

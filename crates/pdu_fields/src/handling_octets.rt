@@ -30,7 +30,7 @@ pub struct HandlingOctets<'a> {
     pub sm_default_msg_id: u8,
 }
 
-/// How a message is to be handled, at the front of octets, and the octets behind it. It takes no memory.
+/// How a message is to be handled, at the front of octets, and the octets after it. It takes no memory.
 pub fn handling_at(octets: &[u8]) -> Result<(HandlingOctets<'_>, &[u8]), PduFault>
     ensures { IsRead (λ x. (handling_contents x.0, x.1.now)) result (front_at handling_parts octets.now) }
 {

@@ -46,7 +46,7 @@ impl Tlvs {
         Ok(Tlvs { octets })
     }
 
-    /// Puts an optional parameter behind the others. If there is no memory for it nothing changes.
+    /// Puts an optional parameter after the others. If there is no memory for it nothing changes.
     pub fn push(&mut self, tag: u16, value: &[u8]) -> Result<(), AllocError>
         requires { length (optional_octets self.old) + 4 + length value.now ≤ 7000 }
         ensures ok { OnOk result (self.new ≡ self.old ++ (tag, value.now) ∷ []) }

@@ -2,7 +2,7 @@
 
 ghost use Rattle.pdu_frames.specs.Laws.{StreamHasFrames, StreamsAreCut, FramesAreOne, FirstFramesAreGiven, AllFramesAreGiven};
 
-/// Each stream has a list of frames, and a rest behind them.
+/// Each stream has a list of frames, and a rest after them.
 pub fn stream_has_frames()
     ensures { StreamHasFrames }
 {}

@@ -9,7 +9,7 @@ macro_rules! code_of {
     };
 }
 
-/// The value that a number stands for; none where the list has no such number.
+/// The value that a number stands for; none if the list has no such number.
 macro_rules! one_of {
     ($code:expr; $($kind:ident::$name:ident = $number:literal),*) => {
         match $code {

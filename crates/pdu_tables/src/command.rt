@@ -83,7 +83,7 @@ impl Command {
         commands!(code_of, self)
     }
 
-    /// What a command_id stands for; none where it is not in the table.
+    /// What a command_id stands for; none if it is not in the table.
     pub fn of_code(code: u32) -> Option<Command>
         ensures table { result ≡ command_of code }
         ensures known { IfSome result (λ command. command_code command ≡ code) }

@@ -49,7 +49,7 @@ impl State {
         states!(code_of, self)
     }
 
-    /// What a message_state stands for; none where it is not in the table.
+    /// What a message_state stands for; none if it is not in the table.
     pub fn of_code(code: u8) -> Option<State>
         ensures table { result ≡ state_of code }
         ensures known { IfSome result (λ state. state_code state ≡ code) }

@@ -103,7 +103,7 @@ impl Status {
         statuses!(code_of, self)
     }
 
-    /// What a command_status stands for; none where it is not in the table.
+    /// What a command_status stands for; none if it is not in the table.
     pub fn of_code(code: u32) -> Option<Status>
         ensures table { result ≡ status_of code }
         ensures known { IfSome result (λ status. status_code status ≡ code) }

@@ -49,7 +49,7 @@ impl Tag {
         tags!(code_of, self)
     }
 
-    /// What a tag stands for; none where it is not in the table.
+    /// What a tag stands for; none if it is not in the table.
     pub fn of_code(code: u16) -> Option<Tag>
         ensures table { result ≡ tag_of code }
         ensures known { IfSome result (λ tag. tag_code tag ≡ code) }

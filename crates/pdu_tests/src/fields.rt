@@ -1,4 +1,4 @@
-//! Fields at the front of octets and behind octets.
+//! Fields at the front of octets and after octets.
 
 use crate::bodies::assert_same;
 use octet_fields::{

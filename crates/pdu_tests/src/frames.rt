@@ -9,7 +9,7 @@ use std::alloc::Global;
 use std::process::Abort;
 use std::test::Fail;
 
-/// A bind_transceiver and a submit_sm, one behind the other.
+/// A bind_transceiver and a submit_sm, one after the other.
 fn bind_and_submit(alloc: Global) -> Result<Vec<u8>, Fail> {
     let mut stream = Vec::from_slice(alloc, &BIND_TRANSCEIVER)?;
     stream.extend_from_slice(&SUBMIT_WITH_RECEIPT)?;

@@ -85,7 +85,7 @@ impl Queue {
         MOST_WAITING <= self.held.len()
     }
 
-    /// Lets a request wait behind all others. Its ticket is higher than theirs, and there is room for it. It takes no memory.
+    /// Lets a request wait after all others. Its ticket is higher than theirs, and there is room for it. It takes no memory.
     pub fn push(&mut self, held: Box<Held>)
         requires room { length self.old < most_waiting }
         requires above { IsAbove (held_in self.old) (box_value held).waiting.ticket }

@@ -85,7 +85,7 @@ pub(crate) fn replies(
     Ok(replies)
 }
 
-/// Puts a reply behind the others, if there is one.
+/// Puts a reply after the others, if there is one.
 fn put(replies: &mut Vec<Reply>, reply: Option<Reply>) -> Result<(), AllocError>
     ensures { OnOk result (replies.new.items ≡ replies.old.items ++ option_to_list reply) }
 {

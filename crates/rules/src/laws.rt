@@ -12,7 +12,7 @@ ghost use Rattle.rules.specs.declared.standpoint.Standpoint.{Standpoint};
 ghost use Rattle.rules.specs.Dues.{own_rule};
 ghost use Rattle.rules.specs.Seen.{IsSeen};
 
-/// Of any node, what is due behind the chain that it knows is the first rule of a tick that fits that chain.
+/// Of any node, what is due after the chain that it knows is the first rule of a tick that fits that chain.
 pub fn what_is_due_is_the_first_rule()
     ensures { (setup : Setup) (k : Kept) (up : List ℕ → Bool) (id : ℕ) (newest : Decree) (older : List Decree) (taken : Submission)
         (s : Standpoint) (a : Attempted) (cancelled : Bool) → taken_in (newest ∷ older) ≡ Some taken →

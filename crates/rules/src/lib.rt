@@ -1,4 +1,4 @@
-//! The rules by which a node goes on with a message: which decree is due behind what it knows.
+//! The rules by which a node goes on with a message: which decree is due after what it knows.
 #![tactic(auto)]
 
 mod attempted;

@@ -26,7 +26,7 @@ pub struct Standpoint {
 }
 
 impl Standpoint {
-    /// What is due behind a chain that is known: by what the node did with the attempt in which it ends, whether a cancel_sm that was
+    /// What is due after a chain that is known: by what the node did with the attempt in which it ends, whether a cancel_sm that was
     /// settled waits that matches its message, and the accounts of which a session may receive. It takes no memory.
     pub fn due(
         &self,
@@ -52,7 +52,7 @@ impl Standpoint {
         }
     }
 
-    /// What is due behind a chain that is known if a cancel_sm that was settled waits that matches its message: that it is deleted,
+    /// What is due after a chain that is known if a cancel_sm that was settled waits that matches its message: that it is deleted,
     /// unless an attempt is open or it has a final state. It takes no memory.
     pub fn deletion(&self, chain: &Chain, cancelled: bool) -> Option<Due>
         ensures due { IsDeletion self.now cancelled chain.now.decrees result }
@@ -68,7 +68,7 @@ impl Standpoint {
         }
     }
 
-    /// What is due behind a chain that is known and ends in an attempt of the node, in its incarnation, that was closed so. None if it
+    /// What is due after a chain that is known and ends in an attempt of the node, in its incarnation, that was closed so. None if it
     /// ends otherwise. It takes no memory.
     pub fn end(&self, chain: &Chain, closing: Closing) -> Option<Due>
         ensures due { IsEnd self.now closing chain.now.decrees result }
@@ -84,7 +84,7 @@ impl Standpoint {
         }
     }
 
-    /// The chain with the decree that is due behind it.
+    /// The chain with the decree that is due after it.
     pub fn behind(&self, chain: &Chain, due: Due) -> Result<Chain, AllocError>
         requires { MayBeDue self.now chain.now.decrees due }
         ensures id { IfOk result (λ next. next.id ≡ chain.now.id) }
@@ -97,7 +97,7 @@ impl Standpoint {
         }
     }
 
-    /// The decree that is due behind a chain.
+    /// The decree that is due after a chain.
     fn decree(&self, chain: &Chain, due: Due) -> Decree
         ensures { IsDecreeBehind self.now chain.now.decrees due result }
     {
@@ -108,7 +108,7 @@ impl Standpoint {
         }
     }
 
-    /// What is due behind an attempt of the node.
+    /// What is due after an attempt of the node.
     fn attempt_due(&self, newest: &Decree, attempted: Attempted, up: bool) -> Option<Due>
         requires { is_attempt_by self.now.author.node newest.now newest.now.kind ≡ true }
         ensures due { (older : List DecreeValue) → option_map (fitting_for self.now newest.now older) result
@@ -135,7 +135,7 @@ impl Standpoint {
         matches!(newest.kind, Kind::Attempt(_)) && newest.author.node == self.author.node
     }
 
-    /// The moment of a decree behind this one: the clock, or the moment of the other, if that is later.
+    /// The moment of a decree after this one: the clock, or the moment of the other, if that is later.
     fn moment_behind(&self, newest: &Decree) -> Moment
         ensures { result ≡ moment_behind (kept_of self.now) newest.now }
     {

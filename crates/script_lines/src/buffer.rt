@@ -110,7 +110,7 @@ impl LineBuffer {
         }
     }
 
-    /// Reads once, and says whether the reader may have more: `false` where it is at its end.
+    /// Reads once, and says whether the reader may have more: `false` if it is at its end.
     fn read_more<R: Read>(&mut self, reader: &mut R) -> Result<bool, ReadFault>
         requires { length self.old.octets ≤ 20000 }
         ensures grew { IfOk result (λ _. (got : List ℕ) × Consumes (R.remaining reader.old) (R.remaining reader.new) got × (self.new.octets ≡ self.old.octets ++ got)) }
@@ -157,7 +157,7 @@ fn zeros(alloc: Global, count: usize) -> Result<Vec<u8>, AllocError>
     vec![in alloc; 0u8; count]
 }
 
-/// Moves the octets that are held to the front, and reads once into the room behind them.
+/// Moves the octets that are held to the front, and reads once into the room after them.
 fn read_behind<R: Read>(reader: &mut R, octets: &mut [u8], held: Range<usize>) -> io::Result<usize>
     requires order { held.start ≤ held.end }
     requires within { held.end ≤ length octets.old }
@@ -196,7 +196,7 @@ fn line_in(held: &[u8], searched: usize) -> Option<Found>
     }
 }
 
-/// What is found at the reader's end, where so many octets are held.
+/// What is found at the reader's end, if so many octets are held.
 fn rest_of(held: usize) -> Found
     requires { held ≤ 20000 }
     ensures { (octets : List ℕ) (remaining : Option (List ℕ)) → length octets ≡ held → IsOneLine octets → IsAtEnd remaining → IsFound result octets remaining }

@@ -192,7 +192,7 @@ fn named_of(line: &[u8]) -> Option<Line>
     None
 }
 
-/// What stands behind `nodes`: how many they are, and a serial or none.
+/// What stands after `nodes`: how many they are, and a serial or none.
 #[tactic(auto, unfolding(crate::specs::Said::nodes_said))]
 fn nodes_of(words: &[u8]) -> Option<Line>
     ensures { option_map said_by result ≡ nodes_said words.now }
@@ -211,7 +211,7 @@ fn nodes_of(words: &[u8]) -> Option<Line>
     })
 }
 
-/// What stands behind `pdu`: a node, a session and octets.
+/// What stands after `pdu`: a node, a session and octets.
 #[tactic(auto, unfolding(crate::specs::Said::octets_said))]
 fn octets_of(alloc: Global, words: &[u8]) -> Result<Option<Line>, AllocError>
     ensures said { IfOk result (λ read. option_map said_by read ≡ octets_said words.now) }
@@ -231,7 +231,7 @@ fn octets_of(alloc: Global, words: &[u8]) -> Result<Option<Line>, AllocError>
     }))
 }
 
-/// The node, the session and the digits behind `pdu`.
+/// The node, the session and the digits after `pdu`.
 #[tactic(auto, unfolding(crate::specs::Said::octets_parts))]
 fn octets_parts(words: &[u8]) -> Option<(u8, u8, &[u8])>
     ensures value { option_map (λ p. (p.0, p.1, p.2.now)) result ≡ spec.octets_parts words.now }
@@ -253,7 +253,7 @@ fn are_octets(digits: &[u8]) -> bool
     digits.len() % 2 == 0 && are_hex_digits(digits)
 }
 
-/// What stands behind `deliver`: the number of a packet, and a node.
+/// What stands after `deliver`: the number of a packet, and a node.
 #[tactic(auto, unfolding(crate::specs::Said::deliver_said))]
 fn deliver_of(words: &[u8]) -> Option<Line>
     ensures { option_map said_by result ≡ deliver_said words.now }
@@ -269,7 +269,7 @@ fn deliver_of(words: &[u8]) -> Option<Line>
     })
 }
 
-/// What stands behind `crash`: a node, the number of a packet, and a side of the save.
+/// What stands after `crash`: a node, the number of a packet, and a side of the save.
 #[tactic(auto, unfolding(crate::specs::Said::crash_said))]
 fn crash_of(words: &[u8]) -> Option<Line>
     ensures { option_map said_by result ≡ crash_said words.now }
@@ -284,7 +284,7 @@ fn crash_of(words: &[u8]) -> Option<Line>
     })
 }
 
-/// The side of a save, after it or before, if nothing stands behind its word.
+/// The side of a save, after it or before, if nothing stands after its word.
 fn side_of(text: &[u8]) -> Option<bool>
     ensures { result ≡ side_in text.now }
 {
@@ -297,7 +297,7 @@ fn side_of(text: &[u8]) -> Option<bool>
     None
 }
 
-/// What stands behind `tick`: a node, and a moment.
+/// What stands after `tick`: a node, and a moment.
 #[tactic(auto, unfolding(crate::specs::Said::tick_said))]
 fn tick_of(words: &[u8]) -> Option<Line>
     ensures { option_map said_by result ≡ tick_said words.now }
@@ -313,7 +313,7 @@ fn tick_of(words: &[u8]) -> Option<Line>
     })
 }
 
-/// What stands behind `grant`: a node, and the id of a message.
+/// What stands after `grant`: a node, and the id of a message.
 #[tactic(auto, unfolding(crate::specs::Said::grant_said))]
 fn grant_of(words: &[u8]) -> Option<Line>
     ensures { option_map said_by result ≡ grant_said words.now }
@@ -327,7 +327,7 @@ fn grant_of(words: &[u8]) -> Option<Line>
     })
 }
 
-/// What stands behind `settle`: nodes, as many as there are.
+/// What stands after `settle`: nodes, as many as there are.
 #[tactic(auto, unfolding(crate::specs::Said::settle_said))]
 fn settle_of(words: &[u8]) -> Option<Line>
     ensures { option_map said_by result ≡ settle_said words.now }
@@ -342,7 +342,7 @@ fn settle_of(words: &[u8]) -> Option<Line>
     Some(Line::Settle { nodes })
 }
 
-/// What stands behind `restart`: a node alone.
+/// What stands after `restart`: a node alone.
 #[tactic(auto, unfolding(crate::specs::Said::restart_said))]
 fn restart_of(words: &[u8]) -> Option<Line>
     ensures { option_map said_by result ≡ restart_said words.now }
@@ -356,7 +356,7 @@ fn restart_of(words: &[u8]) -> Option<Line>
     })
 }
 
-/// What stands behind `replay`: how often.
+/// What stands after `replay`: how often.
 #[tactic(auto, unfolding(crate::specs::Said::replay_said))]
 fn replay_of(words: &[u8]) -> Option<Line>
     ensures { option_map said_by result ≡ replay_said words.now }
@@ -368,7 +368,7 @@ fn replay_of(words: &[u8]) -> Option<Line>
     Some(Line::Replay { count })
 }
 
-/// A space and the digit of a node, and what is behind it.
+/// A space and the digit of a node, and what follows it.
 #[tactic(auto, unfolding(crate::specs::Said::node_at))]
 fn node_at(text: &[u8]) -> Option<(u8, &[u8])>
     ensures value { option_map (λ p. (p.0, p.1.now)) result ≡ spec.node_at text.now }
@@ -380,7 +380,7 @@ fn node_at(text: &[u8]) -> Option<(u8, &[u8])>
     }
 }
 
-/// What is behind the front, if the text begins with it.
+/// What follows the front, if the text begins with it.
 #[tactic(auto, unfolding(crate::specs::Said::behind))]
 fn behind<'a>(front: &[u8], text: &'a [u8]) -> Option<&'a [u8]>
     ensures { option_copied result ≡ spec.behind front.now text.now }
@@ -388,7 +388,7 @@ fn behind<'a>(front: &[u8], text: &'a [u8]) -> Option<&'a [u8]>
     text.strip_prefix(front)
 }
 
-/// A space and a number of this range, and what is behind it.
+/// A space and a number of this range, and what follows it.
 #[tactic(auto, unfolding(crate::specs::Said::number_at))]
 fn number_at(least: u64, most: u64, text: &[u8]) -> Option<(u64, &[u8])>
     ensures value { option_map (λ p. (p.0, p.1.now)) result ≡ spec.number_at least most text.now }

@@ -174,7 +174,7 @@ impl ScriptNode {
         Ok(())
     }
 
-    /// The packets that it sent, and that were not taken from it yet, come behind all packets. An `Err` is want of memory; then nothing
+    /// The packets that it sent, and that were not taken from it yet, come after all packets. An `Err` is want of memory; then nothing
     /// changes.
     pub fn give_packets(&mut self, all: &mut Packets) -> Result<(), AllocError>
         ensures packets { OnOk result (map packet_of all.new.sent ≡ map packet_of all.old.sent ++ (node_of self.old).packets) }
@@ -209,7 +209,7 @@ impl ScriptNode {
         Ok(StoppedNode::of(member))
     }
 
-    /// Takes the step of an input that a node never refuses: what it sends comes behind what it has sent before. After an `Err`, which is
+    /// Takes the step of an input that a node never refuses: what it sends comes after what it has sent before. After an `Err`, which is
     /// want of memory, nothing is said of the node.
     fn step(&mut self, input: Input) -> Result<Given, AllocError>
         requires { refused_by (node_of self.old).setup (node_of self.old).kept input ≡ None }

@@ -317,7 +317,7 @@ impl Centre {
         }
     }
 
-    /// What the node at this place sent comes behind all packets. An `Err` is want of memory.
+    /// What the node at this place sent comes after all packets. An `Err` is want of memory.
     fn share(&mut self, at: usize) -> Result<(), AllocError>
         requires { at < length self.old.stations.items }
         ensures { OnOk result (HasShared self.old at self.new) }

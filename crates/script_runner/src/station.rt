@@ -116,7 +116,7 @@ impl Station {
         }
     }
 
-    /// What its node sent, and was not taken from it yet, comes behind all packets.
+    /// What its node sent, and was not taken from it yet, comes after all packets.
     pub fn give_packets(&mut self, all: &mut Packets) -> Result<(), AllocError>
         ensures gives { OnOk result (HasGiven self.old self.new (map packet_of all.old.sent) (map packet_of all.new.sent)) }
         ensures up { OnOk result (is_up self.new ≡ is_up self.old) }

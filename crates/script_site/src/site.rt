@@ -409,7 +409,7 @@ impl Site {
         self.node.stands();
     }
 
-    /// The packets that the node sent, and that were not taken from it yet, come behind all packets. An `Err` is want of memory.
+    /// The packets that the node sent, and that were not taken from it yet, come after all packets. An `Err` is want of memory.
     pub fn give_packets(&mut self, all: &mut Packets) -> Result<(), AllocError>
         ensures packets { OnOk result (map packet_of all.new.sent ≡ map packet_of all.old.sent ++ (runner_of self.old).node.packets) }
         ensures runner { OnOk result (runner_of self.new ≡ given_out (runner_of self.old)) }

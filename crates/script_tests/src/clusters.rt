@@ -185,7 +185,7 @@ fn packets_come_twice_and_in_reverse(rt: HostRuntime) -> Result<(), Fail> {
     Ok(())
 }
 
-/// The script of a row over one node, over nine, of which node 2 goes down behind the first settle; `None` if it is another row, or has no settle.
+/// The script of a row over one node, over nine, of which node 2 goes down after the first settle; `None` if it is another row, or has no settle.
 fn over_nine_nodes(alloc: Global, row: &Row) -> Result<Option<String>, Fail> {
     if row.status != 0 {
         return Ok(None);

@@ -68,7 +68,7 @@ fn pdus_come_in_pieces(rt: HostRuntime) -> Result<(), Fail> {
     Ok(())
 }
 
-/// Two enquire_links in one line, behind which the length of a third is wrong: its octets and those behind it are dropped.
+/// Two enquire_links in one line, after which the length of a third is wrong: its octets and those after it are dropped.
 #[test]
 fn several_pdus_come_at_once(rt: HostRuntime) -> Result<(), Fail> {
     let alloc = rt.alloc();

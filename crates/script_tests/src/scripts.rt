@@ -36,7 +36,7 @@ fn times(alloc: Global, octets: &[u8], count: usize) -> Result<Vec<u8>, AllocErr
     Ok(all)
 }
 
-/// These parts, one behind another.
+/// These parts, one after another.
 fn joined(alloc: Global, parts: &[&[u8]]) -> Result<Vec<u8>, AllocError> {
     let mut all = Vec::new(alloc);
     for part in parts {
@@ -174,7 +174,7 @@ fn a_settle_ends_after_100000_deliveries(rt: HostRuntime) -> Result<(), Fail> {
     Ok(())
 }
 
-/// A script in which 10,001 messages expire of which a receipt is asked for, while no session is there, and behind that 1,001 sessions bind and
+/// A script in which 10,001 messages expire of which a receipt is asked for, while no session is there, and after that 1,001 sessions bind and
 /// unbind.
 fn many_receipts(alloc: Global) -> Result<Vec<u8>, AllocError> {
     let ten = joined(alloc, &[&times(alloc, REPORTED, 10)?, b"settle\n"])?;

@@ -4,7 +4,7 @@
 //! of the ESME and of the centre wait, and whether it is bound by sme1. `pdu NAME` tells what is sent, `-` if nothing is. `wait TICKET` and
 //! `reply TICKET` are of a query_sm with the sequence_number 3; `push SECONDS` and `tick SECONDS` come so long after the least moment.
 
-/// Each command in each state, with a pushed request where there may be one.
+/// Each command in each state, with a pushed request if there may be one.
 pub const TABLE: &str = "\
 new Fresh => Fresh false 0 0 false\n\
 push 0 => Err(NotReceiving)\n\

@@ -12,7 +12,7 @@ fn digits(alloc: Global, outgoing: Outgoing) -> Result<String, Fail> {
     Ok(hex::encode(alloc, octets)?)
 }
 
-/// The sequence_numbers of pushed requests, each behind a space.
+/// The sequence_numbers of pushed requests, each after a space.
 fn sequences(alloc: Global, pushed: &[Pushed]) -> Result<String, Fail> {
     let mut word = String::new(alloc);
     for request in pushed {

@@ -52,7 +52,7 @@ impl Requested {
         }
     }
 
-    /// The body of the response that refuses it: none behind the header.
+    /// The body of the response that refuses it: none after the header.
     pub fn refusal_body(self) -> Body
         ensures { result ≡ refusal_body self }
     {

@@ -19,7 +19,7 @@ pub trait StableStore {
     /// The record of each slot that is stored.
     ghost records: { Self → Slot → SlotRecord };
 
-    /// The last incarnation that is stored, and 0 where there is none.
+    /// The last incarnation that is stored, and 0 if there is none.
     ghost started: { Self → ℕ };
 
     /// How often the device failed, up to 2^64 - 1.
@@ -66,7 +66,7 @@ pub trait StableStore {
         ensures records { AreSame (records self.new) (records self.old) }
         ensures rises { failed self.old ≤ failed self.new };
 
-    /// How often the device failed: 2^64 - 1 where it failed more often.
+    /// How often the device failed: 2^64 - 1 if it failed more often.
     fn failures(&self) -> u64
         ensures { result ≡ failed self.now };
 }

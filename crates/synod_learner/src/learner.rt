@@ -156,7 +156,7 @@ fn voters_at(tallies: &[Tally], place: Option<usize>) -> NodeSet
     }
 }
 
-/// Puts the set of those who cast a vote where its tally stands, or behind the others.
+/// Puts the set of those who cast a vote where its tally stands, or after the others.
 fn count(
     tallies: &mut Vec<Tally>,
     place: Option<usize>,
@@ -198,7 +198,7 @@ fn knows_less(known: &[Chain], chain: &Chain) -> bool
     }
 }
 
-/// Puts a chain in the place of that of its message, or behind the others. There is room for it.
+/// Puts a chain in the place of that of its message, or after the others. There is room for it.
 fn learn(known: &mut Vec<Chain>, chain: Chain)
     requires { vec_len known.old < vec_capacity known.old }
     ensures { AreOfOthers known.old.items → WithChain known.old.items chain known.new.items }
