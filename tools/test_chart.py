@@ -51,10 +51,15 @@ class FirstScript(unittest.TestCase):
 
 class Pictures(unittest.TestCase):
     def test_they_are_of_today(self):
-        given = {"first_script": FIRST}
+        given = {"first_script": FIRST, "three_nodes": ALL["three_nodes"], "a_node_stops": ALL["a_node_stops"]}
         for name, (script, output) in given.items():
             with self.subTest(name):
                 self.assertEqual((ROOT / "docs/pictures" / (name + ".svg")).read_text(), picture(script, output))
+
+    def test_the_documents_show_them(self):
+        shown = [(ROOT / name).read_text() for name in ("README.md", "examples/README.md")]
+        for path in (ROOT / "docs/pictures").glob("*.svg"):
+            self.assertTrue(any(f"docs/pictures/{path.name})" in text for text in shown), path.name)
 
 
 class Examples(unittest.TestCase):
