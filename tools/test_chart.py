@@ -21,6 +21,9 @@ SUBMIT = "0000002900000004000000000000000200010131343400010131353500000000000000
 SUBMITTED = "0000001b8000000400000000000000023130303031303030303100"
 UNBIND, UNBOUND = "00000010000000060000000000000003", "00000010800000060000000000000003"
 QUERY = "000000210000000300000000000000033130303031303030303100010131343400"
+CANCEL, CANCELLED = "00000025000000080000000000000004003130303031303030303100010131343400000000", "00000010800000080000000000000004"
+LATE = "00000010800000040000000800000002"
+HEAD = ["nodes 3", f"pdu 1 1 {BIND}", f"pdu 1 1 {SUBMIT}"]
 
 
 def picture(script, output):
@@ -34,6 +37,20 @@ def told(script, output):
 
 def lines(*given):
     return "".join(line + "\n" for line in given)
+
+
+def message(command, sequence, target="155"):
+    """A submit_sm or deliver_sm from 144, with the text Hi."""
+    body = b"\0\1\x01144\0\1\1" + target.encode() + bytes(10) + b"\2Hi"
+    return b"".join(word.to_bytes(4, "big") for word in (16 + len(body), command, 0, sequence)).hex() + body.hex()
+
+
+def many_messages(count, *behind):
+    """A script that submits so many messages, each to sme1, and a line of the output for each."""
+    submits = [line for place in range(count) for line in (f"pdu 1 1 {message(0x04, place + 2)}", "settle")]
+    answers = [f"0000001b8000000400000000{place + 2:08x}{f'10001{place + 1:05}'.encode().hex()}00" for place in range(count)]
+    script = lines("nodes 1", f"pdu 1 1 {BIND}", *submits, "tick 1 946684800", "settle", *behind)
+    return script, [f"pdu 1 1 {BOUND}", *(f"pdu 1 1 {answer}" for answer in answers)]
 
 
 class FirstScript(unittest.TestCase):
@@ -134,7 +151,7 @@ class Lines(unittest.TestCase):
         ])
 
     def test_a_round_is_two_hops_of_packets(self):
-        script = lines("nodes 3", f"pdu 1 1 {BIND}", f"pdu 1 1 {SUBMIT}", *["replay 1"] * 5)
+        script = lines(*HEAD, *["replay 1"] * 5)
         found = told(script, lines(f"pdu 1 1 {BOUND}", f"pdu 1 1 {SUBMITTED}"))
         self.assertEqual(found[3:], [("note", "replay 1")] * 4 + [("answer", "submit_sm_resp ESME_ROK 1000100001"), ("note", "replay 1")])
 
@@ -179,6 +196,78 @@ class Lines(unittest.TestCase):
             "grant 1000100010", "deliver_sm 144 → 155", "grant 1000100011",
         ])
 
+    def test_a_grant_is_of_its_message(self):
+        head = ["nodes 1", f"pdu 1 1 {BIND}", f"pdu 1 1 {message(0x04, 2, '255')}", "settle", f"pdu 1 1 {message(0x04, 3)}", "settle"]
+        script = lines(*head, "tick 1 946684800", "settle", "grant 1 1000100001", "grant 1 1000100002")
+        answers = [f"pdu 1 1 0000001b8000000400000000{place + 1:08x}{f'100010000{place}'.encode().hex()}00" for place in (1, 2)]
+        output = [f"pdu 1 1 {BOUND}", *answers]
+        self.assertEqual(told(script, lines(*output, f"pdu 1 1 {message(0x05, 1)}"))[-3:], [
+            ("note", "grant 1000100001"), ("note", "grant 1000100002"), ("push", "deliver_sm 144 → 155"),
+        ])
+        with self.assertRaises(chart.Misfit):
+            told(script, lines(*output, f"pdu 1 1 {message(0x05, 1, '255')}"))
+
+    def test_a_session_has_room_for_ten(self):
+        grants = [f"grant 1 10001{place:05}" for place in range(1, 12)]
+        pushed = [f"pdu 1 1 {message(0x05, place)}" for place in range(1, 12)]
+        script, output = many_messages(12, *grants, "pdu 1 1 0000001180000005000000000000000400", "grant 1 1000100012")
+        self.assertEqual(told(script, lines(*output, *pushed))[-5:], [
+            ("push", "deliver_sm 144 → 155"), ("note", "grant 1000100011"), ("told", "deliver_sm_resp ESME_ROK"), ("note", "grant 1000100012"),
+            ("push", "deliver_sm 144 → 155"),
+        ])
+        script, output = many_messages(12, *grants, "tick 1 946684830", "grant 1 1000100012")
+        self.assertEqual(told(script, lines(*output, *pushed))[-4:], [
+            ("note", "grant 1000100011"), ("note", "tick 2000-01-01 00:00:30"), ("note", "grant 1000100012"), ("push", "deliver_sm 144 → 155"),
+        ])
+        script, output = many_messages(12, *grants, "tick 1 946684829", "grant 1 1000100012")
+        with self.assertRaises(chart.Misfit):
+            told(script, lines(*output, *pushed))
+
+    def test_a_message_is_deleted_after_its_cancel_is_told(self):
+        script = lines(*HEAD, "settle", f"pdu 1 1 {CANCEL}", *["replay 1"] * 7, f"pdu 1 1 {CANCEL}", *["replay 1"] * 3)
+        output = lines(*(f"pdu 1 1 {digits}" for digits in (BOUND, SUBMITTED, CANCELLED, CANCELLED)))
+        self.assertEqual([text for _, text in told(script, output)[6:]], [
+            *["replay 1"] * 6, "cancel_sm_resp ESME_ROK", "replay 1", "cancel_sm 1000100001", *["replay 1"] * 2, "cancel_sm_resp ESME_ROK", "replay 1",
+        ])
+
+    def test_nodes_that_are_down_or_not_named_do_not_vote(self):
+        output = lines(f"pdu 1 1 {BOUND}", f"pdu 1 1 {SUBMITTED}")
+        answer = "submit_sm_resp ESME_ROK 1000100001"
+        for behind, wanted in [
+            (["settle 2 3", "settle 1", "settle 1 2"], ["settle 2 3", "settle 1", "settle 1 2", answer]),
+            (["crash 2 1 before", "crash 3 1 before", "settle", "restart 2", "settle"], ["crash 1 before"] * 2 + ["settle", "restart", "settle", answer]),
+        ]:
+            self.assertEqual([text for _, text in told(lines(*HEAD, *behind), output)[3:]], wanted)
+
+    def test_a_clock_does_not_turn_back(self):
+        script = lines("nodes 1", "tick 1 946684830", "tick 1 946684800", *HEAD[1:], "tick 1 946684859", "tick 1 946684860")
+        found = told(script, lines(f"pdu 1 1 {BOUND}", f"pdu 1 1 {LATE}"))
+        self.assertEqual(found[-2:], [("note", "tick 2000-01-01 00:01:00"), ("bad", "submit_sm_resp ESME_RSYSERR")])
+
+    def test_a_generic_nack_is_of_what_deserves_it(self):
+        cut_short = "00000020" + QUERY[8:-2]
+        script = lines("nodes 1", f"pdu 1 1 {BIND}", f"pdu 1 1 {QUERY}", f"pdu 1 1 {cut_short}")
+        found = told(script, lines(f"pdu 1 1 {BOUND}", "pdu 1 1 00000010800000000000000200000003"))
+        self.assertEqual(found[2:], [("ask", "query_sm 1000100001"), ("ask", "query_sm 1000100001"), ("bad", "generic_nack ESME_RINVCMDLEN")])
+
+    def test_the_last_incarnation(self):
+        restarts = ["restart 1"] * 9_998
+        found = told(lines("nodes 1", *restarts, f"pdu 1 1 {BIND}", "restart 1"), lines(f"pdu 1 1 {BOUND}", "refused 6"))
+        self.assertEqual(found[-3:], [("answer", "bind_transceiver_resp ESME_ROK CENTRE"), ("note", "restart"), ("refused", "refused 6")])
+        with self.assertRaises(chart.Misfit):
+            told(lines("nodes 1", *restarts), "refused 6\n")
+
+    def test_receipts_that_do_not_fit(self):
+        script, output = ALL["cancelled_with_a_receipt"]
+        with self.assertRaises(chart.Misfit):
+            told(script.replace(f"pdu 1 1 {CANCEL}\n", ""), output.replace(f"pdu 1 1 {CANCELLED}\n", ""))
+        script, output = ALL["delivered_with_a_receipt"]
+        script = script.replace("nodes 1", f"nodes 2\npdu 2 1 {BIND}")
+        output = f"pdu 2 1 {BOUND}\n{output}"
+        self.assertEqual(told(script, output)[-1], ("push", "deliver_sm, receipt: DELIVRD of 1000100001"))
+        with self.assertRaises(chart.Misfit):
+            told(script, output.replace("pdu 1 1 000000a3", "pdu 2 1 000000a3"))
+
     def test_sessions_go_with_their_node(self):
         script = lines(
             "nodes 2", f"pdu 2 7 {BIND}", f"pdu 2 3 {BIND}", f"pdu 2 3 {SUBMIT}", "crash 2 1 before", f"pdu 2 3 {QUERY}", "tick 2 946684801", "restart 2",
@@ -207,13 +296,14 @@ class Lines(unittest.TestCase):
         ])
 
     def test_what_does_not_fit(self):
-        head = lines("nodes 3", f"pdu 1 1 {BIND}", f"pdu 1 1 {SUBMIT}")
+        head = lines(*HEAD)
         bound, answered = f"pdu 1 1 {BOUND}", f"pdu 1 1 {SUBMITTED}"
         deliver = ALL["three_nodes"][1].splitlines()[2]
         for script, output in [
             ("", [bound, answered]), ("settle 1\n", [bound, answered]), ("settle 2 3\n", [bound, answered]), ("deliver 1 1\n", [bound, answered]),
             ("settle\n", [bound, answered, "gone 1 1"]), ("settle\n", [bound, answered, "refused 4"]), ("settle\n", [bound, answered, deliver]),
             ("restart 1\n", [bound]), ("deliver 0 1\n", [bound]), ("crash 2 1 after\ntick 2 946684800\n", [bound]), ("settle\n", ["nonsense"]),
+            ("tick 1 946684830\n", [bound, answered]), ("tick 1 946684829\n", [bound, f"pdu 1 1 {LATE}"]),
         ]:
             with self.subTest(script=script, output=output), self.assertRaises(chart.Misfit):
                 told(head + script, lines(*output))
@@ -310,6 +400,9 @@ class Streams(unittest.TestCase):
         enquire = bytes.fromhex("00000010000000150000000000000007")
         pdus, rest = chart_pdus.cut(enquire + enquire[:5])
         self.assertEqual(([pdu.sequence for pdu in pdus], rest), ([7], enquire[:5]))
+
+    def test_messages_of_these_tests(self):
+        self.assertEqual(message(0x04, 2), SUBMIT)
 
     def test_requests_that_end_too_early_or_too_late(self):
         for digits, whole in [(BIND, True), (SUBMIT, True), (QUERY, True), (UNBIND, True), (BIND + "00", False), (SUBMIT[:-2], False), (QUERY[:-2], False)]:
