@@ -505,7 +505,8 @@ class Chart:
 
 
 def charted(script, output):
-    """The chart of a script and its output. While they do not fit, the last line that was chosen to be refused is chosen not to be, so often at most."""
+    """The chart of a script and its output. While they do not fit, the last line that was chosen to be refused is chosen not to be; it gives up after `TRIES`
+    of them."""
     choices = []
     for _ in range(TRIES):
         chart = Chart(output, choices)
