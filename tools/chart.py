@@ -3,211 +3,31 @@
 
     python3 tools/chart.py SCRIPT OUTPUT > CHART.svg
 
-Each session and each node has a line down the page. A PDU is an arrow with its name, its command_status and what it is about; a tick, a settle and a
-restart stand on the line of their node. Which line of the script an answer belongs to is told by the rules of scripts: a refusal comes at once, all else
-at the settle or the tick that follows. If the output does not fit the script, it says so and draws nothing. Nothing but Python's library is needed.
+Each node of the script and each session has a line down the page, dashed while the node is down or the session gone. A PDU is an arrow with its name, its
+command_status and what it is about. All other lines of the script are notes on the lines of their nodes, and so are refusals and `unsettled`.
+
+Which line of the script a line of the output belongs to is inferred by docs/SCRIPTS.md: a refusal comes at once; an answer as packets come, once those of a
+majority of the nodes may have come back, or at the tick that ends its 30 seconds; a deliver_sm at its grant or, for a receipt, as packets come after what
+ended its message, or when a session takes what waited. What could belong to several lines belongs to the first of them from which all that follows fits.
+If there is none, it says so and draws nothing. Nothing but Python's library is needed.
 """
-import collections
-import datetime
 import html
+import itertools
+import math
 import pathlib
 import sys
 
-NAMES = {
-    0x01: "bind_receiver", 0x02: "bind_transmitter", 0x03: "query_sm", 0x04: "submit_sm", 0x05: "deliver_sm", 0x06: "unbind", 0x08: "cancel_sm",
-    0x09: "bind_transceiver", 0x15: "enquire_link",
+from chart_rows import Misfit, charted
+
+LEFT, GAP, NARROW, TOP, STEP = 90, 330, 170, 56, 30
+BLUE, GREEN, RED = "#1f4e79", "#2e6b34", "#a61c1c"
+# Of an arrow: its colour, whether it is a response, and whether it goes to the node.
+ARROWS = {
+    "ask": (BLUE, False, True), "answer": (GREEN, True, False), "bad": (RED, True, False),
+    "push": (BLUE, False, False), "told": (GREEN, True, True), "failed": (RED, True, True),
 }
-STATUSES = {
-    0x00: "ESME_ROK", 0x01: "ESME_RINVMSGLEN", 0x02: "ESME_RINVCMDLEN", 0x03: "ESME_RINVCMDID", 0x04: "ESME_RINVBNDSTS", 0x05: "ESME_RALYBND",
-    0x07: "ESME_RINVREGDLVFLG", 0x08: "ESME_RSYSERR", 0x0A: "ESME_RINVSRCADR", 0x0B: "ESME_RINVDSTADR", 0x0C: "ESME_RINVMSGID", 0x0D: "ESME_RBINDFAIL",
-    0x0E: "ESME_RINVPASWD", 0x0F: "ESME_RINVSYSID", 0x11: "ESME_RCANCELFAIL", 0x14: "ESME_RMSGQFUL", 0x15: "ESME_RINVSERTYP", 0x53: "ESME_RINVSYSTYP",
-    0x58: "ESME_RTHROTTLED", 0x61: "ESME_RINVSCHED", 0x62: "ESME_RINVEXPIRY", 0x67: "ESME_RQUERYFAIL", 0xC0: "ESME_RINVOPTPARSTREAM",
-}
-STATES = {1: "ENROUTE", 2: "DELIVERED", 3: "EXPIRED", 4: "DELETED", 5: "UNDELIVERABLE", 8: "REJECTED"}
-RESPONSE, NACK = 0x80000000, 0x80000000
-TIMED_OUT = 0x08
-
-Pdu = collections.namedtuple("Pdu", "command status sequence body")
-# What stands in one row of the chart: kind is ask, answer, note, bad or gone; ends is the session and the node.
-Row = collections.namedtuple("Row", "kind session node text")
-
-
-class Misfit(Exception):
-    """The output is not that of the script."""
-
-
-def pdu_of(octets):
-    words = [int.from_bytes(octets[at:at + 4], "big") for at in range(4, 16, 4)]
-    return Pdu(*words, octets[16:])
-
-
-def cut(octets):
-    """The PDUs at the front of a stream, and what is left; a wrong length takes all of it as one PDU."""
-    pdus = []
-    while len(octets) >= 4:
-        length = int.from_bytes(octets[:4], "big")
-        if not 16 <= length <= 8192:
-            return pdus + [Pdu(None, 0, 0, octets)], b""
-        if len(octets) < length:
-            break
-        pdus.append(pdu_of(octets[:length]))
-        octets = octets[length:]
-    return pdus, octets
-
-
-def texts(octets):
-    return [text.decode("latin-1") for text in octets.split(b"\0")]
-
-
-def about(pdu):
-    """What a PDU is about: who binds, from where to where, or which message."""
-    name, body = NAMES.get((pdu.command or 0) & ~RESPONSE, ""), pdu.body
-    if pdu.command is None or not body:
-        return ""
-    if pdu.command >= RESPONSE:
-        told = texts(body)[0]
-        if name == "query_sm":
-            return f"{told} {STATES.get(body[-2], body[-2])}"
-        return told
-    if name.startswith("bind"):
-        return texts(body)[0]
-    if name in ("submit_sm", "deliver_sm"):
-        source = body[body.index(0) + 3:]
-        target = source[source.index(0) + 3:]
-        return f"{texts(source)[0]} → {texts(target)[0]}"
-    return texts(body)[1 if name == "cancel_sm" else 0]
-
-
-def title(pdu):
-    if pdu.command is None:
-        return "a wrong length"
-    if pdu.command == NACK:
-        name = "generic_nack"
-    else:
-        name = NAMES.get(pdu.command & ~RESPONSE, f"command 0x{pdu.command:08x}") + ("_resp" if pdu.command & RESPONSE else "")
-    status = f" {STATUSES.get(pdu.status, hex(pdu.status))}" if pdu.command >= RESPONSE else ""
-    return f"{name}{status} {about(pdu)}".rstrip()
-
-
-def is_id(text):
-    return len(text) == 10 and text.isdigit() and text[0] != "0" and text[1:5] != "0000" and text[5:] != "00000"
-
-
-def waits(asked, answer):
-    """Whether a request with this answer waited for a settle or a tick."""
-    name = NAMES.get(asked.command)
-    if name not in ("submit_sm", "query_sm", "cancel_sm") or answer.command == NACK:
-        return False
-    if answer.status in (0x00, TIMED_OUT, 0x67):
-        return True
-    return answer.status in (0x0C, 0x11) and name != "submit_sm" and is_id(about(asked))
-
-
-class Chart:
-    """Rows, made by going over the lines of the script and taking off the output what each of them answers. Requests that are open stand by what
-    their answer will have: session, sequence_number and command."""
-
-    def __init__(self, output):
-        self.output = collections.deque(output.splitlines())
-        self.rows, self.asked, self.streams = [], {}, {}
-
-    def next_answer(self):
-        """The next line of the output, if a PDU: its node, its session, and the PDU."""
-        words = self.output[0].split() if self.output else []
-        if len(words) == 4 and words[0] == "pdu":
-            return words[1], (words[1], words[2]), pdu_of(bytes.fromhex(words[3]))
-        return None, None, None
-
-    def take_answers(self, fits):
-        """Takes the answers at the front of the output that fit a request that is open."""
-        while True:
-            node, session, answer = self.next_answer()
-            if answer is None:
-                return
-            asked = self.asked.get((session, answer.sequence, answer.command))
-            if not asked or not fits(asked[0], answer):
-                return
-            self.output.popleft()
-            asked.pop(0)
-            self.rows.append(Row("answer" if answer.status == 0 else "bad", session, node, title(answer)))
-
-    def take_nack(self, session, pdu):
-        node, told, answer = self.next_answer()
-        if told == session and answer.command == NACK and answer.sequence == pdu.sequence:
-            self.output.popleft()
-            self.rows.append(Row("bad", session, node, title(answer)))
-            if pdu.command is not None:
-                self.asked[session, pdu.sequence, pdu.command | RESPONSE].pop()
-
-    def take_gone(self):
-        while self.output and self.output[0].startswith("gone "):
-            _, node, number = self.output.popleft().split()
-            session = (node, number)
-            self.streams.pop(session, None)
-            self.asked = {key: pdus for key, pdus in self.asked.items() if key[0] != session}
-            self.rows.append(Row("gone", session, node, "gone"))
-
-    def octets(self, node, number, digits):
-        session = (node, number)
-        pdus, self.streams[session] = cut(self.streams.get(session, b"") + bytes.fromhex(digits))
-        if not pdus:
-            self.rows.append(Row("ask", session, node, f"a piece: {len(digits) // 2} octets"))
-        for pdu in pdus:
-            self.rows.append(Row("ask", session, node, title(pdu)))
-            if pdu.command is not None:
-                self.asked.setdefault((session, pdu.sequence, pdu.command | RESPONSE), []).append(pdu)
-            self.take_answers(lambda asked, answer: not waits(asked, answer))
-            self.take_nack(session, pdu)
-            self.take_gone()
-
-    def note(self, node, text):
-        self.rows.append(Row("note", None, node, text))
-
-    def line(self, words):
-        """What a line of the script draws; False at a line that is none."""
-        match words:
-            case ["nodes", *_]:
-                pass
-            case ["pdu", node, number, digits] if len(digits) % 2 == 0 and 1 <= int(number) <= 99:
-                self.octets(node, number, digits)
-            case ["tick", node, moment]:
-                self.note(node, "tick " + datetime.datetime.fromtimestamp(int(moment), datetime.timezone.utc).strftime("%Y-%m-%d %H:%M:%S"))
-                self.take_answers(lambda asked, answer: answer.status == TIMED_OUT)
-            case ["settle", *nodes]:
-                self.note(nodes[0] if nodes else "1", "settle")
-                self.take_answers(waits)
-            case ["restart", node]:
-                self.note(node, "restart")
-                self.take_gone()
-            case _:
-                return False
-        while self.output and self.output[0].split()[0] in ("unsettled", "refused"):
-            self.note("1", self.output.popleft())
-        return True
-
-
-def is_good(chart, line):
-    try:
-        return chart.line(line.split(" "))
-    except ValueError:
-        return False
-
-
-def rows_of(script, output):
-    chart = Chart(output)
-    for number, line in enumerate(script.splitlines(), start=1):
-        if line and not line.startswith("#") and not is_good(chart, line):
-            chart.note("1", f"bad line {number}")
-            break
-    if chart.output:
-        raise Misfit(f"the output does not fit the script: {chart.output[0]}")
-    return chart.rows
-
-
-# ---- drawing
-
-LEFT, GAP, TOP, STEP = 90, 330, 56, 30
-COLOURS = {"ask": "#1f4e79", "answer": "#2e6b34", "bad": "#a61c1c"}
+# Of a note: what it is filled with, its border and its text.
+NOTE, REFUSAL = ("#fff6d6", "#b08f2e", "#5c4a12"), ("#fdecec", RED, RED)
 STYLE = 'font-family="Helvetica, Arial, sans-serif" font-size="12"'
 
 
@@ -216,45 +36,118 @@ def tag(name, text=None, **given):
     return f"<{name}{pairs}/>" if text is None else f"<{name}{pairs}>{html.escape(text)}</{name}>"
 
 
-def arrow(row, start, end, y):
-    colour = COLOURS[row.kind]
+def note_width(text):
+    return 8 * len(text) + 14
+
+
+def text_width(text):
+    """An estimate: digits have 6.7 pixels in Helvetica, and few letters more than 8."""
+    return sum(8 if letter.isupper() or letter in "_→…" else 6.7 for letter in text)
+
+
+class Layout:
+    """Where the lines of nodes and sessions stand: the sessions of a node on its left. `gap` is between a node and its last session, where the texts are."""
+
+    def __init__(self, chart):
+        self.rows = chart.rows
+        self.nodes = sorted(chart.nodes) or [1]
+        self.gap = max([GAP] + [math.ceil(text_width(row.text)) + 20 for row in self.rows if row.kind in ARROWS])
+        self.edge = max([LEFT] + [note_width(row.text) // 2 + 10 for row in self.rows if row.session is None])
+        self.columns, self.right = {}, 0
+        for node in self.nodes:
+            self.places(node)
+        self.width, self.height = self.right + self.edge, TOP + STEP * (len(self.rows) + 1)
+
+    def places(self, node):
+        sessions = sorted({row.session for row in self.rows if row.session and row.nodes == (node,)})
+        for session in [*sessions, None]:
+            gap = self.gap if sessions and session is None else NARROW
+            self.right = self.right + gap if self.columns else self.edge
+            self.columns[node, session] = self.right
+
+    def y(self, place):
+        return TOP + STEP * (place + 1) - 8
+
+    def pauses(self, node, session):
+        """From where to where the line of a node is dashed, or of a session."""
+        since = None
+        for place, row in enumerate(self.rows):
+            if row.nodes == (node,) and row.session == session:
+                if since is not None and row.kind in {"restart", *ARROWS}:
+                    yield since, self.y(place) - (14 if session is None else 0)
+                    since = None
+                if row.kind in ("crash", "gone"):
+                    since = self.y(place) + (11 if session is None else -5)
+        if since is not None:
+            yield since, self.height - 10
+
+
+def head(layout, node, session):
+    x = layout.columns[node, session]
+    marks = [TOP - 20, *itertools.chain(*layout.pauses(node, session)), layout.height - 10]
+    for start, end, dash in zip(marks, marks[1:], itertools.cycle([{}, {"stroke_dasharray": "2 3"}])):
+        if start < end:
+            yield tag("line", x1=x, y1=start, x2=x, y2=end, stroke="#999999", **dash)
+    yield tag("rect", x=x - 62, y=10, width=124, height=26, rx=4, fill="#eef2f6", stroke="#667788")
+    yield tag("text", f"ESME, session {session}" if session else f"node {node}", x=x, y=27, text_anchor="middle", fill="#223344")
+
+
+def cross(x, y, size):
+    return tag("path", d=f"M{x - size // 2},{y} l{size},{size} m0,-{size} l-{size},{size}", stroke=RED, stroke_width=2, fill="none")
+
+
+def arrow(row, session, node, gap, y):
+    colour, is_answer, goes_in = ARROWS[row.kind]
+    start, end = (session, node) if goes_in else (node, session)
     side = 7 if end < start else -7
-    dash = {} if row.kind == "ask" else {"stroke_dasharray": "6 3"}
+    dash = {"stroke_dasharray": "6 3"} if is_answer else {}
     yield tag("line", x1=start, y1=y, x2=end, y2=y, stroke=colour, stroke_width=1.5, **dash)
     yield tag("polygon", points=f"{end},{y} {end + side},{y - 4} {end + side},{y + 4}", fill=colour)
-    yield tag("text", row.text, x=(start + end) / 2, y=y - 5, text_anchor="middle", fill=colour)
+    yield tag("text", row.text, x=node - gap / 2, y=y - 5, text_anchor="middle", fill=colour)
 
 
-def drawn(row, columns, y):
-    node = columns["node", row.node]
-    if row.kind == "note":
-        width = 8 * len(row.text) + 14
-        yield tag("rect", x=node - width / 2, y=y - 14, width=width, height=20, rx=4, fill="#fff6d6", stroke="#b08f2e")
-        yield tag("text", row.text, x=node, y=y, text_anchor="middle", fill="#5c4a12")
+def neighbours(nodes):
+    """The first and the last node of each group of nodes that stand side by side."""
+    groups = itertools.groupby(enumerate(nodes), lambda pair: pair[1] - pair[0])
+    for _, group in groups:
+        members = [node for _, node in group]
+        yield members[0], members[-1]
+
+
+def note(row, columns, y):
+    """A box for each group of nodes, and a line between them."""
+    fill, border, colour = REFUSAL if row.kind == "refused" else NOTE
+    if len(list(neighbours(row.nodes))) > 1:
+        yield tag("line", x1=columns[row.nodes[0], None], y1=y - 4, x2=columns[row.nodes[-1], None], y2=y - 4, stroke=border)
+    for first, last in neighbours(row.nodes):
+        left, right, width = columns[first, None], columns[last, None], note_width(row.text)
+        yield tag("rect", x=left - width / 2, y=y - 14, width=width + right - left, height=20, rx=4, fill=fill, stroke=border)
+        yield tag("text", row.text, x=(left + right) // 2, y=y, text_anchor="middle", fill=colour)
+    if row.kind == "crash":
+        yield cross(columns[row.nodes[0], None], y + 7, 8)
+
+
+def drawn(row, layout, y):
+    if row.session is None:
+        yield from note(row, layout.columns, y)
         return
-    session = columns["session", *row.session]
+    session, node = layout.columns[row.nodes[0], row.session], layout.columns[row.nodes[0], None]
     if row.kind == "gone":
-        yield tag("path", d=f"M{session - 6},{y - 11} l12,12 m0,-12 l-12,12", stroke="#a61c1c", stroke_width=2, fill="none")
-        yield tag("text", "gone", x=session + 12, y=y, fill="#a61c1c")
+        yield cross(session, y - 11, 12)
+        yield tag("text", "gone", x=session + 12, y=y, fill=RED)
     else:
-        yield from arrow(row, *((session, node) if row.kind == "ask" else (node, session)), y)
+        yield from arrow(row, session, node, layout.gap, y)
 
 
-def svg(rows):
-    sessions = sorted({row.session for row in rows if row.session}, key=lambda ends: (int(ends[0]), int(ends[1])))
-    nodes = sorted({row.node for row in rows}, key=int)
-    heads = [("session", *ends) for ends in sessions] + [("node", node) for node in nodes]
-    columns = {head: LEFT + GAP * place for place, head in enumerate(heads)}
-    width, height = 2 * LEFT + GAP * max(len(heads) - 1, 0), TOP + STEP * (len(rows) + 1)
+def svg(chart):
+    layout = Layout(chart)
+    width, height = layout.width, layout.height
     out = [f'<svg xmlns="http://www.w3.org/2000/svg" width="{width}" height="{height}" viewBox="0 0 {width} {height}" {STYLE}>']
     out.append(tag("rect", width=width, height=height, fill="#ffffff"))
-    for head, x in columns.items():
-        name = f"ESME, session {head[2]}" if head[0] == "session" else f"node {head[1]}"
-        out.append(tag("line", x1=x, y1=TOP - 20, x2=x, y2=height - 10, stroke="#999999"))
-        out.append(tag("rect", x=x - 62, y=10, width=124, height=26, rx=4, fill="#eef2f6", stroke="#667788"))
-        out.append(tag("text", name, x=x, y=27, text_anchor="middle", fill="#223344"))
-    for place, row in enumerate(rows):
-        out += drawn(row, columns, TOP + STEP * (place + 1) - 8)
+    for column in layout.columns:
+        out += head(layout, *column)
+    for place, row in enumerate(layout.rows):
+        out += drawn(row, layout, layout.y(place))
     return "\n".join([*out, "</svg>", ""])
 
 
@@ -262,7 +155,7 @@ def main():
     if len(sys.argv) != 3:
         sys.exit(__doc__)
     try:
-        print(svg(rows_of(*(pathlib.Path(name).read_text() for name in sys.argv[1:]))), end="")
+        print(svg(charted(*(pathlib.Path(name).read_bytes().decode("latin-1") for name in sys.argv[1:]))), end="")
     except Misfit as fault:
         sys.exit(str(fault))
 
