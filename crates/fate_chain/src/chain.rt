@@ -1,19 +1,21 @@
 //! Chains.
 
-ghost use Rattle.std.specs.Prelude.{◌≡◌, ◌<◌, ◌≤◌, ◌↔◌, ◌∷◌, [], Some, length, pred, reverse, slice_get, IfOk, IsErrOf, IsTrue};
+ghost use Rattle.std.specs.Prelude.{◌≡◌, ◌<◌, ◌≤◌, ◌↔◌, ◌∷◌, [], Some, length, pred, reverse, slice_get, IfOk, IsErrOf, IsTrue, option_map};
 ghost use Rattle.mc_model.specs.message.Ids.{node_of, incarnation_of};
 ghost use Rattle.mc_model.specs.message.Decree.{Taken};
 ghost use Rattle.mc_model.specs.message.Chain.{Chain as ChainValue, IsPermitted, MayExtend, taken_in, attempts_in, final_in, error_in};
 ghost use Rattle.fate_chain.specs.Bytes.{chain_octets, read_chain, Fits, IsSpelled, Judges};
+ghost use Rattle.fate_chain.specs.Kinds.{final_of};
 ghost use Rattle.fate_chain.specs.Marks.{IsStandingOf};
 ghost use Rattle.fate_chain.specs.States.{state_of};
 ghost use Rattle.fate_chain.specs.declared.fault.ChainFault.TheVariants.{NotPermitted, NotBytes, Memory};
 
-use crate::decree::{Author, Decree, Kind, are_same};
+use crate::decree::{Author, Decree, Final, Kind, are_same};
 use crate::fault::ChainFault;
 use crate::marks::Standing;
 use crate::progress::Progress;
 use crate::reading::{check, decrees_of, head_at};
+use crate::shared_submission::SharedSubmission;
 use crate::submission::Submission;
 use crate::writing::{put_chain_head, put_decrees};
 use mc_types::{Moment, MsgId};
@@ -69,7 +71,7 @@ impl Chain {
         decrees.push(Decree {
             author,
             moment,
-            kind: Kind::Taken(message),
+            kind: Kind::Taken(SharedSubmission::make(alloc, message)?),
         })?;
         Ok(Chain { id, decrees })
     }
@@ -102,7 +104,7 @@ impl Chain {
     {
         let first = self.decrees.first().unwrap();
         match &first.kind {
-            Kind::Taken(message) => message,
+            Kind::Taken(message) => message.submission(),
             _ => unreachable!(),
         }
     }
@@ -114,6 +116,16 @@ impl Chain {
         match self.newest().kind {
             Kind::Fate(last, _) => last.state(),
             _ => State::Enroute,
+        }
+    }
+
+    /// Its final state, if it has one.
+    pub fn fate(&self) -> Option<Final>
+        ensures { option_map final_of result ≡ final_in self.now.decrees }
+    {
+        match self.newest().kind {
+            Kind::Fate(last, _) => Some(last),
+            _ => None,
         }
     }
 

@@ -7,7 +7,7 @@ ghost use Rattle.fate_chain.specs.Marks.{bare, bare_kind, IsMarkOf};
 ghost use Rattle.fate_chain.specs.States.{final_in, state_of};
 
 use crate::marks::{Act, Mark};
-use crate::submission::Submission;
+use crate::shared_submission::SharedSubmission;
 use mc_types::{Incarnation, Moment, NodeNo};
 use pdu_tables::State;
 use std::alloc::AllocError;
@@ -111,7 +111,7 @@ impl Final {
 #[derive(Drop)]
 pub enum Kind {
     /// The message is taken.
-    Taken(Submission),
+    Taken(SharedSubmission),
     /// Its attempt of this number, from 1, is begun.
     Attempt(u8),
     /// That attempt failed.
@@ -126,7 +126,7 @@ impl Kind {
         ensures { IfOk result (λ kind. kind ≡ self.now) }
     {
         match self {
-            Kind::Taken(message) => Ok(Kind::Taken(message.copy()?)),
+            Kind::Taken(message) => Ok(Kind::Taken(message.share()?)),
             Kind::Attempt(number) => Ok(Kind::Attempt(*number)),
             Kind::Failed(error) => Ok(Kind::Failed(*error)),
             Kind::Fate(last, error) => Ok(Kind::Fate(*last, *error)),
@@ -138,7 +138,9 @@ impl Kind {
         ensures { IsTrue result ↔ (kind_of self.now ≡ kind_of other.now) }
     {
         match (self, other) {
-            (Kind::Taken(message), Kind::Taken(taken)) => message.is(taken),
+            (Kind::Taken(message), Kind::Taken(taken)) => {
+                message.submission().is(taken.submission())
+            }
             (Kind::Attempt(number), Kind::Attempt(attempt)) => number == attempt,
             (Kind::Failed(error), Kind::Failed(cause)) => error == cause,
             (Kind::Fate(last, error), Kind::Fate(fate, cause)) => last == fate && error == cause,
@@ -151,7 +153,7 @@ impl Kind {
         ensures { bare_kind result ≡ bare (kind_of self.now) }
     {
         match self {
-            Kind::Taken(message) => Act::Taken(message.term()),
+            Kind::Taken(message) => Act::Taken(message.submission().term()),
             Kind::Attempt(number) => Act::Attempt(*number),
             Kind::Failed(_) => Act::Failed,
             Kind::Fate(last, _) => Act::Fate(*last),

@@ -10,6 +10,7 @@ mod marks;
 mod octets;
 mod progress;
 mod reading;
+mod shared_submission;
 mod submission;
 mod writing;
 
@@ -17,4 +18,5 @@ pub use chain::Chain;
 pub use decree::{Author, Decree, ErrorCode, Final, Kind};
 pub use fault::ChainFault;
 pub use laws::octets_are_of_one_chain;
+pub use shared_submission::SharedSubmission;
 pub use submission::Submission;

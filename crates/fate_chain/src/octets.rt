@@ -12,6 +12,7 @@ use crate::fields::{
     error_at, incarnation_at, kind_at, moment_at, node_at, parameters_at, text_at,
 };
 use crate::marks::{Act, Mark, Term};
+use crate::shared_submission::SharedSubmission;
 use crate::submission::Submission;
 use mc_types::Moment;
 use octet_fields::{Defect, counted_at, octet_at};
@@ -257,7 +258,10 @@ impl KindOctets<'_> {
         ensures { IfOk result (λ kind. kind_of kind ≡ kind_seen self.now) }
     {
         match self {
-            KindOctets::Taken(message) => Ok(Kind::Taken(message.message(alloc)?)),
+            KindOctets::Taken(message) => {
+                let submission = message.message(alloc)?;
+                Ok(Kind::Taken(SharedSubmission::make(alloc, submission)?))
+            }
             KindOctets::Attempt(number) => Ok(Kind::Attempt(*number)),
             KindOctets::Failed(error) => Ok(Kind::Failed(*error)),
             KindOctets::Fate(last, error) => Ok(Kind::Fate(*last, *error)),

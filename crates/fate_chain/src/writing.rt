@@ -121,7 +121,7 @@ fn put_kind(out: &mut Vec<u8>, kind: &Kind) -> Result<(), AllocError>
     ensures fits { OnOk result (KindFits (kind_of kind.now)) }
 {
     match kind {
-        Kind::Taken(message) => put_message(out, message),
+        Kind::Taken(message) => put_message(out, message.submission()),
         Kind::Attempt(number) => put_octets(out, &[*number]),
         Kind::Failed(error) => put_octets(out, &error.number().to_be_bytes()),
         Kind::Fate(last, error) => {

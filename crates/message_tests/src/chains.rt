@@ -3,7 +3,9 @@
 ghost use Rattle.std.specs.Prelude.{◌≤◌};
 
 use crate::values::{address, text};
-use fate_chain::{Author, Chain, ChainFault, Decree, ErrorCode, Final, Kind, Submission};
+use fate_chain::{
+    Author, Chain, ChainFault, Decree, ErrorCode, Final, Kind, SharedSubmission, Submission,
+};
 use mc_types::{Incarnation, Moment, MsgId, NodeNo};
 use pdu_codec::{ShortMessage, Tlvs};
 use pdu_tables::State;
@@ -267,7 +269,7 @@ fn taken_again(rt: &HostRuntime, chain: &Chain) -> Result<Decree, Fail> {
     Ok(Decree {
         author: chain.newest().author,
         moment: chain.newest().moment,
-        kind: Kind::Taken(message(rt)?),
+        kind: Kind::Taken(SharedSubmission::make(rt.alloc(), message(rt)?)?),
     })
 }
 

@@ -31,7 +31,7 @@ ghost use Rattle.node_model.specs.Reported.{receipt_of};
 
 use crate::fault::StepFault;
 use crate::input::{Input, sender};
-use crate::message::{Message, fate_in};
+use crate::message::Message;
 use crate::message_shelf::MessageShelf;
 use crate::outputs::Outputs;
 use crate::queue_change::QueueChange;
@@ -350,7 +350,7 @@ impl Kept {
         if had_fate {
             return Ok(None);
         }
-        let Some(last) = fate_in(chain) else {
+        let Some(last) = chain.fate() else {
             return Ok(None);
         };
         if chain.id().node() != self.node() || !is_asked(last, chain.submission()) {

@@ -11,9 +11,7 @@ ghost use Rattle.node_model.specs.Kept.{Kept as KeptValue};
 ghost use Rattle.node_model.specs.Attempts.{concluded, known_refusal, newest_refusal};
 ghost use Rattle.node_model.specs.Proposer.{runs_at, unless_reached};
 ghost use Rattle.node_model.specs.Answers.{had_fate};
-ghost use Rattle.mc_model.specs.message.Chain.{final_in};
 ghost use Rattle.mc_model.specs.message.Ids.{IsId};
-ghost use Rattle.fate_chain.specs.Kinds.{final_of};
 ghost use Rattle.synod_proposer.specs.Proposing.{IsOfSame as IsOfSameProposer, message_of as message_proposed};
 ghost use Rattle.synod_acceptor.specs.Records.{held_at, record_at};
 ghost use Rattle.synod_acceptor.specs.Votes.{record_of, report_of, slot_in, slot_recorded, slot_reported, told_vote, vote_of};
@@ -40,7 +38,7 @@ use crate::grant_refusal::GrantRefusal;
 use crate::ruling::Ruling;
 use crate::turn::Turn;
 use delivery::Outcome;
-use fate_chain::{Author, Chain, Decree, Final, Kind};
+use fate_chain::{Author, Chain, Decree, Kind};
 use mc_types::{Ballot, MsgId, NodeNo, Slot};
 use pdu_codec::Text;
 use requests::Queue;
@@ -147,7 +145,7 @@ impl Message {
         ensures { result ≡ had_fate (message_of id self.now).known }
     {
         match self.learner.known(id) {
-            Some(chain) => fate_in(chain).is_some(),
+            Some(chain) => chain.fate().is_some(),
             None => false,
         }
     }
@@ -508,15 +506,5 @@ fn end_reached(proposer: &mut Proposer, chain: &Chain)
     };
     if slot.place <= chain.place() {
         proposer.drop_round();
-    }
-}
-
-/// The final state of a chain, if it has one.
-pub fn fate_in(chain: &Chain) -> Option<Final>
-    ensures { option_map final_of result ≡ final_in chain.now.decrees }
-{
-    match &chain.newest().kind {
-        Kind::Fate(last, _) => Some(*last),
-        _ => None,
     }
 }
