@@ -8,7 +8,7 @@ use Rattle.mc_model.specs.node.Outputs.{HasNumber}
 use Rattle.mc_model.specs.cluster.Steps.{Cluster, setup_of}
 use Rattle.node_model.specs.Attempts.{grant_refusal}
 use Rattle.node_model.specs.Granted.{is_open}
-use Rattle.node_laws.specs.Clusters.{KeptCluster, NodeInput, kept_reached}
+use Rattle.node_laws.specs.Clusters.{KeptCluster, NodeInput, comes_to, kept_reached}
 use Rattle.synod_acceptor.specs.Packets.{packet_of}
 use Rattle.synod_acceptor.specs.declared.packet.Packet.{Packet as Sent}
 use Rattle.node_core.specs.declared.fault.StepFault.{StepFault}
@@ -25,7 +25,7 @@ use Rattle.world.specs.declared.given.Given.{Given as Gives}
 use Rattle.world.specs.declared.step.Step.{Step}
 use Rattle.world.specs.declared.step.Step.TheVariants as steps
 use Rattle.world.specs.Members.{DoesNotTake, HasTaken, IsSentIn, Keeps, fault_from}
-use Rattle.world.specs.Runs.{Comes, GoesOn, IsAt, IsFault, Leads, StaysAt, at, away, or_else, refusal_of, unsent}
+use Rattle.world.specs.Runs.{Comes, GoesOn, IsAt, IsFault, Leads, StaysAt, away, or_else, refusal_of, unsent}
 use Rattle.world.specs.Scenes.{Scene}
 use Rattle.world.proofs.Going.{stays}
 use Rattle.world.proofs.Leading.{not_taken, taken}
@@ -38,7 +38,7 @@ after cluster inputs = kept_reached cluster inputs
 -- what comes by a step is this input of a node, and for this the step is refused
 pub record IsInputOf (old : Scene) (step : Step) (node : ℕ) (input : Given) : Type 0 where
   pub comes : (cluster : Cluster) (behind : List Packet) (inputs : List NodeInput) → IsAt cluster behind inputs old →
-      Comes cluster (length behind) (after cluster inputs) step (at node (input_of (setup_of cluster node) ((after cluster inputs).kept node) input))
+      Comes cluster (length behind) (after cluster inputs) step (comes_to node (input_of (setup_of cluster node) ((after cluster inputs).kept node) input))
   pub refused : (cluster : Cluster) (behind : List Packet) (inputs : List NodeInput) → IsAt cluster behind inputs old →
       refusal_of cluster (length behind) (after cluster inputs) step
       ≡ or_else (away cluster (after cluster inputs) node) (option_map fault_from (refused_by (setup_of cluster node) ((after cluster inputs).kept node) input))

@@ -12,7 +12,7 @@ use Rattle.node_model.specs.Kept.{Kept}
 use Rattle.node_model.specs.Outputs.{Stepped, leaves, nothing}
 use Rattle.mc_model.specs.synod.Lists.{In}
 use Rattle.node_model.specs.Stepped.{restarted, stepped, stopped}
-use Rattle.node_laws.specs.Clusters.{KeptCluster, NodeInput, kept_reached, step_at}
+use Rattle.node_laws.specs.Clusters.{KeptCluster, NodeInput, comes_to, kept_reached, step_at}
 use Rattle.node_laws.specs.Runs.{IsOneOf}
 use Rattle.synod_acceptor.specs.Packets.{packet_of}
 use Rattle.synod_acceptor.specs.declared.packet.Packet.{Packet as Sent}
@@ -27,7 +27,7 @@ use Rattle.world.specs.declared.fault.WorldFault.TheVariants as faults
 use Rattle.world.specs.declared.given.Given.{Given as Gives}
 use Rattle.world.specs.declared.step.Step.TheVariants as steps
 use Rattle.world.specs.Members.{CantBegin, HasBegun, HasStopped, IsPlace, Keeps, away_in, undelivered_in, unsent_in}
-use Rattle.world.specs.Runs.{IsAt, IsDown, IsFault, IsGiven, IsMember, IsSomewhere, Leads, StandsAs, at, away, or_else, spent, unsent}
+use Rattle.world.specs.Runs.{IsAt, IsDown, IsFault, IsGiven, IsMember, IsSomewhere, Leads, StandsAs, away, or_else, spent, unsent}
 use Rattle.world.specs.Scenes.{Placed, Scene}
 use Rattle.world.proofs.Going.{goes_on, stays}
 use Rattle.world.proofs.Stopping.{stands_down}
@@ -35,7 +35,7 @@ use Rattle.world.proofs.Leading.{away_is, away_none, is_up, kept_up, present, se
 use Rattle.world.proofs.Answering.{number_is, unsent_none, unsent_some}
 
 -- what leaves something gives nothing out
-gives_nothing : (up : Bool) (one other : Kept) → (if◌then◌else◌ {A = Stepped} up (leaves one) (leaves other)).outputs ≡ nothing
+pub gives_nothing : (up : Bool) (one other : Kept) → (if◌then◌else◌ {A = Stepped} up (leaves one) (leaves other)).outputs ≡ nothing
 gives_nothing true one other = refl
 gives_nothing false one other = refl
 
@@ -75,11 +75,11 @@ module _ (cluster : Cluster) (behind : List Packet) (inputs : List NodeInput) (o
     up_now = is_up cluster behind inputs old now node place m is_place has.up
 
     stopped_is : stopped m.node.kept.setup (kept_of m.node.kept) (packet_of packet) after
-        ≡ (step_at cluster here (at node (Crash (packet_of packet) after))).kept
+        ≡ (step_at cluster here (comes_to node (Crash (packet_of packet) after))).kept
     stopped_is = (λ i. stopped (setup_is i) (kept_is i) (packet_of packet) after) ∙ crash_is (setup_of cluster node) k (packet_of packet) after up_now
 
     abbrev step : Stepped
-    step = step_at cluster here (at node crash)
+    step = step_at cluster here (comes_to node crash)
 
     member_then : IsMember (setup_of cluster node) step.kept has.after
     member_then = record {
@@ -91,7 +91,7 @@ module _ (cluster : Cluster) (behind : List Packet) (inputs : List NodeInput) (o
     silent : step.outputs ≡ nothing
     silent = gives_nothing k.up (stopped (setup_of cluster node) k (packet_of packet) after) k
 
-    pub stopped_at : In (packet_of packet) here.packets → IsAt cluster behind (at node crash ∷ inputs) new
+    pub stopped_at : In (packet_of packet) here.packets → IsAt cluster behind (comes_to node crash ∷ inputs) new
     stopped_at sent = goes_on cluster behind inputs old now node place crash has.after new.packets new place_is
         (subst IsOneOf setup_is has.crashed.one)
         (up_for k crash up_now)
@@ -124,7 +124,7 @@ module _ (cluster : Cluster) (behind : List Packet) (inputs : List NodeInput) (o
     same_life = incarnation_is was.up member_is.stands
 
     abbrev begun : Stepped
-    begun = step_at cluster here (at node (Restart 0))
+    begun = step_at cluster here (comes_to node (Restart 0))
 
     begun_is : IsMember (setup_of cluster node) begun.kept has.after
     begun_is = record {
@@ -139,7 +139,7 @@ module _ (cluster : Cluster) (behind : List Packet) (inputs : List NodeInput) (o
     left : before.incarnation + 0 < 9999
     left = let less = has.restarted.left in let same = same_life in omega arith
 
-    pub begun_at : IsAt cluster behind (at node (Restart 0) ∷ inputs) new
+    pub begun_at : IsAt cluster behind (comes_to node (Restart 0) ∷ inputs) new
     begun_at = goes_on cluster behind inputs old now node place (Restart 0) has.after new.packets new place_is
         (subst IsOneOf member_is.setup_is has.restarted.one)
         tt left tt begun_is has.changed refl
@@ -165,7 +165,7 @@ crash_leads old new node number place packet found (Ok gives) place_is packet_is
       record {
         allowed = (λ i. or_else (unsent_some cluster behind inputs old now number packet packet_is i) (away cluster (kept_reached cluster inputs) node))
             ∙ away_none cluster behind inputs old now node place up is is_up;
-        next = at node (Crash (packet_of packet) (is_after found));
+        next = comes_to node (Crash (packet_of packet) (is_after found));
         comes = (packet_of packet, sent, refl);
         at = stopped_at cluster behind inputs old new now node place packet (is_after found) gives place_is has (number_in _ _ _ sent);
         gives = stop_gives cluster behind inputs old new now node place packet (is_after found) gives place_is has;
@@ -189,7 +189,7 @@ restart_leads old new node place (Ok gives) place_is has cant keeps = record {
         (λ i. or_else (present cluster behind inputs old now node place has.member (record { place_is = place_is; found = has.is.found }) i)
         (spent (kept_reached cluster inputs) node))
         ∙ not_spent cluster behind inputs old new now node place gives place_is has;
-    next = at node (Restart 0);
+    next = comes_to node (Restart 0);
     comes = refl;
     at = begun_at cluster behind inputs old new now node place gives place_is has;
     gives = begun_gives cluster behind inputs old new now node place gives place_is has;

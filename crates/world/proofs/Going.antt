@@ -11,7 +11,7 @@ use Rattle.mc_model.specs.node.Input.{Input}
 use Rattle.mc_model.specs.cluster.Steps.{Cluster, setup_of}
 use Rattle.node_model.specs.Kept.{Kept}
 use Rattle.node_model.specs.Outputs.{Stepped}
-use Rattle.node_laws.specs.Clusters.{KeptCluster, NodeInput, WasSentBefore, kept_next, kept_reached, step_at}
+use Rattle.node_laws.specs.Clusters.{KeptCluster, NodeInput, WasSentBefore, comes_to, kept_next, kept_reached, step_at}
 use Rattle.node_laws.specs.Runs.{IsOneOf, IsUpFor, MayCome}
 use Rattle.synod_acceptor.specs.Packets.{packet_of}
 use Rattle.synod_acceptor.specs.declared.packet.Packet.{Packet as Sent}
@@ -20,7 +20,7 @@ use Rattle.node_core.specs.Keeping.{kept_of}
 use Rattle.sim_net.specs.Network.{numbered}
 use Rattle.sim_net.proofs.Numbers.{set_get}
 use Rattle.world.specs.Members.{HasChanged, IsUnmoved, Keeps}
-use Rattle.world.specs.Runs.{IsAt, IsMember, StandsAs, at}
+use Rattle.world.specs.Runs.{IsAt, IsMember, StandsAs}
 use Rattle.world.specs.Scenes.{Placed, Scene}
 
 -- ---- nothing changed
@@ -63,7 +63,7 @@ module _ (cluster : Cluster) (behind : List Packet) (inputs : List NodeInput) (o
 
   module _ (node place : ℕ) (input : Input) (m : Placed) (after : List Sent) (new : Scene) (place_is : node ≡ place + 1) where
     abbrev step : Stepped
-    step = step_at cluster here (at node input)
+    step = step_at cluster here (comes_to node input)
 
     abbrev then : KeptCluster
     then = kept_next here node step
@@ -108,7 +108,7 @@ module _ (cluster : Cluster) (behind : List Packet) (inputs : List NodeInput) (o
 
     pub goes_on : IsOneOf (setup_of cluster node) → IsUpFor (here.kept node) input → MayCome (setup_of cluster node) (here.kept node) input →
         WasSentBefore here.packets input → IsMember (setup_of cluster node) step.kept m → HasChanged old place m new → new.packets ≡ after →
-        map packet_of after ≡ map packet_of old.packets ++ step.outputs.packets → IsAt cluster behind (at node input ∷ inputs) new
+        map packet_of after ≡ map packet_of old.packets ++ step.outputs.packets → IsAt cluster behind (comes_to node input ∷ inputs) new
     goes_on one up may sent member changed are more = record {
       may = (one, up, may, sent, now.may);
       nodes = ap length changed.members ∙ length-set old.members place m ∙ now.nodes;

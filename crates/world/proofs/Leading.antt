@@ -12,7 +12,7 @@ use Rattle.mc_model.specs.cluster.Steps.{Cluster, setup_of}
 use Rattle.node_model.specs.Kept.{Kept}
 use Rattle.node_model.specs.Outputs.{Stepped}
 use Rattle.node_model.specs.Stepped.{stepped}
-use Rattle.node_laws.specs.Clusters.{KeptCluster, NodeInput, WasSentBefore, kept_reached, step_at}
+use Rattle.node_laws.specs.Clusters.{KeptCluster, NodeInput, WasSentBefore, comes_to, kept_reached, step_at}
 use Rattle.node_laws.specs.Runs.{IsOneOf, IsUpFor, MayCome}
 use Rattle.node_laws.proofs.Orders.{mapped_in, reverse_in}
 use Rattle.pdu_tables.specs.declared.status.Status.{Status}
@@ -30,7 +30,7 @@ use Rattle.world.specs.declared.fault.WorldFault.{WorldFault}
 use Rattle.world.specs.declared.fault.WorldFault.TheVariants as faults
 use Rattle.world.specs.declared.given.Given.{Given as Gives}
 use Rattle.world.specs.Members.{DoesNotTake, HasTaken, IsPlace, IsSentIn, away_in, down_in, fault_from, step_by}
-use Rattle.world.specs.Runs.{IsAt, IsGiven, IsMember, StandsAs, absent, at, away, down, or_else}
+use Rattle.world.specs.Runs.{IsAt, IsGiven, IsMember, StandsAs, absent, away, down, or_else}
 use Rattle.world.specs.Scenes.{Placed, Scene}
 use Rattle.world.proofs.Going.{goes_on}
 
@@ -144,11 +144,11 @@ module _ (cluster : Cluster) (behind : List Packet) (inputs : List NodeInput) (o
   pub record IsTaken (node : ℕ) (input : Given) (gives : Gives) (new : Scene) : Type 0 where
     pub present : away cluster here node ≡ None
     pub allowed : refused_by (setup_of cluster node) (here.kept node) input ≡ None
-    pub at_then : IsAt cluster behind (at node (input_at node input) ∷ inputs) new
-    pub given_is : IsGiven gives (step_at cluster here (at node (input_at node input))).outputs
+    pub at_then : IsAt cluster behind (comes_to node (input_at node input) ∷ inputs) new
+    pub given_is : IsGiven gives (step_at cluster here (comes_to node (input_at node input))).outputs
 
   step_is : (node place : ℕ) (m : Placed) → IsPlace old node place m → m.up ≡ true → (input : Given) →
-      step_by m input ≡ step_at cluster here (at node (input_at node input))
+      step_by m input ≡ step_at cluster here (comes_to node (input_at node input))
   step_is node place m is up input =
       λ i. stepped (setup_up node place m is i) (kept_up node place m is up i) (input_of (setup_up node place m is i) (kept_up node place m is up i) input)
 
@@ -160,9 +160,9 @@ module _ (cluster : Cluster) (behind : List Packet) (inputs : List NodeInput) (o
       let may : MayCome (setup_of cluster node) (here.kept node) (input_at node input) =
       subst (λ (k : Kept). MayCome (setup_of cluster node) k (input_of (setup_of cluster node) k input)) kept
       (subst (λ (s : Setup). MayCome s (kept_of has.member.node.kept) (input_of s (kept_of has.member.node.kept) input)) setup has.sent.may) in
-      let member : IsMember (setup_of cluster node) (step_at cluster here (at node (input_at node input))).kept has.after = record {
+      let member : IsMember (setup_of cluster node) (step_at cluster here (comes_to node (input_at node input))).kept has.after = record {
         setup_is = has.sent.setup ∙ setup;
-        stands = subst (λ (b : Bool). StandsAs (step_at cluster here (at node (input_at node input))).kept b has.after.node) (sym has.sent.up)
+        stands = subst (λ (b : Bool). StandsAs (step_at cluster here (comes_to node (input_at node input))).kept b has.after.node) (sym has.sent.up)
             (has.sent.kept ∙ ap (λ (s : Stepped). s.kept) step);
       } in
       record {

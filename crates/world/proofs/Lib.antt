@@ -6,3 +6,4 @@ pub mod Placing
 pub mod Answering
 pub mod Ending
 pub mod Starting
+pub mod Restarting

@@ -1,5 +1,5 @@
 -- One node of a world, and what it does (own).
-use Rattle.std.specs.Prelude.{◌≡◌, ◌⊎◌, ℕ, ◌+◌, ◌<◌, ◌≤◌, Bool, true, false, List, ◌++◌, length, map, Option, Some, None, if◌then◌else◌}
+use Rattle.std.specs.Prelude.{◌≡◌, ◌⊎◌, ℕ, ◌+◌, ◌<◌, ◌≤◌, Bool, true, false, List, [], ◌++◌, length, map, Option, Some, None, if◌then◌else◌}
 use Rattle.std.specs.List.{slice_get}
 use Rattle.std.proofs.Math.ListN.{set}
 use Rattle.mc_model.specs.synod.Lists.{In}
@@ -231,6 +231,12 @@ pub record CantBegin (old : Scene) (place : ℕ) (fault : WorldFault) : Type 0 w
   pub member : Placed
   pub is : IsPlace old (place + 1) place member
   pub why : ((fault ≡ faults.Spent) × (9999 ≤ member.node.kept.incarnation)) ⊎ ((fault ≡ faults.Memory) × (member.node.kept.incarnation < 9999))
+
+-- no packet that was sent is left
+pub record HasForgotten (old new : Scene) : Type 0 where
+  pub members : new.members ≡ old.members
+  pub none : new.packets ≡ []
+  pub fresh : new.fresh ≡ false
 
 -- the first of so many nodes opened, each over a new store
 pub record AreOpened (nodes serial validity count : ℕ) (members : List Placed) : Type 0 where

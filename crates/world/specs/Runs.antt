@@ -1,5 +1,5 @@
 -- The steps of a world of nodes of the code, as a run of a cluster of nodes by what they keep (own).
-use Rattle.std.specs.Prelude.{◌≡◌, ℕ, ◌+◌, nat_lt, nat_le, ◌&&◌, not, Bool, true, false, List, [], ◌∷◌, ◌++◌, length, map, reverse, option_map, Option, Some, None, Result, Ok, Err, if◌then◌else◌}
+use Rattle.std.specs.Prelude.{◌≡◌, ℕ, zero, suc, ◌+◌, ◌<◌, nat_lt, nat_le, ◌&&◌, not, Bool, true, false, List, [], ◌∷◌, ◌++◌, length, map, reverse, option_map, Option, Some, None, Result, Ok, Err, if◌then◌else◌}
 use Rattle.mc_model.specs.synod.Packet.{Packet}
 use Rattle.mc_model.specs.node.Input.{Crash, Delivery, Grant, Input, Response, Restart, Tick}
 use Rattle.mc_model.specs.node.Outputs.{HasNumber, Outputs}
@@ -10,7 +10,7 @@ use Rattle.node_model.specs.Granted.{is_open, known_slot}
 use Rattle.node_model.specs.Kept.{Kept}
 use Rattle.node_model.specs.Outputs.{nothing}
 use Rattle.node_model.specs.Reported.{receipt_of}
-use Rattle.node_laws.specs.Clusters.{KeptCluster, MayHappen, NodeInput, kept_reached, step_at}
+use Rattle.node_laws.specs.Clusters.{KeptCluster, MayHappen, NodeInput, comes_to, kept_reached, step_at}
 use Rattle.delivery.specs.Kept.{outcome_kept}
 use Rattle.delivery.specs.Targets.{is_up}
 use Rattle.desk.specs.Arrivals.{requested}
@@ -37,19 +37,16 @@ use Rattle.world.specs.Scenes.{Placed, Scene}
 
 -- ---- what comes by a step
 
-abbrev pub at : ℕ → Input → NodeInput
-at node input = record { node = node; input = input }
-
 -- Nodes by what they keep, after which so many packets that this world does not number were sent: this comes to one of them by a step.
 abbrev pub Comes : Cluster → ℕ → KeptCluster → Step → NodeInput → Type 0
-Comes cluster behind w (steps.Deliver number node) next = (packet : Packet) × HasNumber w.packets (number + behind) packet × (next ≡ at node (Delivery packet))
-Comes cluster behind w (steps.Request node account request) next = next ≡ at node (requested (setup_of cluster node) (w.kept node) account request)
-Comes cluster behind w (steps.Tick node moment up) next = next ≡ at node (Tick moment (is_up up.items))
-Comes cluster behind w (steps.Grant node id) next = next ≡ at node (Grant (known_slot (w.kept node) id))
-Comes cluster behind w (steps.Answered node slot outcome) next = next ≡ at node (Response slot (outcome_kept outcome))
+Comes cluster behind w (steps.Deliver number node) next = (packet : Packet) × HasNumber w.packets (number + behind) packet × (next ≡ comes_to node (Delivery packet))
+Comes cluster behind w (steps.Request node account request) next = next ≡ comes_to node (requested (setup_of cluster node) (w.kept node) account request)
+Comes cluster behind w (steps.Tick node moment up) next = next ≡ comes_to node (Tick moment (is_up up.items))
+Comes cluster behind w (steps.Grant node id) next = next ≡ comes_to node (Grant (known_slot (w.kept node) id))
+Comes cluster behind w (steps.Answered node slot outcome) next = next ≡ comes_to node (Response slot (outcome_kept outcome))
 Comes cluster behind w (steps.Crash node number found) next =
-    (packet : Packet) × HasNumber w.packets (number + behind) packet × (next ≡ at node (Crash packet (is_after found)))
-Comes cluster behind w (steps.Restart node) next = next ≡ at node (Restart 0)
+    (packet : Packet) × HasNumber w.packets (number + behind) packet × (next ≡ comes_to node (Crash packet (is_after found)))
+Comes cluster behind w (steps.Restart node) next = next ≡ comes_to node (Restart 0)
 
 -- ---- why a step is refused: the lowest number that fits, but that a node is down before why an attempt is not granted
 
@@ -184,3 +181,23 @@ Answers cluster behind inputs step (Err fault) new = StaysAt cluster behind inpu
 pub record Leads (old : Scene) (step : Step) (result : Result Given WorldFault) (new : Scene) : Type 0 where
   pub each : (cluster : Cluster) (behind : List Packet) (inputs : List NodeInput) → IsAt cluster behind inputs old
       → Answers cluster behind inputs step result new
+
+-- ---- over the stores of nodes that ended
+
+-- nodes 1 to so many start anew, one after the other: the newest first
+abbrev pub begin_anew : ℕ → List NodeInput
+begin_anew zero = []
+begin_anew (suc count) = comes_to (suc count) (Restart 0) ∷ begin_anew count
+
+-- Each node started anew, wherever the world stood in a run, and all packets that were sent by then are behind it.
+pub record StartsOver (old new : Scene) : Type 0 where
+  pub none : new.packets ≡ []
+  pub each : (cluster : Cluster) (behind : List Packet) (inputs : List NodeInput) → IsAt cluster behind inputs old
+      → IsAt cluster (kept_reached cluster inputs).packets (begin_anew cluster.nodes ++ inputs) new
+
+-- Or only the first so many did, and the next one did not.
+pub record HaltsOver (old : Scene) (fault : WorldFault) (new : Scene) : Type 0 where
+  pub count : ℕ
+  pub more : count < length old.members
+  pub each : (cluster : Cluster) (behind : List Packet) (inputs : List NodeInput) → IsAt cluster behind inputs old
+      → StaysAt cluster behind (begin_anew count ++ inputs) (steps.Restart (suc count)) fault new

@@ -1,11 +1,11 @@
 //! A world: its nodes, and the packets between them.
 
-ghost use Rattle.std.specs.Prelude.{◌≡◌, ◌+◌, ◌<◌, ◌≤◌, [], true, length, IfErr, IfOk, OnErr, Some};
+ghost use Rattle.std.specs.Prelude.{◌≡◌, ◌+◌, ◌<◌, ◌≤◌, [], true, length, IfErr, IfOk, OnErr, OnOk, Some};
 ghost use Rattle.mc_model.specs.synod.Lists.{In};
 ghost use Rattle.node_core.specs.Stops.{is_after};
 ghost use Rattle.mc_model.specs.message.Ids.{IsSerial};
-ghost use Rattle.world.specs.Members.{AreOpened, CantBegin, DoesNotTake, HasBegun, HasStopped, HasTaken, IsAddressed, IsSentIn, IsUpAt, Keeps, RefusesTo, away_in, undelivered_in};
-ghost use Rattle.world.specs.Runs.{IsAt, IsFault, IsSomewhere, IsStartFault, Leads, cluster_with, start_refusal};
+ghost use Rattle.world.specs.Members.{AreOpened, CantBegin, DoesNotTake, HasBegun, HasForgotten, HasStopped, HasTaken, IsAddressed, IsSentIn, IsUpAt, Keeps, RefusesTo, away_in, undelivered_in};
+ghost use Rattle.world.specs.Runs.{HaltsOver, IsAt, IsFault, IsSomewhere, IsStartFault, Leads, StartsOver, cluster_with, start_refusal};
 ghost use Rattle.world.specs.declared.fault.WorldFault.TheVariants.{Memory};
 ghost use Rattle.world.specs.declared.step.Step.TheVariants as steps;
 
@@ -73,7 +73,37 @@ impl World {
         })
     }
 
-    /// All packets that were sent.
+    /// Starts it over the stores of its nodes, as if its program ended and another one opened them: each node starts anew in its next
+    /// incarnation, with its stable records and nothing else, node 1 first. No packet that was sent before comes any more, and the next one has
+    /// number 1. Spent exactly if a node has begun its last incarnation and those before it could start; else an `Err` is want of memory. Then
+    /// the nodes before it have started anew, and the packets are still there.
+    pub fn start_over(&mut self) -> Result<(), WorldFault>
+        ensures over { OnOk result (StartsOver self.old self.new) }
+        ensures halts { IfErr result (λ fault. HaltsOver self.old fault self.new) }
+    {
+        for place in 0..self.nodes() {
+            self.restart_at(place)?;
+        }
+        self.forget_packets();
+        Ok(())
+    }
+
+    /// How many nodes it has.
+    fn nodes(&self) -> usize
+        ensures { result ≡ length self.now.members }
+    {
+        self.members.len()
+    }
+
+    /// No packet that was sent comes any more, and the next one has number 1.
+    fn forget_packets(&mut self)
+        ensures { HasForgotten self.old self.new }
+    {
+        self.packets = Packets::none(self.alloc);
+        self.fresh = false;
+    }
+
+    /// All packets that were sent, since it last started over.
     pub fn packets(&self) -> &Packets
         ensures { result.now.sent ≡ self.now.packets }
     {
