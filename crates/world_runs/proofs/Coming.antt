@@ -11,7 +11,7 @@ use Rattle.mc_model.specs.cluster.Steps.{Cluster, setup_of}
 use Rattle.node_model.specs.Granted.{known_slot}
 use Rattle.node_model.specs.Kept.{Kept}
 use Rattle.node_model.specs.Stepped.{stepped_down, stepped_up}
-use Rattle.node_laws.specs.Clusters.{KeptCluster, NodeInput, step_at}
+use Rattle.node_laws.specs.Clusters.{KeptCluster, NodeInput, comes_to, step_at}
 use Rattle.pdu_tables.specs.StatusCodes.{status_code}
 use Rattle.pdu_tables.specs.declared.status.Status.{Status}
 use Rattle.delivery.specs.Kept.{outcome_kept}
@@ -22,7 +22,7 @@ use Rattle.desk.specs.Arrivals.{door_at, judged_as, next_id, requested}
 use Rattle.desk.specs.declared.request.Request.{Request as Asked}
 use Rattle.world.specs.declared.step.Step.{Step}
 use Rattle.world.specs.declared.step.Step.TheVariants as steps
-use Rattle.world.specs.Runs.{Comes, at}
+use Rattle.world.specs.Runs.{Comes}
 use Rattle.world_runs.specs.Traces.{node_at}
 
 -- by a request no attempt is granted, none is answered, and no node starts anew
@@ -45,16 +45,16 @@ delivered_only outcomes.Rejected same = absurd (cc)
 delivered_only (outcomes.Failed error) same = absurd (cc)
 
 module _ (cluster : Cluster) (behind : ℕ) (w : KeptCluster) (node : ℕ) where
-  input_is : (other : ℕ) (one input : Input) → at node one ≡ at other input → one ≡ input
+  input_is : (other : ℕ) (one input : Input) → comes_to node one ≡ comes_to other input → one ≡ input
   input_is other one input same = ap (λ (x : NodeInput). x.input) same
 
-  node_is : (other : ℕ) (one input : Input) → at node one ≡ at other input → other ≡ node
+  node_is : (other : ℕ) (one input : Input) → comes_to node one ≡ comes_to other input → other ≡ node
   node_is other one input same = ap (λ (x : NodeInput). x.node) (sym same)
 
   abbrev judged : ℕ → List ℕ → Asked → Result Request Status
   judged other account request = admitted (door_at (setup_of cluster other) (w.kept other)) (next_id (setup_of cluster other) (w.kept other)) account request
 
-  pub granted_by_step : (slot : Slot) (step : Step) → Comes cluster behind w step (at node (Grant slot)) → step ≡ steps.Grant node slot.id
+  pub granted_by_step : (slot : Slot) (step : Step) → Comes cluster behind w step (comes_to node (Grant slot)) → step ≡ steps.Grant node slot.id
   granted_by_step slot (steps.Deliver number other) c = let same = input_is other (Grant slot) (Delivery c.0) c.2 in absurd (cc)
   granted_by_step slot (steps.Request other account request) c = absurd (no_grant_asked slot (judged other account request) (input_is other (Grant slot) _ c))
   granted_by_step slot (steps.Tick other moment up) c = let same = input_is other (Grant slot) _ c in absurd (cc)
@@ -69,7 +69,7 @@ module _ (cluster : Cluster) (behind : ℕ) (w : KeptCluster) (node : ℕ) where
   abbrev answer : Slot → Input
   answer slot = Response slot (Concluded Delivered 0)
 
-  pub answered_by_step : (slot : Slot) (step : Step) → Comes cluster behind w step (at node (Response slot (Concluded Delivered 0))) →
+  pub answered_by_step : (slot : Slot) (step : Step) → Comes cluster behind w step (comes_to node (Response slot (Concluded Delivered 0))) →
       step ≡ steps.Answered node slot outcomes.Delivered
   answered_by_step slot (steps.Deliver number other) c = let same = input_is other (answer slot) (Delivery c.0) c.2 in absurd (cc)
   answered_by_step slot (steps.Request other account request) c =
@@ -85,7 +85,7 @@ module _ (cluster : Cluster) (behind : ℕ) (w : KeptCluster) (node : ℕ) where
   answered_by_step slot (steps.Crash other number found) c = let same = input_is other (answer slot) _ c.2 in absurd (cc)
   answered_by_step slot (steps.Restart other) c = let same = input_is other (answer slot) (Restart 0) c in absurd (cc)
 
-  pub started_by_step : (lost : ℕ) (step : Step) → Comes cluster behind w step (at node (Restart lost)) → step ≡ steps.Restart node
+  pub started_by_step : (lost : ℕ) (step : Step) → Comes cluster behind w step (comes_to node (Restart lost)) → step ≡ steps.Restart node
   started_by_step lost (steps.Deliver number other) c = let same = input_is other (Restart lost) (Delivery c.0) c.2 in absurd (cc)
   started_by_step lost (steps.Request other account request) c = absurd (no_start_asked lost (judged other account request) (input_is other (Restart lost) _ c))
   started_by_step lost (steps.Tick other moment up) c = let same = input_is other (Restart lost) _ c in absurd (cc)
@@ -114,8 +114,8 @@ no_ticket : (setup : Setup) (k : Kept) (status ticket : ℕ) (up : Bool) →
 no_ticket setup k status ticket true same = cc
 no_ticket setup k status ticket false same = cc
 
-by_judged : (cluster : Cluster) (w : KeptCluster) (node ticket : ℕ) (judged : Result Request Status) (next : NodeInput) → next ≡ at node (judged_as judged) →
-    (step_at cluster w next).outputs.ticket ≡ Some ticket → (request : Request) × (next ≡ at node (Arrival request))
+by_judged : (cluster : Cluster) (w : KeptCluster) (node ticket : ℕ) (judged : Result Request Status) (next : NodeInput) → next ≡ comes_to node (judged_as judged) →
+    (step_at cluster w next).outputs.ticket ≡ Some ticket → (request : Request) × (next ≡ comes_to node (Arrival request))
 by_judged cluster w node ticket (Ok request) next same under = (request, same)
 by_judged cluster w node ticket (Err status) next same under =
     absurd (no_ticket (setup_of cluster node) (w.kept node) (status_code status) ticket (w.kept node).up
@@ -123,8 +123,8 @@ by_judged cluster w node ticket (Err status) next same under =
 
 -- a request that waits arrived
 pub arrived : (cluster : Cluster) (w : KeptCluster) (node ticket : ℕ) (account : List ℕ) (asked : Asked) (next : NodeInput) →
-    next ≡ at node (requested (setup_of cluster node) (w.kept node) account asked) → (step_at cluster w next).outputs.ticket ≡ Some ticket →
-    (request : Request) × (next ≡ at node (Arrival request))
+    next ≡ comes_to node (requested (setup_of cluster node) (w.kept node) account asked) → (step_at cluster w next).outputs.ticket ≡ Some ticket →
+    (request : Request) × (next ≡ comes_to node (Arrival request))
 arrived cluster w node ticket account asked next same under =
     by_judged cluster w node ticket
     (admitted (door_at (setup_of cluster node) (w.kept node)) (next_id (setup_of cluster node) (w.kept node)) account asked) next same under

@@ -4,4 +4,5 @@ pub mod Coming
 pub mod Standing
 pub mod Asking
 pub mod Choosing
+pub mod Stating
 pub mod Leading

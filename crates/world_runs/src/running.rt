@@ -11,6 +11,7 @@ ghost use Rattle.world_runs.specs.Traces.{
   LaterQueriesAreTold,
   LeadsAll,
 };
+ghost use Rattle.world_runs.specs.Statements.{Agree, statements_of};
 
 use crate::trace::Trace;
 use std::alloc::{AllocError, Global};
@@ -24,6 +25,7 @@ use world::{Step, World};
 pub fn run(alloc: Global, world: &mut World, steps: Vec<Step>) -> Result<Trace, AllocError>
     ensures leads { IfOk result (λ trace. LeadsAll world.old steps.items trace.answers.items world.new) }
     ensures one_fate { IfOk result (λ trace. HasOneFate trace.answers.items) }
+    ensures agree { IfOk result (λ trace. Agree (statements_of trace.answers.items)) }
     ensures no_grant { IfOk result (λ trace. GrantsNoneAfterAFate trace.answers.items) }
     ensures stands { IfOk result (λ trace. world.old.fresh ≡ true → DeliveriesStand steps.items trace.answers.items) }
     ensures stands_in_its_run { IfOk result (λ trace. DeliveriesStandInRuns world.old steps.items trace.answers.items) }

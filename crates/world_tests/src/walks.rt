@@ -2,6 +2,7 @@
 
 use crate::asked::{Asked, account, request};
 use delivery::Outcome;
+use fate_chain::Final;
 use mc_types::{Moment, MsgId, NodeNo, Slot};
 use node_core::Found;
 use requests::Reply;
@@ -21,6 +22,8 @@ pub enum Comes {
     Delivers(u64, u8),
     Crashes(u8, u64, Found),
     Restarts(u8),
+    // The world starts over the stores of its nodes.
+    StartsOver,
     // Each packet from this number on comes to each of the three nodes, in the order of sending, those that are sent meanwhile too.
     Settles(u64),
 }
@@ -120,7 +123,7 @@ fn step_of(alloc: Global, comes: Comes) -> Result<Option<Step>, Fail> {
         Comes::Restarts(number) => Step::Restart {
             node: node(number)?,
         },
-        Comes::Settles(_) => return Ok(None),
+        Comes::StartsOver | Comes::Settles(_) => return Ok(None),
     };
     Ok(Some(step))
 }
@@ -145,6 +148,13 @@ fn settled(world: &mut World, from: u64) -> Result<Answer, Fail> {
 fn answer_to(alloc: Global, world: &mut World, comes: Comes) -> Result<Answer, Fail> {
     if let Comes::Settles(from) = comes {
         return settled(world, from);
+    }
+    if matches!(comes, Comes::StartsOver) {
+        return Ok(
+            world
+                .start_over()
+                .map_or_else(Answer::Refused, |()| Answer::Nothing),
+        );
     }
     let step = step_of(alloc, comes)?.ok_or("a step")?;
     Ok(answer_of(world.step(step)))
@@ -180,6 +190,17 @@ pub fn answers_in(alloc: Global, trace: Trace) -> Result<Vec<Answer>, Fail> {
         answers.push(answer_of(given))?;
     }
     Ok(answers)
+}
+
+// The steps that told a final state of the first message, each with the state.
+pub fn stated_in(alloc: Global, trace: Trace) -> Result<Vec<(usize, Final)>, Fail> {
+    let mut stated = Vec::new(alloc);
+    for one in trace.statements()? {
+        if one.id == first_attempt()?.id {
+            stated.push((one.step, one.state))?;
+        }
+    }
+    Ok(stated)
 }
 
 pub fn steps_of(alloc: Global, comes: &[Comes]) -> Result<Vec<Step>, Fail> {

@@ -45,6 +45,24 @@ fn a_vote_that_was_saved_outlives_a_stop(rt: HostRuntime) -> Result<(), Fail> {
 }
 
 #[test]
+fn a_message_outlives_a_start_over(rt: HostRuntime) -> Result<(), Fail> {
+    // No node knows the message any more; a majority tells its vote, and that starts the round of its slot once more.
+    let rows = [
+        (Comes::Asks(1, Asked::Submit), Answer::Waits(1)),
+        (Comes::Settles(1), Answer::Replied(1, Said::Accepted)),
+        (Comes::StartsOver, Answer::Nothing),
+        (
+            Comes::Delivers(1, 1),
+            Answer::Refused(WorldFault::NoSuchPacket),
+        ),
+        (Comes::Asks(2, Asked::Query), Answer::Waits(1)),
+        (Comes::Settles(1), Answer::Replied(1, Said::Shown)),
+    ];
+    assert_eq!(rt; otherwise(rt.alloc(), &rows)?, None);
+    Ok(())
+}
+
+#[test]
 fn an_attempt_is_granted_once_at_its_node(rt: HostRuntime) -> Result<(), Fail> {
     let chosen = |refusal| Answer::Refused(WorldFault::Grant(refusal));
     let rows = [

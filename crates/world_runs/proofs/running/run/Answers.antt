@@ -1,4 +1,5 @@
 use Rattle.world_runs.proofs.Leading.{accepted_known, chosen_all, deliveries_stand_in, deliveries_stand_in_runs, goes_on, grants_none_after, has_one_fate, later_queries_told, led}
+use Rattle.world_runs.proofs.Stating.{agree}
 use Rattle.world_runs.proofs.running.run.Goals as goal
 
 pub loop-step-preserved : goal.loop-step-preserved
@@ -10,6 +11,11 @@ loop-step-preserved c =
 pub returns-clause-one_fate : goal.returns-clause-one_fate
 returns-clause-one_fate c =
     has_one_fate c.args.world.now c.loop-step.world c.loop-step.invariant.done c.loop-step.answers.items c.stands.ensures c.loop-step.invariant.leads
+
+pub returns-clause-agree : goal.returns-clause-agree
+returns-clause-agree c =
+    agree c.loop-step.answers.items
+    (has_one_fate c.args.world.now c.loop-step.world c.loop-step.invariant.done c.loop-step.answers.items c.stands.ensures c.loop-step.invariant.leads)
 
 pub returns-clause-no_grant : goal.returns-clause-no_grant
 returns-clause-no_grant c =
