@@ -10,7 +10,7 @@ ten seconds; GNU time measures the memory in a run of its own, in which the rece
 seconds a run may take: a longer one, as the tenth of its messages tells, is left out (300 if none are given).
 
     python3 bench/cluster.py crates/centre/out/centre [SECONDS]
-    python3 bench/cluster.py --instructions crates/centre/out/centre      # counts with Valgrind's callgrind, up to 1,000 messages: ten minutes
+    python3 bench/cluster.py --instructions crates/centre/out/centre      # counts with Valgrind's callgrind, up to 1,000 messages: 20 minutes
 
 It runs an unproved program as well; what `rt try` builds looks for faults of memory as it runs, which takes a hundred times as long, and more memory.
 """
@@ -45,6 +45,12 @@ def ten_messages(batch):
 
 def script(nodes, messages):
     return [f"nodes {nodes}", f"pdu 1 1 {BIND}"] + [line for batch in range(messages // WINDOW) for line in ten_messages(batch)]
+
+
+def with_a_stop(nodes, lines):
+    """The same script, in which the last node stops at the first packet and stays down."""
+    first = lines.index(f"pdu 1 1 {SUBMIT}") + 1
+    return lines[:first] + [f"crash {nodes} 1 before"] + lines[first:]
 
 
 def packets(nodes):
@@ -88,6 +94,12 @@ def rows(program, nodes, most):
         before = each
 
 
+def settle_with_a_stop(program, nodes, lines):
+    """The instructions of a settle of nothing while the last node is down."""
+    stopped = with_a_stop(nodes, lines)
+    return (instructions(program, stopped + ["settle"] * SETTLES) - instructions(program, stopped)) / SETTLES
+
+
 def counts(program, nodes):
     """A row for each number of messages, in instructions."""
     start, before = instructions(program, script(nodes, 0)), None
@@ -96,15 +108,16 @@ def counts(program, nodes):
         whole = instructions(program, lines)
         each = (whole - start) / messages
         settle = (instructions(program, lines + ["settle"] * SETTLES) - whole) / SETTLES
+        down = f"{settle_with_a_stop(program, nodes, lines):,.0f}" if nodes > 1 else ""
         times = f"{each / before:.2f}" if before else ""
-        yield nodes, messages, f"{each:,.0f}", times, f"{each / (nodes * packets(nodes)):,.0f}", f"{settle:,.0f}"
+        yield nodes, messages, f"{each:,.0f}", times, f"{each / (nodes * packets(nodes)):,.0f}", f"{settle:,.0f}", down
         before = each
 
 
 def main():
     if len(sys.argv) == 3 and sys.argv[1] == "--instructions":
-        print("| Nodes | Messages | A message | Times a tenth | A packet that comes | A settle of nothing |")
-        print("|---|---|---|---|---|---|")
+        print("| Nodes | Messages | A message | Times a tenth | A packet that comes | A settle of nothing | With a node down |")
+        print("|---|---|---|---|---|---|---|")
         for nodes in (1, 3, 5, 9):
             for row in counts(os.path.abspath(sys.argv[2]), nodes):
                 print("|", " | ".join(map(str, row)), "|", flush=True)

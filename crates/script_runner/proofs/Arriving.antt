@@ -1,10 +1,10 @@
 -- Which packets came to which nodes: a packet comes to one more.
-use Rattle.std.proofs.Common.{◌≡◌, ℕ, zero, suc, ◌+◌, ◌-◌, ◌<◌, ◌≤◌, Bool, true, false, List, [], ◌∷◌, ◌++◌, length, Option, Some, None, refl, sym, ap, ◌∙◌, inl, inr, eq-or-lt_of_le, arith, length-append}
+use Rattle.std.proofs.Common.{◌≡◌, ◌⊎◌, ℕ, zero, suc, ◌+◌, ◌-◌, ◌<◌, ◌≤◌, Bool, true, false, List, [], ◌∷◌, ◌++◌, get_or, length, set, Option, Some, None, refl, sym, ap, subst, ◌∙◌, inl, inr, eq-or-lt_of_le, arith, length-append}
 use Rattle.std.proofs.lemmas.Bool.{eq-eqb, eqb-false, eqb-true, ne_eqb}
 use Rattle.std.specs.Prelude.{pred, ◌==◌, ◌&&◌, ◌||◌, slice_get, slice_index_or, slice_set}
 use Rattle.mc_types.specs.Nodes.{has}
 use Rattle.sim_net.specs.Network.{numbered}
-use Rattle.script_runner.specs.Arrivals.{Came, CameToAll, HaveCome, is_among}
+use Rattle.script_runner.specs.Arrivals.{AreMarked, Came, HaveCome, is_among}
 use Rattle.script_runner.specs.Arrivals.{came_in as came_by}
 
 abbrev came_in : List ℕ → ℕ → ℕ → Bool
@@ -85,51 +85,52 @@ one_came sets place was now node (suc k) at found is =
     set_at sets place k was now node at found is
     ∙ ap (λ (same : Bool). (same && at == node) || is_among (slice_get sets k) at) (sym (same_after k place))
 
--- ---- packets that came to all nodes
+-- ---- the packets up to a mark
 
 or_true : (one other : Bool) → other ≡ true → (one || other) ≡ true
 or_true true other is = refl
 or_true false other is = is
 
-pub nothing_whole : (nodes : ℕ) → nodes ≤ 9 → HaveCome [] nodes 0
-nothing_whole nodes few = (few, λ number at least most first last. absurd (omega (arith, least, most)))
+pub still_marked : (sets : List ℕ) (place was now node : ℕ) (marks : List ℕ) → slice_get sets place ≡ Some was →
+    ((other : ℕ) → has now other ≡ (has was other || other == node)) → AreMarked sets marks → AreMarked (slice_set sets place now) marks
+still_marked sets place was now node marks found is marked at first number least most =
+    one_came sets place was now node number at found is ∙ or_true (number == suc place && at == node) (came_in sets number at) (marked at first number least most)
 
-pub still_whole : (sets : List ℕ) (place was now node nodes count : ℕ) → slice_get sets place ≡ Some was → ((other : ℕ) → has now other ≡ (has was other || other == node)) →
-    HaveCome sets nodes count → HaveCome (slice_set sets place now) nodes count
-still_whole sets place was now node nodes count found is whole = (
-  whole.0,
-  λ number at least most first last.
-      one_came sets place was now node number at found is ∙ or_true (number == suc place && at == node) (came_in sets number at) (whole.1 number at least most first last),
-)
+pub longer_marked : (sets : List ℕ) (empty : ℕ) (marks : List ℕ) → ((node : ℕ) → has empty node ≡ false) → AreMarked sets marks → AreMarked (sets ++ empty ∷ []) marks
+longer_marked sets empty marks none marked at first number least most = one_more sets empty number at (none at) ∙ marked at first number least most
 
-pub longer_whole : (sets : List ℕ) (empty nodes count : ℕ) → ((node : ℕ) → has empty node ≡ false) → HaveCome sets nodes count → HaveCome (sets ++ empty ∷ []) nodes count
-longer_whole sets empty nodes count none whole =
-    (whole.0, λ number at least most first last. one_more sets empty number at (none at) ∙ whole.1 number at least most first last)
-
-pub one_whole : (sets : List ℕ) (nodes count set : ℕ) → slice_get sets count ≡ Some set → CameToAll set nodes → HaveCome sets nodes count → HaveCome sets nodes (count + 1)
-one_whole sets nodes count set found all whole = (
-  whole.0,
-  λ number at least most first last. elim (eq-or-lt_of_le {n = number} {m = count + 1} most) [
-    | inl same ↦
-        let next : number ≡ suc count = omega (arith, same) in
-        ap (λ (n : ℕ). came_in sets n at) next ∙ ap (λ (s : Option ℕ). is_among s at) found ∙ all at first last
-    | inr before ↦ whole.1 number at least (omega (arith, before)) first last
-  ],
-)
-
--- ---- nodes that are all in a set
-
-pub has_one_more : (set place : ℕ) → ((node : ℕ) → 1 ≤ node → node ≤ place → has set node ≡ true) → has set (place + 1) ≡ true →
-    (node : ℕ) → 1 ≤ node → node ≤ place + 1 → has set node ≡ true
-has_one_more set place all here node least most = elim (eq-or-lt_of_le {n = node} {m = place + 1} most) [
-  | inl same ↦ ap (has set) same ∙ here
-  | inr before ↦ all node least (omega (arith, before))
+pub mark_more : (sets : List ℕ) (node mark set : ℕ) → slice_get sets mark ≡ Some set → has set node ≡ true → HaveCome sets node mark → HaveCome sets node (mark + 1)
+mark_more sets node mark set found has_it come number least most = elim (eq-or-lt_of_le {n = number} {m = mark + 1} most) [
+  | inl same ↦
+      let next : number ≡ suc mark = omega (arith, same) in
+      ap (λ (n : ℕ). came_in sets n node) next ∙ ap (λ (s : Option ℕ). is_among s node) found ∙ has_it
+  | inr before ↦ come number least (omega (arith, before))
 ]
 
--- ---- while places are made, and packets counted
+-- one mark moves
+pub one_marked : (sets marks : List ℕ) (node mark : ℕ) → 1 ≤ node → HaveCome sets node mark → AreMarked sets marks → AreMarked sets (set marks (node - 1) mark)
+one_marked sets marks node mark first come marked at least = by_place (at - 1) refl
+  where
+    this : (place : ℕ) → at - 1 ≡ place → place ≡ node - 1 → at ≡ node
+    this place is same = omega (arith, is, same, first, least)
+
+    -- what stands at a place once one is set
+    by_set : (xs : List ℕ) (k place x : ℕ) → (get_or (set xs k x) place 0 ≡ get_or xs place 0) ⊎ ((place ≡ k) × (get_or (set xs k x) place 0 ≡ x))
+    by_set [] k place x = inl refl
+    by_set (y ∷ xs) zero zero x = inr (refl, refl)
+    by_set (y ∷ xs) zero (suc place) x = inl refl
+    by_set (y ∷ xs) (suc k) zero x = inl refl
+    by_set (y ∷ xs) (suc k) (suc place) x = elim (by_set xs k place x) [ inl other ↦ inl other | inr same ↦ inr (ap suc same.0, same.1) ]
+
+    by_place : (place : ℕ) → at - 1 ≡ place → HaveCome sets at (get_or (set marks (node - 1) mark) (at - 1) 0)
+    by_place place is = elim (by_set marks (node - 1) (at - 1) mark) [
+      | inl other ↦ subst (HaveCome sets at) (sym other) (marked at least)
+      | inr same ↦ subst (HaveCome sets at) (sym same.1) (subst (λ (n : ℕ). HaveCome sets n mark) (sym (this (at - 1) refl same.0)) come)
+    ]
+
+-- ---- while places are made
 
 -- the same packets came to the same nodes
-pub record IsSame (sets : List ℕ) (nodes count : ℕ) (was : Came) : Type 0 where
+pub record IsSame (sets marks : List ℕ) (was : Came) : Type 0 where
   pub came : (number node : ℕ) → came_in sets number node ≡ came_by was number node
-  pub among : nodes ≡ was.nodes
-  pub whole : HaveCome sets nodes count
+  pub marked : AreMarked sets marks

@@ -104,11 +104,11 @@ acted_up false node act runner left before after acts is = absurd cc
 
 pub comes_does_if : (r : Result (Unit {0}) AllocError) (old mid new : Centre) (node k number : ℕ) (packet : Sent) (station left : Station) (before after : List ℕ) →
     Some packet ≡ numbered old.packets.sent number → k ≡ node → 1 ≤ node → k - 1 < length old.stations.items → station ≡ get_or old.stations.items (k - 1) station → is_up station ≡ true →
-    ((other at : ℕ) → came_in mid.arrivals other at ≡ ((other == number && at == node) || came_in old.arrivals other at)) → mid.arrivals.nodes ≡ old.arrivals.nodes →
+    ((other at : ℕ) → came_in mid.arrivals other at ≡ ((other == number && at == node) || came_in old.arrivals other at)) →
     mid.stations.items ≡ slice_set old.stations.items (k - 1) left → mid.packets ≡ old.packets →
     ActsAt node (λ runner. comes_to runner (packet_by packet)) station left before after → OnOk r (HasShared mid (k - 1) new) → OnOk r (Does (λ w. comes w number node) old new before after)
-comes_does_if (Err fault) old mid new node k number packet station left before after found same least inside is up came counted set packets did has = tt
-comes_does_if (Ok done) old mid new node k number packet station left before after found same least inside is up came counted set packets did has =
+comes_does_if (Err fault) old mid new node k number packet station left before after found same least inside is up came set packets did has = tt
+comes_does_if (Ok done) old mid new node k number packet station left before after found same least inside is up came set packets did has =
     λ w world.
     let place = number_is node k same least in
     let stood = stood_at old (k - 1) station inside is in
@@ -124,7 +124,7 @@ comes_does_if (Ok done) old mid new node k number packet station left before aft
     (λ is_so.
     shared_moved mid new (marked w number node) node (k - 1) (on_delivery runner (packet_by packet) []) left before after place
     (but_there old mid w (marked w number node) (k - 1) left world set packets refl refl
-    (λ other at. came other at ∙ ap (λ (before : Bool). (other == number && at == node) || before) (world.came other at)) counted)
+    (λ other at. came other at ∙ ap (λ (before : Bool). (other == number && at == node) || before) (world.came other at)))
     there_now delivered.like has delivered.text)
     (λ is_not. absurd (let clash : true ≡ false = sym up ∙ sym stands.up ∙ is_not in cc)))
 
@@ -184,5 +184,4 @@ restart_does_if (Ok done) old mid new node k station left before after same leas
     let somebody : runner_at w node ≡ Some there.0 = ap (λ (n : ℕ). slice_get w.runners (pred n)) place ∙ there.1 in
     subst (λ (found : Option Runner). IsMoved (restarts_if w node found) new before after) (sym somebody)
     (shared_moved mid new w node (k - 1) (on_restart there.0) left before after place
-    (but_there old mid w w (k - 1) left world set packets refl refl (λ number n. ap (λ (all : Came). came_in all number n) arrivals ∙ world.came number n)
-    (ap (λ (all : Came). all.nodes) arrivals)) there_now began.like has began.text)
+    (but_there old mid w w (k - 1) left world set packets refl refl (λ number n. ap (λ (all : Came). came_in all number n) arrivals ∙ world.came number n)) there_now began.like has began.text)

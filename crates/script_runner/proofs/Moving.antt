@@ -48,13 +48,12 @@ pub record IsBut (centre : Centre) (place : ℕ) (w : World) : Type 0 where
       Stands station runner
   pub packets : map packet_by centre.packets.sent ≡ w.packets
   pub came : (number node : ℕ) → came_in centre.arrivals number node ≡ w.came number node
-  pub counted : centre.arrivals.nodes ≡ length w.runners
 
 -- Another station stands in a place, and the world has other marks.
 pub but_there : (old mid : Centre) (w marked : World) (place : ℕ) (left : Station) → IsWorld old w → mid.stations.items ≡ slice_set old.stations.items place left →
     mid.packets ≡ old.packets → marked.runners ≡ w.runners → marked.packets ≡ w.packets → ((number node : ℕ) → came_in mid.arrivals number node ≡ marked.came number node) →
-    mid.arrivals.nodes ≡ old.arrivals.nodes → IsBut mid place marked
-but_there old mid w marked place left is set packets runners same came counted = record {
+    IsBut mid place marked
+but_there old mid w marked place left is set packets runners same came = record {
   nodes = ap length set ∙ length-set old.stations.items place left ∙ is.nodes ∙ ap length (sym runners);
   few = subst (λ (n : ℕ). n ≤ 9) (ap length (sym runners)) is.few;
   each = λ k other station runner at there.
@@ -64,7 +63,6 @@ but_there old mid w marked place left is set packets runners same came counted =
       ];
   packets = ap (λ p. map packet_by p.sent) packets ∙ is.packets ∙ sym same;
   came = came;
-  counted = counted ∙ is.counted ∙ ap length (sym runners);
 }
 
 -- What a node did is shared: it is as the runner that it left, and its packets come behind all.
@@ -78,7 +76,6 @@ shared_moved mid new w node place acted left before after is but found like has 
     each = stands;
     packets = given.packets ∙ ap (λ (ps : List Packet). ps ++ acted.next.node.packets) but.packets;
     came = λ number at. ap (λ (all : Came). came_in all number at) has.arrivals ∙ but.came number at;
-    counted = ap (λ (all : Came). all.nodes) has.arrivals ∙ but.counted ∙ sym (length-set w.runners (pred node) (given_out acted.next));
   };
   text = wrote ∙ ap (λ (t : List ℕ). before ++ t) (sym (at_node node acted.prints));
 }
@@ -121,7 +118,6 @@ still_world old mid new w place station left runner is found there set at packet
   packets = given.packets ∙ ap (λ (ps : List Packet). map packet_by mid.packets.sent ++ ps) was.taken ∙ append-nil (map packet_by mid.packets.sent)
       ∙ ap (λ p. map packet_by p.sent) packets ∙ is.packets;
   came = λ number node. ap (λ (all : Came). came_in all number node) (has.arrivals ∙ arrivals) ∙ is.came number node;
-  counted = ap (λ (all : Came). all.nodes) (has.arrivals ∙ arrivals) ∙ is.counted;
 }
   where
     was : Stands station runner
@@ -200,8 +196,7 @@ acts_moved old mid new w node place act station left before after is world found
     (λ up.
     let done = acted_if (is_up station) node act runner left before after did (sym stands.up ∙ up) in
     shared_moved mid new w node place (act runner) left before after is
-    (but_there old mid w w place left world set packets refl refl (λ number n. ap (λ (all : Came). came_in all number n) arrivals ∙ world.came number n)
-    (ap (λ (all : Came). all.nodes) arrivals)) at done.like has done.text)
+    (but_there old mid w w place left world set packets refl refl (λ number n. ap (λ (all : Came). came_in all number n) arrivals ∙ world.came number n)) at done.like has done.text)
     (λ down.
     let done = declined_if (is_up station) node act runner left before after did (sym stands.up ∙ down) in
     refused_moved new w is_down before after (still_world old mid new w place station left runner world found there.1 set at packets arrivals done.like has) done.text)

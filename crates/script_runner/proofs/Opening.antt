@@ -56,8 +56,8 @@ at_place f start (suc count) (suc place) runner found =
 
 pub starts_as : (settings : Settings) (nodes serial : ℕ) (centre : Centre) → nodes ≤ 9 →
     AreOpened nodes serial settings.validity nodes centre.stations.items → centre.packets.sent ≡ [] →
-    ((number node : ℕ) → came_in centre.arrivals number node ≡ false) → centre.arrivals.nodes ≡ nodes → IsWorld centre (opened settings nodes serial)
-starts_as settings nodes serial centre few are none nobody counted = record {
+    ((number node : ℕ) → came_in centre.arrivals number node ≡ false) → IsWorld centre (opened settings nodes serial)
+starts_as settings nodes serial centre few are none nobody = record {
   few = subst (λ (n : ℕ). n ≤ 9) (sym (length-map-range_with_len (λ node. runner_opened (opened_by (setup_of settings nodes serial node))) 1 nodes)) few;
   nodes = are.count_is ∙ sym (length-map-range_with_len (λ node. runner_opened (opened_by (setup_of settings nodes serial node))) 1 nodes);
   each = λ place station runner found there.
@@ -67,5 +67,4 @@ starts_as settings nodes serial centre few are none nobody counted = record {
       (subst (λ (n : ℕ). Stands station (runner_opened (opened_by (setup_by n nodes serial settings.validity)))) same (are.each place station found));
   packets = ap (map packet_by) none;
   came = nobody;
-  counted = counted ∙ sym (length-map-range_with_len (λ node. runner_opened (opened_by (setup_of settings nodes serial node))) 1 nodes);
 }

@@ -121,31 +121,32 @@ one_passed w nodes number none here n below = elim (at_or_below n number below) 
   | inr same ↦ ap (λ (m : ℕ). due_at w nodes m (packet_of w.packets m)) same ∙ sym here
 ]
 
--- ---- packets that came to all nodes
+-- ---- packets that no node lacks
 
-got_it : (part up came : Bool) → came ≡ true → ((part && up) && not came) ≡ false
-got_it false up came is = refl
-got_it true false came is = refl
-got_it true true true is = refl
-got_it true true false is = absurd cc
-
-pub all_came : (centre : Centre) (w : World) (nodes : List ℕ) (from : ℕ) → IsWorld centre w →
-    ((number node : ℕ) → 1 ≤ number → number < from → 1 ≤ node → node ≤ centre.arrivals.nodes → came_in centre.arrivals number node ≡ true) → NothingBefore w nodes from
-all_came centre w nodes from is came zero below = refl
-all_came centre w nodes from is came (suc n) below = by_packet (packet_of w.packets (suc n))
+pub none_below : (w : World) (nodes : List ℕ) (from : ℕ) →
+    ((number j : ℕ) → 1 ≤ number → number < from → j < length w.runners → lacks w nodes number (1 + j) ≡ false) → NothingBefore w nodes from
+none_below w nodes from none zero below = refl
+none_below w nodes from none (suc n) below = by_packet (packet_of w.packets (suc n))
   where
-    none : find (lacks w nodes (suc n)) (node_numbers w) ≡ None
-    none =
-        none_found (lacks w nodes (suc n)) 1 (length w.runners)
-        (λ j within.
-        let same = is.counted in
-        got_it (takes_part nodes (1 + j)) (is_up_at (runner_at w (1 + j))) (w.came (suc n) (1 + j))
-        (sym (is.came (suc n) (1 + j)) ∙ came (suc n) (1 + j) (omega arith) below (omega arith) (omega (arith, within, same))))
+    nobody : find (lacks w nodes (suc n)) (node_numbers w) ≡ None
+    nobody = none_found (lacks w nodes (suc n)) 1 (length w.runners) (λ j within. none (suc n) j (omega arith) below within)
 
     by_part : (part : Bool) → (if part then find (lacks w nodes (suc n)) (node_numbers w) else None) ≡ None
-    by_part true = none
+    by_part true = nobody
     by_part false = refl
 
     by_packet : (found : Option Packet) → due_at w nodes (suc n) found ≡ None
     by_packet None = refl
     by_packet (Some packet) = by_part (takes_part nodes (sender_of packet))
+
+-- to a node that has it, and to one that does not take part or is down, it is not to come
+pub has_it : (part up came : Bool) → came ≡ true → (part && (up && not came)) ≡ false
+has_it false up came is = refl
+has_it true false came is = refl
+has_it true true true is = refl
+has_it true true false is = absurd cc
+
+pub not_there : (part up came : Bool) → (part && up) ≡ false → (part && (up && not came)) ≡ false
+not_there false up came is = refl
+not_there true false came is = refl
+not_there true true came is = absurd cc

@@ -9,7 +9,6 @@ use Rattle.node_model.specs.Stepped.{sender_of}
 use Rattle.script_text.specs.Prints.{unsettled_line}
 use Rattle.script_text.specs.Runner.{Runner, on_delivery}
 use Rattle.script_world.specs.World.{Due as WorldDue, Moved, World, comes, comes_if, due, due_among, due_at, due_first, is_down, is_up_at, lacks, marked, node_numbers, on_settle, packet_of, refuses, runner_at, settles, shared, stays, takes_part, then_moved, unsettled, up_or_refuses}
-use Rattle.script_runner.specs.Arrivals.{came_in}
 use Rattle.script_runner.specs.Centres.{Does, IsMoved, IsWorld, NothingBefore, due_of}
 use Rattle.script_runner.specs.Stations.{is_up}
 use Rattle.script_runner.specs.declared.centre.Centre.{Centre}
@@ -17,7 +16,7 @@ use Rattle.script_runner.specs.declared.centre.Due.{Due}
 use Rattle.script_runner.specs.declared.station.Station.{Station}
 use Rattle.script_runner.proofs.Following.{IsLeft, all_done, last_done, one_done}
 use Rattle.script_runner.proofs.Moving.{found_too, none_too, some_same}
-use Rattle.script_runner.proofs.Searching.{all_came, none_of_fewer}
+use Rattle.script_runner.proofs.Searching.{none_of_fewer}
 
 -- ---- the first that is due is the first
 
@@ -196,13 +195,9 @@ settle_stops : (most : ℕ) (nodes : List ℕ) (w : World) → most ≡ zero →
 unfolding settles
 settle_stops most nodes w is = rw is refl
 
-pub begins : (old : Centre) (w : World) (most from : ℕ) (nodes : List ℕ) (before : List ℕ) → IsWorld old w →
-    ((number node : ℕ) → 1 ≤ number → number < from → 1 ≤ node → node ≤ old.arrivals.nodes → came_in old.arrivals number node ≡ true) →
+pub begins : (old : Centre) (w : World) (most from : ℕ) (nodes : List ℕ) (before : List ℕ) → IsWorld old w → NothingBefore w nodes from →
     IsUnderWay (settles most nodes w) most nodes from old before before
-begins old w most from nodes before is came = record {
-  left = record { world = w; is = is; next = refl; written = refl };
-  below = all_came old w nodes from is came;
-}
+begins old w most from nodes before is none = record { left = record { world = w; is = is; next = refl; written = refl }; below = none }
 
 -- a packet came that was due
 pub one_came : (all : Moved) (most more : ℕ) (nodes : List ℕ) (from : ℕ) (now new : Centre) (found : Due) (before text after : List ℕ) (way : IsUnderWay all most nodes from now before text) →

@@ -21,7 +21,6 @@ pub record IsWorld (centre : Centre) (w : World) : Type 0 where
       Stands station runner
   pub packets : map packet_by centre.packets.sent ≡ w.packets
   pub came : (number node : ℕ) → came_in centre.arrivals number node ≡ w.came number node
-  pub counted : centre.arrivals.nodes ≡ length w.runners
 
 -- as so many nodes with new stores
 abbrev pub StartsAs : Settings → ℕ → ℕ → Centre → Type 0
@@ -60,6 +59,10 @@ due_of due = record { number = due.number; node = due.node }
 -- no packet below a number is due to these nodes
 abbrev pub NothingBefore : World → List ℕ → ℕ → Type 0
 NothingBefore w nodes from = (number : ℕ) → number < from → due_at w nodes number (packet_of w.packets number) ≡ None
+
+-- nor is any, whatever world it is
+abbrev pub IsPassed : Centre → List ℕ → ℕ → Type 0
+IsPassed centre nodes from = (w : World) → IsWorld centre w → NothingBefore w nodes from
 
 -- to this node the packet of a number is due
 abbrev pub IsLacking : Centre → List ℕ → ℕ → Option ℕ → Type 0

@@ -1,44 +1,39 @@
 //! Which packets came to which nodes.
 
-ghost use Rattle.std.specs.Prelude.{◌≡◌, ◌↔◌, ℕ, ◌==◌, ◌≤◌, ◌<◌, ◌&&◌, ◌||◌, true, false, length, IsTrue, OnOk};
-ghost use Rattle.mc_types.specs.Nodes.{has};
-ghost use Rattle.script_runner.specs.Arrivals.{CameToAll, HaveCome, came_in};
+ghost use Rattle.std.specs.Prelude.{◌≡◌, ℕ, ◌==◌, ◌≤◌, ◌<◌, ◌-◌, ◌&&◌, ◌||◌, true, false, get_or, length, set, OnOk};
+ghost use Rattle.script_runner.specs.Arrivals.{HaveCome, came_in};
 
 use mc_types::{NodeNo, NodeSet};
 use std::alloc::{AllocError, Global};
 use std::marker::Model;
 
-/// Which packets came to which of the nodes 1 to so many, by the numbers of the packets.
+/// Which packets came to which of the nodes 1 to 9, by the numbers of the packets.
 #[derive(Drop)]
 pub struct Arrivals {
     // At the place n - 1 the nodes to which the packet n came; one behind the last came to none.
     sets: Vec<NodeSet>,
-    nodes: u8,
-    // The packets up to this number came to all nodes.
-    whole: u64,
+    // At the place n - 1 the number up to which each packet came to node n.
+    marks: [u64; 9],
 }
 
 impl Model for Arrivals {
-    ghost use Rattle.script_runner.specs.Arrivals.{Came, HaveCome};
+    ghost use Rattle.script_runner.specs.Arrivals.{AreMarked, Came};
 
     ghost Value = { Came };
 
-    ghost view = { λ arrivals. record { sets = arrivals.sets.items; nodes = arrivals.nodes; whole = arrivals.whole } };
+    ghost view = { λ arrivals. record { sets = arrivals.sets.items; marks = arrivals.marks } };
 
-    ghost invariant = { λ arrivals. HaveCome arrivals.sets.items arrivals.nodes arrivals.whole };
+    ghost invariant = { λ arrivals. AreMarked arrivals.sets.items arrivals.marks };
 }
 
 impl Arrivals {
-    /// No packet came to any of the nodes 1 to so many, at most nine.
-    pub fn none(alloc: Global, nodes: u8) -> Arrivals
-        requires { nodes ≤ 9 }
-        ensures none { (number node : ℕ) → came_in result number node ≡ false }
-        ensures nodes { result.nodes ≡ nodes }
+    /// No packet came to any node.
+    pub fn none(alloc: Global) -> Arrivals
+        ensures { (number node : ℕ) → came_in result number node ≡ false }
     {
         Arrivals {
             sets: Vec::new(alloc),
-            nodes,
-            whole: 0,
+            marks: [0; 9],
         }
     }
 
@@ -55,22 +50,21 @@ impl Arrivals {
         }
     }
 
-    /// The packets below this number came to all nodes.
-    pub fn first_open(&self) -> u64
-        ensures { (number node : ℕ) → 1 ≤ number → number < result → 1 ≤ node → node ≤ self.now.nodes → came_in self.now number node ≡ true }
+    /// The packets below this number came to a node.
+    pub fn first_open(&self, node: NodeNo) -> u64
+        ensures { (number : ℕ) → 1 ≤ number → number < result → came_in self.now number node ≡ true }
     {
-        self.whole.saturating_add(1)
+        mark_of(&self.marks, node).saturating_add(1)
     }
 
     /// The packet of a number, 1 or more, came to a node. An `Err` is want of memory.
     pub fn add(&mut self, number: u64, node: NodeNo) -> Result<(), AllocError>
         requires { 1 ≤ number }
-        ensures came { OnOk result ((other at : ℕ) → came_in self.new other at ≡ ((other == number && at == node) || came_in self.old other at)) }
-        ensures nodes { OnOk result (self.new.nodes ≡ self.old.nodes) }
+        ensures { OnOk result ((other at : ℕ) → came_in self.new other at ≡ ((other == number && at == node) || came_in self.old other at)) }
     {
         self.reach(number)?;
         self.sets[number as usize - 1].add(node);
-        self.count_whole();
+        self.count_on(node);
         Ok(())
     }
 
@@ -78,7 +72,6 @@ impl Arrivals {
     fn reach(&mut self, number: u64) -> Result<(), AllocError>
         ensures reached { OnOk result (number ≤ length self.new.sets) }
         ensures same { (other at : ℕ) → came_in self.new other at ≡ came_in self.old other at }
-        ensures nodes { self.new.nodes ≡ self.old.nodes }
     {
         while (self.sets.len() as u64) < number {
             self.sets.push(NodeSet::empty())?;
@@ -86,29 +79,44 @@ impl Arrivals {
         Ok(())
     }
 
-    /// Goes on with the count of packets that came to all nodes.
-    fn count_whole(&mut self)
-        ensures same { self.new.sets ≡ self.old.sets }
-        ensures nodes { self.new.nodes ≡ self.old.nodes }
+    /// Goes on with the mark of a node.
+    fn count_on(&mut self, node: NodeNo)
+        ensures { self.new.sets ≡ self.old.sets }
     {
-        while let Some(set) = self.sets.get(self.whole as usize) {
-            if !has_all(*set, self.nodes) {
-                return;
-            }
-            self.whole += 1;
-        }
+        let mark = came_on(&self.sets, node, mark_of(&self.marks, node));
+        mark_at(&mut self.marks, node, mark);
     }
 }
 
-/// Whether the nodes 1 to so many are all in a set.
-fn has_all(set: NodeSet, nodes: u8) -> bool
-    requires { nodes ≤ 9 }
-    ensures { IsTrue result ↔ CameToAll set nodes }
+/// The number up to which each packet came to a node, if each did up to this one.
+fn came_on(sets: &[NodeSet], node: NodeNo, from: u64) -> u64
+    requires { HaveCome sets.now node from }
+    ensures { HaveCome sets.now node result }
 {
-    for place in 0..nodes {
-        if !set.has(NodeNo::of(place + 1)) {
-            return false;
+    let mut mark = from;
+    while let Some(set) = sets.get(mark as usize) {
+        if !set.has(node) {
+            return mark;
         }
+        mark += 1;
     }
-    true
+    mark
+}
+
+/// The mark of a node.
+fn mark_of(marks: &[u64; 9], node: NodeNo) -> u64
+    ensures mark { result ≡ get_or marks.now (node - 1) 0 }
+    ensures least { 1 ≤ node }
+{
+    match marks.get(node.number() as usize - 1) {
+        Some(mark) => *mark,
+        None => 0,
+    }
+}
+
+/// Sets the mark of a node.
+fn mark_at(marks: &mut [u64; 9], node: NodeNo, mark: u64)
+    ensures { marks.new ≡ set marks.old (node - 1) mark }
+{
+    marks[node.number() as usize - 1] = mark;
 }

@@ -1,13 +1,13 @@
 //! The centre: its nodes with their sessions, and the packets between them.
 
-ghost use Rattle.std.specs.Prelude.{◌≡◌, ◌==◌, ◌&&◌, ◌<◌, ◌≤◌, length, map, not, reverse, OnOk, IfOk};
+ghost use Rattle.std.specs.Prelude.{◌≡◌, ℕ, ◌==◌, ◌&&◌, ◌<◌, ◌≤◌, false, length, map, not, reverse, OnOk, IfOk};
 ghost use Rattle.std.specs.List.{insert, range_with_len};
 ghost use Rattle.mc_types.specs.Nodes.{has};
 ghost use Rattle.node_core.specs.Stops.{is_after};
 ghost use Rattle.script_lines.specs.Said.{nodes_with};
 ghost use Rattle.script_runner.specs.Arrivals.{came_in};
 ghost use Rattle.script_runner.specs.Stations.{is_up};
-ghost use Rattle.script_runner.specs.Centres.{AreOpened, Does, HasShared, IsDue, IsLacking, StartsAs};
+ghost use Rattle.script_runner.specs.Centres.{AreOpened, Does, HasShared, IsDue, IsLacking, IsPassed, StartsAs};
 ghost use Rattle.script_text.specs.Settings.{settings_of};
 ghost use Rattle.script_world.specs.World.{all_come, comes, comes_to, crashes, grants, hears, node_numbers, on_replay, on_settle, restarts, takes_part, ticks};
 
@@ -59,7 +59,7 @@ impl Centre {
         Ok(Centre {
             stations: opened(alloc, nodes, serial, config.default_validity)?,
             packets: Packets::none(alloc),
-            arrivals: Arrivals::none(alloc, nodes),
+            arrivals: Arrivals::none(alloc),
         })
     }
 
@@ -204,7 +204,7 @@ impl Centre {
     ) -> Result<(), AllocError>
         ensures { OnOk result (Does (λ w. on_settle w (nodes_with (has nodes))) self.old self.new text.old.items text.new.items) }
     {
-        let mut number = self.arrivals.first_open();
+        let mut number = self.first_open(nodes);
         for _delivered in 0..MOST_DELIVERIES {
             let Some(due) = self.due(nodes, number) else {
                 return Ok(());
@@ -213,6 +213,32 @@ impl Centre {
             number = due.number;
         }
         write_unsettled(text)
+    }
+
+    /// No packet below this number is to come to one of these nodes.
+    fn first_open(&self, nodes: NodeSet) -> u64
+        ensures { IsPassed self.now (nodes_with (has nodes)) result }
+    {
+        let mut first = u64::MAX;
+        for place in 0..9u8 {
+            let Some(station) = self.stations.get(place as usize) else {
+                return first;
+            };
+            first = first.min(self.first_lacked(nodes, NodeNo::of(place + 1), station));
+        }
+        first
+    }
+
+    /// A node lacks no packet below this number.
+    fn first_lacked(&self, nodes: NodeSet, node: NodeNo, station: &Station) -> u64
+        ensures { (number : ℕ) → 1 ≤ number → number < result →
+            (takes_part (nodes_with (has nodes)) node && (is_up station.now && not (came_in self.now.arrivals number node))) ≡ false }
+    {
+        if takes_part(nodes, node) && station.is_up() {
+            self.arrivals.first_open(node)
+        } else {
+            u64::MAX
+        }
     }
 
     /// The first packet, by its number, that is to come to one of these nodes, and the first such node. Packets below this number are not looked at.

@@ -1,15 +1,11 @@
 use Rattle.std.proofs.Common.{ℕ, ◌<◌, List, length, sym, ap, subst, ◌∙◌, arith}
 use Rattle.sim_net.specs.Network.{numbered}
-use Rattle.script_runner.specs.Arrivals.{Came, HaveCome, came_in, is_among}
-use Rattle.script_runner.proofs.Arriving.{longer_whole, nearer, one_more}
+use Rattle.script_runner.specs.Arrivals.{AreMarked, Came, came_in, is_among}
+use Rattle.script_runner.proofs.Arriving.{longer_marked, nearer, one_more}
 use Rattle.script_runner.proofs.arrivals.Arrivals.reach.Goals as goal
 
 pub loop-self-init : goal.loop-self-init
-loop-self-init c = record {
-  came = λ other at. ap (λ (all : Came). came_in all other at) c.self.view_is;
-  among = ap (λ (all : Came). all.nodes) c.self.view_is;
-  whole = c.self.invariant;
-}
+loop-self-init c = record { came = λ other at. ap (λ (all : Came). came_in all other at) c.self.view_is; marked = c.self.invariant }
 
 pub loop-self-smaller : goal.loop-self-smaller
 loop-self-smaller c =
@@ -24,28 +20,21 @@ loop-self-preserved c =
           ap (λ (sets : List ℕ). is_among (numbered sets other) at) c.in_ok-push.ensures.items
           ∙ one_more was.sets.items c.empty.result other at (c.empty.ensures at)
           ∙ c.loop-self.invariant.came other at;
-      among = c.loop-self.invariant.among;
-      whole = subst (λ (sets : List ℕ). HaveCome sets was.nodes was.whole) (sym c.in_ok-push.ensures.items)
-          (longer_whole was.sets.items c.empty.result was.nodes was.whole c.empty.ensures c.loop-self.invariant.whole);
+      marked = subst (λ (sets : List ℕ). AreMarked sets was.marks) (sym c.in_ok-push.ensures.items)
+          (longer_marked was.sets.items c.empty.result was.marks c.empty.ensures c.loop-self.invariant.marked);
     }
 
 pub invariant_of-self : goal.invariant_of-self
-invariant_of-self c = c.loop-self.invariant.whole
+invariant_of-self c = c.loop-self.invariant.marked
 
 pub invariant_of-self-in_err-push : goal.invariant_of-self-in_err-push
 invariant_of-self-in_err-push c =
     let was = c.loop-self.self-inside in
-    subst (λ (sets : List ℕ). HaveCome sets was.nodes was.whole) (sym c.in_err-push.ensures.items) c.loop-self.invariant.whole
+    subst (λ (sets : List ℕ). AreMarked sets was.marks) (sym c.in_err-push.ensures.items) c.loop-self.invariant.marked
 
 pub returns-in_err-push-clause-same : goal.returns-in_err-push-clause-same
 returns-in_err-push-clause-same c =
     λ other at. ap (λ (sets : List ℕ). is_among (numbered sets other) at) c.in_err-push.ensures.items ∙ c.loop-self.invariant.came other at
 
-pub returns-in_err-push-clause-nodes : goal.returns-in_err-push-clause-nodes
-returns-in_err-push-clause-nodes c = c.loop-self.invariant.among
-
 pub returns-clause-same : goal.returns-clause-same
 returns-clause-same c = c.loop-self.invariant.came
-
-pub returns-clause-nodes : goal.returns-clause-nodes
-returns-clause-nodes c = c.loop-self.invariant.among

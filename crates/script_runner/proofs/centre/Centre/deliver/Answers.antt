@@ -25,7 +25,7 @@ returns-clause-comes c =
     let mid : Centre = record { stations = with_item c.args.self.now.stations k c.deliver.new.self; packets = c.args.self.now.packets; arrivals = c.add.new.self } in
     comes_does_if c.share.result c.args.self.now mid c.share.new.self c.args.node c.number.result c.args.number c.in-Some.packet.now c.index_mut.result.now c.deliver.new.self
     c.args.text.now.items c.deliver.new.text.items c.in-Some.ensures.packet c.number.ensures.value c.number.ensures.range.least inside c.index_mut.ensures.value up
-    c.in_ok-add.ensures.came c.in_ok-add.ensures.nodes refl refl
+    c.in_ok-add.ensures refl refl
     (subst (λ (p : Packet). ActsAt c.args.node (λ runner. comes_to runner (packet_of p)) c.index_mut.result.now c.deliver.new.self c.args.text.now.items c.deliver.new.text.items)
     c.in_ok-packet.ensures c.in_ok-deliver.ensures.acts)
     c.share.ensures

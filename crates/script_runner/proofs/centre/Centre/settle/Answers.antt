@@ -6,7 +6,7 @@ use Rattle.script_runner.proofs.Settling.{begins, nothing_left, one_came, stoppe
 use Rattle.script_runner.proofs.centre.Centre.settle.Goals as goal
 
 pub loop-delivered-init : goal.loop-delivered-init
-loop-delivered-init c = λ w is. begins c.args.self.now w 100000 c.first_open-number.result (nodes_with (has c.args.nodes)) c.args.text.now.items is c.first_open-number.ensures
+loop-delivered-init c = λ w is. begins c.args.self.now w 100000 c.first_open-number.result (nodes_with (has c.args.nodes)) c.args.text.now.items is (c.first_open-number.ensures w is)
 
 pub returns-in_default : goal.returns-in_default
 returns-in_default c =
