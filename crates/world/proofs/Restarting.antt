@@ -1,6 +1,6 @@
 -- A world that starts over the stores of its nodes, as a run that goes on.
-use Rattle.std.proofs.Common.{◌≡◌, ℕ, zero, suc, ◌+◌, ◌<◌, Bool, true, List, [], ◌∷◌, ◌++◌, length, map, Some, Result, Ok, Err, refl, sym, ap, subst, ◌∙◌, arith}
-use Rattle.std.specs.Prelude.{IfErr, IfOk, OnErr, reverse}
+use Rattle.std.proofs.Common.{◌≡◌, ℕ, zero, suc, ◌+◌, ◌<◌, List, [], ◌∷◌, ◌++◌, length, map, Some, Ok, Err, refl, sym, ap, subst, ◌∙◌, arith}
+use Rattle.std.specs.Prelude.{reverse}
 use Rattle.std.proofs.lemmas.Bool.{true≢false}
 use Rattle.std.proofs.lemmas.List.{length-set}
 use Rattle.mc_model.specs.synod.Packet.{Packet}
@@ -16,7 +16,7 @@ use Rattle.world.specs.declared.fault.WorldFault.{WorldFault}
 use Rattle.world.specs.declared.given.Given.{Given}
 use Rattle.world.specs.declared.step.Step.TheVariants as steps
 use Rattle.world.specs.Members.{CantBegin, HasBegun, HasForgotten, Keeps}
-use Rattle.world.specs.Runs.{HaltsOver, IsAt, IsSomewhere, Leads, StartsOver, StaysAt, begin_anew}
+use Rattle.world.specs.Runs.{HaltsOver, IsAt, IsSomewhere, Leads, StartsOver, begin_anew}
 use Rattle.world.specs.Scenes.{Placed, Scene}
 use Rattle.world.proofs.Ending.{gives_nothing, restart_leads}
 

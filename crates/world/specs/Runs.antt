@@ -1,7 +1,7 @@
 -- The steps of a world of nodes of the code, as a run of a cluster of nodes by what they keep (own).
 use Rattle.std.specs.Prelude.{◌≡◌, ℕ, zero, suc, ◌+◌, ◌<◌, nat_lt, nat_le, ◌&&◌, not, Bool, true, false, List, [], ◌∷◌, ◌++◌, length, map, reverse, option_map, Option, Some, None, Result, Ok, Err, if◌then◌else◌}
 use Rattle.mc_model.specs.synod.Packet.{Packet}
-use Rattle.mc_model.specs.node.Input.{Crash, Delivery, Grant, Input, Response, Restart, Tick}
+use Rattle.mc_model.specs.node.Input.{Crash, Delivery, Grant, Response, Restart, Tick}
 use Rattle.mc_model.specs.node.Outputs.{HasNumber, Outputs}
 use Rattle.mc_model.specs.node.Setup.{Setup}
 use Rattle.mc_model.specs.cluster.Steps.{Cluster, setup_of}

@@ -1,4 +1,4 @@
-use Rattle.std.proofs.Common.{◌<◌, false, length, min, sym, ap, arith}
+use Rattle.std.proofs.Common.{◌<◌, false, length, sym, ap, arith}
 use Rattle.mc_types.specs.Nodes.{has}
 use Rattle.script_lines.specs.Said.{nodes_with}
 use Rattle.script_world.specs.World.{lacks}
