@@ -1,7 +1,7 @@
 #!/usr/bin/env python3
 """Measures the gate, and writes its table into docs/GATE.md.
 
-    python3 tools/measure_gate.py                     runs `rt ci` on a clean clone of HEAD; about as long as the gate
+    python3 tools/measure_gate.py                     runs `rt ci --anew` on a clean clone of HEAD; about as long as the gate
     python3 tools/measure_gate.py --crates A B        runs it on these crates alone and those below them, of which no edits are tried; prints
                                                       the rows of these
     python3 tools/measure_gate.py .. --write          the same, and writes what was measured into docs/GATE.md: the table, or these rows of it
@@ -142,7 +142,7 @@ def run_gate(clone):
     before = resource.getrusage(resource.RUSAGE_CHILDREN)
     log = clone.parent / "gate.log"
     with log.open("w") as out:
-        gate = subprocess.Popen(["rt", "ci"], cwd=clone, stdout=out, stderr=subprocess.STDOUT, stdin=subprocess.DEVNULL)
+        gate = subprocess.Popen(["rt", "ci", "--anew"], cwd=clone, stdout=out, stderr=subprocess.STDOUT, stdin=subprocess.DEVNULL)
         sampler = Sampler(gate.pid)
         sampler.start()
         gate.wait()
