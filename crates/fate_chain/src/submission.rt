@@ -1,13 +1,12 @@
 //! What was taken.
 
-ghost use Rattle.std.specs.Prelude.{◌≡◌, ◌↔◌, IfOk, IsTrue};
+ghost use Rattle.std.specs.Prelude.{◌≡◌, ◌↔◌, IsTrue};
 ghost use Rattle.fate_chain.specs.Submissions.{address_of};
 ghost use Rattle.fate_chain.specs.Same.{SameHandling, SameParties};
 
 use crate::marks::Term;
 use mc_types::Moment;
 use pdu_codec::{Address, ShortMessage, Text, Tlvs};
-use std::alloc::AllocError;
 use std::marker::Model;
 
 /// What a submit_sm asked for, as it was taken (SMPP 3.4, section 4.4.1).
@@ -68,28 +67,6 @@ impl Submission {
             schedule: self.schedule,
             expiry: self.expiry,
         }
-    }
-
-    /// The same once more.
-    pub(crate) fn copy(&self) -> Result<Submission, AllocError>
-        ensures { IfOk result (λ message. message ≡ self.now) }
-    {
-        Ok(Submission {
-            submitter: self.submitter.copy()?,
-            target: self.target.copy()?,
-            service_type: self.service_type.copy()?,
-            source: self.source.copy()?,
-            destination: self.destination.copy()?,
-            esm_class: self.esm_class,
-            protocol_id: self.protocol_id,
-            priority_flag: self.priority_flag,
-            registered_delivery: self.registered_delivery,
-            data_coding: self.data_coding,
-            schedule: self.schedule,
-            expiry: self.expiry,
-            text: self.text.copy()?,
-            passed: self.passed.copy()?,
-        })
     }
 
     /// Whether it is the same as the other.
