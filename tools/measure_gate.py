@@ -5,11 +5,13 @@
     python3 tools/measure_gate.py --crates A B        runs it on these crates alone and those below them, of which no edits are tried; prints
                                                       the rows of these
     python3 tools/measure_gate.py .. --write          the same, and writes what was measured into docs/GATE.md: the table, or these rows of it
+    python3 tools/measure_gate.py .. --cores N        the same, on so many of this machine's cores
     python3 tools/measure_gate.py --functions CRATE   checks one crate from nothing; prints its ten dearest functions
 
 Each row has the day on which it was measured. Processor time is read off /proc four times a second for each process that
 the gate starts: what a process used after its last reading is lost, and stands under 'other' with compilers, linkers and
-`rt` itself. The wall time of a crate is how long a process of it ran. The last line of the gate is printed as it is.
+`rt` itself. The wall time of a crate is how long a process of it ran. The last line of the gate is printed as it is. Cores of one machine share its
+memory: on one core alone a process takes less processor time than beside others.
 """
 import argparse
 import collections
@@ -174,7 +176,7 @@ def whole_of(clone, sampler, wall, processor, last):
     budget = min(MOST_OF_ALL, MOST_OF_TODAY + MOST_A_THOUSAND * max(0, code_lines - LINES_OF_TODAY) / 1000)
     other = processor / 60 - sum(spent for (crate, _), spent in sampler.totals().items() if crate != "other") / 60
     line = (
-        f"Measured on {datetime.date.today().isoformat()}, {os.cpu_count()} cores: **{processor / 60:.0f} minutes of processor time**, "
+        f"Measured on {datetime.date.today().isoformat()}, {len(os.sched_getaffinity(0))} cores: **{processor / 60:.0f} minutes of processor time**, "
         f"{wall / 60:.0f} of the clock, `{last}`. Of it {other:.0f} minutes are for other processes. "
         f"{code_lines} lines of code have a budget of {budget:.0f} minutes."
     )
@@ -267,7 +269,9 @@ def main():
     parser.add_argument("--write", action="store_true", help="write what was measured into docs/GATE.md")
     parser.add_argument("--crates", metavar="CRATE", nargs="+", default=[], help="measure these crates alone")
     parser.add_argument("--functions", metavar="CRATE", help="the dearest functions of one crate")
+    parser.add_argument("--cores", metavar="N", type=int, default=os.cpu_count(), help="how many cores to run on")
     arguments = parser.parse_args()
+    os.sched_setaffinity(0, sorted(os.sched_getaffinity(0))[:arguments.cores])
     if arguments.functions:
         dearest_functions(arguments.functions)
     else:
