@@ -1,7 +1,7 @@
 -- A stream of octets falls into frames: the octets of one PDU each, whatever its body.
 use Rattle.std.specs.Prelude.{◌≡◌, ℕ, zero, suc, ◌-◌, ◌<◌, ◌≤◌, ◌⊎◌, ◌&&◌, Bool, false, IsTrue, nat_le, not, if◌then◌else◌, List, [], ◌∷◌, ◌++◌, length, take}
 use Rattle.std.specs.Prelude.{drop}
-use Rattle.pdu_codec.specs.Grammar.{word_at}
+use Rattle.pdu_fields.specs.Grammar.{word_at}
 
 -- command_length, in the first four octets of a PDU, counts the whole PDU, itself included (SMPP 3.4, 3.2 and 5.1.1).
 abbrev pub command_length : List ℕ → ℕ

@@ -8,7 +8,7 @@ ghost use Rattle.pdu_frames.specs.Frames.{IsFrame, IsPart, HasWrongLength, IsOfO
 ghost use Rattle.pdu_frames.specs.Calls.{Leads};
 ghost use Rattle.pdu_frames.specs.Calls.Call.{TakesIn, GivesOut};
 
-use pdu_codec::PduFault;
+use pdu_fields::PduFault;
 use pdu_tables::limits;
 use std::alloc::{AllocError, Global};
 use std::marker::Model;
