@@ -20,7 +20,8 @@ use Rattle.node_model.specs.Outputs.{sends}
 use Rattle.node_model.specs.Stepped.{stepped}
 use Rattle.node_model.proofs.Same.{vote_decides}
 use Rattle.alone_laws.specs.Alone.{alone}
-use Rattle.alone_laws.proofs.Frames.{eqb_self, slot_self}
+use Rattle.mc_parts.proofs.Membership.{slot_self}
+use Rattle.alone_laws.proofs.Frames.{eqb_self}
 
 -- a round in which nobody has promised
 abbrev pub begun_round : Slot → ℕ → List Decree → Round

@@ -1,7 +1,7 @@
 -- What a change of one message leaves as it was.
 use Rattle.std.proofs.Common.{◌≡◌, ℕ, ◌<◌, Bool, true, false, List, [], ◌∷◌, get_or, length, refl, sym, ap, subst, ◌∙◌, arith, Option, pred}
 use Rattle.std.specs.Prelude.{◌==◌}
-use Rattle.std.proofs.lemmas.Bool.{and_from, and_left, and_right, eqb-false, eqb-true, ne_eqb}
+use Rattle.std.proofs.lemmas.Bool.{and_left, and_right, eqb-false, eqb-true, ne_eqb}
 use Rattle.std.proofs.lemmas.Bool.Decides.{Decides-eqb, nat_tests}
 use Rattle.std.specs.Option.{unwrap_or}
 use Rattle.std.specs.Ordering.{match_ordering, nat_cmp}
@@ -25,9 +25,6 @@ use Rattle.alone_laws.specs.Resting.{HasVotes, IsAtRest, IsTakenIfAny, IsFresh, 
 pub eqb_self : (n : ℕ) → (n == n) ≡ true
 eqb_self n = (Decides-eqb n n).1 refl
 
-pub slot_self : (slot : Slot) → same_slot slot slot ≡ true
-slot_self slot = and_from (slot.id == slot.id) (slot.place == slot.place) (eqb_self slot.id) (eqb_self slot.place)
-
 -- ---- entries of a table
 
 pub entry_here : (table : Table) (id : ℕ) (entry : Entry) → entry_at (with_entry table id entry) id ≡ entry
@@ -37,9 +34,6 @@ pub entry_elsewhere : (table : Table) (id other : ℕ) (entry : Entry) → (othe
 entry_elsewhere table id other entry apart = ap (λ (o : Option Entry). unwrap_or o nothing) (elsewhere id entry other apart table)
 
 -- ---- a record is saved
-
-pub record_here : (records : Records) (slot : Slot) (r : SlotRecord) → with_record records slot r slot ≡ r
-record_here records slot r = rw (slot_self slot) refl
 
 pub record_of_other : (records : Records) (slot other : Slot) (r : SlotRecord) → (other.id ≡ slot.id → ⊥) → with_record records slot r other ≡ records other
 record_of_other records slot other r apart =

@@ -26,10 +26,11 @@ use Rattle.alone_laws.specs.Settling.{SettlesOn}
 use Rattle.alone_laws.proofs.Calm.{IsCalmBut, calm_at_rest, calm_but, rests_with}
 use Rattle.alone_laws.proofs.Carrying.{round_starts, start}
 use Rattle.alone_laws.proofs.Ending.{none_answered, round_ends, settles_after}
-use Rattle.alone_laws.proofs.Frames.{eqb_self, rest_but, same_with, slot_self, taken_as}
+use Rattle.alone_laws.proofs.Frames.{eqb_self, rest_but, same_with, taken_as}
 use Rattle.alone_laws.proofs.Grounds.{IsGround, closed_ground, closed_then, taken_more}
 use Rattle.alone_laws.proofs.Mapped.{among_keys, insert_listed}
 use Rattle.alone_laws.proofs.Ruling.{taken_now}
+use Rattle.mc_parts.proofs.Membership.{slot_self}
 use Rattle.alone_laws.proofs.Leading.{leads_same, few_enough}
 
 -- ---- a grant

@@ -62,12 +62,6 @@ module _ (first validity ballot : ℕ) where
   abbrev setup : Setup
   setup = alone first validity
 
-  abbrev slot : Next → Slot
-  slot next = slot_at next.id (length next.old)
-
-  abbrev vote : Next → Vote
-  vote next = vote_at ballot (next.decree ∷ next.old)
-
   abbrev pub begun : Next → Option Round
   begun next = Some (begun_round (slot_at next.id (length next.old)) ballot (next.decree ∷ next.old))
 

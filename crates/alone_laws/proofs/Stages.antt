@@ -22,7 +22,8 @@ use Rattle.node_model.proofs.Places.{message_here}
 use Rattle.alone_laws.specs.Alone.{alone}
 use Rattle.alone_laws.specs.Tables.{known_as, extended}
 use Rattle.alone_laws.specs.Resting.{HasVotes, IsAtRest, IsFresh, IsTaken}
-use Rattle.alone_laws.proofs.Frames.{IsSameBut, message_saved, record_at_other, record_here, same_saved, same_with, slot_self, votes_as, fresh_as}
+use Rattle.alone_laws.proofs.Frames.{IsSameBut, message_saved, record_at_other, same_saved, same_with, votes_as, fresh_as}
+use Rattle.mc_parts.proofs.Membership.{slot_self, with_here}
 use Rattle.alone_laws.proofs.Deliveries.{begun_round, prepare_delivered, promise_delivered, promised_round, propose_delivered, voted_delivered}
 
 -- A round for the next decree on a chain that is known: it, and the record of its slot.
@@ -85,7 +86,7 @@ module _ (first validity : ℕ) (id : ℕ) (old : List Decree) (decree : Decree)
     known = ap (λ (x : Message). x.known) (message_saved k slot r id) ∙ under.known;
     round_is = ap (λ (x : Message). x.round) (message_saved k slot r id) ∙ under.round_is;
     votes = votes_as k.records (saved k slot r).records id old (λ place below. at_other place (λ same. omega arith)) under.votes;
-    here_is = record_here k.records slot r;
+    here_is = with_here k.records slot r;
     ungranted = ap (λ (x : Message). x.granted (length old)) (message_saved k slot r id) ∙ under.ungranted;
     unclosed = ap (λ (x : Message). x.closed (length old)) (message_saved k slot r id) ∙ under.unclosed;
     beyond = λ place above.

@@ -1,5 +1,5 @@
 -- The ESME answers what was pushed to it, and the node is at rest: the runner and the one node do alike.
-use Rattle.std.proofs.Common.{◌≡◌, ℕ, suc, ◌+◌, ◌<◌, ◌^◌, Bool, true, false, cond, List, [], ◌∷◌, Option, Some, None, refl, sym, ◌∙◌, ap, subst, arith}
+use Rattle.std.proofs.Common.{◌≡◌, ℕ, suc, ◌+◌, ◌<◌, ◌^◌, Bool, false, List, [], Option, Some, None, refl, sym, ◌∙◌, ap, subst, arith}
 use Rattle.std.specs.Prelude.{◌==◌, find}
 use Rattle.std.specs.Ordering.{nat_cmp}
 use Rattle.std.specs.BTreeMap.{insert_entry}
@@ -11,6 +11,7 @@ use Rattle.sessions.specs.Windows.{without_first}
 use Rattle.sessions.specs.declared.pushed.Delivery.{Delivery}
 use Rattle.sessions.specs.declared.pushed.Delivery.TheVariants.{Attempt, Receipt}
 use Rattle.sessions.specs.declared.pushed.Pushed.{Pushed}
+use Rattle.sessions.proofs.Firsts.{stays}
 use Rattle.script_text.specs.Settings.{Settings}
 use Rattle.script_text.specs.Attempts.{Went, delivered_so, rests_at}
 use Rattle.script_text.specs.Runner.{Served, gone_on, on_done, on_reaction, session_in}
@@ -32,16 +33,6 @@ fit_session one number next fit plain waiting = record {
       (λ other differ. fit.plain other);
   waiting = waiting;
 }
-
--- nothing leaves a list in which nothing passes
-none_left : {A : Type 0} (test : A → Bool) (xs : List A) → find test xs ≡ None → without_first test xs ≡ xs
-none_left test [] none = refl
-none_left test (x ∷ xs) none = by_test (test x) (none_left test xs) none
-  where
-    by_test : (passes : Bool) → (find test xs ≡ None → without_first test xs ≡ xs) → cond passes (Some x) (find test xs) ≡ None →
-        cond passes xs (x ∷ without_first test xs) ≡ x ∷ xs
-    by_test true behind none = absurd cc
-    by_test false behind none = ap (λ others. x ∷ others) (behind none)
 
 module _ (settings : Settings) (first left number : ℕ) (one : OneNode) (k : Kept) (quiet : AreQuiet settings first (suc left) one (node_of settings first k))
     (account : Option (List ℕ)) (version following : ℕ) (pushed : List Pushed) (is : like account version pushed following [] ≡ session_in one.sessions number)
@@ -68,7 +59,7 @@ module _ (settings : Settings) (first left number : ℕ) (one : OneNode) (k : Ke
   nothing_answered none = record {
     holds = None;
     agree = rested settings first left one k quiet.fit room_left quiet.resting quiet.owed quiet.due;
-    session = ap (λ (ps : List Pushed). like account version ps following []) (none_left test pushed none) ∙ ap (λ (s : Session). holding s []) is;
+    session = ap (λ (ps : List Pushed). like account version ps following []) (stays test pushed none) ∙ ap (λ (s : Session). holding s []) is;
     bound = refl;
     prints = refl;
     others = λ other differ. refl;

@@ -1,13 +1,10 @@
 -- A request of an account, for a node at rest: the runner and the one node do alike.
-use Rattle.std.proofs.Common.{◌≡◌, ℕ, suc, ◌≤◌, Bool, true, false, cond, List, [], ◌∷◌, ◌++◌, Option, Some, None, Result, Ok, Err, refl, sym, ◌∙◌, ap, subst, arith}
-use Rattle.std.specs.Prelude.{◌==◌}
-use Rattle.std.proofs.lemmas.Bool.{and_parts}
-use Rattle.std.proofs.lemmas.Bool.Decides.{nat_tests}
+use Rattle.std.proofs.Common.{◌≡◌, ℕ, suc, Bool, true, false, cond, List, [], ◌∷◌, ◌++◌, Option, Some, None, Result, Ok, Err, refl, sym, ◌∙◌, ap, subst, arith}
+use Rattle.std.proofs.lemmas.Bool.{and_parts, ne_eqb}
 use Rattle.mc_model.specs.message.Chain.{taken_in}
 use Rattle.mc_model.specs.message.Decree.{Decree, Deleted, Fate, Kind, Taken}
 use Rattle.mc_model.specs.message.Ids.{IsSerial, id_of}
 use Rattle.mc_model.specs.node.Actor.{Cancel, Query, Request, Submit}
-use Rattle.mc_model.specs.node.Effect.{next_serial}
 use Rattle.mc_model.specs.node.Input.{Arrival, Input, Refusal}
 use Rattle.mc_model.specs.node.Outputs.{Receipt}
 use Rattle.mc_model.specs.node.Setup.{Setup}
@@ -42,10 +39,8 @@ use Rattle.calm_laws.proofs.Admitting.{may_come, request_is}
 use Rattle.calm_laws.proofs.Came.{Came}
 use Rattle.calm_laws.proofs.Plain.{holding, like}
 use Rattle.calm_laws.proofs.Standing.{AreQuiet, IsFit, SettlesTo, node_of, requests_at, rested, settles_so}
+use Rattle.mc_parts.proofs.Requests.{serials}
 use Rattle.calm_laws.proofs.Windows.{AreWaiting, IsUnderway, off_unless, waiting_with}
-
-pub not_here : (number other : ℕ) → (number ≡ other → ⊥) → (number == other) ≡ false
-not_here number other differ = grind (arith, nat_tests)
 
 -- ---- attempts that wait are no matter of a request
 
@@ -78,11 +73,6 @@ module _ (k : Kept) (t : TableNode) (resting : IsResting k t) (sessions : List (
           AreWaiting (cond deletes (decreed t id (Fate Deleted 0)) t.table) sessions
       by_test true is = decreed_waits id (Fate Deleted 0) (λ underway. not_deleted account source destination (chain_at t.table id) is underway)
       by_test false is = waiting
-
-still_least : (request : Request) (serial : ℕ) → 1 ≤ serial → 1 ≤ next_serial request serial
-still_least (Submit id message) serial least = omega arith
-still_least (Query id account source) serial least = least
-still_least (Cancel id account source destination) serial least = least
 
 -- ---- a request
 
@@ -164,7 +154,7 @@ module _ (settings : Settings) (first left number : ℕ) (one : OneNode) (k : Ke
 
     fit_then : IsFit then
     fit_then = record {
-      least = still_least request t.serial quiet.fit.least;
+      least = omega (arith, quiet.fit.least, serials request t.serial);
       plain = quiet.fit.plain;
       waiting = request_waits k t quiet.resting one.sessions quiet.fit.waiting request may;
     }
@@ -188,7 +178,7 @@ module _ (settings : Settings) (first left number : ℕ) (one : OneNode) (k : Ke
       bound = window_bound step.outputs.ticket;
       prints = ap (refusal_prints number kind sequence) unrefused;
       others = λ other differ. refl;
-      requests = λ other differ. ap (λ (test : Bool). cond test (waits ∷ []) []) (not_here number other differ);
+      requests = λ other differ. ap (λ (test : Bool). cond test (waits ∷ []) []) (ne_eqb number other differ);
       waiting = refl;
       still = tt;
     }

@@ -5,7 +5,7 @@ use Rattle.std.specs.List.{AllByRecursion}
 use Rattle.std.specs.Ordering.{nat_cmp}
 use Rattle.std.specs.Map.{lookup}
 use Rattle.std.specs.BTreeMap.{is_at}
-use Rattle.std.proofs.lemmas.Bool.{cases_eq}
+use Rattle.std.proofs.lemmas.Bool.{cases_eq, ne_eqb}
 use Rattle.mc_model.specs.node.Outputs.{Reply}
 use Rattle.alone_laws.proofs.Frames.{eqb_self}
 use Rattle.sessions.specs.Session.{Session}
@@ -13,7 +13,6 @@ use Rattle.sessions.specs.Steps.{on_reply}
 use Rattle.sessions.specs.declared.request.OpenRequest.{OpenRequest}
 use Rattle.script_text.specs.Prints.{Print}
 use Rattle.script_text.specs.Runner.{Owned, Told, found_at, owner_of, replied, replied_at, reply_prints, session_in, session_or_opened, told}
-use Rattle.calm_laws.proofs.Asking.{not_here}
 use Rattle.calm_laws.proofs.Connected.{AreConnected, EntryIs, one_set, ours_at}
 use Rattle.calm_laws.proofs.Entries.{apart}
 use Rattle.calm_laws.proofs.Plain.{holding}
@@ -30,7 +29,7 @@ module _ (theirs : List (ℕ × Session)) (owned : Owned) where
   held_here = ap held_if (eqb_self owned.number)
 
   held_elsewhere : (other : ℕ) → (owned.number ≡ other → ⊥) → requests_at (Some owned) other ≡ []
-  held_elsewhere other differ = ap held_if (not_here owned.number other differ)
+  held_elsewhere other differ = ap held_if (ne_eqb owned.number other differ)
 
   module _ (ticket : ℕ) (is : ticket ≡ owned.request.ticket) where
     its_ticket : (owned.request.ticket == ticket) ≡ true

@@ -4,7 +4,7 @@ use Rattle.std.specs.List.{AllByRecursion, find, list_any}
 use Rattle.std.specs.Str.{bytes_eq}
 use Rattle.std.proofs.lemmas.Bool.{cases_Bool, cases_lt, cond-false, cond-true, eqb-true, or_cases, or_left, or_right, true≢false, false≢true}
 use Rattle.std.proofs.lemmas.Option.{slice_get_past}
-use Rattle.std.proofs.lemmas.List.{length-append, drop_more, map-append, take_more, take-append-drop}
+use Rattle.std.proofs.lemmas.List.{length-append, drop_more, map-append, take-append-drop}
 use Rattle.std.proofs.lemmas.List.Folds.{list_any-append}
 use Rattle.accounts.specs.declared.account.Account.{Account}
 use Rattle.accounts.specs.declared.route.Route.{Route}
@@ -21,15 +21,6 @@ use Rattle.config.specs.Faults.{is_numbered}
 use Rattle.config.specs.Building.{AreNumbered, IsAccountRow, IsRouteRow}
 
 -- ---- one more row
-
-pub mapped_more : {A B C : Type 0} (f : B → C) (g : A → B) (xs : List A) (place : ℕ) (x : A) (ys : List C) → place < length xs → x ≡ get_or xs place x
-    → ys ≡ map f (map g (take place xs)) → ys ++ f (g x) ∷ [] ≡ map f (map g (take (place + 1) xs))
-mapped_more {A} {B} {C} f g xs place x ys below is so_far =
-    let more : take (place + 1) xs ≡ take place xs ++ x ∷ [] = take_more xs place x below ∙ ap (λ (y : A). take place xs ++ y ∷ []) (sym is) in
-    ap (λ (zs : List C). zs ++ f (g x) ∷ []) so_far
-    ∙ sym (map-append f (map g (take place xs)) (g x ∷ []))
-    ∙ ap (map f) (sym (map-append g (take place xs) (x ∷ [])))
-    ∙ ap (λ (zs : List A). map f (map g zs)) (sym more)
 
 -- the rows, parted at one
 parted : {A B : Type 0} (g : A → B) (xs : List A) (place : ℕ) (x : A) → place < length xs → x ≡ get_or xs place x → map g xs ≡ map g (take place xs) ++ g x ∷ map g (drop (place + 1) xs)
@@ -172,9 +163,6 @@ node_last rows nodes node row place so_far found is (inr same) =
 pub record IsBegun (rows : List Value) (count : ℕ) (nodes : List NodeConfig) : Type 0 where
   pub long : length nodes ≡ count
   pub nodes_are : AreNodesBelow (map view rows) count nodes
-
-pub begun_none : (rows : List Value) → IsBegun rows 0 []
-begun_none rows = record { long = refl; nodes_are = λ place below. absurd (omega arith) }
 
 seen : (rows : List Value) (number : ℕ) (found : Option Value) → found ≡ find (λ row. is_numbered number (view row)) rows → numbered (map view rows) number ≡ option_map view found
 seen rows number found is = sym (find_of_map (is_numbered number) view rows) ∙ ap (λ (o : Option Value). option_map view o) (sym is)

@@ -8,10 +8,10 @@ use Rattle.toml.specs.Data.{Data}
 use Rattle.toml.specs.declared.value.Value.{Value}
 use Rattle.toml.specs.View.{view, items_view}
 use Rattle.config.specs.declared.key.Key.{Key}
-use Rattle.config.specs.Keys.{is_needed, is_unique, name_of, part_of}
+use Rattle.config.specs.Keys.{is_needed, part_of}
 use Rattle.config.specs.Rows.{has_twice, is_table, listed, rows_of, same_value}
 use Rattle.config.specs.Listen.{IsListen}
-use Rattle.config.specs.Faults.{Fits, IsFit, has_key, is_given, is_once}
+use Rattle.config.specs.Faults.{Fits, IsFit, has_key, is_given}
 use Rattle.config.proofs.Lists.{all_from_map, all_of_map, all_to_map, any_of_map, listed_view}
 
 pub given_here : (document : Data) (key : Key) (rows : List Value) → is_needed key ≡ true → map view rows ≡ rows_of document (part_of key)
@@ -20,12 +20,6 @@ given_here document key rows needed are =
     sym (ap (λ (b : Bool). not b || list_all (has_key key) (rows_of document (part_of key))) needed
     ∙ ap (λ (ds : List Data). list_all (has_key key) ds) (sym are)
     ∙ all_of_map (has_key key) view rows)
-
-pub once_here : (document : Data) (key : Key) (rows : List Value) → is_unique key ≡ true → map view rows ≡ rows_of document (part_of key)
-    → not (has_twice (name_of key) (map view rows)) ≡ is_once document key
-once_here document key rows unique are =
-    sym (ap (λ (b : Bool). not b || not (has_twice (name_of key) (rows_of document (part_of key)))) unique
-    ∙ ap (λ (ds : List Data). not (has_twice (name_of key) ds)) (sym are))
 
 pub fit_here : (document : Data) (key : Key) (rows : List Value) (result : Bool) → map view rows ≡ rows_of document (part_of key)
     → (IsTrue result ↔ AllByRecursion (λ row. Fits document key (view row)) rows) → IsTrue result ↔ IsFit document key

@@ -2,7 +2,7 @@
 use Rattle.std.proofs.Common.{◌≡◌, ℕ, ◌-◌, ◌<◌, ◌≤◌, Bool, true, false, not, ◌||◌, ◌==◌, List, [], ◌∷◌, length, Option, Some, None, IsTrue, IsSome, IfSome, IsSomeAnd, option_and_then, codes, refl, sym, ap, subst, ◌∙◌, inl, inr, arith}
 use Rattle.std.specs.List.{All, AllByRecursion, list_all, list_any}
 use Rattle.std.specs.declared.net.socket_addr.SocketAddrV4.{SocketAddrV4}
-use Rattle.std.proofs.lemmas.Bool.{and_parts, or_cases, false≢true}
+use Rattle.std.proofs.lemmas.Bool.{and_parts, or_cases, false≢true, not-true}
 use Rattle.std.proofs.lemmas.List.Elements.{All-nil}
 use Rattle.std.proofs.lemmas.Slice.Eq.{bytes_eq-Decides}
 use Rattle.octet_fields.specs.Texts.{IsText}
@@ -172,12 +172,8 @@ route_rows document is =
 
 -- ---- nothing is given twice
 
-not_true : (b : Bool) → not b ≡ true → b ≡ false
-not_true true is = absurd (false≢true is)
-not_true false is = refl
-
 pub accounts_once : (document : Data) → IsFaultless document → has_twice (codes "system_id") (rows_of document Accounts) ≡ false
-accounts_once document is = not_true _ (is.once keys.AccountSystemId)
+accounts_once document is = not-true _ (is.once keys.AccountSystemId)
 
 pub routes_once : (document : Data) → IsFaultless document → has_twice (codes "prefix") (rows_of document Routes) ≡ false
-routes_once document is = not_true _ (is.once keys.RoutePrefix)
+routes_once document is = not-true _ (is.once keys.RoutePrefix)

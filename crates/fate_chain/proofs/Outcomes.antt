@@ -1,24 +1,13 @@
 -- What reading found, in the words of a chain's octets.
-use Rattle.std.proofs.Common.{◌≡◌, ◌↔◌, ℕ, List, [], ◌∷◌, Result, Ok, Err, IfOk, IsErrOf, refl, sym, ap, subst, ◌∙◌}
-use Rattle.mc_model.specs.message.Decree.{Decree}
+use Rattle.std.proofs.Common.{◌≡◌, ◌↔◌, ℕ, List, Result, Ok, Err, IfOk, IsErrOf, refl, sym, ap, subst, ◌∙◌}
 use Rattle.mc_model.specs.message.Chain.{Chain, IsPermitted}
 use Rattle.octet_fields.specs.Texts.{IsOctets}
 use Rattle.fate_chain.specs.declared.fault.ChainFault.{ChainFault}
 use Rattle.fate_chain.specs.declared.fault.ChainFault.TheVariants.{NotPermitted, NotBytes, Memory}
 use Rattle.octet_fields.specs.declared.defect.Defect.{Defect}
-use Rattle.octet_fields.specs.Reading.{◌>>=◌}
-use Rattle.fate_chain.specs.Bytes.{decrees_at, chain_from, chain_at, read_chain, IsSpelled, Judges}
+use Rattle.fate_chain.specs.Bytes.{read_chain, IsSpelled, Judges}
 use Rattle.octet_fields.proofs.Octets.{ok_is}
 use Rattle.fate_chain.proofs.ChainReading.{chain_takes, chain_again}
-
-from-same : (id : ℕ) (read : List Decree) (rest : List ℕ) (c : Chain) → chain_from id (read, rest) ≡ Ok c → ◌≡◌ {A = Chain} c (record { id = id; decrees = read })
-from-same id read [] c e = sym (ok_is (record { id = id; decrees = read }) c e)
-from-same id read (o ∷ octets) c e = absurd cc
-
--- the decrees that are read are the chain's
-pub chain_at-same : (id count : ℕ) (octets : List ℕ) (read : List Decree) (rest : List ℕ) (c : Chain) → chain_at id count octets ≡ Ok c → decrees_at count [] octets ≡ Ok (read, rest) → ◌≡◌ {A = Chain} c (record { id = id; decrees = read })
-chain_at-same id count octets read rest c e is =
-    from-same id read rest c (sym (ap (λ (o : Result (List Decree × List ℕ) Defect). o >>= λ d. chain_from id d) is) ∙ e)
 
 spells : (octets : List ℕ) (c : Chain) → IsOctets octets → read_chain octets ≡ Ok c → IsSpelled octets c
 spells octets c are e = let taken = chain_takes octets c are e in record { fits = taken.fits; spelled = taken.spelled }

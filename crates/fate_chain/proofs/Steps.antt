@@ -18,9 +18,6 @@ pub record IsSoFar (count : ℕ) (octets : List ℕ) (left : ℕ) (read : List D
   pub whole : decrees_at count [] octets ≡ decrees_at left read rest
   pub counted : length read + left ≡ count
 
-pub so-far-none : (count : ℕ) (octets : List ℕ) → IsSoFar count octets count [] octets
-so-far-none count octets = record { whole = refl; counted = omega arith }
-
 decrees_at-more : (left : ℕ) (read : List Decree) (rest : List ℕ) (x : Decree × List ℕ) → 0 < left → decree_at rest ≡ Ok x → decrees_at left read rest ≡ decrees_at (left - 1) (x.0 ∷ read) x.1
 unfolding decrees_at
 decrees_at-more zero read rest x some is = absurd (omega arith)

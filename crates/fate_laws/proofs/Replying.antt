@@ -5,13 +5,13 @@ use Rattle.std.proofs.lemmas.List.{reverse-append}
 use Rattle.mc_model.specs.message.Decree.{Decree, Deleted, Final}
 use Rattle.mc_model.specs.message.Chain.{final_in}
 use Rattle.mc_model.specs.node.Act.{Act, Replies}
-use Rattle.mc_model.specs.node.Actor.{Actor, Cancel, Query, Request, Submit, Waiting}
 use Rattle.mc_model.specs.node.Outputs.{Reply, replies_in}
-use Rattle.mc_model.specs.node.Replies.{Answer, FitsRequest, Removed, Shown}
+use Rattle.mc_model.specs.node.Replies.{Answer, Removed, Shown}
 use Rattle.mc_model.specs.cluster.Steps.{by_node}
 use Rattle.mc_model.specs.cluster.World.{IsRun, May, World, after, reached}
 use Rattle.mc_laws.proofs.Fated.{tells_known}
 use Rattle.mc_laws.proofs.Reached.{Holds, holds_after}
+use Rattle.mc_laws.proofs.Deeds.{removed_deleted}
 use Rattle.fate_laws.proofs.Decided.{IsDecided, decided_after, shown_so, told_decides}
 
 -- what is decided at any node in one world is so in another
@@ -35,17 +35,7 @@ fit_from : (node : ℕ) (before first last : World) (replies : List Reply) → G
 fit_from node before first last [] grows fit = λ n id final is. fit n id final (grows n id final is)
 fit_from node before first last (reply ∷ replies) grows fit = (fit.0, λ n id final is. fit.1 n id final (grows n id final is), fit.2, fit.3)
 
-pub fits_grow : (node : ℕ) (first last : World) (replies : List Reply) → AreFit node first replies last → Grows first last
-fits_grow node first last [] fit = fit
-fits_grow node first last (reply ∷ replies) fit = λ n id final is. fits_grow node fit.0 last replies fit.3 n id final (fit.1 n id final is)
-
 -- ---- one reply
-
-pub removed_ends : (nodes node : ℕ) (a : Actor) (w : Waiting) (request : Request) (chain : List Decree) →
-    FitsRequest nodes node a w request (Removed chain) → final_in chain ≡ Some Deleted
-removed_ends nodes node a w (Cancel id account source destination) chain fits = fits.deleted
-removed_ends nodes node a w (Submit id message) chain fits = absurd fits
-removed_ends nodes node a w (Query id account source) chain fits = absurd fits
 
 module _ (node : ℕ) (w : World) (h : Holds w) (ticket id : ℕ) (answer : Answer) (may : May w node (Replies ticket id answer)) where
   may_be : (other : Answer) → answer ≡ other → May w node (Replies ticket id other)
@@ -59,7 +49,7 @@ module _ (node : ℕ) (w : World) (h : Holds w) (ticket id : ℕ) (answer : Answ
     removed = λ chain is.
         let removes = (may_be (Removed chain) is).needs in
         told_decides node w id chain Deleted (tells_known w node (Replies ticket id (Removed chain)) (may_be (Removed chain) is) id chain (refl, refl))
-        (removed_ends w.nodes node (w.actors node) removes.asked.waiting removes.asked.waiting.request chain removes.fits);
+        (removed_deleted w.nodes node (w.actors node) removes.asked.waiting removes.asked.waiting.request chain removes.fits);
   }
 
 -- ---- the replies of acts

@@ -26,10 +26,6 @@ due_later node first last receipt grows due = record {
   decided = λ final ends. grows node receipt.id final (due.decided final ends);
 }
 
-pub all_due_later : (node : ℕ) (first last : World) (receipts : List Receipt) → Grows first last → AreDue node first receipts →
-    AreDue node last receipts
-all_due_later node first last receipts grows due receipt among = due_later node first last receipt grows (due receipt among)
-
 -- ---- the receipts of acts
 
 pub receipts_due : (node : ℕ) (w : World) → Holds w → (acts : List Act) → IsRun w (by_node node acts) →

@@ -5,19 +5,19 @@ use Rattle.mc_model.specs.message.Decree.{Decree}
 use Rattle.mc_model.specs.synod.Lists.{In}
 use Rattle.mc_model.specs.synod.OneSlot.{Vote}
 use Rattle.mc_model.specs.synod.Packet.{Ask, Name, Packet, Prepare, Promise, Propose, Refused, Slot, Tell, TopVote, Voted}
-use Rattle.mc_model.specs.node.Actor.{Cancel, Query, Request, Submit, id_in}
-use Rattle.mc_model.specs.node.Effect.{next_serial}
+use Rattle.mc_model.specs.node.Actor.{Request, id_in}
 use Rattle.mc_model.specs.node.Input.{Arrival, Crash, Delivery, Grant, Input, Refusal, Response, Restart, Tick}
 use Rattle.mc_model.specs.node.Outcome.{Outcome}
 use Rattle.mc_model.specs.node.Outputs.{Reply}
 use Rattle.mc_model.specs.node.Replies.{Answer}
 use Rattle.mc_model.specs.node.Setup.{Setup}
 use Rattle.mc_parts.proofs.Membership.{in_either, in_filter}
+use Rattle.mc_parts.proofs.Requests.{serials}
 use Rattle.node_model.specs.Message.{Message, Round}
 use Rattle.node_model.specs.Kept.{Held, Kept, message_at, with_message}
 use Rattle.node_model.specs.Learner.{heard, makes_known}
 use Rattle.node_model.specs.Proposer.{is_own_ballot, promised_by, refused, runs_at, started}
-use Rattle.node_model.specs.Requests.{begun, held_at, id_of, settled_by, settles, ticket_of, told_by, with_held}
+use Rattle.node_model.specs.Requests.{begun, held_at, id_of, settled_by, ticket_of, told_by, with_held}
 use Rattle.node_model.specs.Answers.{answer_to, still_waits}
 use Rattle.node_model.specs.Attempts.{closed_by, concluded, on_grant, on_response}
 use Rattle.node_model.specs.Starts.{delete_for, take_for}
@@ -28,6 +28,7 @@ use Rattle.node_model.specs.Ticks.{ids_of, is_late, late_reply, ruled_each, tick
 use Rattle.node_laws.specs.Runs.{IsUpFor}
 use Rattle.node_laws.proofs.Orders.{in_mapped}
 use Rattle.node_laws.proofs.Told.{found_at}
+use Rattle.node_laws.proofs.Busy.{same_id}
 use Rattle.arrival_laws.proofs.Comings.{ComesAbout, IsPlain}
 use Rattle.fate_laws.proofs.Answering.{IsAsked, asked_by, asked_later, reply_asked}
 use Rattle.fate_laws.proofs.Lasting.{Lasts, lasts_still, lasts_then, message_lasts, rules_last, start_lasts}
@@ -79,18 +80,11 @@ refusal_goes setup k input slot ballot promised = by_ballot (is_own_ballot setup
 
 -- ---- votes
 
-settled_id : (nodes : ℕ) (known : Option (List Decree)) (h : Held) → id_of (settled_by nodes known h) ≡ id_of h
-settled_id nodes known h = by_test (settles nodes known h)
-  where
-    by_test : (test : Bool) → id_of (if test then record h { waiting = record h.waiting { settled = true } } else h) ≡ id_of h
-    by_test true = refl
-    by_test false = refl
-
 settled_for_id : (nodes id : ℕ) (chain : List Decree) (h : Held) → id_of (settled_for nodes id chain h) ≡ id_of h
 settled_for_id nodes id chain h = by_test (id_of h == id)
   where
     by_test : (test : Bool) → id_of (if test then settled_by nodes (Some chain) h else h) ≡ id_of h
-    by_test true = settled_id nodes (Some chain) h
+    by_test true = same_id nodes (Some chain) h
     by_test false = refl
 
 -- requests of which each is changed to one about the same message
@@ -183,7 +177,7 @@ tell_goes setup k input teller name told = by_name (is_own_name setup k name)
     to_held : (h : Held) → In h k.held → GoesOn k input (told_to setup k (message_at k (id_of h)).known (told_by h teller told))
     to_held h among =
         let known = (message_at k (id_of h)).known in
-        let same : id_of (settled_by setup.nodes known (told_by h teller told)) ≡ id_of h = settled_id setup.nodes known (told_by h teller told) in
+        let same : id_of (settled_by setup.nodes known (told_by h teller told)) ≡ id_of h = same_id setup.nodes known (told_by h teller told) in
         told_goes setup k (told_by h teller told) (settled_by setup.nodes known (told_by h teller told)) known
         (record { request = h; among = among; about = sym same }) input
 
@@ -230,18 +224,13 @@ packet_goes setup k packet = by_packet packet
     by_packet (Ask sender id name) = if_so sender _ (quietly k input _ (lasts_still k) refl)
     by_packet (Tell sender name told) = if_so sender _ (tell_goes setup k input sender name told)
 
-serial_then : (request : Request) (serial : ℕ) → serial ≤ next_serial request serial
-serial_then (Submit id message) serial = omega arith
-serial_then (Query id account source) serial = omega arith
-serial_then (Cancel id account source destination) serial = omega arith
-
 arrival_goes : (setup : Setup) (k : Kept) (request : Request) → GoesOn k (Arrival request) (stepped_up setup k (Arrival request))
 arrival_goes setup k request =
     let new = begun k.ticket k.clock request in
     let lasts = start_lasts setup (waits_too k request new) (id_in request) (take_for setup (waits_too k request new) new request) in
     record {
       up = lasts.up;
-      serial = let least = serial_then request k.serial in let same = lasts.serial in omega (arith, least, same);
+      serial = let least = serials request k.serial in let same = lasts.serial in omega (arith, least, same);
       held = λ h among. elim (in_either h k.held (new ∷ []) (subst (In h) lasts.held among)) [
         | inl old ↦ inl (asked_by k.held h old)
         | inr came ↦ elim came [ inl same ↦ inr (sym (ap id_of same)) | inr none ↦ absurd none ]

@@ -14,9 +14,9 @@ use Rattle.node_laws.specs.Clusters.{MayHappen, NodeInput, kept_reached, step_at
 use Rattle.node_laws.proofs.Clustered.{clustered, one_more}
 use Rattle.node_laws.proofs.Orders.{in_reverse}
 use Rattle.fate_laws.proofs.Reports.{named_small}
-use Rattle.fate_laws.proofs.Replying.{removed_ends}
 use Rattle.fate_laws.proofs.Reporting.{AreDue, IsDue, receipts_due}
 use Rattle.fate_laws.proofs.Behind.{after_holds, next_acts, next_run, next_world, world_after}
+use Rattle.mc_laws.proofs.Deeds.{removed_deleted}
 use Rattle.fate_laws.proofs.ReceiptsOut.{AreReceiptsOut}
 
 -- ESME_ROK to a cancel_sm tells of a deletion
@@ -34,7 +34,7 @@ removals_end node w (newest ∷ older) run reply among chain is =
     by_act others (Replies ticket id answer) may (inl same) =
         let here : answer ≡ Removed chain = ap (λ (r : Reply). r.answer) (sym same) ∙ is in
         let removes = (subst (λ (a : Answer). May before node (Replies ticket id a)) here may).needs in
-        removed_ends before.nodes node (before.actors node) removes.asked.waiting removes.asked.waiting.request chain removes.fits
+        removed_deleted before.nodes node (before.actors node) removes.asked.waiting removes.asked.waiting.request chain removes.fits
     by_act others (Replies ticket id answer) may (inr among) = others among
     by_act others act may among = others among
 

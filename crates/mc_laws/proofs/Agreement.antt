@@ -92,14 +92,3 @@ agree w keeps links one other first second same is_one is_other =
       | inl shorter ↦ inr (begins w keeps links one.id first.chain second.chain a b (omega (arith, shorter)))
       | inr longer ↦ inl (begins w keeps links one.id second.chain first.chain b a longer)
     ]
-
--- a node knows one chain of a message
-pub known_once : (w : World) → Keeps w → Links w → (node id : ℕ) (one other : List Decree) → Knows w.nodes (w.actors node).received id one → Knows w.nodes (w.actors node).received id other → other ≡ one
-known_once w keeps links node id one other knows_one knows_other =
-    let is_one = known_chosen w keeps node id one knows_one in
-    let is_other = known_chosen w keeps node id other knows_other in
-    let some = not_empty w keeps links id one is_one in
-    let more = not_empty w keeps links id other is_other in
-    let up = knows_other.longest (pred (length one)) (vote_at knows_one.ballot one) knows_one.learned in
-    let down = knows_one.longest (pred (length other)) (vote_at knows_other.ballot other) knows_other.learned in
-    same_length w keeps id one other is_one is_other (omega (arith, some, more, up, down))

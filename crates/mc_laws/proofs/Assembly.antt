@@ -148,7 +148,7 @@ pub acts_on : (node : ℕ) (more : List Act) (acts : List (ℕ × Act)) → acts
 acts_on node [] acts = refl
 acts_on node (newest ∷ older) acts = acts_here node (node, newest) (by_node node older ++ acts) refl ∙ ap (λ (xs : List Act). newest ∷ xs) (acts_on node older acts)
 
-alone_on : (node : ℕ) (first : Node) (more acts : List Act) → reached_alone node first (more ++ acts) ≡ reached_alone node (reached_alone node first acts) more
+pub alone_on : (node : ℕ) (first : Node) (more acts : List Act) → reached_alone node first (more ++ acts) ≡ reached_alone node (reached_alone node first acts) more
 alone_on node first [] acts = refl
 alone_on node first (newest ∷ older) acts = ap (λ (s : Node). after_alone node s newest) (alone_on node first older acts)
 

@@ -25,6 +25,7 @@ use Rattle.mc_laws.specs.NodeStories.{no_records, node_of_actor}
 use Rattle.mc_laws.specs.CancelStories.{behind_slot, high_ballot, next_ballot, second_question, told_of_taking, cancelling_at, cancelled_twice, cancelling_again}
 use Rattle.mc_laws.proofs.Rounds.{all_of_one, one_of_one}
 use Rattle.mc_parts.proofs.Known.{knows_one}
+use Rattle.mc_parts.proofs.Membership.{never_empty}
 use Rattle.mc_laws.proofs.Delivery.{knows}
 use Rattle.mc_laws.proofs.FirstStep.{none_due, none_due_once}
 
@@ -100,11 +101,7 @@ module _ (message : Submission) where
 
   one_round : (slot : Slot) (ballot : ℕ) (newer older : List Packet) → (Prepare 1 behind_slot first_ballot ∷ []) ≡ newer ++ Prepare 1 slot ballot ∷ older → (slot ≡ behind_slot) × (ballot ≡ first_ballot)
   one_round slot ballot [] older is = let heads : Prepare 1 behind_slot first_ballot ≡ Prepare 1 slot ballot = cc in (cc, cc)
-  one_round slot ballot (first ∷ newer) older is = absurd (not_empty newer older (Prepare 1 slot ballot) cc)
-    where
-      not_empty : (newer older : List Packet) (packet : Packet) → [] ≡ newer ++ packet ∷ older → ⊥
-      not_empty [] older packet is = cc
-      not_empty (x ∷ newer) older packet is = cc
+  one_round slot ballot (first ∷ newer) older is = absurd (never_empty newer older (Prepare 1 slot ballot) cc)
 
   refused : (slot : Slot) (ballot : ℕ) → IsRunning 1 1 now slot ballot → ⊥
   refused slot ballot running =

@@ -17,6 +17,7 @@ use Rattle.mc_model.specs.node.Alone.{IsStepAlone}
 use Rattle.mc_laws.specs.NodeStories.{among_three}
 use Rattle.mc_laws.specs.QueryStories.{second_id, second_slot, second_ballot, carrying, carrying_on}
 use Rattle.mc_laws.proofs.FirstStep.{none_due, none_due_once}
+use Rattle.mc_parts.proofs.Membership.{never_empty}
 use Rattle.mc_laws.proofs.Following.{NoVotes, none_known, two_and_three, few_told}
 
 module _ (vote : Vote) (other : List Decree) where
@@ -32,13 +33,9 @@ module _ (vote : Vote) (other : List Decree) where
   no_votes acceptor slot held (inr (inr (inl same))) = cc
   no_votes acceptor slot held (inr (inr (inr none))) = none
 
-  not_empty : (newer older : List Packet) (packet : Packet) → [] ≡ newer ++ packet ∷ older → ⊥
-  not_empty [] older packet is = cc
-  not_empty (x ∷ newer) older packet is = cc
-
   round_slot : (slot : Slot) (ballot : ℕ) (newer older : List Packet) → (Prepare 1 second_slot second_ballot ∷ []) ≡ newer ++ Prepare 1 slot ballot ∷ older → slot ≡ second_slot
   round_slot slot ballot [] older is = let heads : Prepare 1 second_slot second_ballot ≡ Prepare 1 slot ballot = cc in cc
-  round_slot slot ballot (first ∷ newer) older is = absurd (not_empty newer older (Prepare 1 slot ballot) cc)
+  round_slot slot ballot (first ∷ newer) older is = absurd (never_empty newer older (Prepare 1 slot ballot) cc)
 
   -- nothing waits and nothing is known
   settles_none : (act : Act) → DueToSettle 3 1 now act → ⊥

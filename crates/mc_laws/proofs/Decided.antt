@@ -1,9 +1,9 @@
 -- What a node answers in a step is decided by the node and by what comes to it.
-use Rattle.std.proofs.Common.{◌≡◌, ◌⊎◌, ℕ, ◌<◌, ◌≤◌, true, false, List, [], ◌∷◌, ◌++◌, map, Option, Some, None, refl, sym, ◌∙◌, ap, subst, inl, inr, arith}
+use Rattle.std.proofs.Common.{◌≡◌, ◌⊎◌, ℕ, ◌<◌, ◌≤◌, true, false, List, [], ◌∷◌, ◌++◌, map, Option, refl, sym, ◌∙◌, ap, subst, inl, inr, arith}
 use Rattle.mc_model.specs.synod.Lists.{In}
 use Rattle.mc_model.specs.synod.OneSlot.{Vote}
-use Rattle.mc_model.specs.synod.Packet.{slot_at, Packet, Prepare, Promise, Propose, Voted, Refused, TopVote, Ask, Tell}
-use Rattle.mc_model.specs.synod.Acceptor.{Records, IsTold}
+use Rattle.mc_model.specs.synod.Packet.{Packet, Prepare, Promise, Propose, Voted, Refused, TopVote, Ask, Tell}
+use Rattle.mc_model.specs.synod.Acceptor.{Records}
 use Rattle.mc_model.specs.node.Setup.{Setup}
 use Rattle.mc_model.specs.node.Actor.{Actor}
 use Rattle.mc_model.specs.node.Act.{Act, Receives, Tells, Stops}
@@ -12,6 +12,7 @@ use Rattle.mc_model.specs.node.Input.{Input, Delivery, Crash, Arrival, Tick, Gra
 use Rattle.mc_model.specs.node.Due.{AreDue, key_of, Fall}
 use Rattle.mc_model.specs.node.Core.{IsHandled, IsReceived, AcceptorReplies, IsSaved, IsCore}
 use Rattle.mc_model.specs.node.Phases.{DueToSettle, DueToAsk, DueToAbandon, DueToEnd, DueToReply, DueToReport}
+use Rattle.mc_parts.proofs.Told.{told_once}
 use Rattle.mc_model.specs.node.Step.{IsExact}
 
 -- ---- two lists of one order and of the same members are one
@@ -56,22 +57,6 @@ same_list (x ∷ xs) (y ∷ ys) fall_x fall_y there back =
     λ i. heads i ∷ tails i
 
 -- ---- what the input does by itself
-
-clash : (vote : Option Vote) (held : Vote) → vote ≡ None → vote ≡ Some held → ⊥
-clash vote held none some = cc
-
-told_once : (records : Records) (id : ℕ) (one other : Option TopVote) → IsTold records id one → IsTold records id other → one ≡ other
-told_once records id None None is_one is_other = refl
-told_once records id None (Some told) is_one is_other = absurd (clash (records (slot_at id told.place)).vote told.vote (is_one told.place) is_other.voted)
-told_once records id (Some told) None is_one is_other = absurd (clash (records (slot_at id told.place)).vote told.vote (is_other told.place) is_one.voted)
-told_once records id (Some one) (Some other) is_one is_other =
-    let up = is_other.highest one.place one.vote is_one.voted in
-    let down = is_one.highest other.place other.vote is_other.voted in
-    let places : one.place ≡ other.place = omega (arith, up, down) in
-    let held : Some one.vote ≡ Some other.vote = sym is_one.voted ∙ ap (λ (p : ℕ). (records (slot_at id p)).vote) places ∙ is_other.voted in
-    let votes : one.vote ≡ other.vote = cc in
-    let ids : one.id ≡ other.id = is_one.about ∙ sym is_other.about in
-    λ i. Some (record { id = ids i; place = places i; vote = votes i })
 
 -- one of two cases, of which one alone can be
 one_case : (below above : Type 0) (acts first second one other : List Act) → (below → above → ⊥) → (below × (one ≡ first)) ⊎ (above × (one ≡ second)) → (below × (other ≡ first)) ⊎ (above × (other ≡ second)) → one ≡ other

@@ -30,7 +30,7 @@ allowed_in nodes serials (newest ∷ older) run deed (inr later) = allowed_in no
 pub was_allowed : (run : Run) (deed : Deed) → In deed (past_of run) → WasAllowed deed
 was_allowed run = allowed_in run.nodes run.serials run.acts run.may
 
-removed_deleted : (nodes node : ℕ) (a : Actor) (w : Waiting) (request : Request) (chain : List Decree) → FitsRequest nodes node a w request (Removed chain) → final_in chain ≡ Some Deleted
+pub removed_deleted : (nodes node : ℕ) (a : Actor) (w : Waiting) (request : Request) (chain : List Decree) → FitsRequest nodes node a w request (Removed chain) → final_in chain ≡ Some Deleted
 removed_deleted nodes node a w (Cancel id account source destination) chain fits = fits.deleted
 removed_deleted nodes node a w (Query id account source) chain fits = absurd fits
 removed_deleted nodes node a w (Submit id message) chain fits = absurd fits

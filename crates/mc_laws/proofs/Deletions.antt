@@ -1,6 +1,7 @@
 -- Behind each deletion stands a cancel_sm.
 use Rattle.std.proofs.Common.{◌≡◌, ◌⊎◌, ℕ, Bool, true, false, List, [], ◌∷◌, Option, Some, None, refl, sym, ◌∙◌, ap, subst, inl, inr}
 use Rattle.std.specs.Prelude.{◌==◌, if◌then◌else◌}
+use Rattle.std.proofs.lemmas.Bool.{eqb-true}
 use Rattle.mc_model.specs.message.Submission.{Submission}
 use Rattle.mc_model.specs.message.Decree.{Author, Decree, Kind, Taken, Attempt, Failed, Fate, Delivered, Expired, Deleted, Undeliverable, Rejected}
 use Rattle.mc_model.specs.message.Neighbours.{MayFollow}
@@ -15,7 +16,7 @@ use Rattle.mc_model.specs.node.Effect.{actor_by, settle}
 use Rattle.mc_model.specs.cluster.World.{World, Deed, cast, May, IsChosenIn, StandsIn, after, start}
 use Rattle.mc_model.specs.cluster.Fate.{deed_by}
 use Rattle.mc_model.specs.cluster.Decrees.{CameToCancel, IsDeletion}
-use Rattle.mc_parts.proofs.Membership.{in_either, of_only, in_map, in_filter, same_number}
+use Rattle.mc_parts.proofs.Membership.{in_either, of_only, in_map, in_filter}
 use Rattle.mc_parts.proofs.Majorities.{both}
 use Rattle.mc_laws.proofs.Growth.{actors_after}
 use Rattle.mc_laws.proofs.Keeping.{Keeps, WasProposed, PromiseFits, proposal_cases}
@@ -70,7 +71,7 @@ came_after w deletions node act may other = elim (actors_after w node act other)
 
 -- what is settled now was settled by this act, or before
 settled_now : (past : List Deed) (node : ℕ) (a : Actor) (ticket : ℕ) (from : Waiting) (test : Bool) → (from.ticket == ticket) ≡ test → (if test then true else from.settled) ≡ true → (from.settled ≡ true → In (deed_by (lived_by node a) (Settles from.ticket)) past) → In (deed_by (lived_by node a) (Settles from.ticket)) (deed_by (lived_by node a) (Settles ticket) ∷ past)
-settled_now past node a ticket from true same is before = inl (ap (λ (t : ℕ). deed_by (lived_by node a) (Settles t)) (same_number from.ticket ticket same))
+settled_now past node a ticket from true same is before = inl (ap (λ (t : ℕ). deed_by (lived_by node a) (Settles t)) (eqb-true from.ticket ticket same))
 settled_now past node a ticket from false other is before = inr (before is)
 
 settled_by : (w : World) (node : ℕ) (act : Act) → AllSettled w.past node (w.actors node) → AllSettled (after w node act).past node (actor_by node (w.actors node) act)

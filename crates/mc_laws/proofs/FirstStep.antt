@@ -1,10 +1,10 @@
 -- The first step of a node is exact.
-use Rattle.std.proofs.Common.{◌≡◌, ℕ, false, List, [], ◌∷◌, ◌++◌, refl, sym, ◌∙◌, ap, subst, inl, inr, arith}
+use Rattle.std.proofs.Common.{◌≡◌, ℕ, false, List, [], ◌∷◌, refl, sym, ◌∙◌, ap, subst, inl, inr, arith}
 use Rattle.mc_model.specs.message.Submission.{Submission}
 use Rattle.mc_model.specs.message.Decree.{Decree, Taken}
 use Rattle.mc_model.specs.synod.Lists.{In}
 use Rattle.mc_model.specs.synod.OneSlot.{Vote, vote_at}
-use Rattle.mc_model.specs.synod.Packet.{Slot, slot_of, Packet, Prepare, Voted}
+use Rattle.mc_model.specs.synod.Packet.{Slot, slot_of, Prepare, Voted}
 use Rattle.mc_model.specs.synod.Acceptor.{Records, blank}
 use Rattle.mc_model.specs.node.Actor.{Actor, Submit, Waiting, opened, opening_clock}
 use Rattle.mc_model.specs.node.Knowledge.{IsLearned, Knows}
@@ -19,6 +19,7 @@ use Rattle.mc_model.specs.node.Due.{AreDue, AreDueOnce, key_of}
 use Rattle.mc_model.specs.node.Phases.{IsCancelRequest, DueToSettle, DueToEnd, DueToAsk, DueToAbandon, DueToPrepare, DueToPropose, DueToReply, DueToReport}
 use Rattle.mc_model.specs.node.Step.{IsExact}
 use Rattle.mc_laws.specs.Stories.{first_id, first_ballot, first_setup, taken_chain, first_step}
+use Rattle.mc_parts.proofs.Membership.{never_empty}
 use Rattle.mc_laws.proofs.Rounds.{one_of_one}
 
 -- ---- nothing is due
@@ -85,7 +86,7 @@ no_seen message slot round (inr (inr prepared)) = absurd prepared.sent
 
 may_prepare : (message : Submission) (slot : Slot) → MayPrepare 1 1 (asked message) no_records slot first_ballot
 may_prepare message slot = record {
-  none = λ other ballot same running. not_run running.round.newer running.round.older (Prepare 1 other ballot) running.round.split;
+  none = λ other ballot same running. never_empty running.round.newer running.round.older (Prepare 1 other ballot) running.round.split;
   next = record {
     highest = 0;
     seen = inl refl;
@@ -94,10 +95,6 @@ may_prepare message slot = record {
     round = record { least = omega arith; most = omega arith };
   };
 }
-  where
-    not_run : (newer older : List Packet) (packet : Packet) → [] ≡ newer ++ packet ∷ older → ⊥
-    not_run [] older packet is = cc
-    not_run (first ∷ newer) older packet is = cc
 
 abbrev taken_at : ℕ → Submission → List Decree
 taken_at moment message = record { author = record { node = 1; incarnation = 1 }; moment = moment; kind = Taken message } ∷ []

@@ -26,6 +26,7 @@ use Rattle.mc_laws.specs.Stories.{first_ballot}
 use Rattle.mc_laws.specs.NodeStories.{no_records, among_three}
 use Rattle.mc_laws.specs.QueryStories.{second_id, second_slot, question, told_by_3, following}
 use Rattle.mc_parts.proofs.Majorities.{both}
+use Rattle.mc_parts.proofs.Membership.{never_empty}
 use Rattle.mc_laws.proofs.FirstStep.{none_due, none_due_once}
 
 -- nothing more behind a list
@@ -141,10 +142,6 @@ from_2 : (node : ℕ) (told : Option TopVote) → In (Tell node question told) (
 from_2 node told (inl same) = cc
 from_2 node told (inr none) = absurd none
 
-not_run : (newer rest : List Packet) (packet : Packet) → [] ≡ newer ++ packet ∷ rest → ⊥
-not_run [] rest packet is = cc
-not_run (first ∷ newer) rest packet is = cc
-
 abbrev told : Vote → List Packet
 told vote = told_by_3 vote ∷ Tell 2 question None ∷ []
 
@@ -233,7 +230,7 @@ module _ (account source : List ℕ) (vote : Vote) where
   no_arrival_cause act due = due
 
   proposes_none : (before : Actor) (received : List Packet) → (act : Act) → DueToPropose 3 1 before (at received [] []) act → ⊥
-  proposes_none before received (Proposes slot other) due = not_run due.0.running.round.newer due.0.running.round.older _ due.0.running.round.split
+  proposes_none before received (Proposes slot other) due = never_empty due.0.running.round.newer due.0.running.round.older _ due.0.running.round.split
   proposes_none before received act due = due
 
   nobody_told : IsSettled 3 [] question None → ⊥
@@ -317,7 +314,7 @@ module _ (account source : List ℕ) (vote : Vote) where
 
   prepares_so : MayPrepare 3 1 (at (told vote) [] []) no_records second_slot first_ballot
   prepares_so = record {
-    none = λ other ballot same running. not_run running.round.newer running.round.older _ running.round.split;
+    none = λ other ballot same running. never_empty running.round.newer running.round.older _ running.round.split;
     next = record {
       highest = 0;
       seen = inl refl;
@@ -403,7 +400,7 @@ module _ (account source : List ℕ) (vote : Vote) where
 
   round_slot : (slot : Slot) (ballot : ℕ) (newer rest : List Packet) → prepared_so ≡ newer ++ Prepare 1 slot ballot ∷ rest → slot ≡ second_slot
   round_slot slot ballot [] rest is = let heads : Prepare 1 second_slot first_ballot ≡ Prepare 1 slot ballot = cc in cc
-  round_slot slot ballot (first ∷ newer) rest is = absurd (not_run newer rest (Prepare 1 slot ballot) cc)
+  round_slot slot ballot (first ∷ newer) rest is = absurd (never_empty newer rest (Prepare 1 slot ballot) cc)
 
   one_proposal : AreDueOnce (DueToPropose 3 1 (at (promised vote) prepared_so (offered_so vote)) (at all_promised prepared_so (offered_so vote))) (Proposes second_slot (vote_at first_ballot vote.chain) ∷ [])
   one_proposal = record { only = only; all = all; order = tt }

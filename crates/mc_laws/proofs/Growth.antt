@@ -1,16 +1,17 @@
 -- What every act leaves as it was, or lets grow.
 use Rattle.std.proofs.Common.{◌∷◌, [], ◌≡◌, ◌⊎◌, ℕ, suc, ◌+◌, ◌<◌, ◌≤◌, Bool, true, false, List, refl, sym, ◌∙◌, ap, subst, inl, inr, arith}
 use Rattle.std.specs.Prelude.{◌==◌, if◌then◌else◌}
-use Rattle.std.proofs.lemmas.Bool.{eq-eqb}
+use Rattle.std.proofs.lemmas.Bool.{eq-eqb, eqb-true}
 use Rattle.mc_model.specs.synod.Lists.{In}
 use Rattle.mc_model.specs.synod.Packet.{Slot, same_slot, Packet}
 use Rattle.mc_model.specs.synod.Acceptor.{SlotRecord, Records, with_record, after_promise, after_vote}
 use Rattle.mc_model.specs.node.Outcome.{Outcome}
-use Rattle.mc_model.specs.node.Actor.{Actor, Request, Submit, Query, Cancel}
+use Rattle.mc_model.specs.node.Actor.{Actor, Request}
 use Rattle.mc_model.specs.node.Act.{Act, Receives, Promises, Votes, Prepares, Proposes, Begins, Grants, Concludes, Abandons, Restarts}
-use Rattle.mc_model.specs.node.Effect.{next_serial, records_by, actor_by}
+use Rattle.mc_model.specs.node.Effect.{records_by, actor_by}
 use Rattle.mc_model.specs.cluster.World.{World, Deed, Cast, cast, May, after, changed, votes_by, sent_by, reached}
-use Rattle.mc_parts.proofs.Membership.{in_right, in_either, of_only, same_number, slots_same}
+use Rattle.mc_parts.proofs.Membership.{in_right, in_either, of_only, slots_same}
+use Rattle.mc_parts.proofs.Requests.{serials}
 
 -- ---- what an act does to a record
 
@@ -34,7 +35,7 @@ pub changed_cases : {A : Type 0} (things : ℕ → A) (node : ℕ) (new : A) (ot
 changed_cases things node new other = by_test (other == node) refl
   where
     by_test : (test : Bool) → (other == node) ≡ test → ((other ≡ node) × (changed things node new other ≡ new)) ⊎ (changed things node new other ≡ things other)
-    by_test true same = inl (same_number other node same, ap (λ (test : Bool). if test then new else things other) same)
+    by_test true same = inl (eqb-true other node same, ap (λ (test : Bool). if test then new else things other) same)
     by_test false same = inr (ap (λ (test : Bool). if test then new else things other) same)
 
 pub record NewRecord (w : World) (node : ℕ) (act : Act) (other : ℕ) (slot : Slot) : Type 0 where
@@ -122,12 +123,6 @@ remembers_all a b incarnation ticket serial received sent granted closed = recor
 
 abbrev pub StartsAnew : Act → Type 0
 StartsAnew act = (lost : ℕ) × (serial : ℕ) × (act ≡ Restarts lost serial)
-
--- a submit_sm takes a serial, and nothing else does
-serials : (request : Request) (serial : ℕ) → serial ≤ next_serial request serial
-serials (Submit id message) serial = omega arith
-serials (Query id account source) serial = omega arith
-serials (Cancel id account source destination) serial = omega arith
 
 pub remembers : (node : ℕ) (a : Actor) (act : Act) → StartsAnew act ⊎ Remembers a (actor_by node a act)
 remembers node a (Restarts lost serial) = inl (lost, serial, refl)

@@ -24,6 +24,7 @@ use Rattle.mc_laws.specs.Stories.{first_id, first_ballot, first_setup, decreed, 
 use Rattle.mc_laws.specs.NodeStories.{knowing, no_records, node_of_actor, among_three, used_up, first_attempt}
 use Rattle.mc_laws.proofs.FirstStep.{none_due, none_due_once}
 use Rattle.mc_laws.proofs.Ticks.{known_here}
+use Rattle.mc_parts.proofs.Membership.{never_empty}
 use Rattle.mc_laws.proofs.Following.{NoVotes, none_known}
 
 -- ---- what is due at such a node
@@ -178,12 +179,8 @@ module _ (setup : Setup) (a : Actor) (records : Records) (input : Input) (core :
 
 -- ---- an acceptor: nothing is known, and nothing is sent
 
-no_runs : (newer older : List Packet) (packet : Packet) → [] ≡ newer ++ packet ∷ older → ⊥
-no_runs [] older packet is = cc
-no_runs (first ∷ newer) older packet is = cc
-
 promise_idle : IsIdle (record (opened 1 1) { received = Prepare 2 (slot_at first_id 0) first_ballot ∷ [] })
-promise_idle = record { waits = λ waiting none. none; runs = no_runs }
+promise_idle = record { waits = λ waiting none. none; runs = never_empty }
 
 no_vote_yet : NoVotes (Prepare 2 (slot_at first_id 0) first_ballot ∷ [])
 no_vote_yet acceptor slot vote (inl same) = cc
@@ -208,7 +205,7 @@ promises = record {
 
 -- and where it stops after the save, nothing is answered
 stop_idle : IsIdle (record (opened 1 1) { up = false; received = Prepare 2 (slot_at first_id 0) first_ballot ∷ [] })
-stop_idle = record { waits = λ waiting none. none; runs = no_runs }
+stop_idle = record { waits = λ waiting none. none; runs = never_empty }
 
 no_report_stopped : (before : Actor) (act : Act) → DueToReport 3 1 before (record (opened 1 1) { up = false; received = Prepare 2 (slot_at first_id 0) first_ballot ∷ [] }) act → ⊥
 no_report_stopped before (Reports id chain) due = none_known 3 _ no_vote_yet id chain due.known
@@ -235,9 +232,9 @@ stops = record {
 -- ---- a node that has received nothing
 
 new_idle : (incarnation serial : ℕ) → IsIdle (opened incarnation serial)
-new_idle incarnation serial = record { waits = λ waiting none. none; runs = no_runs }
+new_idle incarnation serial = record { waits = λ waiting none. none; runs = never_empty }
 
-no_vote_at_all : NoVotes []
+pub no_vote_at_all : NoVotes []
 no_vote_at_all acceptor slot vote none = none
 
 no_report_new : (before : Actor) (incarnation serial : ℕ) (act : Act) → DueToReport 3 1 before (opened incarnation serial) act → ⊥
@@ -256,8 +253,8 @@ restarts s below = record {
 pub refuses : IsStepAlone among_three (node_of_actor used_up) (Refusal queue_full) []
 refuses = record {
   run = tt;
-  exact = idle_exact among_three used_up no_records (Refusal queue_full) [] tt (record { waits = λ waiting none. none; runs = no_runs }) (record { throttled = λ is. absurd (omega (arith, is)); queue_full = λ is. omega arith }, refl) unreported []
-      (none_due_once _ (cause_none among_three used_up no_records (Refusal queue_full) [] tt (record { waits = λ waiting none. none; runs = no_runs }) (λ id place chain none. none))) [] refl;
+  exact = idle_exact among_three used_up no_records (Refusal queue_full) [] tt (record { waits = λ waiting none. none; runs = never_empty }) (record { throttled = λ is. absurd (omega (arith, is)); queue_full = λ is. omega arith }, refl) unreported []
+      (none_due_once _ (cause_none among_three used_up no_records (Refusal queue_full) [] tt (record { waits = λ waiting none. none; runs = never_empty }) (λ id place chain none. none))) [] refl;
 }
   where
     unreported : (act : Act) → DueToReport 3 1 used_up used_up act → ⊥
@@ -271,7 +268,7 @@ module _ (message : Submission) where
   attempting granted closed = knowing 1 opening_clock (attempted_chain message) granted closed
 
   attempt_idle : (granted : List Slot) (closed : List (Slot × Outcome)) → IsIdle (attempting granted closed)
-  attempt_idle granted closed = record { waits = λ waiting none. none; runs = no_runs }
+  attempt_idle granted closed = record { waits = λ waiting none. none; runs = never_empty }
 
   -- what is known was known before, and has no final state
   no_report_of : (before after : Actor) → before.received ≡ after.received → (act : Act) → DueToReport 1 1 before after act → ⊥
@@ -308,7 +305,7 @@ module _ (message : Submission) where
 
   prepares_so : MayPrepare 1 1 concluded no_records (slot_of first_id (delivered_chain message)) first_ballot
   prepares_so = record {
-    none = λ other ballot same running. no_runs running.round.newer running.round.older _ running.round.split;
+    none = λ other ballot same running. never_empty running.round.newer running.round.older _ running.round.split;
     next = record {
       highest = 0;
       seen = inl refl;

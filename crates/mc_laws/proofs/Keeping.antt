@@ -1,18 +1,17 @@
 -- Every world that is reached keeps the rules of the synod in each slot.
 use Rattle.std.proofs.Common.{◌≡◌, ◌⊎◌, ℕ, ◌<◌, ◌≤◌, Bool, true, false, List, [], ◌∷◌, Option, Some, None, refl, sym, ◌∙◌, ap, subst, inl, inr, arith}
-use Rattle.std.specs.Prelude.{◌==◌, if◌then◌else◌}
-use Rattle.std.proofs.lemmas.Bool.{eq-eqb, and_from}
+use Rattle.std.specs.Prelude.{if◌then◌else◌}
 use Rattle.mc_model.specs.message.Decree.{Decree}
 use Rattle.mc_model.specs.synod.Lists.{In}
 use Rattle.mc_model.specs.synod.Ballot.{proposer_of, incarnation_in}
 use Rattle.mc_model.specs.synod.OneSlot.{Vote, vote_at, IsOfHighest, IsJustified, IsSound, Reaches}
 use Rattle.mc_model.specs.synod.Packet.{Slot, slot_at, TopVote, Packet, Prepare, Promise, Propose, Voted, Refused, Ask, Tell}
-use Rattle.mc_model.specs.synod.Acceptor.{SlotRecord, Records, IsTop, with_record, after_promise, after_vote}
+use Rattle.mc_model.specs.synod.Acceptor.{SlotRecord, Records, IsTop, after_promise, after_vote}
 use Rattle.mc_model.specs.node.Actor.{Actor}
 use Rattle.mc_model.specs.node.Act.{Act, Receives, Promises, Votes, Refuses, Tells, Prepares, Proposes, Asks, Restarts}
 use Rattle.mc_model.specs.node.Effect.{records_by, actor_by, if_sent}
 use Rattle.mc_model.specs.cluster.World.{World, Cast, cast, May, after, votes_by, sent_by, start}
-use Rattle.mc_parts.proofs.Membership.{in_either}
+use Rattle.mc_parts.proofs.Membership.{in_either, with_here}
 use Rattle.mc_laws.proofs.Growth.{Grows, grows, IsNew, records_after, changed_cases, later, same_life, changed_here}
 
 -- ---- what holds of each packet
@@ -103,10 +102,6 @@ fits_still w v grown (Tell sender name None) fits = tt
 fits_still w v grown (Tell sender name (Some told)) fits = grown.votes (cast sender (slot_at told.id told.place) told.vote) fits
 
 -- ---- the record that a node has after its own act
-
-pub with_here : (records : Records) (slot : Slot) (new : SlotRecord) → with_record records slot new slot ≡ new
-with_here records slot new =
-    ap (λ (test : Bool). if test then new else records slot) (and_from (slot.id == slot.id) (slot.place == slot.place) (eq-eqb slot.id slot.id refl) (eq-eqb slot.place slot.place refl))
 
 promise_here : (w : World) (node : ℕ) (slot : Slot) (ballot : ℕ) (sent : Bool) → (after w node (Promises slot ballot sent)).records node slot ≡ after_promise (w.records node slot) ballot
 promise_here w node slot ballot sent =

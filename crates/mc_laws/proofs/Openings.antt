@@ -1,7 +1,7 @@
 -- A run over stores that an earlier run left goes on from that run.
 use Rattle.std.proofs.Common.{◌≡◌, ℕ, zero, suc, ◌+◌, ◌<◌, ◌≤◌, Bool, true, false, List, [], ◌∷◌, ◌++◌, Option, Some, None, refl, sym, ◌∙◌, ap, subst, inl, inr, arith, append_assoc}
 use Rattle.std.specs.Prelude.{◌==◌, if◌then◌else◌}
-use Rattle.std.proofs.lemmas.Bool.{cases_eq, eqb-true}
+use Rattle.std.proofs.lemmas.Bool.{cases_Bool, cases_eq, eqb-true}
 use Rattle.mc_model.specs.message.Decree.{Decree}
 use Rattle.mc_model.specs.synod.Lists.{In}
 use Rattle.mc_model.specs.synod.Majority.{Majority}
@@ -15,16 +15,11 @@ use Rattle.mc_model.specs.node.Effect.{actor_by, records_by, packets_by}
 use Rattle.mc_model.specs.cluster.World.{World, Cast, cast, May, IsChosenIn, StandsIn, after, sent_by, votes_by, changed, reached, start, IsRun, Run, world_of}
 use Rattle.mc_model.specs.cluster.Stores.{start_over, openings, opened_in, serials_over, AreLeft}
 use Rattle.mc_model.specs.cluster.Assembly.{acts_of}
-use Rattle.mc_parts.proofs.Membership.{either}
 use Rattle.mc_laws.proofs.Growth.{changed_cases, changed_here, actor_here, actor_apart, nodes_same}
 use Rattle.mc_laws.proofs.Together.{acts_here, acts_apart}
 use Rattle.mc_laws.proofs.Keeping.{justified_more}
+use Rattle.mc_parts.proofs.Membership.{in_left}
 use Rattle.mc_laws.proofs.Behind.{run_on, reached_on}
-
-in_left : {A : Type 0} (x : A) (front back : List A) → In x front → In x (front ++ back)
-in_left x [] back is_in = absurd is_in
-in_left x (y ∷ front) back (inl same) = inl same
-in_left x (y ∷ front) back (inr later) = inr (in_left x front back later)
 
 -- ---- one world has all that another has, and what was before
 
@@ -202,7 +197,7 @@ restarts w fresh lost serials nodes acts left within old (run, is) =
     unchanged : (v : World) (node : ℕ) → changed v.records (suc nodes) (v.records (suc nodes)) node ≡ v.records node
     unchanged v node = elim (cases_eq node (suc nodes)) [
       | inl here ↦ subst (λ (n : ℕ). changed v.records (suc nodes) (v.records (suc nodes)) n ≡ v.records n) (sym here) (changed_here v.records (suc nodes) (v.records (suc nodes)))
-      | inr apart ↦ elim (either (node == suc nodes)) [
+      | inr apart ↦ elim (cases_Bool (node == suc nodes)) [
         | inl same ↦ absurd (apart (eqb-true node (suc nodes) same))
         | inr other ↦ ap (λ (b : Bool). if b then v.records (suc nodes) else v.records node) other
       ]
@@ -267,7 +262,7 @@ not_none : (node : ℕ) (newest : ℕ × Act) (older : List (ℕ × Act)) → ac
 not_none node newest older none is = let some : (newest.1 ∷ acts_of node older) ≡ [] = sym (acts_here node newest older is) ∙ none in cc
 
 none_before : (node : ℕ) (newest : ℕ × Act) (older : List (ℕ × Act)) → acts_of node (newest ∷ older) ≡ [] → acts_of node older ≡ []
-none_before node newest older none = elim (either (newest.0 == node)) [
+none_before node newest older none = elim (cases_Bool (newest.0 == node)) [
   | inl same ↦ absurd (not_none node newest older none (eqb-true newest.0 node same))
   | inr other ↦ sym (acts_apart node newest older other) ∙ none
 ]
@@ -306,7 +301,7 @@ reserialled nodes serials others fresh [] new same run = (
 )
 reserialled nodes serials others fresh (newest ∷ older) new same run =
     let before = reserialled nodes serials others fresh older (λ node is. none_before node newest older (new node is)) same run.1 in
-    let of : Old fresh newest.0 = elim (either (fresh newest.0)) [ inl is ↦ absurd (not_none newest.0 newest older (new newest.0 is) refl) | inr is ↦ is ] in
+    let of : Old fresh newest.0 = elim (cases_Bool (fresh newest.0)) [ inl is ↦ absurd (not_none newest.0 newest older (new newest.0 is) refl) | inr is ↦ is ] in
     let v = reached (start nodes serials) older in
     let u = reached (start nodes others) older in
     ((may_too (Old fresh) v u none_at_all before.1 newest.0 newest.1 of run.0, before.0), beyond_after (Old fresh) v u none_at_all before.1 newest.0 newest.1 of)
@@ -326,7 +321,7 @@ module _ (run : Run) (fresh : ℕ → Bool) (lost serials : ℕ → ℕ) (left :
   records_again = λ i node. at node i
     where
       at : (node : ℕ) → (reached (start run.nodes firsts) run.acts).records node ≡ (world_of run).records node
-      at node = elim (either (fresh node)) [
+      at node = elim (cases_Bool (fresh node)) [
         | inl new ↦ (untouched (start run.nodes firsts) run.acts node (left.new node new)).1 ∙ sym (untouched (start run.nodes run.serials) run.acts node (left.new node new)).1
         | inr old ↦ again.1.records node old
       ]
@@ -335,7 +330,7 @@ module _ (run : Run) (fresh : ℕ → Bool) (lost serials : ℕ → ℕ) (left :
   opened_again = λ i node. at node i
     where
       at : (node : ℕ) → opened_in (world_of run_again) fresh lost node ≡ opened_in (world_of run) fresh lost node
-      at node = elim (either (fresh node)) [
+      at node = elim (cases_Bool (fresh node)) [
         | inl new ↦ ap (λ (b : Bool). if b then 1 else suc (((world_of run_again).actors node).incarnation + lost node)) new ∙ sym (ap (λ (b : Bool). if b then 1 else suc (((world_of run).actors node).incarnation + lost node)) new)
         | inr old ↦ ap (λ (a : Actor). if fresh node then 1 else suc (a.incarnation + lost node)) (again.1.actors node old)
       ]

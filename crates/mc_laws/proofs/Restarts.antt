@@ -1,6 +1,7 @@
 -- The story of a node that stops between a save and its answer is a run.
 use Rattle.std.proofs.Common.{◌≡◌, ℕ, zero, suc, Bool, true, false, List, [], ◌∷◌, ◌++◌, None, refl, sym, ap, subst, inl, inr, arith}
 use Rattle.std.specs.Prelude.{◌==◌, not}
+use Rattle.std.proofs.lemmas.Bool.{not-true}
 use Rattle.mc_model.specs.message.Submission.{Submission}
 use Rattle.mc_model.specs.synod.Lists.{In}
 use Rattle.mc_model.specs.synod.Majority.{Majority, HoldsOf}
@@ -166,11 +167,7 @@ restart_run message tried = (
 )
 
 others : Majority 3 (λ node. (node == 1) ≡ false)
-others = record { test = λ node. not (node == 1); most = omega arith; each = λ node least most passes. turned (node == 1) passes }
-  where
-    turned : (b : Bool) → not b ≡ true → b ≡ false
-    turned true is = absurd cc
-    turned false is = refl
+others = record { test = λ node. not (node == 1); most = omega arith; each = λ node least most passes. not-true (node == 1) passes }
 
 only_own : (message : Submission) (acceptor : ℕ) (slot : Slot) (vote : Vote) → In (Voted acceptor slot vote) ((reached three_nodes (until_anew message)).actors 1).received → acceptor ≡ 1
 only_own message acceptor slot vote is_in = elim is_in [

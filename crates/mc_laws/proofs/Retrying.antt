@@ -31,20 +31,17 @@ use Rattle.mc_laws.specs.NodeStories.{all_up, no_records, node_of_actor, among_t
 use Rattle.mc_laws.specs.TickStories.{voted_before, taking_again, again_ballot, first_question, cancelled_once}
 use Rattle.mc_laws.specs.CancelStories.{behind_slot, cancelling_at}
 use Rattle.mc_laws.specs.QueryStories.{second_id, second_slot, second_ballot}
-use Rattle.mc_parts.proofs.Membership.{slots_same}
+use Rattle.mc_parts.proofs.Membership.{never_empty, slots_same}
 use Rattle.mc_parts.proofs.Known.{knows_one}
 use Rattle.mc_laws.proofs.Rounds.{all_of_one, one_of_one}
 use Rattle.mc_laws.proofs.Delivery.{knows}
 use Rattle.mc_laws.proofs.FirstStep.{none_due, none_due_once}
-use Rattle.mc_laws.proofs.Following.{NoVotes, none_known}
+use Rattle.mc_laws.proofs.Following.{none_known}
+use Rattle.mc_laws.proofs.Idle.{no_vote_at_all}
 
 -- ---- a tick in which one round is started and nothing else is due
 
 -- no round runs behind a tick
-not_empty : (newer older : List Packet) (packet : Packet) → [] ≡ newer ++ packet ∷ older → ⊥
-not_empty [] older packet is = cc
-not_empty (x ∷ newer) older packet is = cc
-
 module _ (setup : Setup) (a : Actor) (records : Records) (slot : Slot) (ballot : ℕ) (chain : List Decree) where
   abbrev now : Actor
   now = did setup.node a (Ticks opening_clock ∷ [])
@@ -91,7 +88,7 @@ module _ (setup : Setup) (a : Actor) (records : Records) (slot : Slot) (ballot :
     asked = none_due (DueToAsk setup.nodes setup.node a now (Tick opening_clock all_up)) asks;
     abandoned = none_due (DueToAbandon setup.nodes setup.node now records (Tick opening_clock all_up)) (abandons_none gives_up);
     prepared = prepared;
-    proposed = none_due_once (DueToPropose setup.nodes setup.node a now) (proposes_none not_empty runs);
+    proposed = none_due_once (DueToPropose setup.nodes setup.node a now) (proposes_none never_empty runs);
     replied = none_due (DueToReply setup.nodes setup.node now) replies;
     reported = none_due (DueToReport setup.nodes setup.node a now) unreported;
   }
@@ -101,9 +98,6 @@ module _ (setup : Setup) (a : Actor) (records : Records) (slot : Slot) (ballot :
       unreported act due = due
 
 -- ---- a vote beyond what is known
-
-no_packets : NoVotes []
-no_packets acceptor slot vote none = none
 
 module _ (chain : List Decree) where
   abbrev records_of : Records
@@ -131,13 +125,13 @@ module _ (chain : List Decree) where
   rule_id : (id place : ℕ) (other : List Decree) (rule : Rule) → FitsRule 3 1 anew records_of all_up id place other rule → id ≡ second_id
   rule_id id place other Take fits = absurd fits.1.waits
   rule_id id place other Follow fits = ap (λ (s : Slot). s.id) (shown_only id place fits.vote fits.highest.shown).0
-  rule_id id place other Close fits = absurd (none_known 3 [] no_packets _ _ fits.further.known)
-  rule_id id place other Lose fits = absurd (none_known 3 [] no_packets _ _ fits.further.known)
-  rule_id id place other GiveUp fits = absurd (none_known 3 [] no_packets _ _ fits.further.known)
-  rule_id id place other Delete fits = absurd (none_known 3 [] no_packets _ _ fits.further.known)
-  rule_id id place other Expire fits = absurd (none_known 3 [] no_packets _ _ fits.further.known)
-  rule_id id place other Undeliver fits = absurd (none_known 3 [] no_packets _ _ fits.due.further.known)
-  rule_id id place other Try fits = absurd (none_known 3 [] no_packets _ _ fits.due.further.known)
+  rule_id id place other Close fits = absurd (none_known 3 [] no_vote_at_all _ _ fits.further.known)
+  rule_id id place other Lose fits = absurd (none_known 3 [] no_vote_at_all _ _ fits.further.known)
+  rule_id id place other GiveUp fits = absurd (none_known 3 [] no_vote_at_all _ _ fits.further.known)
+  rule_id id place other Delete fits = absurd (none_known 3 [] no_vote_at_all _ _ fits.further.known)
+  rule_id id place other Expire fits = absurd (none_known 3 [] no_vote_at_all _ _ fits.further.known)
+  rule_id id place other Undeliver fits = absurd (none_known 3 [] no_vote_at_all _ _ fits.due.further.known)
+  rule_id id place other Try fits = absurd (none_known 3 [] no_vote_at_all _ _ fits.due.further.known)
 
   follow_first : IsFirstRule 3 1 anew records_of all_up second_id 0 chain Follow
   follow_first = record {
@@ -148,7 +142,7 @@ module _ (chain : List Decree) where
         place_most = λ place held shown. let same = ap (λ (s : Slot). s.place) (shown_only second_id place held shown).0 in omega (arith, same);
         ballot_most = λ held shown. let same = ap (λ (v : Vote). v.ballot) (shown_only second_id 0 held shown).1 in omega (arith, same);
       };
-      ahead = λ other known. absurd (none_known 3 [] no_packets _ _ known);
+      ahead = λ other known. absurd (none_known 3 [] no_vote_at_all _ _ known);
       chain_is = refl;
     };
     first = earlier;
@@ -172,7 +166,7 @@ module _ (chain : List Decree) where
 
   may_follow : MayPrepare 3 1 anew records_of second_slot second_ballot
   may_follow = record {
-    none = λ other ballot same running. not_empty running.round.newer running.round.older _ running.round.split;
+    none = λ other ballot same running. never_empty running.round.newer running.round.older _ running.round.split;
     next = record { highest = 1; seen = inl refl; most = seen_most; ballot_is = refl; round = record { least = omega arith; most = omega arith } };
   }
 
@@ -197,7 +191,7 @@ module _ (chain : List Decree) where
     run = (record { least = omega arith; most = omega arith; up = refl; needs = (refl, refl) }, (record { least = omega arith; most = omega arith; up = refl; needs = tt }, tt));
     exact = retry_exact among_three (opened 2 1) records_of second_slot second_ballot chain
         (one_round among_three (opened 2 1) records_of second_slot second_ballot chain Follow follow_first may_follow rule_id)
-        settles_none ends_none asks_none (λ other of fits. none_known 3 [] no_packets _ _ fits.further.known) not_empty replies_none;
+        settles_none ends_none asks_none (λ other of fits. none_known 3 [] no_vote_at_all _ _ fits.further.known) never_empty replies_none;
   }
 
 -- ---- a submit_sm that waits
@@ -216,13 +210,13 @@ module _ (message : Submission) where
   take_id : (id place : ℕ) (other : List Decree) (rule : Rule) → FitsRule 1 1 retaken no_records all_up id place other rule → id ≡ first_id
   take_id id place other Take fits = only_submit (λ w. w.request ≡ Submit id fits.1.message → id ≡ first_id) (λ same. cc) fits.1.waiting fits.1.waits fits.1.submits
   take_id id place other Follow fits = elim fits.highest.shown [ inl told ↦ absurd told.told.heard | inr own ↦ cc ]
-  take_id id place other Close fits = absurd (none_known 1 [] no_packets _ _ fits.further.known)
-  take_id id place other Lose fits = absurd (none_known 1 [] no_packets _ _ fits.further.known)
-  take_id id place other GiveUp fits = absurd (none_known 1 [] no_packets _ _ fits.further.known)
-  take_id id place other Delete fits = absurd (none_known 1 [] no_packets _ _ fits.further.known)
-  take_id id place other Expire fits = absurd (none_known 1 [] no_packets _ _ fits.further.known)
-  take_id id place other Undeliver fits = absurd (none_known 1 [] no_packets _ _ fits.due.further.known)
-  take_id id place other Try fits = absurd (none_known 1 [] no_packets _ _ fits.due.further.known)
+  take_id id place other Close fits = absurd (none_known 1 [] no_vote_at_all _ _ fits.further.known)
+  take_id id place other Lose fits = absurd (none_known 1 [] no_vote_at_all _ _ fits.further.known)
+  take_id id place other GiveUp fits = absurd (none_known 1 [] no_vote_at_all _ _ fits.further.known)
+  take_id id place other Delete fits = absurd (none_known 1 [] no_vote_at_all _ _ fits.further.known)
+  take_id id place other Expire fits = absurd (none_known 1 [] no_vote_at_all _ _ fits.further.known)
+  take_id id place other Undeliver fits = absurd (none_known 1 [] no_vote_at_all _ _ fits.due.further.known)
+  take_id id place other Try fits = absurd (none_known 1 [] no_vote_at_all _ _ fits.due.further.known)
 
   take_first : IsFirstRule 1 1 retaken no_records all_up first_id 0 (taken_chain message) Take
   take_first = record {
@@ -251,7 +245,7 @@ module _ (message : Submission) where
 
   may_retake : MayPrepare 1 1 retaken no_records taken_slot again_ballot
   may_retake = record {
-    none = λ other ballot same running. not_empty running.round.newer running.round.older _ running.round.split;
+    none = λ other ballot same running. never_empty running.round.newer running.round.older _ running.round.split;
     next = record {
       highest = 1;
       seen = inr (inr (record { ballot = first_ballot; sent = inl refl; names = refl }));
@@ -274,7 +268,7 @@ module _ (message : Submission) where
   no_questions act due = due
 
   no_acceptance : (waiting : Waiting) (answer : Answer) → FitsRequest 1 1 retaken waiting (Submit first_id message) answer → ⊥
-  no_acceptance waiting Accepted fits = none_known 1 [] no_packets _ _ fits.known
+  no_acceptance waiting Accepted fits = none_known 1 [] no_vote_at_all _ _ fits.known
   no_acceptance waiting answer fits = fits
 
   not_answered : (act : Act) → DueToReply 1 1 retaken act → ⊥
@@ -286,7 +280,7 @@ module _ (message : Submission) where
     run = (record { least = omega arith; most = omega arith; up = refl; needs = (refl, refl) }, (record { least = omega arith; most = omega arith; up = refl; needs = tt }, tt));
     exact = retry_exact first_setup (taking_again message) no_records taken_slot again_ballot (taken_chain message)
         (one_round first_setup (taking_again message) no_records taken_slot again_ballot (taken_chain message) Take take_first may_retake take_id)
-        no_settling not_late no_questions (λ other of fits. none_known 1 [] no_packets _ _ fits.further.known) not_empty not_answered;
+        no_settling not_late no_questions (λ other of fits. none_known 1 [] no_vote_at_all _ _ fits.further.known) never_empty not_answered;
   }
 
   -- ---- a cancel_sm that waits
@@ -374,7 +368,7 @@ module _ (message : Submission) where
 
   may_delete : MayPrepare 1 1 recalled no_records behind_slot first_ballot
   may_delete = record {
-    none = λ other ballot same running. not_empty running.round.newer running.round.older _ running.round.split;
+    none = λ other ballot same running. never_empty running.round.newer running.round.older _ running.round.split;
     next = record {
       highest = 0;
       seen = inl refl;
@@ -423,5 +417,5 @@ module _ (message : Submission) where
         (one_round first_setup (cancelled_once message) no_records behind_slot first_ballot (deleted_chain message) Delete delete_first may_delete delete_id)
         settled_before in_time told_already
         (λ other of fits. no_attempt fits.further.newest fits.further.older other.id fits.attempt.0.0 fits.further.known fits.attempt.0.1)
-        not_empty unanswered;
+        never_empty unanswered;
   }

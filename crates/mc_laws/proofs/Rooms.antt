@@ -1,12 +1,12 @@
 -- A node has no more requests waiting than it has room for.
-use Rattle.std.proofs.Common.{◌≡◌, ℕ, suc, ◌<◌, ◌≤◌, Bool, true, false, List, [], ◌∷◌, ◌++◌, length, map, filter, refl, sym, ap, subst, inl, inr, arith}
+use Rattle.std.proofs.Common.{◌≡◌, ℕ, suc, ◌≤◌, Bool, true, false, List, [], ◌∷◌, ◌++◌, length, map, filter, refl, sym, ap, subst, inl, inr, arith}
 use Rattle.std.specs.Prelude.{cond, ◌==◌, not}
-use Rattle.std.proofs.lemmas.Bool.Decides.{nat_tests}
 use Rattle.mc_model.specs.node.Actor.{Actor, Waiting}
-use Rattle.mc_model.specs.node.Room.{most_waiting, is_busy}
+use Rattle.mc_model.specs.node.Room.{most_waiting}
 use Rattle.mc_model.specs.node.Act.{Act, Begins, Settles, Replies, Restarts}
 use Rattle.mc_model.specs.node.Effect.{actor_by, settle}
 use Rattle.mc_model.specs.cluster.World.{World, May, after}
+use Rattle.mc_parts.proofs.Requests.{not_busy}
 use Rattle.mc_laws.proofs.Growth.{actors_after}
 
 abbrev pub HasRoom : Actor → Type 0
@@ -27,9 +27,6 @@ no_more test (x ∷ xs) = by_test (test x) (no_more test xs)
     by_test : (b : Bool) → length (filter test xs) ≤ length xs → length (cond b (x ∷ filter test xs) (filter test xs)) ≤ suc (length xs)
     by_test true most = omega (arith, most)
     by_test false most = omega (arith, most)
-
-not_busy : (waiting ticket : ℕ) → is_busy waiting ticket ≡ false → waiting < most_waiting
-not_busy waiting ticket is = grind (arith, nat_tests)
 
 room_by : (w : World) (node : ℕ) (act : Act) → May w node act → HasRoom (w.actors node) → HasRoom (actor_by node (w.actors node) act)
 room_by w node (Begins ticket request) may room =

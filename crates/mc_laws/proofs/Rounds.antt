@@ -13,8 +13,8 @@ use Rattle.mc_model.specs.node.Actor.{Actor, Offer}
 use Rattle.mc_model.specs.node.Proposal.{Allows, IsOwn, MayPropose}
 use Rattle.mc_model.specs.node.Act.{Receives, Promises, Prepares}
 use Rattle.mc_model.specs.cluster.World.{World, IsChosenIn, StandsIn, IsRun, after}
+use Rattle.mc_parts.proofs.Membership.{with_here}
 use Rattle.mc_laws.specs.Stories.{round, by_node_1}
-use Rattle.mc_laws.proofs.Keeping.{with_here}
 
 -- what holds of node 1 holds of the majority of a cluster of one
 pub all_of_one : (nodes : ℕ) (P : ℕ → Type 0) → nodes ≡ 1 → P 1 → Majority nodes P

@@ -21,7 +21,7 @@ use Rattle.mc_model.specs.node.Alone.{IsStepAlone}
 use Rattle.mc_laws.specs.NodeStories.{no_records, node_of_actor, among_three}
 use Rattle.mc_laws.specs.QueryStories.{second_id, second_slot, question, told_by_3, second_chain, second_vote, asking_about, showing}
 use Rattle.mc_parts.proofs.Majorities.{both}
-use Rattle.mc_parts.proofs.Membership.{in_right}
+use Rattle.mc_parts.proofs.Membership.{in_right, never_empty}
 use Rattle.mc_parts.proofs.Known.{knows_one}
 use Rattle.mc_parts.proofs.OneAnswer.{one_answer}
 use Rattle.mc_laws.proofs.FirstStep.{none_due, none_due_once}
@@ -113,12 +113,8 @@ module _ (message : Submission) where
       by_cause (inr (inr (inr delete))) = only_asked (λ w. Cancels w.request slot.id delete.deletes.further.taken → ⊥) (λ none. none) delete.deletes.cancelled.waiting delete.deletes.cancelled.waits delete.deletes.cancelled.cancels
   prepares_none act due = due
 
-  not_empty : (newer older : List Packet) (packet : Packet) → [] ≡ newer ++ packet ∷ older → ⊥
-  not_empty [] older packet is = cc
-  not_empty (x ∷ newer) older packet is = cc
-
   proposes_none : (act : Act) → DueToPropose 3 1 before now act → ⊥
-  proposes_none (Proposes slot vote) due = not_empty due.0.running.round.newer due.0.running.round.older _ due.0.running.round.split
+  proposes_none (Proposes slot vote) due = never_empty due.0.running.round.newer due.0.running.round.older _ due.0.running.round.split
   proposes_none act due = due
 
   reports_none : (act : Act) → DueToReport 3 1 before now act → ⊥

@@ -24,6 +24,7 @@ use Rattle.mc_model.specs.cluster.Steps.{AreSteps}
 use Rattle.mc_laws.specs.Stories.{first_ballot, first_id, first_setup, taken_chain, taken_slot, taken_vote, MayBeTried}
 use Rattle.mc_laws.specs.ClusterStories.{lone, begun_steps, promised_steps, proposed_steps, voted_steps, taking_steps}
 use Rattle.mc_parts.proofs.Known.{knows_one}
+use Rattle.mc_parts.proofs.Membership.{never_empty}
 use Rattle.mc_laws.proofs.Rounds.{all_of_one, one_of_one}
 use Rattle.mc_laws.proofs.Delivery.{knows}
 use Rattle.mc_laws.proofs.FirstStep.{none_due, none_due_once, first_exact}
@@ -164,13 +165,9 @@ module _ (message : Submission) where
   promised_3 : IsPromised 1 (taking heard_3 one_sent) taken_slot first_ballot
   promised_3 = all_of_one 1 _ refl (None, inl refl)
 
-  not_empty : (newer older : List Packet) (packet : Packet) → [] ≡ newer ++ packet ∷ older → ⊥
-  not_empty [] older packet is = cc
-  not_empty (x ∷ newer) older packet is = cc
-
   round_slot : (slot : Slot) (ballot : ℕ) (newer older : List Packet) → one_sent ≡ newer ++ Prepare 1 slot ballot ∷ older → slot ≡ taken_slot
   round_slot slot ballot [] older is = let heads : Prepare 1 taken_slot first_ballot ≡ Prepare 1 slot ballot = cc in cc
-  round_slot slot ballot (first ∷ newer) older is = absurd (not_empty newer older (Prepare 1 slot ballot) cc)
+  round_slot slot ballot (first ∷ newer) older is = absurd (never_empty newer older (Prepare 1 slot ballot) cc)
 
   running : IsRunning 1 1 (taking heard_3 one_sent) taken_slot first_ballot
   running = record {
@@ -228,7 +225,7 @@ module _ (message : Submission) where
       apart_heads : two_sent ≡ Prepare 1 slot ballot ∷ older → ⊥
       apart_heads is = let heads : Propose 1 taken_slot (taken_vote message) ≡ Prepare 1 slot ballot = cc in cc
   round_of_two slot ballot (first ∷ []) older is = let heads : Prepare 1 taken_slot first_ballot ≡ Prepare 1 slot ballot = cc in (cc, cc)
-  round_of_two slot ballot (first ∷ next ∷ newer) older is = absurd (not_empty newer older (Prepare 1 slot ballot) cc)
+  round_of_two slot ballot (first ∷ next ∷ newer) older is = absurd (never_empty newer older (Prepare 1 slot ballot) cc)
 
   proposes_none : (before after : List Packet) → IsPromised 1 (taking before two_sent) taken_slot first_ballot → (act : Act) → DueToPropose 1 1 (taking before two_sent) (taking after two_sent) act → ⊥
   proposes_none before after promised (Proposes slot vote) due =

@@ -27,6 +27,7 @@ use Rattle.mc_laws.specs.NodeStories.{knowing, no_records, node_of_actor, openin
 use Rattle.mc_laws.specs.TickStories.{one_minute_later, expired_chain, undelivered_chain, lost_chain, given_up_chain, starting, giving_up, failed_chain}
 use Rattle.mc_laws.proofs.Rounds.{one_of_one}
 use Rattle.mc_parts.proofs.Known.{knows_one}
+use Rattle.mc_parts.proofs.Membership.{never_empty}
 use Rattle.mc_laws.proofs.Delivery.{knows}
 use Rattle.mc_laws.proofs.FirstStep.{none_due, none_due_once}
 
@@ -95,12 +96,8 @@ module _ (incarnation clock : ℕ) (newest : Decree) (older : List Decree) (gran
   asks_none (Asks id ticket) due = due.waits
   asks_none act due = due
 
-  not_run : (newer rest : List Packet) (packet : Packet) → [] ≡ newer ++ packet ∷ rest → ⊥
-  not_run [] rest packet is = cc
-  not_run (first ∷ newer) rest packet is = cc
-
   proposes_none : (act : Act) → DueToPropose 1 1 before now act → ⊥
-  proposes_none (Proposes slot vote) due = not_run due.0.running.round.newer due.0.running.round.older _ due.0.running.round.split
+  proposes_none (Proposes slot vote) due = never_empty due.0.running.round.newer due.0.running.round.older _ due.0.running.round.split
   proposes_none act due = due
 
   replies_none : (act : Act) → DueToReply 1 1 now act → ⊥
@@ -119,7 +116,7 @@ module _ (incarnation clock : ℕ) (newest : Decree) (older : List Decree) (gran
 
   prepares_so : (slot : Slot) → MayPrepare 1 1 now no_records slot (opening_ballot incarnation)
   prepares_so slot = record {
-    none = λ other ballot same running. not_run running.round.newer running.round.older _ running.round.split;
+    none = λ other ballot same running. never_empty running.round.newer running.round.older _ running.round.split;
     next = record {
       highest = 0;
       seen = inl refl;

@@ -124,7 +124,8 @@ alone_apart w node act other s apart is = record {
   began = λ slot vote held. in_right _ (votes_by node act) w.votes (is.began slot vote held);
 }
 
-flipped : (a b : ℕ) → (a == b) ≡ false → (b == a) ≡ false
+-- numbers that differ, the other way round
+pub flipped : (a b : ℕ) → (a == b) ≡ false → (b == a) ≡ false
 flipped a b apart = ne_eqb b a (λ same. let together : (a == b) ≡ true = eq-eqb a b (sym same) in true≢false (sym together ∙ apart))
 
 alone_by : (w : World) → Keeps w → (newest : ℕ × Act) (older : List (ℕ × Act)) (node : ℕ) (first : Node) (test : Bool) → (newest.0 == node) ≡ test → IsAlone w node (reached_alone node first (acts_of node older)) → IsAlone (after w newest.0 newest.1) node (reached_alone node first (acts_of node (newest ∷ older)))

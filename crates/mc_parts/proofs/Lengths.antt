@@ -63,3 +63,13 @@ most (Fate final error) attempts count so_far = omega (arith, so_far.tried, so_f
 pub most_decrees : (id : ℕ) (decrees : List Decree) → IsPermitted id decrees → length decrees ≤ 18
 most_decrees id [] permitted = absurd permitted
 most_decrees id (newest ∷ older) permitted = most newest.kind _ _ (counted id newest older permitted)
+
+tried : (kind : Kind) (attempts count : ℕ) → Counted kind attempts count → attempts ≤ 8
+tried (Taken message) attempts count so_far = omega (arith, so_far.tried)
+tried (Attempt number) attempts count so_far = so_far.tried
+tried (Failed error) attempts count so_far = so_far.tried
+tried (Fate final error) attempts count so_far = so_far.tried
+
+pub most_attempts : (id : ℕ) (decrees : List Decree) → IsPermitted id decrees → attempts_in decrees ≤ 8
+most_attempts id [] permitted = absurd permitted
+most_attempts id (newest ∷ older) permitted = tried newest.kind _ _ (counted id newest older permitted)

@@ -7,3 +7,5 @@ pub mod Known
 pub mod Learning
 pub mod Refusals
 pub mod OneAnswer
+pub mod Told
+pub mod Requests

@@ -1,7 +1,6 @@
 -- An attempt is granted, or refused by exactly one number.
 use Rattle.std.proofs.Common.{◌≡◌, ◌⊎◌, ℕ, true, false, List, [], ◌∷◌, Option, Some, None, refl, sym, ◌∙◌, ap, subst, inl, inr}
-use Rattle.std.specs.Prelude.{◌==◌}
-use Rattle.std.proofs.lemmas.Bool.{cases_eq, and_from, eq-eqb, true≢false}
+use Rattle.std.proofs.lemmas.Bool.{cases_eq, true≢false, cases_Bool}
 use Rattle.mc_model.specs.message.Decree.{Author, Decree, Kind, Taken, Attempt, Failed, Fate}
 use Rattle.mc_model.specs.synod.Lists.{In}
 use Rattle.mc_model.specs.synod.Packet.{Slot, slot_of, same_slot}
@@ -9,7 +8,7 @@ use Rattle.mc_model.specs.node.Outcome.{Outcome}
 use Rattle.mc_model.specs.node.Actor.{Actor}
 use Rattle.mc_model.specs.node.Knowledge.{Knows, IsKnown}
 use Rattle.mc_model.specs.node.Grant.{MayGrant, EndsInAttempt, GrantRefusal, NotChosen, NotMine, OlderIncarnation, AlreadyGranted, Closed, IsRefusedFor, IsGiven}
-use Rattle.mc_parts.proofs.Membership.{either, slots_same}
+use Rattle.mc_parts.proofs.Membership.{slot_self, slots_same}
 use Rattle.mc_parts.proofs.Known.{knows_one}
 
 -- ---- what a refusal says of the attempt that is known
@@ -108,15 +107,12 @@ not_refused nodes node a slot may refusal refused = elim (refused_so nodes node 
 
 -- ---- granted or refused
 
-slot_is : (slot : Slot) → same_slot slot slot ≡ true
-slot_is slot = and_from (slot.id == slot.id) (slot.place == slot.place) (eq-eqb slot.id slot.id refl) (eq-eqb slot.place slot.place refl)
-
 apart_slots : (one other : Slot) → same_slot one other ≡ false → one ≡ other → ⊥
-apart_slots one other apart same = true≢false (sym (slot_is one) ∙ ap (same_slot one) same ∙ apart)
+apart_slots one other apart same = true≢false (sym (slot_self one) ∙ ap (same_slot one) same ∙ apart)
 
 was_granted : (slot : Slot) (granted : List Slot) → In slot granted ⊎ (In slot granted → ⊥)
 was_granted slot [] = inr (λ none. none)
-was_granted slot (first ∷ granted) = elim (either (same_slot slot first)) [
+was_granted slot (first ∷ granted) = elim (cases_Bool (same_slot slot first)) [
   | inl same ↦ inl (inl (slots_same slot first same))
   | inr apart ↦ elim (was_granted slot granted) [
     | inl later ↦ inl (inr later)
@@ -126,7 +122,7 @@ was_granted slot (first ∷ granted) = elim (either (same_slot slot first)) [
 
 was_closed : (slot : Slot) (closed : List (Slot × Outcome)) → ((outcome : Outcome) × In (slot, outcome) closed) ⊎ ((outcome : Outcome) → In (slot, outcome) closed → ⊥)
 was_closed slot [] = inr (λ outcome none. none)
-was_closed slot (first ∷ closed) = elim (either (same_slot slot first.0)) [
+was_closed slot (first ∷ closed) = elim (cases_Bool (same_slot slot first.0)) [
   | inl same ↦ inl (first.1, inl (λ i. (slots_same slot first.0 same i, first.1)))
   | inr apart ↦ elim (was_closed slot closed) [
     | inl later ↦ inl (later.0, inr later.1)

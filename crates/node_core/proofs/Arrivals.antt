@@ -1,15 +1,14 @@
 -- A request that comes waits as in the model.
-use Rattle.std.proofs.Common.{◌≡◌, ℕ, suc, ◌<◌, ◌≤◌, Bool, true, false, List, [], ◌∷◌, ◌++◌, length, Option, Some, None, refl, sym, ap, subst, ◌∙◌, arith}
-use Rattle.std.specs.Prelude.{◌||◌, nat_le, nat_lt, map, option_map, if◌then◌else◌}
+use Rattle.std.proofs.Common.{◌≡◌, ℕ, suc, Bool, true, false, List, [], ◌∷◌, ◌++◌, length, Option, Some, None, refl, sym, ap, subst, ◌∙◌, arith}
+use Rattle.std.specs.Prelude.{map, option_map, if◌then◌else◌}
 use Rattle.std.specs.Box.{box_value}
 use Rattle.std.specs.Global.{Box}
-use Rattle.std.proofs.lemmas.Bool.Decides.{nat_tests}
 use Rattle.std.proofs.lemmas.List.{map-append}
 use Rattle.mc_model.specs.synod.Packet.{Packet, slot_at}
 use Rattle.mc_model.specs.node.Actor.{Cancel, Query, Request, Submit, id_in}
 use Rattle.mc_model.specs.node.Effect.{next_serial}
 use Rattle.mc_model.specs.node.Outputs.{Outputs}
-use Rattle.mc_model.specs.node.Room.{is_busy, last_ticket, most_waiting}
+use Rattle.mc_model.specs.node.Room.{is_busy}
 use Rattle.mc_model.specs.node.Setup.{Setup}
 use Rattle.node_model.specs.Kept.{Held, Kept, message_at}
 use Rattle.node_model.specs.Outputs.{Stepped, nothing}
@@ -30,28 +29,8 @@ use Rattle.node_core.specs.Lists.{listed}
 use Rattle.node_core.specs.Queueing.{IsSound}
 use Rattle.node_core.specs.Steps.{IsStep, outputs_of}
 use Rattle.node_core.specs.Telling.{started_alone}
+use Rattle.mc_parts.proofs.Requests.{not_busy, serials}
 use Rattle.node_core.proofs.Queueing.{arrived_step}
-
--- a place is left, and a ticket
-pub room_left : (waiting ticket : ℕ) → is_busy waiting ticket ≡ false → waiting < most_waiting
-room_left waiting ticket free = by_tests (nat_le most_waiting waiting) (nat_lt last_ticket ticket) refl free
-  where
-    by_tests : (full spent : Bool) → nat_le most_waiting waiting ≡ full → (full || spent) ≡ false → waiting < most_waiting
-    by_tests true spent is left = absurd (cc)
-    by_tests false spent is left = grind (arith, nat_tests)
-
-pub ticket_left : (waiting ticket : ℕ) → is_busy waiting ticket ≡ false → ticket ≤ last_ticket
-ticket_left waiting ticket free = by_tests (nat_le most_waiting waiting) (nat_lt last_ticket ticket) refl free
-  where
-    by_tests : (full spent : Bool) → nat_lt last_ticket ticket ≡ spent → (full || spent) ≡ false → ticket ≤ last_ticket
-    by_tests true spent is left = absurd (cc)
-    by_tests false true is left = absurd (cc)
-    by_tests false false is left = grind (arith, nat_tests)
-
-serial_least : (request : Request) (serial : ℕ) → 1 ≤ serial → 1 ≤ next_serial request serial
-serial_least (Submit id message) serial least = omega (arith, least)
-serial_least (Query id account source) serial least = least
-serial_least (Cancel id account source destination) serial least = least
 
 -- of what is kept a round reads neither the requests that wait nor the numbers that were given
 module _ (setup : Setup) (k : Kept) (serial ticket : ℕ) (held : List Held) (id : ℕ) where
@@ -128,8 +107,8 @@ module _ (k : Holding) (request : Request) (new : Box Waits) (is : held_of (box_
         kept = record (prepared start).kept { serial = next_serial request k.serial; ticket = suc (suc k.given); held = held_in k.queue ++ is i ∷ [] };
         outputs = (gives ∙ ap (λ (o : Outputs). record o { ticket = Some (suc k.given); packets = o.packets ++ listed asked }) base.outputs) i;
       }) ∙ arrives_so start starts)
-      (arrived_step k (started_alone (prepared start)) step0 (next_serial request k.serial) new outputs base (ap ticket_of is) (room_left (length k.queue) (suc k.given) free)
-      (subst (IsSound k.setup.node k.incarnation) (sym is) sound) own (serial_least request k.serial own.serial))
+      (arrived_step k (started_alone (prepared start)) step0 (next_serial request k.serial) new outputs base (ap ticket_of is) (not_busy (length k.queue) (suc k.given) free)
+      (subst (IsSound k.setup.node k.incarnation) (sym is) sound) own (omega (arith, own.serial, serials request k.serial)))
 
 -- a packet more is sent
 pub sent_more : (before after : List Cast) (one : Option Cast) (to : Option Packet) → after ≡ before ++ listed one → option_map packet_of one ≡ to →

@@ -2,7 +2,7 @@
 use Rattle.std.proofs.Common.{◌≡◌, ℕ, Bool, true, false, List, [], ◌∷◌, Option, Some, None, refl, sym, ap, ◌∙◌, inl, inr}
 use Rattle.std.specs.Prelude.{◌==◌, not, if◌then◌else◌}
 use Rattle.std.specs.Option.{is_none, option_or}
-use Rattle.std.proofs.lemmas.Bool.{and_parts, cases_Bool, true≢false}
+use Rattle.std.proofs.lemmas.Bool.{and_parts, cases_Bool, not-true, true≢false}
 use Rattle.std.proofs.lemmas.Bool.Decides.{Decides-eqb}
 use Rattle.mc_model.specs.message.Submission.{Submission}
 use Rattle.mc_model.specs.message.Decree.{Attempt, Decree, Failed, Fate, Final, Kind, Taken}
@@ -79,11 +79,7 @@ own_none setup k up id newest older (Fate final error) is fate = by_taken (taken
 none_known : (setup : Setup) (k : Kept) (up : List ℕ → Bool) (id : ℕ) (known : Option (List Decree)) → had_fate known ≡ true → known_rule setup k up id known ≡ None
 none_known setup k up id None fate = absurd (true≢false (sym fate))
 none_known setup k up id (Some []) fate = refl
-none_known setup k up id (Some (newest ∷ older)) fate = own_none setup k up id newest older newest.kind refl (by_test (is_none (final_by newest.kind)) fate)
-  where
-    by_test : (test : Bool) → not test ≡ true → test ≡ false
-    by_test true is = absurd (true≢false (sym is))
-    by_test false is = refl
+none_known setup k up id (Some (newest ∷ older)) fate = own_none setup k up id newest older newest.kind refl (not-true (is_none (final_by newest.kind)) fate)
 
 -- ---- no rule fits
 

@@ -41,18 +41,6 @@ tail_cut x xs id place cut = record {
   behind = λ other d from within. cut.behind (suc other) d (omega (arith, from)) (omega (arith, within));
 }
 
-no_cut : (x : ℕ) (xs : List ℕ) (id : ℕ) → IsCut (x ∷ xs) id zero → IsCut xs id zero
-no_cut x xs id cut = record {
-  within = omega arith;
-  before = λ other d lower. absurd (omega (arith, lower));
-  behind = λ other d from within. cut.behind (suc other) d (omega arith) (omega (arith, within));
-}
-
-none_lower : (ids : List ℕ) (id other : ℕ) → IsCut ids id zero → In other ids → id ≤ other
-none_lower [] id other cut none = absurd none
-none_lower (x ∷ xs) id other cut (inl same) = let here = cut.behind zero zero (omega arith) (omega arith) in omega (arith, here, same)
-none_lower (x ∷ xs) id other cut (inr later) = none_lower xs id other (no_cut x xs id cut) later
-
 least_at : (ids : List ℕ) (id place : ℕ) → AreRising ids → IsCut ids id place → IsLeastFrom id (λ other. In other ids) (slice_get ids place)
 least_at [] id place rise cut = λ other none. absurd none
 least_at (x ∷ xs) id zero rise cut = (inl refl, (cut.behind zero zero (omega arith) (omega arith), λ other among from. first other among))

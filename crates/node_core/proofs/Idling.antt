@@ -1,5 +1,5 @@
 -- At a tick that finds nothing due no request passes a test.
-use Rattle.std.proofs.Common.{◌≡◌, ◌≤◌, ℕ, max, Bool, true, false, cond, List, [], ◌∷◌, map, Some, refl, sym, ap, subst, ◌∙◌, inl, inr, arith}
+use Rattle.std.proofs.Common.{◌≡◌, ℕ, max, Bool, true, false, cond, List, [], ◌∷◌, map, Some, refl, sym, ap, subst, ◌∙◌, inl, inr, arith}
 use Rattle.std.proofs.lemmas.Bool.{and_parts, true≢false}
 use Rattle.std.proofs.lemmas.Slice.Eq.{bytes_eq-Decides}
 use Rattle.std.specs.Cmp.Lexicographic.{pointwise}
@@ -74,13 +74,6 @@ pub quiet_then : (setup : Setup) (k : Kept) (moment : ℕ) (up : Vec (List ℕ))
     on_tick setup k moment (is_up up.items) ≡ leaves (ticked k (max k.clock moment)) → IsQuiet setup (on_tick setup k moment (is_up up.items)).kept (Some up)
 quiet_then setup k moment up is =
     subst (λ (to : Kept). on_tick setup to to.clock (is_up up.items) ≡ leaves to) (sym (ap (λ (s : Stepped). s.kept) is)) (quiet_again setup k moment (is_up up.items) is)
-
--- at its own clock
-pub quiet_here : (setup : Setup) (k : Kept) (moment : ℕ) (up : List ℕ → Bool) → moment ≤ k.clock → on_tick setup k k.clock up ≡ leaves k → on_tick setup k moment up ≡ leaves k
-quiet_here setup k moment up below is =
-    let one : max k.clock moment ≡ k.clock = omega (arith, below) in
-    let other : max k.clock k.clock ≡ k.clock = omega arith in
-    ap (λ (c : ℕ). tick_then setup (ticked k c) up (map late_reply (filter (is_late c) k.held))) (one ∙ sym other) ∙ is
 
 -- ---- accounts
 

@@ -90,25 +90,7 @@ refused_own k slot ballot promised taken new step own test is_taken is_refused i
     subst (λ (s : Stepped). IsStep k s step) (sym (ap (λ (b : Bool). if b then leaves (with_message (kept_of k) slot.id (refused (message_at (kept_of k) slot.id) slot ballot promised)) else leaves (kept_of k)) test))
     (left k slot.id taken new (refused (message_at (kept_of k) slot.id) slot ballot promised) nothing step is_taken (is_refused.same slot.id) message is_left)
 
-pub refused_other : (k : Holding) (slot : Slot) (ballot promised : ℕ) (step : Step) → is_own_ballot k.setup (kept_of k) ballot ≡ false →
-    IsStep k (leaves (kept_of k)) step → IsStep k (on_refused k.setup (kept_of k) slot ballot promised) step
-refused_other k slot ballot promised step test is =
-    subst (λ (s : Stepped). IsStep k s step) (sym (ap (λ (b : Bool). if b then leaves (with_message (kept_of k) slot.id (refused (message_at (kept_of k) slot.id) slot ballot promised)) else leaves (kept_of k)) test)) is
-
 -- ---- a promise
-
-promise_ignored : (setup : Setup) (k : Kept) (m : Message) (round : Option Round) (sender : ℕ) (slot : Slot) (ballot : ℕ) (report : Option Vote) →
-    runs_at round slot ballot ≡ false → promised_in setup k m round sender slot ballot report ≡ leaves k
-promise_ignored setup k m None sender slot ballot report test = refl
-promise_ignored setup k m (Some r) sender slot ballot report test =
-    ap (λ (b : Bool). if b then sends (with_message k slot.id (record m { round = Some (promised_by r sender report) })) (proposals setup r sender report) [] [] else leaves k) test
-
-pub promised_elsewhere : (k : Holding) (sender : ℕ) (slot : Slot) (ballot : ℕ) (report : Option Vote) (step : Step) →
-    runs_at (message_at (kept_of k) slot.id).round slot ballot ≡ false → IsStep k (leaves (kept_of k)) step →
-    IsStep k (on_promise k.setup (kept_of k) sender slot ballot report) step
-promised_elsewhere k sender slot ballot report step test is =
-    let m = message_at (kept_of k) slot.id in
-    subst (λ (s : Stepped). IsStep k s step) (sym (promise_ignored k.setup (kept_of k) m m.round sender slot ballot report test)) is
 
 proposal_is : (setup : Setup) (r : Round) (sender : ℕ) (report : Option Vote) (test : Bool) →
     listed (if test then Some (Propose setup.node r.slot (offered (promised_by r sender report))) else None) ≡ (if test then Propose setup.node r.slot (offered (promised_by r sender report)) ∷ [] else [])

@@ -22,7 +22,7 @@ use Rattle.node_model.specs.Stepped.{opened_over}
 use Rattle.requests.specs.Waiting.{held_in}
 use Rattle.shelf.specs.Shelved.{with_value}
 use Rattle.synod_acceptor.proofs.Slots.{is_same}
-use Rattle.synod_acceptor.specs.Records.{entries_of, entry_of, held_at, or_blank, record_at}
+use Rattle.synod_acceptor.specs.Records.{entries_of, entry_of, held_at, record_at}
 use Rattle.synod_acceptor.specs.Votes.{record_of, slot_recorded}
 use Rattle.synod_acceptor.specs.declared.record.Record.{Record}
 use Rattle.node_core.specs.declared.kept.Kept.{Kept as Holding}
@@ -34,8 +34,8 @@ use Rattle.node_core.specs.Messages.{IsOf, message_of}
 use Rattle.node_core.specs.Nodes.{HasOpened, Standing}
 use Rattle.node_core.specs.Steps.{IsInstalled, IsNext}
 use Rattle.node_core.proofs.Answering.{next_entries}
-use Rattle.node_core.proofs.Listing.{listed_in, listed_of, listed_put, none_listed}
-use Rattle.node_core.proofs.Queueing.{asked_none, asked_still, held_same}
+use Rattle.node_core.proofs.Listing.{listed_in, listed_of, listed_put}
+use Rattle.node_core.proofs.Queueing.{asked_still, held_same}
 use Rattle.node_core.proofs.Entries.{own_put, records_put}
 
 -- ---- nothing was heard
@@ -103,14 +103,6 @@ filed old new kept id taken m next about promised within is_taken records same o
 abbrev pub over : List (Slot × SlotRecord) → Records → Slot → SlotRecord
 over entries records slot = unwrap_or (held_at entries slot) (records slot)
 
-pub over_blank : (entries : List (Slot × SlotRecord)) (records : Records) (slot : Slot) → records slot ≡ blank →
-    over entries records slot ≡ record_at entries slot
-over_blank entries records slot is = by_held (held_at entries slot)
-  where
-    by_held : (held : Option SlotRecord) → unwrap_or held (records slot) ≡ or_blank held
-    by_held None = is
-    by_held (Some r) = refl
-
 over_same : (entries : List (Slot × SlotRecord)) (one other : Records) (slot : Slot) → one slot ≡ other slot → over entries one slot ≡ over entries other slot
 over_same entries one other slot is = ap (λ (r : SlotRecord). unwrap_or (held_at entries slot) r) is
 
@@ -160,25 +152,6 @@ pub record IsFiling (with : Setup) (starts : ℕ) (left all : List Record) (k : 
   pub fresh : AreUnseen k.messages.entries
   pub listed : AreRecorded (records_of k.messages.entries) (keys_of k.messages.entries)
   pub own : AreOwn k
-
-pub filing_begins : (with : Setup) (starts : ℕ) (all : List Record) (k : Holding) → 1 ≤ with.first_serial → k.setup ≡ with → k.incarnation ≡ starts →
-    k.clock ≡ opening_clock → k.serial ≡ with.first_serial → k.given ≡ 0 → held_in k.queue ≡ [] → k.messages.entries ≡ [] → IsFiling with starts all all k
-filing_begins with starts all k least setup incarnation clock serial given held none = record {
-  setup = setup;
-  incarnation = incarnation;
-  clock = clock;
-  serial = serial;
-  given = given;
-  held = held;
-  records = λ slot. over_blank (entries_of all) (records_of k.messages.entries) slot (ap (λ (es : List (ℕ × Filed)). records_of es slot) none);
-  fresh = subst AreUnseen (sym none) tt;
-  listed = subst (λ (es : List (ℕ × Filed)). AreRecorded (records_of es) (keys_of es)) (sym none) none_listed;
-  own = record {
-    each = subst (λ (es : List (ℕ × Filed)). AreOf k.setup k.incarnation es) (sym none) tt;
-    asked = asked_none k.setup.node k.incarnation (suc k.given) (held_in k.queue) held;
-    serial = subst (λ (n : ℕ). 1 ≤ n) (sym serial) least;
-  };
-}
 
 pub filing_goes_on : (with : Setup) (starts : ℕ) (left front all : List Record) (last : Record) (old new : Holding) → left ≡ front ++ last ∷ [] →
     IsFiled old last new → IsFiling with starts left all old → IsFiling with starts front all new

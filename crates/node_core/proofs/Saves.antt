@@ -11,7 +11,7 @@ use Rattle.node_model.specs.Kept.{Kept}
 use Rattle.node_model.specs.Packets.{is_member}
 use Rattle.node_model.specs.Stepped.{saved_by, sender_of, stopped}
 use Rattle.node_model.proofs.Records.{same_record}
-use Rattle.synod_acceptor.proofs.Slots.{is_same}
+use Rattle.mc_parts.proofs.Membership.{with_here}
 use Rattle.node_core.specs.Stops.{HasSaved}
 
 -- these records are those that are kept
@@ -20,9 +20,6 @@ Stays k records = (slot : Slot) → records slot ≡ k.records slot
 
 put_back : (k : Kept) (slot : Slot) (after : SlotRecord) → after ≡ k.records slot → Stays k (with_record k.records slot after)
 put_back k slot after same other = ap (λ (r : SlotRecord). with_record k.records slot r other) same ∙ sym (same_record k.records slot other)
-
-put_there : (records : Records) (slot : Slot) (after : SlotRecord) → with_record records slot after slot ≡ after
-put_there records slot after = ap (λ (b : Bool). if b then after else records slot) (is_same slot slot refl)
 
 module _ (setup : Setup) (k : Kept) where
   -- ---- it was stored before: the step changes nothing
@@ -80,12 +77,12 @@ module _ (setup : Setup) (k : Kept) where
 
   promise_there : (slot : Slot) (ballot : ℕ) (test : Bool) (after : SlotRecord) → after ≡ (if test then after_promise (k.records slot) ballot else k.records slot) →
       (Stays k (with_record k.records slot after) → ⊥) → (with_record k.records slot after slot).promised ≡ ballot
-  promise_there slot ballot true after is differs = ap (λ (r : SlotRecord). r.promised) (put_there k.records slot after ∙ is)
+  promise_there slot ballot true after is differs = ap (λ (r : SlotRecord). r.promised) (with_here k.records slot after ∙ is)
   promise_there slot ballot false after is differs = absurd (differs (put_back k slot after is))
 
   vote_there : (slot : Slot) (vote : Vote) (test : Bool) (after : SlotRecord) → after ≡ (if test then after_vote vote else k.records slot) →
       (Stays k (with_record k.records slot after) → ⊥) → with_record k.records slot after slot ≡ after_vote vote
-  vote_there slot vote true after is differs = put_there k.records slot after ∙ is
+  vote_there slot vote true after is differs = with_here k.records slot after ∙ is
   vote_there slot vote false after is differs = absurd (differs (put_back k slot after is))
 
   saved_there : (packet : Packet) → (Stays k (saved_by setup k packet).records → ⊥) → HasSaved (saved_by setup k packet).records packet

@@ -1,6 +1,6 @@
 -- What is told to a request that waits is told as in the model.
 use Rattle.std.proofs.Common.{◌≡◌, ℕ, Bool, true, false, List, [], ◌∷◌, Option, Some, None, refl, sym, ap, subst, ◌∙◌}
-use Rattle.std.specs.Prelude.{IfSome, suc, pred, max, length, ◌&&◌, ◌||◌, map, option_map, if◌then◌else◌}
+use Rattle.std.specs.Prelude.{IfSome, suc, pred, max, length, ◌&&◌, map, option_map, if◌then◌else◌}
 use Rattle.std.specs.Global.{Vec}
 use Rattle.std.specs.List.{list_any}
 use Rattle.mc_model.specs.synod.Ballot.{ballot_of}
@@ -17,7 +17,7 @@ use Rattle.node_model.specs.Message.{Message}
 use Rattle.node_model.specs.Outputs.{Stepped, leaves, nothing}
 use Rattle.node_model.specs.Packets.{answer_told, is_own_name, on_tell, tell_held, tells_about, told_to}
 use Rattle.node_model.specs.Proposer.{Prepared, Start, highest_round, is_free, prepared_at, started, started_at}
-use Rattle.node_model.specs.Requests.{held_at, id_of, settled_by, settles, ticket_of, told_by, with_held}
+use Rattle.node_model.specs.Requests.{held_at, id_of, settled_by, settles, told_by, with_held}
 use Rattle.node_model.specs.Starts.{cancels, delete_for, delete_of, is_idle, start_behind}
 use Rattle.requests.specs.Replying.{reply_given}
 use Rattle.requests.specs.Waiting.{held_in}
@@ -69,15 +69,6 @@ deletes s setup k cancelled (newest ∷ older) due next node incarnation clock i
         λ i. Some (record { place = pred (length (decrees i)); chain = decrees i })
     by_test false deleted = absurd (cc)
 
-pub deletes_not : (s : Standpoint) (setup : Setup) (k : Kept) (cancelled : Bool) (chain : List Decree) → IsDeletion s cancelled chain None →
-    None ≡ deletion_if setup k cancelled chain
-deletes_not s setup k cancelled [] is = absurd is
-deletes_not s setup k cancelled (newest ∷ older) is = by_test (is_idle newest.kind && cancelled) is
-  where
-    by_test : (test : Bool) → None ≡ (if test then Some dues.Delete else None) → None ≡ (if test then Some (start_behind setup k newest older (Fate Deleted 0)) else None)
-    by_test true deleted = absurd (cc)
-    by_test false deleted = refl
-
 pub deleted_for : (setup : Setup) (k : Kept) (id : ℕ) (held : List Held) (cancelled : Bool) (chain : List Decree) (taken : Submission) →
     taken_in chain ≡ Some taken → cancelled ≡ list_any (cancels id taken) held → deletion_if setup k cancelled chain ≡ delete_for setup k id held (Some chain)
 deleted_for setup k id held cancelled [] taken is asked = refl
@@ -87,16 +78,6 @@ deleted_for setup k id held cancelled (newest ∷ older) taken is asked =
   where
     delete_if : Bool → Option Start
     delete_if b = deletion_if setup k b (newest ∷ older)
-
--- of one request
-pub deleted_by : (setup : Setup) (k : Kept) (h : Held) (chain : List Decree) (taken : Submission) (id : ℕ) (cancelled : Bool) → taken_in chain ≡ Some taken → id ≡ id_of h →
-    cancelled ≡ cancels id taken h → deletion_if setup k cancelled chain ≡ delete_for setup k (id_of h) (h ∷ []) (Some chain)
-deleted_by setup k h chain taken id cancelled is about asked =
-    deleted_for setup k (id_of h) (h ∷ []) cancelled chain taken is (asked ∙ ap (λ (i : ℕ). cancels i taken h) about ∙ alone (cancels (id_of h) taken h))
-  where
-    alone : (b : Bool) → b ≡ (b || false)
-    alone true = refl
-    alone false = refl
 
 -- ---- a round starts
 
@@ -187,15 +168,6 @@ module _ (setup : Setup) (k : Kept) (held : List Held) (id : ℕ) where
 
 -- ---- a Tell
 
-pub tell_of_none : (setup : Setup) (k : Kept) (teller : ℕ) (name : Name) (told : Option TopVote) → asked_by setup k name ≡ None →
-    on_tell setup k teller name told ≡ leaves k
-tell_of_none setup k teller name told none = by_test (is_own_name setup k name) none
-  where
-    by_test : (test : Bool) → (if test then held_at k.held name.ticket else None) ≡ None →
-        (if test then tell_held setup k teller told (held_at k.held name.ticket) else leaves k) ≡ leaves k
-    by_test true is = ap (λ (h : Option Held). tell_held setup k teller told h) is
-    by_test false is = refl
-
 tell_asked : (setup : Setup) (k : Kept) (teller : ℕ) (name : Name) (told : Option TopVote) (h : Held) → asked_by setup k name ≡ Some h →
     on_tell setup k teller name told
     ≡ (if tells_about told (id_of h) then told_to setup k (message_at k (id_of h)).known (told_by h teller told) else leaves k)
@@ -206,12 +178,6 @@ tell_asked setup k teller name told h some = by_test (is_own_name setup k name) 
         ≡ (if tells_about told (id_of h) then told_to setup k (message_at k (id_of h)).known (told_by h teller told) else leaves k)
     by_test true is = ap (λ (o : Option Held). tell_held setup k teller told o) is
     by_test false is = absurd (cc)
-
-pub tell_elsewhere : (setup : Setup) (k : Kept) (teller : ℕ) (name : Name) (told : Option TopVote) (h : Held) → asked_by setup k name ≡ Some h →
-    tells_about told (id_of h) ≡ false → on_tell setup k teller name told ≡ leaves k
-tell_elsewhere setup k teller name told h some about =
-    tell_asked setup k teller name told h some
-    ∙ ap (λ (b : Bool). if b then told_to setup k (message_at k (id_of h)).known (told_by h teller told) else leaves k) about
 
 pub tell_to : (setup : Setup) (k : Kept) (teller : ℕ) (name : Name) (told : Option TopVote) (h : Held) → asked_by setup k name ≡ Some h →
     tells_about told (id_of h) ≡ true → on_tell setup k teller name told ≡ told_to setup k (message_at k (id_of h)).known (told_by h teller told)
@@ -239,13 +205,6 @@ module _ (k : Holding) (known : Option (List Decree)) (told : Held) (next : Opti
 
   abbrev prepared : Prepared
   prepared = started k.setup (kept_of k) (id_of told) next
-
-  ticket_same : ticket_of new ≡ ticket_of told
-  ticket_same = by_test (settles k.setup.nodes known told)
-    where
-      by_test : (test : Bool) → ticket_of (if test then record told { waiting = record told.waiting { settled = true } } else told) ≡ ticket_of told
-      by_test true = refl
-      by_test false = refl
 
   id_same : id_of new ≡ id_of told
   id_same = by_test (settles k.setup.nodes known told)

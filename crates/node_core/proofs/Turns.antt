@@ -26,9 +26,6 @@ use Rattle.node_core.specs.Ticking.{IsAtRest, gives_up, ruled_as, ruled_by, turn
 use Rattle.node_core.proofs.Attempting.{still_of}
 use Rattle.node_core.proofs.Grants.{prepare_same, start_same, started_so, started_with}
 
-something : {A : Type 0} (x : A) → Some x ≡ None → ⊥
-something x is = absurd (cc)
-
 -- ---- by what counts of a rule
 
 abbrev pub by_given : Setup → Kept → ℕ → Option ℕ → Start → Prepared
@@ -170,14 +167,14 @@ module _ (setup : Setup) (k : Kept) (id : ℕ) (old : Filed) (s : Standpoint) (h
       where
         by_test : (test : Bool) → Some (packet_of packet) ≡ sent_if test → so test ≡ (if test then began else record { kept = k; packets = [] })
         by_test true sent = refl
-        by_test false sent = absurd (something (packet_of packet) sent)
+        by_test false sent = absurd cc
 
     pub turned_not : IsStarted mid chain new None → turned k id None ≡ by_given setup k id None (start_of chain)
     turned_not is =
         by_test (may_start k.records to slot) (then_sent mid new chain None to at (ap (λ (m : Filed). m.proposer) rests) (ap (λ (m : Filed). m.acceptor) rests) message_is is)
       where
         by_test : (test : Bool) → None ≡ sent_if test → turned k id None ≡ (if test then began else record { kept = k; packets = [] })
-        by_test true sent = absurd (something _ (sym sent))
+        by_test true sent = absurd cc
         by_test false sent = refl
 
 -- the ruling of the code is that of the model

@@ -1,19 +1,20 @@
 -- Only the step of a packet changes a record.
-use Rattle.std.proofs.Common.{◌≡◌, ◌≢◌, ℕ, pred, Bool, true, false, List, [], ◌∷◌, Option, Some, None, refl, sym, ap, subst, ◌∙◌}
+use Rattle.std.proofs.Common.{◌≡◌, ◌≢◌, ℕ, pred, Bool, List, [], ◌∷◌, Option, Some, None, refl, sym, ap, subst, ◌∙◌}
 use Rattle.std.specs.Prelude.{Result, Ok, Err, max, if◌then◌else◌}
-use Rattle.mc_model.specs.synod.Packet.{Slot, slot_at}
+use Rattle.mc_model.specs.synod.Packet.{Slot}
 use Rattle.mc_model.specs.node.Actor.{Request, id_in}
 use Rattle.mc_model.specs.node.FirstRule.{Close, Delete, Expire, Follow, GiveUp, Lose, Rule, Take, Try, Undeliver}
 use Rattle.mc_model.specs.node.Setup.{Setup}
 use Rattle.node_model.specs.Attempts.{closed_by, concluded}
 use Rattle.node_model.specs.Kept.{Kept, message_at}
 use Rattle.node_model.specs.Outputs.{Stepped}
-use Rattle.node_model.specs.Proposer.{Prepared, Start, is_free, started}
+use Rattle.node_model.specs.Proposer.{Prepared, Start, started}
 use Rattle.node_model.specs.Requests.{begun}
 use Rattle.node_model.specs.Rules.{Fitting, first_rule}
 use Rattle.node_model.specs.Starts.{take_for}
 use Rattle.node_model.specs.Stepped.{stepped_up}
 use Rattle.node_model.specs.Ticks.{given_up, ids_of, ruled, ruled_each, ticked, waits_too}
+use Rattle.node_model.proofs.Stops.{started_leaves}
 use Rattle.pdu_tables.specs.declared.status.Status.{Status}
 use Rattle.delivery.specs.Kept.{outcome_kept}
 use Rattle.desk.specs.Admissions.{admitted}
@@ -33,14 +34,6 @@ use Rattle.node_core.specs.Pendings.{IsPrepared}
 use Rattle.node_core.specs.Steps.{Alters, IsStep}
 
 -- ---- what leaves the records
-
-started_leaves : (setup : Setup) (k : Kept) (id : ℕ) (start : Option Start) → (started setup k id start).kept.records ≡ k.records
-started_leaves setup k id None = refl
-started_leaves setup k id (Some start) = by_test (is_free k (slot_at id start.place)) _ refl
-  where
-    by_test : (test : Bool) (prepared : Prepared) → prepared.kept.records ≡ k.records → (if test then prepared else record { kept = k; packets = [] }).kept.records ≡ k.records
-    by_test true prepared same = same
-    by_test false prepared same = refl
 
 given_up_leaves : (rule : Rule) (k : Kept) (id place : ℕ) → (given_up rule k id place).records ≡ k.records
 given_up_leaves Take k id place = refl

@@ -98,11 +98,6 @@ concerns : (k : Holding) (vote : Cast) (test : Bool) → id_concerns k.setup (ke
     vote_concerns k.setup (kept_of k) (slot_in vote) (vote_of vote) ≡ test
 concerns k vote test is = ap (λ (b : Bool). b && id_concerns k.setup (kept_of k) vote.chain.id) (is_same (slot_in vote) (slot_in vote) refl) ∙ is
 
-pub voted_elsewhere : (k : Holding) (sender : ℕ) (vote : Cast) (step : Step) → id_concerns k.setup (kept_of k) vote.chain.id ≡ false →
-    IsStep k (leaves (kept_of k)) step → IsStep k (voted_in k.setup (kept_of k) sender (slot_in vote) (vote_of vote)) step
-voted_elsewhere k sender vote step test is =
-    subst (λ (s : Stepped). IsStep k s step) (sym (ap (λ (b : Bool). if b then on_voted k.setup (kept_of k) sender (slot_in vote) (vote_of vote) else leaves (kept_of k)) (concerns k vote false test))) is
-
 module _ (k : Holding) (sender : ℕ) (vote : Cast) (taken new : Filed) (grows : Bool) (step : Step) (own : AreOwn k)
     (test : id_concerns k.setup (kept_of k) vote.chain.id ≡ true) (is_taken : IsTaken k vote.chain.id taken) (is_heard : IsHeard taken sender vote new grows) where
   abbrev id : ℕ

@@ -132,14 +132,6 @@ from_nothing xs = all_stay 0 xs (all_numbers xs)
     all_numbers [] = tt
     all_numbers (y ∷ ys) = (omega arith, all_numbers ys)
 
--- none is left
-none_from : (from : ℕ) (xs : List ℕ) → ((x : ℕ) → In x xs → x < from) → filter (nat_le from) xs ≡ []
-none_from from [] below = refl
-none_from from (x ∷ xs) below =
-    let lower = below x (inl refl) in
-    let gone : nat_le from x ≡ false = grind (arith, nat_tests) in
-    rw gone (none_from from xs (λ y among. below y (inr among)))
-
 -- the least of them comes first
 least_first : (from id : ℕ) (xs : List ℕ) → AreRising xs → In id xs → from ≤ id → ((x : ℕ) → In x xs → from ≤ x → id ≤ x) →
     filter (nat_le from) xs ≡ id ∷ filter (nat_le (suc id)) xs

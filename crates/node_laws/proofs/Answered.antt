@@ -1,9 +1,8 @@
 -- What a request is answered by what is kept is what it is answered by what the actor knows and was told.
-use Rattle.std.proofs.Common.{◌≡◌, ◌↔◌, ℕ, pred, ◌≤◌, Bool, true, false, List, [], ◌∷◌, length, Option, Some, None, refl, sym, ap, subst, ◌∙◌, inl, inr, arith}
+use Rattle.std.proofs.Common.{◌≡◌, ◌↔◌, ℕ, pred, Bool, true, false, List, [], ◌∷◌, length, Option, Some, None, refl, sym, ap, subst, ◌∙◌, inl, inr, arith}
 use Rattle.std.specs.Prelude.{nat_le, if◌then◌else◌}
 use Rattle.std.proofs.lemmas.Bool.{and_from, and_parts, true≢false}
 use Rattle.std.specs.Bool.{Decides}
-use Rattle.std.proofs.lemmas.Bool.Decides.{nat_tests}
 use Rattle.mc_model.specs.message.Submission.{Submission}
 use Rattle.mc_model.specs.message.Decree.{Attempt, Decree, Deleted, Delivered, Expired, Failed, Fate, Kind, Rejected, Taken, Undeliverable}
 use Rattle.mc_model.specs.message.Chain.{final_by, final_in, taken_in}
@@ -20,6 +19,7 @@ use Rattle.node_model.specs.Kept.{Held}
 use Rattle.node_model.specs.Answers.{answer_by, cancel_answer, cancel_answer_of, cancel_decided, is_match, is_owner, query_shown}
 use Rattle.node_model.specs.Requests.{is_reached, is_settled}
 use Rattle.node_model.specs.Sets.{is_majority}
+use Rattle.node_model.proofs.Decisions.{nat_le_decides}
 use Rattle.node_laws.specs.Stands.{IsHeld, IsHighestTold}
 use Rattle.node_laws.proofs.Cancelling.{match_decides, owner_decides}
 use Rattle.node_laws.proofs.Learning.{majority_decides}
@@ -34,9 +34,6 @@ known_is nodes id received (Some old) chain is knows = ap (λ (c : List Decree).
 
 -- ---- how far the chain has come
 
-pub most_decides : (a b : ℕ) → Decides (nat_le a b) (a ≤ b)
-most_decides a b = ((λ t. grind (arith, nat_tests)), (λ most. grind (arith, nat_tests)))
-
 module _ (nodes : ℕ) (received : List Packet) (name : Name) (h : Held) (is : IsHeld received name h) where
   reached_known : (known : Option (List Decree)) (top : Option TopVote) → IsHighestTold received name top → is_reached known top ≡ true →
       (teller : ℕ) (told : Option TopVote) → In (Tell teller name told) received → IsReached known told
@@ -44,7 +41,7 @@ module _ (nodes : ℕ) (received : List Packet) (name : Name) (h : Held) (is : I
   reached_known known None none reached teller (Some told) heard = absurd (none teller told heard)
   reached_known None (Some top) highest reached teller (Some told) heard = absurd (true≢false (sym reached))
   reached_known (Some chain) (Some top) highest reached teller (Some told) heard =
-      let far = (most_decides top.place (pred (length chain))).0 reached in
+      let far = (nat_le_decides top.place (pred (length chain))).0 reached in
       elim (highest.highest teller told heard) [ inl below ↦ omega arith | inr at ↦ let same = at.0 in omega arith ]
 
   known_reaches : (known : Option (List Decree)) (top : Option TopVote) → IsHighestTold received name top →
@@ -52,7 +49,7 @@ module _ (nodes : ℕ) (received : List Packet) (name : Name) (h : Held) (is : I
   known_reaches known None none reached = refl
   known_reaches None (Some top) highest reached = absurd (reached highest.told.0 (Some top) highest.told.1)
   known_reaches (Some chain) (Some top) highest reached =
-      (most_decides top.place (pred (length chain))).1 (reached highest.told.0 (Some top) highest.told.1)
+      (nat_le_decides top.place (pred (length chain))).1 (reached highest.told.0 (Some top) highest.told.1)
 
   pub settled_decides : (known : Option (List Decree)) → (is_settled nodes known h ≡ true) ↔ IsSettled nodes received name known
   settled_decides known = (

@@ -33,10 +33,10 @@ use Rattle.node_laws.specs.Stands.{Stands}
 use Rattle.node_laws.specs.Steps.{IsAtWork, StepsAs}
 use Rattle.node_laws.proofs.Arrived.{arrived, arrived_agrees, came, new, unknown_yet}
 use Rattle.node_laws.proofs.AskingAgain.{ask_act, ask_acts}
-use Rattle.node_laws.proofs.AsideSteps.{none_due}
 use Rattle.node_laws.proofs.Beginning.{Begins, TellsNothing, begun_steps}
 use Rattle.node_laws.proofs.Deciding.{IsCalm, calm_of, known_for}
 use Rattle.node_laws.proofs.Orders.{in_append}
+use Rattle.mc_laws.proofs.FirstStep.{none_due}
 use Rattle.node_laws.proofs.Started.{IsStartOf, IsToPrepare, StartsAs, started_as}
 
 -- nobody is no majority

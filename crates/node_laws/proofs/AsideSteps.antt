@@ -34,15 +34,8 @@ use Rattle.node_model.proofs.Records.{same_record}
 use Rattle.node_laws.proofs.Coherence.{aside_fits, coherent_heard}
 use Rattle.node_laws.proofs.Aside.{held_still, knows_before, later, message_still, promise_before, quiet_still, stands_still}
 use Rattle.node_model.proofs.Places.{elsewhere, here, message_elsewhere, message_here}
+use Rattle.mc_laws.proofs.FirstStep.{none_due, none_due_once}
 use Rattle.shelf.proofs.Entries.{still_ascends}
-
--- ---- nothing is due
-
-pub none_due : (Due : Act → Type 0) → ((act : Act) → Due act → ⊥) → AreDue Due []
-none_due Due none = record { each = λ act. ((λ is_in. absurd is_in), (λ due. absurd (none act due))); order = tt }
-
-pub none_due_once : (Due : Act → Type 0) → ((act : Act) → Due act → ⊥) → AreDueOnce Due []
-none_due_once Due none = record { only = λ act is_in. absurd is_in; all = λ act due. absurd (none act due); order = tt }
 
 -- a packet is no Tell
 abbrev pub TellsNobody : Packet → Type 0

@@ -15,7 +15,7 @@ use Rattle.mc_model.specs.node.Act.{Act, Asks}
 use Rattle.mc_model.specs.node.Actor.{Actor, Cancel, Query, Request, Submit, Waiting, id_in, name_of}
 use Rattle.mc_model.specs.node.Alone.{IsRunAlone, Node, reached_alone}
 use Rattle.mc_model.specs.node.Due.{AreDue}
-use Rattle.mc_model.specs.node.Effect.{did, saved}
+use Rattle.mc_model.specs.node.Effect.{saved}
 use Rattle.mc_model.specs.node.Input.{Tick}
 use Rattle.mc_model.specs.node.Outputs.{Receipt, Reply, packets_in, receipts_in, replies_in}
 use Rattle.mc_model.specs.node.Phases.{DueToAsk}
@@ -31,7 +31,8 @@ use Rattle.node_laws.proofs.Held.{kept_as, waits_among}
 use Rattle.node_laws.proofs.Learning.{majority_decides}
 use Rattle.node_laws.proofs.Orders.{Ascend, acts_fall, ascend_filter, in_mapped, in_reverse, mapped_in, reverse_in}
 use Rattle.node_model.proofs.Filters.{filter_in, filter_passes}
-use Rattle.node_laws.proofs.Runs.{did_more, packets_more, reached_more, receipts_more, replies_more, run_more, saved_more}
+use Rattle.mc_laws.proofs.Assembly.{alone_on}
+use Rattle.node_laws.proofs.Runs.{packets_more, receipts_more, replies_more, run_more, saved_more}
 
 abbrev pub ask_act : Held → Act
 ask_act h = Asks (id_of h) (ticket_of h)
@@ -44,17 +45,13 @@ ask_first h held = reverse_onto (map ask_act held) (ask_act h) []
 
 -- ---- they change nothing
 
-pub did_ask : (node : ℕ) (a : Actor) (held : List Held) → did node a (ask_acts held) ≡ a
-did_ask node a [] = refl
-did_ask node a (h ∷ held) = ap (did node a) (ask_first h held) ∙ did_more node a (ask_acts held) (ask_act h ∷ []) ∙ did_ask node a held
-
 pub ask_records : (records : Records) (held : List Held) → saved records (ask_acts held) ≡ records
 ask_records records [] = refl
 ask_records records (h ∷ held) = ap (saved records) (ask_first h held) ∙ saved_more records (ask_acts held) (ask_act h ∷ []) ∙ ask_records records held
 
 pub reached_ask : (node : ℕ) (s : Node) (held : List Held) → reached_alone node s (ask_acts held) ≡ s
 reached_ask node s [] = refl
-reached_ask node s (h ∷ held) = ap (reached_alone node s) (ask_first h held) ∙ reached_more node s (ask_acts held) (ask_act h ∷ []) ∙ reached_ask node s held
+reached_ask node s (h ∷ held) = ap (reached_alone node s) (ask_first h held) ∙ alone_on node s (ask_acts held) (ask_act h ∷ []) ∙ reached_ask node s held
 
 pub ask_replies : (held : List Held) → replies_in (ask_acts held) ≡ []
 ask_replies [] = refl

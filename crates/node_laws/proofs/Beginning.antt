@@ -25,10 +25,11 @@ use Rattle.node_model.specs.Answers.{answer_to}
 use Rattle.node_model.specs.Ticks.{question}
 use Rattle.node_laws.specs.Stands.{Agrees, IsQuiet, Stands}
 use Rattle.node_laws.specs.Steps.{StepsAs}
-use Rattle.node_laws.proofs.AsideSteps.{none_due, none_due_once}
 use Rattle.node_laws.proofs.AskingAgain.{ask_acts, ask_packets, ask_receipts, ask_records, ask_replies, reached_ask}
 use Rattle.node_laws.proofs.Deciding.{IsCalm, quiet_of}
-use Rattle.node_laws.proofs.Runs.{packets_more, reached_actor, reached_more, receipts_more, replies_more, run_more, saved_more}
+use Rattle.node_laws.proofs.Runs.{packets_more, reached_actor, receipts_more, replies_more, run_more, saved_more}
+use Rattle.mc_laws.proofs.Assembly.{alone_on}
+use Rattle.mc_laws.proofs.FirstStep.{none_due, none_due_once}
 use Rattle.node_laws.proofs.Started.{StartsAs}
 
 -- The act leaves the records and what was received, and gives out nothing itself.
@@ -60,10 +61,10 @@ module _ (setup : Setup) (s : Node) (input : Input) (act : Act) (tells : TellsNo
     acts = it.starts.acts ++ (ask_acts asked ++ act ∷ [])
 
     lead_asks : reached_alone setup.node s (ask_acts asked ++ act ∷ []) ≡ s1
-    lead_asks = reached_more setup.node s (ask_acts asked) (act ∷ []) ∙ reached_ask setup.node s1 asked
+    lead_asks = alone_on setup.node s (ask_acts asked) (act ∷ []) ∙ reached_ask setup.node s1 asked
 
     lead_all : reached_alone setup.node s acts ≡ reached_alone setup.node s1 it.starts.acts
-    lead_all = reached_more setup.node s it.starts.acts (ask_acts asked ++ act ∷ []) ∙ ap (λ (x : Node). reached_alone setup.node x it.starts.acts) lead_asks
+    lead_all = alone_on setup.node s it.starts.acts (ask_acts asked ++ act ∷ []) ∙ ap (λ (x : Node). reached_alone setup.node x it.starts.acts) lead_asks
 
     run : IsRunAlone setup.nodes setup.node s acts
     run =

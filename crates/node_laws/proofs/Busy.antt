@@ -28,18 +28,19 @@ use Rattle.node_model.specs.Proposer.{Prepared}
 use Rattle.node_model.specs.Requests.{id_of, is_cancel, settled_by, settles}
 use Rattle.node_laws.specs.Stands.{Agrees, Stands}
 use Rattle.node_laws.specs.Steps.{IsAtWork, StepsAs}
-use Rattle.node_laws.proofs.AsideSteps.{none_due, none_due_once}
 use Rattle.node_laws.proofs.Deciding.{IsCalm, known_for, quiet_of}
 use Rattle.node_laws.proofs.Hearing.{received}
 use Rattle.node_laws.proofs.Orders.{in_mapped}
 use Rattle.node_model.proofs.Filters.{filter_passes}
 use Rattle.node_laws.proofs.Replied.{replied_agrees, replies_due, replies_lead, replies_of, replies_out, replies_packets, replies_receipts, replies_run}
 use Rattle.node_laws.proofs.Replied.{reply_acts, waits_on}
-use Rattle.node_laws.proofs.Runs.{packets_more, reached_actor, reached_more, receipts_more, replies_more, run_more, saved_more}
+use Rattle.node_laws.proofs.Runs.{packets_more, reached_actor, receipts_more, replies_more, run_more, saved_more}
 use Rattle.node_laws.proofs.Settled.{all_settled, settled_acts, settled_agrees, settles_due, settles_lead, settles_packets, settles_receipts, settles_records}
 use Rattle.node_laws.proofs.Settled.{settles_replies, settles_run}
 use Rattle.node_laws.proofs.Started.{IsToPrepare, StartsAs}
 use Rattle.node_laws.proofs.Waiting.{waits}
+use Rattle.mc_laws.proofs.Assembly.{alone_on}
+use Rattle.mc_laws.proofs.FirstStep.{none_due, none_due_once}
 use Rattle.mc_parts.proofs.Membership.{in_filter, of_only}
 
 -- ---- the acts in their order
@@ -114,7 +115,7 @@ module _ (setup : Setup) (k : Kept) (s : Node) (stands : Stands setup k s) (work
   core = Receives packet ∷ []
 
   lead_2 : reached_alone setup.node s (settled ++ core) ≡ s2
-  lead_2 = reached_more setup.node s settled core ∙ settles_lead setup k1 s1 agrees works_1
+  lead_2 = alone_on setup.node s settled core ∙ settles_lead setup k1 s1 agrees works_1
 
   actor_2 : did setup.node s.actor (settled ++ core) ≡ s2.actor
   actor_2 = sym (reached_actor setup.node s (settled ++ core)) ∙ ap (λ (x : Node). x.actor) lead_2
@@ -205,9 +206,6 @@ module _ (setup : Setup) (k : Kept) (s : Node) (stands : Stands setup k s) (work
     abbrev acts : List Act
     acts = reports ++ (answers ++ (starts.acts ++ (settled ++ core)))
 
-    records_2 : saved s.records core ≡ s.records
-    records_2 = refl
-
     exact : IsExact setup s.actor s.records (Delivery packet) acts
     exact = record {
       core = core;
@@ -235,11 +233,11 @@ module _ (setup : Setup) (k : Kept) (s : Node) (stands : Stands setup k s) (work
     -- ---- it may be done, and leads where what is kept agrees
 
     lead_3 : reached_alone setup.node s (starts.acts ++ (settled ++ core)) ≡ s3
-    lead_3 = reached_more setup.node s starts.acts (settled ++ core) ∙ ap (λ (x : Node). reached_alone setup.node x starts.acts) lead_2
+    lead_3 = alone_on setup.node s starts.acts (settled ++ core) ∙ ap (λ (x : Node). reached_alone setup.node x starts.acts) lead_2
 
     lead_answers : reached_alone setup.node s (answers ++ (starts.acts ++ (settled ++ core))) ≡ s4
     lead_answers =
-        reached_more setup.node s answers (starts.acts ++ (settled ++ core))
+        alone_on setup.node s answers (starts.acts ++ (settled ++ core))
         ∙ ap (λ (x : Node). reached_alone setup.node x answers) lead_3
         ∙ replies_lead setup new.kept s3 starts.agrees works_3 answer same_answer
 
@@ -249,7 +247,7 @@ module _ (setup : Setup) (k : Kept) (s : Node) (stands : Stands setup k s) (work
 
     lead_4 : reached_alone setup.node s acts ≡ s4
     lead_4 =
-        reached_more setup.node s reports (answers ++ (starts.acts ++ (settled ++ core)))
+        alone_on setup.node s reports (answers ++ (starts.acts ++ (settled ++ core)))
         ∙ ap (λ (x : Node). reached_alone setup.node x reports) lead_answers
         ∙ lead_reports report
 

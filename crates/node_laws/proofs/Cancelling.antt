@@ -3,7 +3,7 @@ use Rattle.std.proofs.Common.{◌≡◌, ℕ, Bool, true, false, List, [], ◌�
 use Rattle.std.specs.Prelude.{◌||◌}
 use Rattle.std.specs.Bool.{Decides}
 use Rattle.std.specs.List.{list_any}
-use Rattle.std.proofs.lemmas.Bool.{or_cases, true≢false}
+use Rattle.std.proofs.lemmas.Bool.{or_cases, or_right, true≢false}
 use Rattle.std.proofs.lemmas.Bool.Decides.{Decides-and, Decides-eqb, Decides-like, Decides-or}
 use Rattle.std.proofs.lemmas.Slice.Eq.{bytes_eq-Decides}
 use Rattle.mc_model.specs.message.Submission.{Submission}
@@ -51,11 +51,7 @@ passes_among test (h ∷ others) any = elim (or_cases (test h) (list_any test ot
 any_passes : (test : Held → Bool) (held : List Held) (h : Held) → In h held → test h ≡ true → list_any test held ≡ true
 any_passes test [] h among passes = absurd among
 any_passes test (first ∷ others) h (inl same) passes = ap (λ (b : Bool). b || list_any test others) (ap test (sym same) ∙ passes)
-any_passes test (first ∷ others) h (inr later) passes = or_true (test first) (list_any test others) (any_passes test others h later passes)
-  where
-    or_true : (one other : Bool) → other ≡ true → (one || other) ≡ true
-    or_true true other is = refl
-    or_true false other is = is
+any_passes test (first ∷ others) h (inr later) passes = or_right (test first) (list_any test others) (any_passes test others h later passes)
 
 module _ (a : Actor) (held : List Held) (waiting : map (λ h. h.waiting) held ≡ a.waiting) (id : ℕ) (taken : Submission) where
   cancels_decides : (h : Held) → Decides (cancels id taken h) ((h.waiting.settled ≡ true) × Cancels h.waiting.request id taken)

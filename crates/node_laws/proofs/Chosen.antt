@@ -13,13 +13,13 @@ use Rattle.mc_model.specs.cluster.Steps.{AreSteps, Cluster, IsStep, Step, acts_i
 use Rattle.mc_model.specs.cluster.World.{IsRun, World, after, reached, sent_by, start}
 use Rattle.mc_parts.proofs.Membership.{in_right}
 use Rattle.mc_laws.proofs.Answers.{runs_to}
-use Rattle.mc_laws.proofs.Behind.{run_on, steps_run}
+use Rattle.mc_laws.proofs.Behind.{reached_on, run_on, steps_run}
 use Rattle.mc_laws.proofs.Fated.{tells_known}
 use Rattle.mc_laws.proofs.Growth.{nodes_same}
 use Rattle.mc_laws.proofs.Reached.{Holds, holds}
 use Rattle.node_laws.specs.Chosen.{WasVotedFor}
 use Rattle.node_laws.specs.Clusters.{MayHappen, NodeInput, StatesFinal, kept_reached, outputs_at, world_at}
-use Rattle.node_laws.proofs.Clustered.{clustered, reached_all}
+use Rattle.node_laws.proofs.Clustered.{clustered}
 use Rattle.node_laws.proofs.Sources.{IsCutAt, IsStepOf, came_by, cut_at, step_of, told_by}
 
 -- what is learned from some packets is learned from more
@@ -56,7 +56,7 @@ module _ (cluster : Cluster) where
 
     holds_here : Holds here
     holds_here =
-        subst Holds (reached_all first (by_node step.node cut.older) (acts_in before))
+        subst Holds (reached_on first (by_node step.node cut.older) (acts_in before))
         (holds cluster.nodes cluster.serials (by_node step.node cut.older ++ acts_in before)
         (run_on first (by_node step.node cut.older) (acts_in before) runs_here.1 (steps_run cluster first before are)))
 
@@ -66,10 +66,10 @@ module _ (cluster : Cluster) where
     sent_here : (packet : Packet) → In packet here.packets → In packet (world_at cluster (step ∷ before)).packets
     sent_here packet sent =
         let whole : world_at cluster (step ∷ before) ≡ reached (after here step.node act) (by_node step.node cut.newer) =
-        reached_all first (by_node step.node step.acts) (acts_in before)
+        reached_on first (by_node step.node step.acts) (acts_in before)
         ∙ ap (λ (acts : List Act). reached (world_at cluster before) (by_node step.node acts)) cut.split
         ∙ ap (reached (world_at cluster before)) (map-append (λ (a : Act). (step.node, a)) cut.newer (act ∷ cut.older))
-        ∙ reached_all (world_at cluster before) (by_node step.node cut.newer) ((step.node, act) ∷ by_node step.node cut.older) in
+        ∙ reached_on (world_at cluster before) (by_node step.node cut.newer) ((step.node, act) ∷ by_node step.node cut.older) in
         subst (λ (w : World). In packet w.packets) (sym whole)
         (packets_still (after here step.node act) (by_node step.node cut.newer) packet (in_right packet (sent_by here step.node act) here.packets sent))
 

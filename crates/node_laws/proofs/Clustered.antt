@@ -1,8 +1,7 @@
 -- A cluster of nodes by what they keep runs as one of the model.
-use Rattle.std.proofs.Common.{◌≡◌, ℕ, Bool, true, false, List, [], ◌∷◌, ◌++◌, refl, sym, ap, subst, ◌∙◌, arith, eqb-true}
+use Rattle.std.proofs.Common.{◌≡◌, ℕ, Bool, true, false, List, [], ◌∷◌, ◌++◌, refl, sym, ap, subst, ◌∙◌, eqb-true}
 use Rattle.std.specs.Prelude.{◌==◌, reverse, if◌then◌else◌}
 use Rattle.std.proofs.lemmas.List.{reverse-reverse}
-use Rattle.std.proofs.lemmas.Bool.Decides.{nat_tests}
 use Rattle.mc_model.specs.synod.Lists.{In}
 use Rattle.mc_model.specs.synod.Packet.{Packet}
 use Rattle.mc_model.specs.node.Act.{Act}
@@ -12,22 +11,14 @@ use Rattle.mc_model.specs.node.Outputs.{Outputs, outputs_of, packets_in}
 use Rattle.mc_model.specs.cluster.Assembly.{acts_of}
 use Rattle.mc_model.specs.cluster.Steps.{CameTo, Cluster, Step, acts_in, by_node, setup_of}
 use Rattle.mc_model.specs.cluster.World.{World, after, reached, start}
-use Rattle.mc_laws.proofs.Assembly.{acts_on, passed_by, step_together}
-use Rattle.mc_laws.proofs.Behind.{packets_so, steps_run}
-use Rattle.mc_laws.proofs.Together.{alone}
+use Rattle.mc_laws.proofs.Assembly.{acts_on, alone_on, passed_by, step_together}
+use Rattle.mc_laws.proofs.Behind.{packets_so, reached_on, steps_run}
+use Rattle.mc_laws.proofs.Together.{alone, flipped}
 use Rattle.node_laws.specs.Clusters.{MayHappen, NodeInput, RunsTogether, WasSentBefore, kept_reached, step_at, world_at}
 use Rattle.node_laws.specs.Stands.{Stands}
 use Rattle.node_laws.specs.Steps.{StepsAs}
 use Rattle.node_laws.proofs.Opening.{new_stands}
-use Rattle.node_laws.proofs.Runs.{reached_more}
 use Rattle.node_laws.proofs.WholeSteps.{whole_steps}
-
-swapped : (a b : ℕ) → (a == b) ≡ false → (b == a) ≡ false
-swapped a b differs = grind (arith, nat_tests)
-
-pub reached_all : (first : World) (newer older : List (ℕ × Act)) → reached first (newer ++ older) ≡ reached (reached first older) newer
-reached_all first [] older = refl
-reached_all first (deed ∷ newer) older = ap (λ (w : World). after w deed.0 deed.1) (reached_all first newer older)
 
 module _ (cluster : Cluster) where
   abbrev alone_at : ℕ → List (ℕ × Act) → Node
@@ -64,7 +55,7 @@ module _ (cluster : Cluster) where
 
     stands_here : Stands (setup_of cluster next.node) (step_at cluster (kept_reached cluster inputs) next).kept (alone_at next.node (by_node next.node step.acts ++ acts_in before.steps))
     stands_here = subst (Stands (setup_of cluster next.node) (step_at cluster (kept_reached cluster inputs) next).kept)
-        (sym (reached_more next.node (node_new (cluster.serials next.node)) step.acts (acts_of next.node (acts_in before.steps)))
+        (sym (alone_on next.node (node_new (cluster.serials next.node)) step.acts (acts_of next.node (acts_in before.steps)))
         ∙ ap (reached_alone next.node (node_new (cluster.serials next.node))) (sym (acts_on next.node step.acts (acts_in before.steps))))
         step.stands
 
@@ -72,7 +63,7 @@ module _ (cluster : Cluster) where
     stands_then node = by_node_test (node == next.node) refl
       where
         apart : (node == next.node) ≡ false → (next.node == node) ≡ false
-        apart differs = swapped node next.node differs
+        apart differs = flipped node next.node differs
 
         by_node_test : (test : Bool) → (node == next.node) ≡ test →
             Stands (setup_of cluster node) (if test then (step_at cluster (kept_reached cluster inputs) next).kept else (kept_reached cluster inputs).kept node)
@@ -96,7 +87,7 @@ module _ (cluster : Cluster) where
         (λ i. reverse (ap (λ (o : Outputs). o.packets) outputs_are i) ++ before.packets i)
         ∙ ap (λ (ps : List Packet). ps ++ w.packets) (reverse-reverse (packets_in next.node (w.actors next.node) (w.records next.node) step.acts))
         ∙ sym (packets_so w next.node step.acts)
-        ∙ ap (λ (x : World). x.packets) (sym (reached_all (start cluster.nodes cluster.serials) (by_node next.node step.acts) (acts_in before.steps)))
+        ∙ ap (λ (x : World). x.packets) (sym (reached_on (start cluster.nodes cluster.serials) (by_node next.node step.acts) (acts_in before.steps)))
 
     goes_on : WasSentBefore (kept_reached cluster inputs).packets next.input → RunsTogether cluster (next ∷ inputs)
     goes_on sent = record {

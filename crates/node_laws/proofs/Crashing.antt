@@ -41,7 +41,7 @@ use Rattle.node_laws.specs.Stands.{IsAside, IsPlaced}
 use Rattle.node_model.proofs.Records.{same_record}
 use Rattle.node_laws.proofs.AcceptorSteps.{member_is, member_test, prepare_aside, propose_aside, voted_before}
 use Rattle.node_laws.proofs.Aside.{knows_before, later, promise_before}
-use Rattle.node_laws.proofs.AsideSteps.{none_due, none_due_once, same_with, stands_saved}
+use Rattle.node_laws.proofs.AsideSteps.{same_with, stands_saved}
 use Rattle.node_laws.proofs.Held.{IsKeptAs, kept_as, waits_among}
 use Rattle.node_laws.proofs.Messages.{each_with, listed_with}
 use Rattle.node_laws.proofs.Orders.{ascend_from, one_of_ticket}
@@ -53,6 +53,7 @@ use Rattle.shelf.proofs.Entries.{still_ascends}
 use Rattle.node_laws.proofs.Changing.{message_changed}
 use Rattle.node_laws.proofs.Coherence.{fit_later}
 use Rattle.node_laws.proofs.Deciding.{calm_of, quiet_of}
+use Rattle.mc_laws.proofs.FirstStep.{none_due, none_due_once}
 use Rattle.node_laws.proofs.Owning.{IsGround}
 
 -- ---- a node that has stopped

@@ -1,7 +1,7 @@
 -- Which requests are to be settled and answered, by what is kept.
 use Rattle.std.proofs.Common.{◌≡◌, ◌↔◌, ℕ, Bool, true, false, List, Option, Some, None, refl, sym, ap, subst, ◌∙◌}
 use Rattle.std.specs.Prelude.{◌&&◌, not}
-use Rattle.std.proofs.lemmas.Bool.{and_from, and_parts, true≢false}
+use Rattle.std.proofs.lemmas.Bool.{and_from, and_parts, not-true, true≢false}
 use Rattle.mc_model.specs.message.Decree.{Decree}
 use Rattle.mc_model.specs.synod.Lists.{In}
 use Rattle.mc_model.specs.node.Actor.{Cancel, Query, Request, Submit, Waiting, id_in, name_of}
@@ -52,10 +52,6 @@ is_one (Submit id message) cancel = absurd cancel
 is_one (Query id account source) cancel = absurd cancel
 is_one (Cancel id account source destination) cancel = refl
 
-pub not_false : (b : Bool) → not b ≡ true → b ≡ false
-not_false true is = absurd (true≢false (sym is))
-not_false false is = refl
-
 module _ (setup : Setup) (k : Kept) (s : Node) (agrees : Agrees setup k s) where
   known_of : (h : Held) → IsKnown setup.nodes s.actor.received (id_of h) (known_for k h)
   known_of h = (agrees.message (id_of h)).heard.known
@@ -74,7 +70,7 @@ module _ (setup : Setup) (k : Kept) (s : Node) (agrees : Agrees setup k s) where
         let others = and_parts (not h.waiting.settled) (is_settled setup.nodes known h) parts.1 in (
           cancel_is h.waiting.request parts.0,
           (
-            not_false h.waiting.settled others.0,
+            not-true h.waiting.settled others.0,
             (settled_decides setup.nodes s.actor.received (name_of setup.node s.actor h.waiting) h (agrees.told h among) known).0 others.1,
           ),
         ),

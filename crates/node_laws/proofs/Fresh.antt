@@ -18,11 +18,11 @@ use Rattle.mc_model.specs.cluster.Steps.{AreSteps, Cluster, IsStep, Step, acts_i
 use Rattle.mc_model.specs.cluster.World.{Deed, World, reached, start}
 use Rattle.mc_parts.proofs.Membership.{in_right}
 use Rattle.mc_laws.proofs.Answers.{Answered, answered, fresh_query, never_unknown as never_told}
-use Rattle.mc_laws.proofs.Behind.{steps_run}
+use Rattle.mc_laws.proofs.Behind.{reached_on, steps_run}
 use Rattle.node_model.specs.Kept.{Kept}
 use Rattle.node_model.specs.Stepped.{stepped, stepped_down, stepped_up}
 use Rattle.node_laws.specs.Clusters.{KeptCluster, LivesOn, MayHappen, NodeInput, StatesFinal, cluster_outputs, comes_to, kept_reached, outputs_at, step_at, step_outputs, world_at}
-use Rattle.node_laws.proofs.Clustered.{clustered, reached_all}
+use Rattle.node_laws.proofs.Clustered.{clustered}
 use Rattle.node_laws.proofs.Lives.{life_along, life_in, life_within}
 use Rattle.node_laws.proofs.NoGrant.{deed_at, past_grows}
 use Rattle.node_laws.proofs.Orders.{in_reverse}
@@ -53,7 +53,7 @@ module _ (cluster : Cluster) where
       let it = past_along later before in
       let grown = past_grows (world_at cluster (later ++ before)) (by_node step.node step.acts) in (
         grown.0 ++ it.0,
-        ap (λ (w : World). w.past) (reached_all first (by_node step.node step.acts) (acts_in (later ++ before)))
+        ap (λ (w : World). w.past) (reached_on first (by_node step.node step.acts) (acts_in (later ++ before)))
             ∙ grown.1
             ∙ ap (λ (deeds : List Deed). grown.0 ++ deeds) it.1
             ∙ sym (append_assoc grown.0 it.0 (world_at cluster before).past),
@@ -82,7 +82,7 @@ module _ (cluster : Cluster) where
         record {
           middle = (grown.0 ++ more.0) ++ began.newer;
           past =
-              ap (λ (w : World). w.past) (reached_all first (by_node next.node told.rest) (acts_in earlier))
+              ap (λ (w : World). w.past) (reached_on first (by_node next.node told.rest) (acts_in earlier))
               ∙ grown.1
               ∙ ap (λ (steps : List Step). grown.0 ++ (world_at cluster steps).past) split
               ∙ ap (λ (deeds : List Deed). grown.0 ++ deeds) more.1
@@ -110,7 +110,7 @@ module _ (cluster : Cluster) where
   past_within : (step : Step) (before : List Step) (rest : List Act) (deed : Deed) → In deed (world_at cluster before).past →
       In deed (past_behind cluster step before rest)
   past_within step before rest deed past =
-      subst (λ (w : World). In deed w.past) (sym (reached_all first (by_node step.node rest) (acts_in before)))
+      subst (λ (w : World). In deed w.past) (sym (reached_on first (by_node step.node rest) (acts_in before)))
       (past_still (world_at cluster before) (by_node step.node rest) deed past)
 
   -- the message of a reply is the one that was asked for

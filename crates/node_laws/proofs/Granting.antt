@@ -22,7 +22,6 @@ use Rattle.node_model.specs.Stepped.{stepped, stepped_down, stepped_up}
 use Rattle.node_laws.specs.Stands.{Agrees, CoversGrant, IsMessage, Stands}
 use Rattle.node_laws.specs.Steps.{IsAtWork, StepsAs}
 use Rattle.node_laws.proofs.Answered.{known_is}
-use Rattle.node_laws.proofs.AsideSteps.{none_due}
 use Rattle.node_laws.proofs.Beginning.{TellsNothing, begun_steps}
 use Rattle.node_laws.proofs.Changing.{message_changed}
 use Rattle.node_laws.proofs.Coherence.{IsLater, fit_later}
@@ -30,6 +29,7 @@ use Rattle.node_laws.proofs.Deciding.{IsCalm, calm_of}
 use Rattle.node_laws.proofs.Messages.{each_with, listed_with}
 use Rattle.node_laws.proofs.Owning.{IsGround}
 use Rattle.node_laws.proofs.Started.{IsToPrepare, StartsAs, started_as}
+use Rattle.mc_laws.proofs.FirstStep.{none_due}
 use Rattle.shelf.proofs.Entries.{still_ascends}
 
 module _ (setup : Setup) (k : Kept) (s : Node) (stands : Stands setup k s) (slot : Slot) (may : MayGrant setup.nodes setup.node s.actor slot) where

@@ -24,8 +24,8 @@ use Rattle.node_model.specs.Kept.{Kept}
 use Rattle.node_model.specs.Message.{Message}
 use Rattle.node_model.specs.Starts.{cancels, delete_of, is_idle, moment_behind, start_behind}
 use Rattle.node_model.specs.Rules.{closing, expiring, giving_up, if_so, is_attempt_by, losing, tried, undelivered}
+use Rattle.node_model.proofs.Decisions.{nat_le_decides}
 use Rattle.node_laws.specs.Stands.{HasAttempts}
-use Rattle.node_laws.proofs.Answered.{most_decides}
 use Rattle.node_laws.proofs.Cancelling.{cancelled_decides}
 use Rattle.node_laws.proofs.Decided.{Decided}
 
@@ -56,9 +56,9 @@ attempt_decides node newest = (
 -- a message expires behind its taking or a failure, from its expiry on
 expires : (kind : Kind) (message : Submission) (attempt before moment : ℕ) (old author : Author) →
     Decides (is_idle kind && nat_le message.expiry moment) (MayFollow message attempt old before kind author moment (Fate Expired 0))
-expires (Taken taken) message attempt before moment old author = most_decides message.expiry moment
+expires (Taken taken) message attempt before moment old author = nat_le_decides message.expiry moment
 expires (Attempt number) message attempt before moment old author = ((λ t. absurd (true≢false (sym t))), (λ none. absurd none))
-expires (Failed error) message attempt before moment old author = most_decides message.expiry moment
+expires (Failed error) message attempt before moment old author = nat_le_decides message.expiry moment
 expires (Fate final error) message attempt before moment old author = ((λ t. absurd (true≢false (sym t))), (λ none. absurd none))
 
 -- ---- behind this decree of what is known
@@ -146,9 +146,6 @@ module _ (setup : Setup) (a : Actor) (k : Kept) (id : ℕ) (incarnation : k.inca
       λ t. (Decides-eqb newest.author.incarnation k.incarnation).0 t ∙ incarnation,
       λ same. (Decides-eqb newest.author.incarnation k.incarnation).1 (same ∙ sym incarnation),
     )
-
-    own_here : (from : Decree) → from ≡ newest → IsAttemptBy setup.node from
-    own_here from same = subst (λ (n : Decree). IsAttemptBy setup.node n) (sym same) own
 
     slot_here : (place : ℕ) (chain : List Decree) (kind : Kind) → (g : Goes place chain kind) → slot_of id (g.newest ∷ g.older) ≡ slot_at id (length older)
     slot_here place chain kind g = ap (λ (o : List Decree). slot_at id (length o)) (here place chain kind g).older_is
@@ -339,7 +336,7 @@ module _ (setup : Setup) (a : Actor) (k : Kept) (id : ℕ) (incarnation : k.inca
     first_decides =
         subst (λ (c : ℕ). Decides (nat_le taken.schedule c && nat_lt c taken.expiry)
         ((taken.schedule ≤ max a.clock newest.moment) × (max a.clock newest.moment < taken.expiry))) (sym moment_is)
-        (Decides-and _ _ (most_decides taken.schedule (max a.clock newest.moment)) (Decides-ltb (max a.clock newest.moment) taken.expiry))
+        (Decides-and _ _ (nat_le_decides taken.schedule (max a.clock newest.moment)) (Decides-ltb (max a.clock newest.moment) taken.expiry))
 
     abbrev attempts : ℕ
     attempts = attempts_in (newest ∷ older)
@@ -354,7 +351,7 @@ module _ (setup : Setup) (a : Actor) (k : Kept) (id : ℕ) (incarnation : k.inca
     again_decides = subst (λ (c : ℕ). Decides (again c) MayAgain) (sym moment_is)
         (Decides-and _ _ (Decides-ltb attempts most_attempts)
         (Decides-and _ _ (Decides-ltb (max a.clock newest.moment) taken.expiry)
-        (most_decides (newest.moment + retry_delay * attempts) (max a.clock newest.moment))))
+        (nat_le_decides (newest.moment + retry_delay * attempts) (max a.clock newest.moment))))
 
     first_tried : (of : Submission) → newest.kind ≡ Taken of → up taken.target ≡ true → (test : Bool) →
         (nat_le taken.schedule (moment_behind k newest) && nat_lt (moment_behind k newest) taken.expiry) ≡ test →

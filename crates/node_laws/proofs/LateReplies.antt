@@ -16,9 +16,9 @@ use Rattle.node_model.specs.Kept.{Held}
 use Rattle.node_model.specs.Requests.{id_of, ticket_of}
 use Rattle.node_model.specs.Answers.{replied}
 use Rattle.node_model.specs.Ticks.{is_late, late_reply}
+use Rattle.node_model.proofs.Decisions.{nat_le_decides}
 use Rattle.node_laws.specs.Steps.{IsAtWork}
 use Rattle.node_laws.proofs.Held.{kept_as, waits_among}
-use Rattle.node_laws.proofs.Answered.{most_decides}
 use Rattle.node_laws.proofs.Orders.{Ascend}
 use Rattle.node_laws.proofs.Replied.{in_replied, reached_replies, replied_in, replies_fall, replies_of, replies_out, reply_acts, run_replies, waits_on, without}
 use Rattle.node_laws.proofs.Replied.{without_all}
@@ -62,7 +62,7 @@ module _ (a : Actor) (held : List Held) (waiting : map (λ h. h.waiting) held �
   late = reply_acts (late_answer a.clock) held
 
   waited : (h : Held) → is_late a.clock h ≡ true → h.waiting.since + longest_wait ≤ a.clock
-  waited h = (most_decides (h.waiting.since + longest_wait) a.clock).0
+  waited h = (nat_le_decides (h.waiting.since + longest_wait) a.clock).0
 
   waits_here : (h : Held) → In h held → In h.waiting a.waiting
   waits_here h among = subst (λ (ws : List Waiting). In h.waiting ws) waiting (waits_among held h among)
@@ -84,7 +84,7 @@ module _ (a : Actor) (held : List Held) (waiting : map (λ h. h.waiting) held �
     due_all (Replies ticket id TooLate) due =
         let kept = kept_as held due.asked.waiting (subst (λ (ws : List Waiting). In due.asked.waiting ws) (sym waiting) due.asked.waits) in
         let is : is_late a.clock kept.request ≡ true =
-        (most_decides (kept.request.waiting.since + longest_wait) a.clock).1
+        (nat_le_decides (kept.request.waiting.since + longest_wait) a.clock).1
         (subst (λ (w : Waiting). w.since + longest_wait ≤ a.clock) (sym kept.same) due.late) in
         let same : Replies (ticket_of kept.request) (id_of kept.request) TooLate ≡ Replies ticket id TooLate =
         λ i. Replies ((ap (λ (w : Waiting). w.ticket) kept.same ∙ due.asked.ticket_is) i)

@@ -1,12 +1,12 @@
 -- What is known of a message after one more packet, by what is kept of it.
-use Rattle.std.proofs.Common.{◌≡◌, ◌↔◌, ℕ, pred, ◌*◌, Bool, true, false, List, [], ◌∷◌, length, Option, Some, None, sym, ap, subst, ◌∙◌, inl, inr, arith}
+use Rattle.std.proofs.Common.{◌≡◌, ◌↔◌, ℕ, pred, Bool, true, false, List, [], ◌∷◌, length, Option, Some, None, sym, ap, subst, ◌∙◌, inl, inr, arith}
 use Rattle.std.specs.Prelude.{◌&&◌}
 use Rattle.std.specs.Bool.{Decides}
 use Rattle.std.proofs.lemmas.Bool.{and_parts, true≢false}
 use Rattle.std.proofs.lemmas.Bool.Decides.{Decides-ltb, nat_tests}
 use Rattle.mc_model.specs.message.Decree.{Decree}
 use Rattle.mc_model.specs.synod.Lists.{In}
-use Rattle.mc_model.specs.synod.Majority.{IsMajority, Majority, count}
+use Rattle.mc_model.specs.synod.Majority.{Majority, count}
 use Rattle.mc_model.specs.synod.OneSlot.{Vote}
 use Rattle.mc_model.specs.synod.Packet.{Packet, Slot, Voted, slot_at, slot_of}
 use Rattle.mc_model.specs.node.Knowledge.{IsLearned}
@@ -18,11 +18,9 @@ use Rattle.node_model.specs.Learner.{heard, is_shorter, makes_known}
 use Rattle.node_model.specs.Packets.{known_then}
 use Rattle.node_laws.specs.Stands.{HasHeard, TellsOfNone}
 use Rattle.node_model.proofs.Heard.{with_voter}
+use Rattle.node_model.proofs.Decisions.{most_decides}
 
 -- ---- majorities
-
-pub most_decides : (nodes : ℕ) (test : ℕ → Bool) → Decides (is_majority nodes test) (IsMajority nodes test)
-most_decides nodes test = Decides-ltb nodes (2 * count test nodes)
 
 -- a majority of those that a test finds is one by the count
 pub majority_decides : (nodes : ℕ) (P : ℕ → Type 0) (test : ℕ → Bool) → ((node : ℕ) → (test node ≡ true) ↔ P node) →

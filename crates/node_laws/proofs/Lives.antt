@@ -10,8 +10,8 @@ use Rattle.mc_model.specs.node.Input.{Input, Restart}
 use Rattle.mc_model.specs.cluster.Steps.{AreSteps, Cluster, IsStep, Step, acts_in, by_node, setup_of}
 use Rattle.mc_model.specs.cluster.World.{World, after, reached, start}
 use Rattle.mc_laws.proofs.Growth.{actor_here, actors_after, later, remembers}
+use Rattle.mc_laws.proofs.Behind.{reached_on}
 use Rattle.node_laws.specs.Clusters.{LivesOn, NodeInput, comes_to, world_at}
-use Rattle.node_laws.proofs.Clustered.{reached_all}
 use Rattle.node_laws.proofs.Sources.{came_by, input_of}
 
 life_of : (node : ℕ) (a : Actor) (act : Act) → ((lost serial : ℕ) → act ≡ Restarts lost serial → ⊥) → (actor_by node a act).incarnation ≡ a.incarnation
@@ -59,7 +59,7 @@ rises_anew w node front lost serial =
     let on = rises_by_all (after w node (Restarts lost serial)) (by_node node front) node in
     let same : reached w (by_node node (front ++ Restarts lost serial ∷ [])) ≡ reached (after w node (Restarts lost serial)) (by_node node front) =
     ap (reached w) (map-append (λ (act : Act). (node, act)) front (Restarts lost serial ∷ []))
-    ∙ reached_all w (by_node node front) ((node, Restarts lost serial) ∷ []) in
+    ∙ reached_on w (by_node node front) ((node, Restarts lost serial) ∷ []) in
     subst (λ (v : World). life_in node w < life_in node v) (sym same) (omega (arith, anew, on))
 
 module _ (cluster : Cluster) where
@@ -70,7 +70,7 @@ module _ (cluster : Cluster) where
       life_in node (world_at cluster (later ++ before)) ≡ life_in node (world_at cluster before)
   life_along node [] before are none = refl
   life_along node (step ∷ later) before are none =
-      ap (life_in node) (reached_all first (by_node step.node step.acts) (acts_in (later ++ before)))
+      ap (life_in node) (reached_on first (by_node step.node step.acts) (acts_in (later ++ before)))
       ∙ life_by (world_at cluster (later ++ before)) step.node step.acts node (λ same lost serial among.
       let anew : step.input ≡ Restart lost = input_of cluster step (later ++ before) are.0 (Restarts lost serial) among in
       none lost (inl (λ i. comes_to (sym same i) (sym anew i))))
@@ -81,7 +81,7 @@ module _ (cluster : Cluster) where
       ((lost : ℕ) → step.input ≡ Restart lost → ⊥) → (rest : List Act) → ((act : Act) → In act rest → In act step.acts) →
       life_in node (reached first (by_node step.node rest ++ acts_in before)) ≡ life_in node (world_at cluster before)
   life_within node step before is none rest parts =
-      ap (life_in node) (reached_all first (by_node step.node rest) (acts_in before))
+      ap (life_in node) (reached_on first (by_node step.node rest) (acts_in before))
       ∙ life_by (world_at cluster before) step.node rest node (λ same lost serial among.
       none lost (input_of cluster step before is (Restarts lost serial) (parts (Restarts lost serial) among)))
 
@@ -92,14 +92,14 @@ module _ (cluster : Cluster) where
       let rest = rises_along node later before in
       let now = rises_by_all (world_at cluster (later ++ before)) (by_node step.node step.acts) node in
       subst (λ (w : World). life_in node (world_at cluster before) ≤ life_in node w)
-      (sym (reached_all first (by_node step.node step.acts) (acts_in (later ++ before))))
+      (sym (reached_on first (by_node step.node step.acts) (acts_in (later ++ before))))
       (omega (arith, rest, now))
 
   rises_at : (step : Step) (before : List Step) → IsStep (world_at cluster before) (setup_of cluster step.node) step.input step.acts →
       (lost : ℕ) → step.input ≡ Restart lost → life_in step.node (world_at cluster before) < life_in step.node (world_at cluster (step ∷ before))
   rises_at step before is lost anew =
       subst (λ (w : World). life_in step.node (world_at cluster before) < life_in step.node w)
-      (sym (reached_all first (by_node step.node step.acts) (acts_in before)))
+      (sym (reached_on first (by_node step.node step.acts) (acts_in before)))
       (subst (λ (acts : List Act). life_in step.node (world_at cluster before) < life_in step.node (reached (world_at cluster before) (by_node step.node acts)))
       (sym (is.exact.acts_are ∙ ap (λ (core : List Act). front ++ core) core_is))
       (rises_anew (world_at cluster before) step.node front lost (cluster.serials step.node)))

@@ -9,10 +9,10 @@ use Rattle.mc_model.specs.node.Input.{Arrival, Crash, Delivery, Grant, Input, Re
 use Rattle.mc_model.specs.node.Outputs.{Outputs, granted_by, outputs_of}
 use Rattle.mc_model.specs.cluster.Steps.{AreSteps, Cluster, IsStep, Step, StepRun, acts_in, by_node, setup_of, world_after}
 use Rattle.mc_model.specs.cluster.World.{Deed, World, reached, start}
-use Rattle.mc_laws.proofs.Behind.{run_by}
+use Rattle.mc_laws.proofs.Behind.{reached_on, run_by}
 use Rattle.mc_laws.proofs.Reached.{holds, no_grant_after}
 use Rattle.node_laws.specs.Clusters.{CameEarlier, GrantsOut, MayHappen, NodeInput, StatesFinal, cluster_outputs, step_outputs, world_at}
-use Rattle.node_laws.proofs.Clustered.{clustered, reached_all}
+use Rattle.node_laws.proofs.Clustered.{clustered}
 use Rattle.node_laws.proofs.Stated.{stated}
 
 -- an input by which an attempt is granted is a grant
@@ -66,7 +66,7 @@ module _ (cluster : Cluster) where
         deed = deed_at (world_at cluster older) step.node (Grants slot);
         newer = done.newer;
         split =
-            ap (λ (w : World). w.past) (reached_all first (by_node step.node step.acts) (acts_in older))
+            ap (λ (w : World). w.past) (reached_on first (by_node step.node step.acts) (acts_in older))
             ∙ ap (λ (done_so : List Act). (reached (world_at cluster older) (by_node step.node done_so)).past) acts
             ∙ done.split;
         act_is = refl;
@@ -115,7 +115,7 @@ module _ (cluster : Cluster) where
         second_is = it.second_is;
         newer = grown.0 ++ it.newer;
         past =
-            ap (λ (w : World). w.past) (reached_all first (by_node step.node step.acts) (acts_in before))
+            ap (λ (w : World). w.past) (reached_on first (by_node step.node step.acts) (acts_in before))
             ∙ grown.1
             ∙ ap (λ (ds : List Deed). grown.0 ++ ds) it.past
             ∙ sym (append_assoc grown.0 it.newer (world_at cluster (it.step ∷ it.before)).past);

@@ -1,5 +1,5 @@
 -- A node that opens: what it keeps stands for an actor that remembers nothing.
-use Rattle.std.proofs.Common.{◌≡◌, ℕ, zero, suc, ◌+◌, ◌<◌, ◌≤◌, Bool, true, false, cond, List, [], ◌∷◌, ◌++◌, get_or, map, Some, IsSome, refl, sym, ap, subst}
+use Rattle.std.proofs.Common.{◌≡◌, ℕ, zero, suc, ◌+◌, ◌<◌, ◌≤◌, Bool, true, false, cond, List, [], ◌∷◌, ◌++◌, map, Some, IsSome, refl, sym, ap, subst}
 use Rattle.std.proofs.Common.{◌∙◌, inl, inr, arith}
 use Rattle.std.specs.Prelude.{if◌then◌else◌}
 use Rattle.std.specs.Ordering.{nat_cmp}
@@ -31,12 +31,13 @@ use Rattle.node_model.specs.Recorded.{has_record, named_places, recorded_in}
 use Rattle.node_model.specs.Outputs.{leaves}
 use Rattle.node_model.specs.Stepped.{opened_new, opened_over, restarted, stepped}
 use Rattle.node_model.proofs.Filters.{filter_in}
-use Rattle.node_model.proofs.Keys.{same_key}
 use Rattle.node_model.proofs.Recorded.{below_found}
+use Rattle.node_model.proofs.Places.{zeros}
 use Rattle.node_laws.specs.Stands.{IsMessage, IsPlaced, IsQuiet, Stands}
 use Rattle.node_laws.specs.Steps.{StepsAs}
-use Rattle.node_laws.proofs.AsideSteps.{none_due, none_due_once}
 use Rattle.node_laws.proofs.Learning.{nothing_heard}
+use Rattle.mc_laws.proofs.FirstStep.{none_due, none_due_once}
+use Rattle.node_laws.proofs.TickIds.{listed_in}
 
 -- ---- an actor that opens
 
@@ -52,21 +53,6 @@ quiet_opened nodes node incarnation serial = record {
   settled = λ ticket due. due.waits;
   answered = λ ticket id answer due. due.asked.waits;
 }
-
--- a list of zeros has a zero at each place
-abbrev AreZeros : List ℕ → Type 0
-AreZeros [] = Unit {0}
-AreZeros (x ∷ xs) = (x ≡ 0) × AreZeros xs
-
-zero_at : (xs : List ℕ) (place : ℕ) → AreZeros xs → get_or xs place 0 ≡ 0
-zero_at [] place are = refl
-zero_at (x ∷ xs) zero are = are.0
-zero_at (x ∷ xs) (suc place) are = zero_at xs place are.1
-
-zeros : (place : ℕ) → get_or unseen.seen place 0 ≡ 0
-zeros place =
-    zero_at unseen.seen place
-    (refl, (refl, (refl, (refl, (refl, (refl, (refl, (refl, (refl, (refl, (refl, (refl, (refl, (refl, (refl, (refl, (refl, (refl, tt))))))))))))))))))
 
 unseen_stands : (setup : Setup) (records : Records) (incarnation serial id : ℕ) → IsMessage setup (node_over records incarnation serial) id unseen
 unseen_stands setup records incarnation serial id = record {
@@ -98,15 +84,6 @@ all_unseen (first ∷ others) id = by_test (is_at (nat_cmp id) first) (all_unsee
     by_test true rest = refl
     by_test false rest = rest
 
-key_in : (id : ℕ) (es : List (ℕ × Message)) → IsSome (lookup (is_at (nat_cmp id)) es) → In id (keys_of es)
-key_in id [] some = absurd (true≢false (sym some))
-key_in id (e ∷ es) some = by_test (is_at (nat_cmp id) e.0) refl (key_in id es) some
-  where
-    by_test : (test : Bool) → is_at (nat_cmp id) e.0 ≡ test → (IsSome (lookup (is_at (nat_cmp id)) es) → In id (keys_of es)) →
-        IsSome (cond test (Some e.1) (lookup (is_at (nat_cmp id)) es)) → In id (keys_of (e ∷ es))
-    by_test true at rest some = inl (same_key id e.0 at)
-    by_test false apart rest some = inr (rest some)
-
 entry_listed : (ids : List ℕ) (id : ℕ) → In id ids → IsSome (lookup (is_at (nat_cmp id)) (map entry ids))
 entry_listed [] id none = absurd none
 entry_listed (first ∷ others) id among = by_test (is_at (nat_cmp id) first) refl (entry_listed others id) among
@@ -123,7 +100,7 @@ vote_listed : (k : Kept) (slot : Slot) (vote : Vote) → (k.records slot).vote �
     IsSome (lookup (is_at (nat_cmp slot.id)) (map entry (recorded_in k.records (keys_of k.messages))))
 vote_listed k slot vote voted within some =
     entry_listed (recorded_in k.records (keys_of k.messages)) slot.id
-    (filter_in (λ id. has_record k.records id named_places) (keys_of k.messages) slot.id (key_in slot.id k.messages some)
+    (filter_in (λ id. has_record k.records id named_places) (keys_of k.messages) slot.id (listed_in slot.id k.messages some)
     (below_found k.records slot.id named_places slot.place (omega (arith, within)) (λ none. absurd (let no_vote = sym voted ∙ ap (λ (r : SlotRecord). r.vote) none in cc))))
 
 keys_are : (ids : List ℕ) → keys_of (map entry ids) ≡ ids

@@ -21,8 +21,8 @@ use Rattle.node_model.specs.Outputs.{sends}
 use Rattle.node_laws.specs.Stands.{Agrees, Stands}
 use Rattle.node_laws.specs.Steps.{IsAtWork, StepsAs}
 use Rattle.node_laws.proofs.Answered.{known_is}
-use Rattle.node_laws.proofs.AsideSteps.{none_due, none_due_once}
 use Rattle.node_laws.proofs.Hearing.{received}
+use Rattle.mc_laws.proofs.FirstStep.{none_due, none_due_once}
 use Rattle.node_laws.proofs.Deciding.{IsCalm, calm_of, quiet_of}
 
 -- proposals alone

@@ -3,7 +3,7 @@ use Rattle.std.proofs.Common.{◌≡◌, ◌↔◌, ◌⊎◌, ℕ, ◌<◌, ◌
 use Rattle.std.proofs.Common.{arith}
 use Rattle.std.specs.Prelude.{◌==◌, ◌&&◌, nat_lt, not, if◌then◌else◌}
 use Rattle.std.specs.Bool.{Decides}
-use Rattle.std.proofs.lemmas.Bool.{and_from, and_parts, eqb-false, eqb-true, true≢false}
+use Rattle.std.proofs.lemmas.Bool.{and_from, and_parts, eqb-false, eqb-true, not-true, true≢false}
 use Rattle.std.proofs.lemmas.Bool.Decides.{Decides-and, Decides-eqb, Decides-like, Decides-or, nat_tests}
 use Rattle.mc_model.specs.synod.Lists.{In}
 use Rattle.mc_model.specs.synod.OneSlot.{IsOfHighest, IsWithin, Vote, vote_at}
@@ -35,7 +35,7 @@ use Rattle.node_laws.specs.Steps.{IsAtWork, StepsAs}
 use Rattle.node_laws.proofs.AcceptorSteps.{member_is, member_test, stepped_is}
 use Rattle.node_laws.proofs.Agreeing.{agrees_heard, agrees_with}
 use Rattle.node_laws.proofs.AsideSteps.{TellsNobody, ignored}
-use Rattle.node_laws.proofs.Deciding.{not_false, quiet_of}
+use Rattle.node_laws.proofs.Deciding.{quiet_of}
 use Rattle.node_laws.proofs.Hearing.{RefusesNone, behind_heard, free_heard, highest_heard, message_heard, one_round, received, round_heard, round_sent}
 use Rattle.node_laws.proofs.Hearing.{running_before, running_heard}
 use Rattle.node_laws.proofs.Learning.{heard_still, majority_decides}
@@ -206,9 +206,6 @@ module _ (setup : Setup) (k : Kept) (s : Node) (stands : Stands setup k s) (send
     own_ballot = stands.agrees.coherent.own r.slot r.ballot prepared
 
     -- ---- who promised, and what they reported
-
-    this : Promise sender r.slot r.ballot report ≡ packet
-    this = λ i. Promise sender (same_slots i) (same_ballots i) report
 
     abbrev HasPromised : ℕ → Type 0
     HasPromised acceptor = (it : Option Vote) × In (Promise acceptor r.slot r.ballot it) t.actor.received
@@ -433,7 +430,7 @@ module _ (setup : Setup) (k : Kept) (s : Node) (stands : Stands setup k s) (send
         record {
           proposer = own_ballot.0;
           incarnation = own_ballot.1;
-          once = λ chain sent. is.unproposed (not_false (is_majority setup.nodes r.promised) parts.0) (vote_at r.ballot chain) refl sent;
+          once = λ chain sent. is.unproposed (not-true (is_majority setup.nodes r.promised) parts.0) (vote_at r.ballot chain) refl sent;
           justified = record {
             highest = new.highest;
             majority = record {

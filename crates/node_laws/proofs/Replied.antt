@@ -35,7 +35,8 @@ use Rattle.node_laws.proofs.Cancelling.{match_decides}
 use Rattle.node_laws.proofs.Held.{IsKeptAs, kept_as, waits_among}
 use Rattle.node_laws.proofs.Orders.{Ascend, ascend_filter, ascend_from, fall_join, in_append, in_mapped, increasing_from}
 use Rattle.node_model.proofs.Filters.{filter_in}
-use Rattle.node_laws.proofs.Runs.{packets_more, reached_more, receipts_more, replies_more, run_more}
+use Rattle.node_laws.proofs.Runs.{packets_more, receipts_more, replies_more, run_more}
+use Rattle.mc_laws.proofs.Assembly.{alone_on}
 use Rattle.node_laws.proofs.Waiting.{IsIdleKind, KeepsGround, StaysFree, agrees_waits, waits}
 
 -- ---- the acts, by what each request is answered, if anything
@@ -218,7 +219,7 @@ module _ (answer : Held → Option Answer) where
       }
   reached_replies node s [] = refl
   reached_replies node s (h ∷ others) =
-      reached_more node s (reply_acts others) (reply_with h (answer h))
+      alone_on node s (reply_acts others) (reply_with h (answer h))
       ∙ ap (λ (x : Node). reached_alone node x (reply_acts others)) (one (answer h))
       ∙ reached_replies node (record {
         actor = record s.actor { waiting = without_one (ticket_of h) (answer h) s.actor.waiting };

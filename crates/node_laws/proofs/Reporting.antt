@@ -3,7 +3,7 @@ use Rattle.std.proofs.Common.{◌≡◌, ℕ, Bool, true, false, List, [], ◌�
 use Rattle.std.specs.Prelude.{◌%◌, ◌==◌, ◌&&◌, ◌||◌, if◌then◌else◌, not}
 use Rattle.std.specs.Bool.{Decides}
 use Rattle.std.specs.Option.{is_none}
-use Rattle.std.proofs.lemmas.Bool.{and_from, and_parts, eqb-false, eqb-true, true≢false}
+use Rattle.std.proofs.lemmas.Bool.{and_from, and_parts, eqb-false, eqb-true, not-true, true≢false}
 use Rattle.std.proofs.lemmas.Bool.Decides.{Decides-eqb, Decides-like, Decides-or}
 use Rattle.mc_model.specs.message.Ids.{node_of}
 use Rattle.mc_model.specs.message.Submission.{Submission}
@@ -17,7 +17,6 @@ use Rattle.mc_model.specs.node.Phases.{AsksReceipt, DueToReport, IsDueReport}
 use Rattle.mc_parts.proofs.Known.{knows_one}
 use Rattle.node_model.specs.Answers.{had_fate, is_asked, receipt_by, receipts_of}
 use Rattle.node_laws.proofs.Busy.{IsReport, report_out}
-use Rattle.node_laws.proofs.Deciding.{not_false}
 
 other_asks : (final : Final) (taken : Submission) → (final ≡ Delivered → ⊥) →
     Decides ((taken.registered_delivery % 4 == 1) || (taken.registered_delivery % 4 == 2)) (AsksReceipt final taken)
@@ -130,5 +129,5 @@ module _ (nodes node : ℕ) (before a : Actor) (id : ℕ) (known : Option (List 
           Reported (if test then receipt_by id chain (final_in chain) (taken_in chain) else [])
       by_test true is =
           let parts = and_parts (node_of id == node) (not (had_fate known)) is in
-          by_final (eqb-true (node_of id) node parts.0) (not_false (had_fate known) parts.1) (final_in chain) refl
+          by_final (eqb-true (node_of id) node parts.0) (not-true (had_fate known) parts.1) (final_in chain) refl
       by_test false is = nothing (not_first (had_fate known) refl is)

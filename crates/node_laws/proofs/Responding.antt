@@ -29,7 +29,6 @@ use Rattle.node_model.specs.Starts.{start_behind}
 use Rattle.node_model.specs.Stepped.{stepped, stepped_down, stepped_up}
 use Rattle.node_laws.specs.Stands.{Agrees, CoversGrant, Stands}
 use Rattle.node_laws.specs.Steps.{IsAtWork, StepsAs}
-use Rattle.node_laws.proofs.AsideSteps.{none_due}
 use Rattle.node_laws.proofs.Beginning.{TellsNothing, begun_steps}
 use Rattle.node_laws.proofs.Closing.{closed, closed_agrees}
 use Rattle.node_laws.proofs.Deciding.{IsCalm, calm_of}
@@ -37,6 +36,7 @@ use Rattle.node_laws.proofs.KnownRules.{goes}
 use Rattle.node_laws.proofs.Messages.{each_with}
 use Rattle.node_laws.proofs.Slots.{slot_decides}
 use Rattle.node_laws.proofs.RuleChains.{rule_next, rule_place}
+use Rattle.mc_laws.proofs.FirstStep.{none_due}
 use Rattle.node_laws.proofs.Started.{IsDueStart, IsStartOf, IsToPrepare, StartsAs, started_as}
 
 module _ (setup : Setup) (k : Kept) (s : Node) (stands : Stands setup k s) (works : IsAtWork setup s) (mine : IsNode setup.node) (slot : Slot)

@@ -3,8 +3,9 @@ use Rattle.std.proofs.Common.{◌≡◌, ℕ, List, [], ◌∷◌, ◌++◌, ref
 use Rattle.mc_model.specs.synod.Acceptor.{Records}
 use Rattle.mc_model.specs.node.Act.{Act, Replies, Reports}
 use Rattle.mc_model.specs.node.Actor.{Actor}
-use Rattle.mc_model.specs.node.Alone.{IsRunAlone, MayAlone, Node, after_alone, reached_alone}
+use Rattle.mc_model.specs.node.Alone.{IsRunAlone, MayAlone, Node, reached_alone}
 use Rattle.mc_model.specs.node.Effect.{actor_by, did, packets_by, records_by, saved}
+use Rattle.mc_laws.proofs.Assembly.{alone_on}
 use Rattle.mc_model.specs.node.Outputs.{Receipt, Reply, packets_in, receipts_in, replies_in}
 
 pub did_more : (node : ℕ) (a : Actor) (newer older : List Act) → did node a (newer ++ older) ≡ did node (did node a older) newer
@@ -15,11 +16,6 @@ pub saved_more : (records : Records) (newer older : List Act) → saved records 
 saved_more records [] older = refl
 saved_more records (act ∷ newer) older = ap (λ (x : Records). records_by x act) (saved_more records newer older)
 
-pub reached_more : (node : ℕ) (first : Node) (newer older : List Act) →
-    reached_alone node first (newer ++ older) ≡ reached_alone node (reached_alone node first older) newer
-reached_more node first [] older = refl
-reached_more node first (act ∷ newer) older = ap (λ (x : Node). after_alone node x act) (reached_more node first newer older)
-
 pub reached_actor : (node : ℕ) (first : Node) (acts : List Act) → (reached_alone node first acts).actor ≡ did node first.actor acts
 reached_actor node first [] = refl
 reached_actor node first (act ∷ older) = ap (λ (x : Actor). actor_by node x act) (reached_actor node first older)
@@ -28,7 +24,7 @@ pub run_more : (nodes node : ℕ) (first : Node) (newer older : List Act) → Is
     IsRunAlone nodes node first older → IsRunAlone nodes node first (newer ++ older)
 run_more nodes node first [] older run before = before
 run_more nodes node first (act ∷ newer) older run before =
-    (subst (λ (x : Node). MayAlone nodes node x act) (sym (reached_more node first newer older)) run.0, run_more nodes node first newer older run.1 before)
+    (subst (λ (x : Node). MayAlone nodes node x act) (sym (alone_on node first newer older)) run.0, run_more nodes node first newer older run.1 before)
 
 -- ---- what goes out
 

@@ -27,7 +27,8 @@ use Rattle.node_laws.proofs.Deciding.{known_for, settled_in, to_settle}
 use Rattle.node_laws.proofs.Held.{IsKeptAs, kept_as, waits_among}
 use Rattle.node_laws.proofs.Orders.{Ascend, acts_fall, ascend_filter, ascend_from, in_mapped, in_reverse, mapped_in, reverse_in}
 use Rattle.node_model.proofs.Filters.{filter_in, filter_passes}
-use Rattle.node_laws.proofs.Runs.{did_more, packets_more, reached_more, receipts_more, replies_more, run_more, saved_more}
+use Rattle.node_laws.proofs.Runs.{did_more, packets_more, receipts_more, replies_more, run_more, saved_more}
+use Rattle.mc_laws.proofs.Assembly.{alone_on}
 use Rattle.node_laws.proofs.Waiting.{StaysFree, agrees_waits, waits}
 
 abbrev pub settle_act : Held → Act
@@ -138,7 +139,7 @@ reached_settles : (node : ℕ) (s : Node) (held : List Held) →
 reached_settles node s [] = refl
 reached_settles node s (h ∷ held) =
     ap (reached_alone node s) (settle_first h held)
-    ∙ reached_more node s (settle_acts held) (settle_act h ∷ [])
+    ∙ alone_on node s (settle_acts held) (settle_act h ∷ [])
     ∙ reached_settles node (after_alone node s (settle_act h)) held
     ∙ sym (λ i. record {
       actor = (ap (did node s.actor) (settle_first h held) ∙ did_more node s.actor (settle_acts held) (settle_act h ∷ [])) i;

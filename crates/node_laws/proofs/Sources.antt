@@ -11,9 +11,9 @@ use Rattle.mc_model.specs.cluster.Steps.{AreSteps, Cluster, IsStep, Step, acts_i
 use Rattle.mc_model.specs.cluster.World.{Deed, World, reached, start}
 use Rattle.node_laws.specs.Clusters.{MayHappen, NodeInput, StatesFinal, cluster_outputs, kept_reached, step_at, step_outputs, world_at}
 use Rattle.node_laws.proofs.Causing.{IsBy, acts_by}
-use Rattle.node_laws.proofs.Clustered.{reached_all}
 use Rattle.node_laws.proofs.NoGrant.{deed_at, done_behind}
 use Rattle.node_laws.proofs.Orders.{in_reverse}
+use Rattle.mc_laws.proofs.Behind.{reached_on}
 use Rattle.node_laws.proofs.Stated.{receipt_act, reply_act}
 
 -- ---- lists
@@ -138,10 +138,10 @@ module _ (cluster : Cluster) where
         parts = λ other is. subst (In other) (sym cut.split) (in_older cut.newer act cut.older other is);
         newer = it.newer;
         split =
-            ap (λ (w : World). w.past) (reached_all first (by_node step.node step.acts) (acts_in before))
+            ap (λ (w : World). w.past) (reached_on first (by_node step.node step.acts) (acts_in before))
             ∙ ap (λ (acts : List Act). (reached (world_at cluster before) (by_node step.node acts)).past) cut.split
             ∙ it.split
-            ∙ ap (λ (w : World). it.newer ++ deed_at w step.node act ∷ w.past) (sym (reached_all first (by_node step.node cut.older) (acts_in before)));
+            ∙ ap (λ (w : World). it.newer ++ deed_at w step.node act ∷ w.past) (sym (reached_on first (by_node step.node cut.older) (acts_in before)));
       }
 
 -- ---- what is told is an act

@@ -27,7 +27,7 @@ use Rattle.node_model.specs.Proposer.{Prepared, Start, highest_round, is_free, l
 use Rattle.node_laws.specs.Stands.{Agrees, IsBehind, IsHighestSeen, IsMessage, IsRoundOf, WasSeen}
 use Rattle.node_laws.specs.Steps.{IsAtWork}
 use Rattle.node_laws.proofs.Messages.{each_with, listed_with}
-use Rattle.node_laws.proofs.AsideSteps.{none_due_once}
+use Rattle.mc_laws.proofs.FirstStep.{none_due_once}
 use Rattle.node_laws.proofs.Starting.{coherent_prepared, message_here, message_other, own_ballot, prepared}
 
 -- ---- a round that is due

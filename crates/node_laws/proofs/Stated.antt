@@ -8,10 +8,10 @@ use Rattle.mc_model.specs.node.Outputs.{Outputs, Receipt, Reply, receipts_in, re
 use Rattle.mc_model.specs.cluster.Fate.{States, TellsOf}
 use Rattle.mc_model.specs.cluster.Steps.{Cluster, Step, StepRun, acts_in, by_node, world_after}
 use Rattle.mc_model.specs.cluster.World.{Deed, World, reached, start}
-use Rattle.mc_laws.proofs.Behind.{run_by}
+use Rattle.mc_laws.proofs.Behind.{reached_on, run_by}
 use Rattle.mc_laws.proofs.Reached.{holds, one_fate}
 use Rattle.node_laws.specs.Clusters.{MayHappen, NodeInput, StatesFinal, cluster_outputs, step_outputs, world_at}
-use Rattle.node_laws.proofs.Clustered.{clustered, reached_all}
+use Rattle.node_laws.proofs.Clustered.{clustered}
 use Rattle.node_laws.proofs.Orders.{in_reverse, mapped_in}
 
 -- ---- what goes out is done by an act
@@ -63,7 +63,7 @@ module _ (cluster : Cluster) where
     replies_are = ap (λ (o : Outputs). o.replies) same;
     receipts_are = ap (λ (o : Outputs). o.receipts) same;
     done = λ act among.
-        subst (λ (w : World). IsDone w act) (sym (reached_all first (by_node newest.node newest.acts) (acts_in older)))
+        subst (λ (w : World). IsDone w act) (sym (reached_on first (by_node newest.node newest.acts) (acts_in older)))
         (done_in (reached first (acts_in older)) (by_node newest.node newest.acts) newest.node act (mapped_in (λ (a : Act). (newest.node, a)) newest.acts act among));
   }
   given_by (newest ∷ older) outputs (inr before) =
@@ -76,7 +76,7 @@ module _ (cluster : Cluster) where
             let done = it.done act among in
             record {
               deed = done.deed;
-              past = subst (λ (w : World). In done.deed w.past) (sym (reached_all first (by_node newest.node newest.acts) (acts_in older)))
+              past = subst (λ (w : World). In done.deed w.past) (sym (reached_on first (by_node newest.node newest.acts) (acts_in older)))
                   (past_still (reached first (acts_in older)) (by_node newest.node newest.acts) done.deed done.past);
               act_is = done.act_is;
             };

@@ -5,7 +5,7 @@ use Rattle.std.specs.Prelude.{◌==◌, ◌&&◌, filter, if◌then◌else◌, n
 use Rattle.std.specs.Bool.{Decides}
 use Rattle.std.specs.Option.{is_none}
 use Rattle.std.specs.List.Sorted.{IsStrictlyIncreasing}
-use Rattle.std.proofs.lemmas.Bool.{and_parts, eqb-false, eqb-true, true≢false}
+use Rattle.std.proofs.lemmas.Bool.{and_parts, eqb-false, eqb-true, not-true, true≢false}
 use Rattle.std.proofs.lemmas.Bool.Decides.{Decides-and, Decides-eqb, Decides-ltb}
 use Rattle.mc_model.specs.message.Ids.{IsNode}
 use Rattle.mc_model.specs.message.Submission.{Submission}
@@ -41,7 +41,7 @@ use Rattle.node_laws.specs.Steps.{IsAtWork, StepsAs}
 use Rattle.node_laws.proofs.AcceptorSteps.{member_is, member_test, stepped_is}
 use Rattle.node_laws.proofs.Answered.{known_is, settled_decides}
 use Rattle.node_laws.proofs.AsideSteps.{ignored}
-use Rattle.node_laws.proofs.Deciding.{IsCalm, calm_of, known_for, not_false}
+use Rattle.node_laws.proofs.Deciding.{IsCalm, calm_of, known_for}
 use Rattle.node_laws.proofs.Hearing.{received}
 use Rattle.node_laws.proofs.Held.{kept_as, waits_among}
 use Rattle.node_laws.proofs.Learning.{majority_decides}
@@ -338,14 +338,11 @@ module _ (setup : Setup) (k : Kept) (s : Node) (stands : Stands setup k s) (tell
     -- ---- it is settled now: its message may be deleted
 
     module _ (settling : settles setup.nodes known new0 ≡ true) where
-      new_is : new ≡ record new0 { waiting = record new0.waiting { settled = true } }
-      new_is = ap (λ (b : Bool). if b then record new0 { waiting = record new0.waiting { settled = true } } else new0) settling
-
       unsettled : h.waiting.settled ≡ false
       unsettled =
           let parts = and_parts (is_cancel h.waiting.request) (not h.waiting.settled && is_settled setup.nodes known new0) settling in
           let others = and_parts (not h.waiting.settled) (is_settled setup.nodes known new0) parts.1 in
-          not_false h.waiting.settled others.0
+          not-true h.waiting.settled others.0
 
       reached : (from : ℕ) (it : Option TopVote) → In (Tell from name it) t.actor.received → IsReached known it
       reached =

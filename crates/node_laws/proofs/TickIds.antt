@@ -116,7 +116,7 @@ asked_in (first ∷ others) ids h (inl same) =
     subst (λ (x : Held). In (id_of x) (ids_with (first ∷ others) ids)) (sym same) (in_inserted (id_of first) (ids_with others ids))
 asked_in (first ∷ others) ids h (inr later) = in_before (id_of first) (ids_with others ids) (id_of h) (asked_in others ids h later)
 
-listed_in : (id : ℕ) (es : List (ℕ × Message)) → IsSome (lookup (is_at (nat_cmp id)) es) → In id (keys_of es)
+pub listed_in : (id : ℕ) (es : List (ℕ × Message)) → IsSome (lookup (is_at (nat_cmp id)) es) → In id (keys_of es)
 listed_in id [] some = absurd (cc)
 listed_in id (e ∷ es) some = by_order (nat_cmp id e.0) refl (listed_in id es) some
   where

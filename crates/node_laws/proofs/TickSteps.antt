@@ -23,7 +23,6 @@ use Rattle.node_model.specs.Stepped.{stepped, stepped_down, stepped_up}
 use Rattle.node_model.specs.Ticks.{asked_again, ids_of, is_late, late_reply, on_tick, ruled_each}
 use Rattle.node_laws.specs.Stands.{Agrees, IsQuiet, Stands}
 use Rattle.node_laws.specs.Steps.{IsAtWork, StepsAs}
-use Rattle.node_laws.proofs.AsideSteps.{none_due, none_due_once}
 use Rattle.node_laws.proofs.AskingAgain.{ask_acts, ask_packets, ask_receipts, ask_replies, asks_due, asks_may, reached_ask}
 use Rattle.node_laws.proofs.FirstRule.{agrees_on}
 use Rattle.node_laws.proofs.LateReplies.{late_answer, late_due, late_lead, late_may, late_replies}
@@ -32,10 +31,12 @@ use Rattle.node_laws.proofs.Quiet.{quiet_with, to_settle_back}
 use Rattle.node_laws.proofs.Replied.{replies_packets, replies_receipts, reply_acts}
 use Rattle.node_laws.proofs.Ruling.{keys_of_starts, later, packet_of, packets_of_starts, prepare_of, reached_starts}
 use Rattle.node_laws.proofs.RulingAll.{RulesAll, rules_all}
-use Rattle.node_laws.proofs.Runs.{packets_more, reached_actor, reached_more, receipts_more, replies_more, run_more}
+use Rattle.node_laws.proofs.Runs.{packets_more, reached_actor, receipts_more, replies_more, run_more}
 use Rattle.node_laws.proofs.TickActs.{abandon_keys, abandon_packets, abandon_receipts, abandon_replies, reached_abandons, run_abandons, run_starts}
 use Rattle.node_laws.proofs.TickActs.{start_receipts, start_replies}
 use Rattle.node_laws.proofs.TickIds.{fits_in, ids_ascending}
+use Rattle.mc_laws.proofs.Assembly.{alone_on}
+use Rattle.mc_laws.proofs.FirstStep.{none_due, none_due_once}
 use Rattle.node_laws.proofs.Ticked.{after_late, agrees_then, kept_then, message_ticked, none_runs, waits_before}
 
 module _ (setup : Setup) (k : Kept) (s : Node) (stands : Stands setup k s) (works : IsAtWork setup s) (mine : IsNode setup.node) (moment : ℕ)
@@ -111,24 +112,24 @@ module _ (setup : Setup) (k : Kept) (s : Node) (stands : Stands setup k s) (work
 
   reached_late_is : reached_alone setup.node s (late ++ core) ≡ tick
   reached_late_is =
-      reached_more setup.node s late core
+      alone_on setup.node s late core
       ∙ late_lead risen k.held stands.agrees.waiting ascends setup.node (reached_alone setup.node s core) refl
 
   did_late_is : did setup.node s.actor (late ++ core) ≡ tick.actor
   did_late_is = sym (reached_actor setup.node s (late ++ core)) ∙ ap (λ (x : Node). x.actor) reached_late_is
 
   reached_asks_is : reached_alone setup.node s (asks ++ (late ++ core)) ≡ tick
-  reached_asks_is = reached_more setup.node s asks (late ++ core) ∙ reached_ask setup.node (reached_alone setup.node s (late ++ core)) untold ∙ reached_late_is
+  reached_asks_is = alone_on setup.node s asks (late ++ core) ∙ reached_ask setup.node (reached_alone setup.node s (late ++ core)) untold ∙ reached_late_is
 
   reached_abandons_is : reached_alone setup.node s (abandons ++ (asks ++ (late ++ core))) ≡ later setup tick slots []
   reached_abandons_is =
-      reached_more setup.node s abandons (asks ++ (late ++ core))
+      alone_on setup.node s abandons (asks ++ (late ++ core))
       ∙ ap (λ (x : Node). reached_alone setup.node x abandons) reached_asks_is
       ∙ reached_abandons setup tick slots
 
   reached_all_is : reached_alone setup.node s (prepares ++ (abandons ++ (asks ++ (late ++ core)))) ≡ later setup tick (slots ++ []) (offers ++ [])
   reached_all_is =
-      reached_more setup.node s prepares (abandons ++ (asks ++ (late ++ core)))
+      alone_on setup.node s prepares (abandons ++ (asks ++ (late ++ core)))
       ∙ ap (λ (x : Node). reached_alone setup.node x prepares) reached_abandons_is
       ∙ reached_starts setup tick offers slots []
       ∙ (λ i. later setup tick (sym (append-nil slots) i) (offers ++ []))

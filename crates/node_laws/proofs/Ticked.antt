@@ -119,9 +119,6 @@ module _ (setup : Setup) (k : Kept) (s : Node) (agrees : Agrees setup k s) (mome
   same_clock : max k.clock moment ≡ now
   same_clock = ap (λ (c : ℕ). max c moment) agrees.clock
 
-  same_stays : (h : Held) → not (is_late (max k.clock moment) h) ≡ stays h
-  same_stays h = ap (λ (c : ℕ). not (is_late c h)) same_clock
-
   pub held_is : filter (λ h. not (is_late (max k.clock moment) h)) k.held ≡ filter stays k.held
   held_is = ap (λ (c : ℕ). filter (λ h. not (is_late c h)) k.held) same_clock
 

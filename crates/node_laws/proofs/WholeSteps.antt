@@ -19,13 +19,13 @@ use Rattle.node_laws.specs.Stands.{Stands}
 use Rattle.node_laws.specs.Steps.{IsAtWork, StepsAs}
 use Rattle.node_laws.proofs.AnyPacket.{packet_steps}
 use Rattle.node_laws.proofs.Crashing.{crash_steps}
-use Rattle.node_laws.proofs.Runs.{reached_more}
 use Rattle.node_laws.proofs.ArrivalSteps.{arrival_steps}
 use Rattle.node_laws.proofs.AsideSteps.{refusal_steps}
 use Rattle.node_laws.proofs.Granting.{grant_steps}
 use Rattle.node_laws.proofs.Judging.{Judged, grant_judged}
 use Rattle.node_laws.proofs.Opening.{restart_steps}
 use Rattle.node_laws.proofs.Responding.{response_steps}
+use Rattle.mc_laws.proofs.Assembly.{alone_on}
 use Rattle.node_laws.proofs.TickSteps.{tick_steps}
 
 module _ (setup : Setup) (one : IsOneOf setup) where
@@ -101,7 +101,7 @@ module _ (setup : Setup) (one : IsOneOf setup) where
 
   reached_by : (s : Node) (step : OwnStep) (older : List OwnStep) →
       reached_alone setup.node (reached_alone setup.node s (own_acts older)) step.acts ≡ reached_alone setup.node s (own_acts (step ∷ older))
-  reached_by s step older = sym (reached_more setup.node s step.acts (own_acts older))
+  reached_by s step older = sym (alone_on setup.node s step.acts (own_acts older))
 
   pub whole_runs : (first : Kept) (s : Node) → Stands setup first s → (inputs : List Input) → MayAllCome setup first inputs → RunsAs setup first s inputs
   whole_runs first s stands [] come = record {

@@ -7,3 +7,4 @@ pub mod Filters
 pub mod Recorded
 pub mod Keys
 pub mod Stops
+pub mod Decisions

@@ -1,5 +1,5 @@
 -- What is kept of a message, once something else is kept of one.
-use Rattle.std.proofs.Common.{◌≡◌, ℕ, false, cond, List, [], ◌∷◌, Option, Some, refl, ap, arith}
+use Rattle.std.proofs.Common.{◌≡◌, ℕ, false, cond, List, [], ◌∷◌, Option, Some, refl, ap, arith, get_or, inl, inr}
 use Rattle.std.specs.Map.{lookup}
 use Rattle.std.specs.Ordering.{is_eq, nat_cmp, match_ordering}
 use Rattle.std.specs.declared.cmp.Ordering.{Ordering}
@@ -7,7 +7,9 @@ use Rattle.std.specs.declared.cmp.Ordering.TheVariants.{Less, Equal, Greater}
 use Rattle.std.specs.BTreeMap.{insert_entry, is_at}
 use Rattle.std.specs.Option.{unwrap_or}
 use Rattle.std.proofs.lemmas.Bool.Decides.{nat_tests}
-use Rattle.node_model.specs.Message.{Message, unseen}
+use Rattle.std.proofs.lemmas.Bool.{cases_lt}
+use Rattle.std.proofs.lemmas.List.{get_or-replicate, get_or_past}
+use Rattle.node_model.specs.Message.{Message, most_places, unseen}
 use Rattle.node_model.specs.Kept.{Kept, message_at, with_message}
 
 module _ {V : Type 0} (key : ℕ) (value : V) where
@@ -48,3 +50,10 @@ message_here k id m = ap (λ (o : Option Message). unwrap_or o unseen) (here id 
 
 pub message_elsewhere : (k : Kept) (id other : ℕ) (m : Message) → (other ≡ id → ⊥) → message_at (with_message k id m) other ≡ message_at k other
 message_elsewhere k id other m apart = ap (λ (o : Option Message). unwrap_or o unseen) (elsewhere id m other apart k.messages)
+
+-- no round was tried at any place
+pub zeros : (place : ℕ) → get_or unseen.seen place 0 ≡ 0
+zeros place = elim (cases_lt place most_places) [
+  | inl within ↦ get_or-replicate most_places place 0 0 within
+  | inr past ↦ get_or_past unseen.seen place 0 past
+]

@@ -26,7 +26,8 @@ either : (test : Bool) (one other : Stepped) (records : Records) → Leaves one 
 either true one other records first second = first
 either false one other records first second = second
 
-started_leaves : (setup : Setup) (k : Kept) (id : ℕ) (start : Option Start) → (started setup k id start).kept.records ≡ k.records
+-- a round that starts leaves the records
+pub started_leaves : (setup : Setup) (k : Kept) (id : ℕ) (start : Option Start) → (started setup k id start).kept.records ≡ k.records
 started_leaves setup k id None = refl
 started_leaves setup k id (Some start) = by_test (is_free k (slot_at id start.place)) _ refl
   where

@@ -61,19 +61,6 @@ told_is records id placed = by_told (told_of records id) (told_is_below records 
       highest = λ place vote voted. before.highest place vote (placed (slot_at id place) vote voted) voted;
     }
 
--- nothing else is told
-pub told_only : (records : Records) (id : ℕ) (one other : Option TopVote) → IsTold records id one → IsTold records id other → one ≡ other
-told_only records id None None is also = refl
-told_only records id None (Some other) is also =
-    let both : Some other.vote ≡ None = sym also.voted ∙ is other.place in absurd (cc)
-told_only records id (Some one) None is also =
-    let both : Some one.vote ≡ None = sym is.voted ∙ also one.place in absurd (cc)
-told_only records id (Some one) (Some other) is also =
-    let places : one.place ≡ other.place = omega (arith, is.highest other.place other.vote also.voted, also.highest one.place one.vote is.voted) in
-    let both : Some one.vote ≡ Some other.vote = sym is.voted ∙ (ap (λ (place : ℕ). (records (slot_at id place)).vote) places ∙ also.voted) in
-    let votes : one.vote ≡ other.vote = cc in
-    λ i. Some (record { id = (is.about ∙ sym also.about) i; place = places i; vote = votes i })
-
 -- a record is changed
 pub placed_with : (old new : Records) (slot : Slot) (r : SlotRecord) → ArePlaced old → (r.vote ≡ None) ⊎ (slot.place < most_places) →
     ((other : Slot) → new other ≡ with_record old slot r other) → ArePlaced new

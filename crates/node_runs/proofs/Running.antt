@@ -1,5 +1,5 @@
 -- A run of a node of the code is a run of one actor.
-use Rattle.std.proofs.Common.{◌≡◌, ℕ, suc, ◌+◌, ◌<◌, ◌≤◌, Bool, true, false, List, [], ◌∷◌, ◌++◌, refl, sym, ap, subst, ◌∙◌, inl, arith}
+use Rattle.std.proofs.Common.{◌≡◌, ℕ, suc, ◌+◌, ◌<◌, ◌≤◌, Bool, true, false, List, [], ◌∷◌, ◌++◌, refl, sym, ap, subst, ◌∙◌, inl}
 use Rattle.std.specs.Prelude.{if◌then◌else◌}
 use Rattle.std.proofs.Math.Path.{fun_ext}
 use Rattle.mc_model.specs.synod.Lists.{In}
@@ -13,7 +13,7 @@ use Rattle.node_model.specs.Kept.{Kept}
 use Rattle.node_model.specs.Outputs.{Stepped, leaves, nothing}
 use Rattle.node_model.specs.Stepped.{opened_new, opened_over, restarted, stepped, stopped}
 use Rattle.node_model.proofs.Stops.{saved_so}
-use Rattle.node_laws.specs.Runs.{IsOneOf, IsUpFor, MayAllCome, MayCome, RunsAs, kept_after, kept_outputs}
+use Rattle.node_laws.specs.Runs.{IsOneOf, IsUpFor, MayAllCome, MayCome, kept_after, kept_outputs}
 use Rattle.node_laws.proofs.Opening.{new_stands}
 use Rattle.node_laws.proofs.WholeSteps.{whole_runs}
 use Rattle.stable_store.specs.Stored.{AreSame}
@@ -26,7 +26,7 @@ use Rattle.node_core.specs.Nodes.{HasOpened, Standing}
 use Rattle.node_core.specs.Restarts.{next_life}
 use Rattle.node_core.specs.Steps.{input_of}
 use Rattle.node_core.proofs.Restarts.{as_restarted, crash_is, stop_lists}
-use Rattle.node_runs.specs.Runs.{Event, Happens, HasStarted, IsRun, IsRunOfOne, IsWorking, OpensNew, Starts, Stops, Takes, given_by, given_in, inputs_by, inputs_in, last_in, last_incarnation, stored_after}
+use Rattle.node_runs.specs.Runs.{Event, Happens, IsRun, IsRunOfOne, OpensNew, Starts, Stops, Takes, given_by, given_in, inputs_by, inputs_in, last_in, last_incarnation, stored_after}
 
 -- ---- a node that opens with a new store
 
@@ -49,7 +49,7 @@ record IsAt {S : Type 0} (setup : Setup) (node : Standing S) (inputs : List Inpu
   pub may : MayAllCome setup (opened_new setup) inputs
 
 -- to a node that is up anything may come
-up_for : (k : Kept) (input : Input) → k.up ≡ true → IsUpFor k input
+pub up_for : (k : Kept) (input : Input) → k.up ≡ true → IsUpFor k input
 up_for k (Restart lost) up = tt
 up_for k (Delivery packet) up = up
 up_for k (Crash packet behind) up = up

@@ -2,7 +2,7 @@
 use Rattle.std.proofs.Common.{◌≡◌, ℕ, zero, suc, ◌+◌, ◌-◌, ◌^◌, ◌<◌, ◌≤◌, Bool, true, false, cond, eqb, ltb, not, ◌||◌, List, [], ◌∷◌, ◌++◌, length, take, drop, Option, Some, None, IfOk, Result, Ok, Err, refl, sym, ap, subst, ◌∙◌, arith, length-take, length-drop}
 use Rattle.std.specs.List.{find}
 use Rattle.std.specs.Int.{w32, to_be_bytes}
-use Rattle.std.proofs.lemmas.Bool.{eqb-true, ltb-true, ltb-false}
+use Rattle.std.proofs.lemmas.Bool.{eqb-true, ltb-true, ltb-false, or_parts, not-false}
 use Rattle.std.proofs.lemmas.List.{take_all, get_or-take, get_or_past}
 use Rattle.std.proofs.lemmas.Nat.{be_bytes_4, from_be_bytes-to_be_bytes_4}
 use Rattle.pdu_tables.specs.declared.command.Command.{Command}
@@ -175,14 +175,6 @@ header_and_rest : (octets : List ℕ) → 16 ≤ length octets → octets ≡ ta
 header_and_rest (a ∷ b ∷ c ∷ d ∷ e ∷ f ∷ g ∷ h ∷ i ∷ j ∷ k ∷ l ∷ m ∷ n ∷ o ∷ p ∷ rest) long = refl
 header_and_rest other long = absurd (omega arith)
 
-or_false : (a b : Bool) → (a || b) ≡ false → (a ≡ false) × (b ≡ false)
-or_false true b e = absurd cc
-or_false false b e = (refl, e)
-
-not_false : (a : Bool) → not a ≡ false → a ≡ true
-not_false true e = refl
-not_false false e = absurd cc
-
 -- ---- whole PDUs
 
 pub record TakesPdu (octets : List ℕ) (pdu : Pdu) : Type 0 where
@@ -194,9 +186,9 @@ unfolding read_pdu octets_of framed
 read_pdu-takes octets pdu are e =
     let command = command_of (word_at 4 octets) in
     let g = guard_ok (has_wrong_length octets) faults.Length (body_at command (drop 16 octets) >>= λ b. Ok (with_body octets b)) pdu e in
-    let lengths = or_false (ltb (length octets) 16 || ltb 8192 (length octets)) (not (eqb (word_at 0 octets) (length octets))) g.0 in
-    let long : 16 ≤ length octets = ltb-false _ _ (or_false (ltb (length octets) 16) (ltb 8192 (length octets)) lengths.0).0 in
-    let length_is : word_at 0 octets ≡ length octets = eqb-true _ _ (not_false (eqb (word_at 0 octets) (length octets)) lengths.1) in
+    let lengths = or_parts (ltb (length octets) 16 || ltb 8192 (length octets)) (not (eqb (word_at 0 octets) (length octets))) g.0 in
+    let long : 16 ≤ length octets = ltb-false _ _ (or_parts (ltb (length octets) 16) (ltb 8192 (length octets)) lengths.0).0 in
+    let length_is : word_at 0 octets ≡ length octets = eqb-true _ _ (not-false (eqb (word_at 0 octets) (length octets)) lengths.1) in
     let a = bind_ok (body_at command (drop 16 octets)) (λ b. Ok (with_body octets b)) pdu g.1 in
     let taken = body_takes command (drop 16 octets) a.0 (IsOctets-drop 16 octets are) a.1 in
     let code_is : word_at 4 octets ≡ command_code (command_in a.0) = sym (code-of_command (word_at 4 octets) (command_in a.0) taken.command_is) in

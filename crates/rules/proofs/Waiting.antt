@@ -12,6 +12,7 @@ use Rattle.mc_model.specs.message.Chain.{MayExtend, attempts_in, error_by, error
 use Rattle.mc_model.specs.node.FirstRule.{Expire, Try, Undeliver}
 use Rattle.node_model.specs.Starts.{is_idle, moment_behind, start_behind}
 use Rattle.node_model.specs.Rules.{Fitting, fitting, if_so, is_attempt_by, tried, undelivered}
+use Rattle.node_model.proofs.Decisions.{nat_le_decides}
 use Rattle.fate_chain.specs.Kinds.{author_of}
 use Rattle.delivery.specs.Due.{IsDue, IsIdleKind, MayBeDue, kind_due}
 use Rattle.delivery.specs.declared.due_decree.DueDecree.{DueDecree}
@@ -21,9 +22,6 @@ use Rattle.rules.specs.declared.standpoint.Standpoint.{Standpoint}
 use Rattle.rules.specs.declared.attempted.Attempted.{Attempted}
 use Rattle.rules.specs.Dues.{IsDueBehind, MayBeDue as IsPossible, decree_for, fitting_for, own_rule}
 use Rattle.rules.specs.Standpoints.{kept_of, setup_of}
-
-most_decides : (a b : ℕ) → Decides (nat_le a b) (a ≤ b)
-most_decides a b = ((λ t. grind (arith, nat_tests)), (λ most. grind (arith, nat_tests)))
 
 nothing_either : (holds : Bool) → if_so holds None ≡ None
 nothing_either true = refl
@@ -87,7 +85,7 @@ module _ (s : Standpoint) (taken : Submission) (newest : Decree) (older : List D
   is_first = nat_le taken.schedule now && nat_lt now taken.expiry
 
   first_decides : Decides is_first ((taken.schedule ≤ now) × (now < taken.expiry))
-  first_decides = Decides-and (nat_le taken.schedule now) (nat_lt now taken.expiry) (most_decides taken.schedule now) (Decides-ltb now taken.expiry)
+  first_decides = Decides-and (nat_le taken.schedule now) (nat_lt now taken.expiry) (nat_le_decides taken.schedule now) (Decides-ltb now taken.expiry)
 
   behind_taking : (of : Submission) → newest.kind ≡ Taken of → (e t u : Bool) → nat_le taken.expiry now ≡ e → is_first ≡ t → up ≡ u →
       (due : Option DueDecree) → IsDue (newest ∷ older) now up due → option_map fit due ≡ answer (Taken of)
@@ -126,7 +124,7 @@ module _ (s : Standpoint) (taken : Submission) (newest : Decree) (older : List D
   next_decides =
       Decides-and (nat_lt attempts most_attempts) (nat_lt now taken.expiry && nat_le (newest.moment + retry_delay * attempts) now) (Decides-ltb attempts most_attempts)
       (Decides-and (nat_lt now taken.expiry) (nat_le (newest.moment + retry_delay * attempts) now) (Decides-ltb now taken.expiry)
-      (most_decides (newest.moment + retry_delay * attempts) now))
+      (nat_le_decides (newest.moment + retry_delay * attempts) now))
 
   error_is : (cause : ℕ) → newest.kind ≡ Failed cause → error ≡ cause
   error_is cause is = ap (λ (k : Kind). error_by k (error_in older)) is
@@ -207,14 +205,6 @@ idle_may s (first ∷ older) newest up due head is =
     let one : newest ≡ first = let heads : Some first ≡ Some newest = head in cc in
     subst (λ (n : Decree). MayExtend (taken_in (first ∷ older)) (first ∷ older) (decree_for s n (error_in (first ∷ older)) (dues.Decree due))) one
     (is.fits.0.may (author_of s.author))
-
--- it is not to be deleted if it does not wait, or if no cancel_sm does
-pub waits_not : (waits cancelled : Bool) → waits ≡ false → (waits && cancelled) ≡ false
-waits_not waits cancelled idle = rw (idle) refl
-
-pub cancelled_not : (waits cancelled : Bool) → cancelled ≡ false → (waits && cancelled) ≡ false
-cancelled_not true cancelled none = none
-cancelled_not false cancelled none = refl
 
 -- what is due is what was found, at the moment and for the target that were looked at
 pub due_found : (decrees : List Decree) (looked now : ℕ) (seen up : Bool) (found due : Option DueDecree) → looked ≡ now → seen ≡ up → found ≡ due →

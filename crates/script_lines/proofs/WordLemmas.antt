@@ -7,7 +7,7 @@ use Rattle.std.specs.Char.{is_ascii_digit, is_ascii_hexdigit}
 use Rattle.std.specs.Int.{is_in_range}
 use Rattle.std.specs.Str.{all_ascii_digits}
 use Rattle.std.specs.Str.Parse.{ParsesUnsigned, digits_value}
-use Rattle.std.proofs.lemmas.Bool.{and_parts, cases_lt, lt-ltb, le-leb, le-ltb, lt-leb, ltb-true}
+use Rattle.std.proofs.lemmas.Bool.{and_parts, cases_lt, lt-ltb, le-leb, le-ltb, lt-leb, ltb-true, not-true}
 use Rattle.std.proofs.lemmas.Bool.Decides.{nat_tests}
 use Rattle.std.proofs.lemmas.List.Elements.{All-from_get_or, All-weaker}
 use Rattle.std.proofs.lemmas.List.Folds.{list_all_at}
@@ -163,15 +163,11 @@ pub record Numeral (word : List ℕ) : Type 0 where
   pub plain : has_leading_zero word ≡ false
   pub digits : all_ascii_digits word ≡ true
 
-plain_if : (zero_first : Bool) → not zero_first ≡ true → zero_first ≡ false
-plain_if true e = absurd cc
-plain_if false e = refl
-
 pub Numeral-from_test : (word : List ℕ) → is_numeral word ≡ true → Numeral word
 Numeral-from_test word e =
     let parts = and_parts _ _ e in
     let front = and_parts _ _ parts.0 in
-    record { some = ltb-true _ _ front.0; plain = plain_if _ front.1; digits = all_digits word ∙ parts.1 }
+    record { some = ltb-true _ _ front.0; plain = not-true _ front.1; digits = all_digits word ∙ parts.1 }
 
 pub test-from_Numeral : (word : List ℕ) → Numeral word → is_numeral word ≡ true
 test-from_Numeral word h = rw (lt-ltb 0 (length word) h.some, h.plain, sym (all_digits word) ∙ h.digits) refl

@@ -1,10 +1,10 @@
 -- Which packets came to which nodes: a packet comes to one more.
-use Rattle.std.proofs.Common.{◌≡◌, ◌⊎◌, ℕ, zero, suc, ◌+◌, ◌-◌, ◌<◌, ◌≤◌, Bool, true, false, List, [], ◌∷◌, ◌++◌, get_or, length, set, Option, Some, None, refl, sym, ap, subst, ◌∙◌, inl, inr, eq-or-lt_of_le, arith, length-append}
-use Rattle.std.proofs.lemmas.Bool.{eq-eqb, eqb-false, eqb-true, ne_eqb}
+use Rattle.std.proofs.Common.{◌≡◌, ℕ, zero, suc, ◌+◌, ◌-◌, ◌<◌, ◌≤◌, Bool, true, false, List, [], ◌∷◌, ◌++◌, length, set, Option, Some, None, refl, sym, ap, ◌∙◌, arith, length-append}
+use Rattle.std.proofs.lemmas.Bool.{eq-eqb, eqb-false, eqb-true, ne_eqb, or_right}
 use Rattle.std.specs.Prelude.{pred, ◌==◌, ◌&&◌, ◌||◌, slice_get, slice_index_or, slice_set}
 use Rattle.mc_types.specs.Nodes.{has}
 use Rattle.sim_net.specs.Network.{numbered}
-use Rattle.script_runner.specs.Arrivals.{AreMarked, Came, HaveCome, is_among}
+use Rattle.script_runner.specs.Arrivals.{AreMarked, Came, is_among}
 use Rattle.script_runner.specs.Arrivals.{came_in as came_by}
 
 abbrev came_in : List ℕ → ℕ → ℕ → Bool
@@ -13,10 +13,6 @@ came_in sets number node = is_among (numbered sets number) node
 none_at : (place : ℕ) → slice_get {X = ℕ} [] place ≡ None
 none_at zero = refl
 none_at (suc place) = refl
-
-pub none_came : (sets : List ℕ) (number node : ℕ) → sets ≡ [] → came_in sets number node ≡ false
-none_came sets zero node none = refl
-none_came sets (suc place) node none = ap (λ (found : Option ℕ). is_among found node) (ap (λ (ns : List ℕ). slice_get ns place) none ∙ none_at place)
 
 -- ---- a place more
 
@@ -87,46 +83,13 @@ one_came sets place was now node (suc k) at found is =
 
 -- ---- the packets up to a mark
 
-or_true : (one other : Bool) → other ≡ true → (one || other) ≡ true
-or_true true other is = refl
-or_true false other is = is
-
 pub still_marked : (sets : List ℕ) (place was now node : ℕ) (marks : List ℕ) → slice_get sets place ≡ Some was →
     ((other : ℕ) → has now other ≡ (has was other || other == node)) → AreMarked sets marks → AreMarked (slice_set sets place now) marks
 still_marked sets place was now node marks found is marked at first number least most =
-    one_came sets place was now node number at found is ∙ or_true (number == suc place && at == node) (came_in sets number at) (marked at first number least most)
+    one_came sets place was now node number at found is ∙ or_right (number == suc place && at == node) (came_in sets number at) (marked at first number least most)
 
 pub longer_marked : (sets : List ℕ) (empty : ℕ) (marks : List ℕ) → ((node : ℕ) → has empty node ≡ false) → AreMarked sets marks → AreMarked (sets ++ empty ∷ []) marks
 longer_marked sets empty marks none marked at first number least most = one_more sets empty number at (none at) ∙ marked at first number least most
-
-pub mark_more : (sets : List ℕ) (node mark set : ℕ) → slice_get sets mark ≡ Some set → has set node ≡ true → HaveCome sets node mark → HaveCome sets node (mark + 1)
-mark_more sets node mark set found has_it come number least most = elim (eq-or-lt_of_le {n = number} {m = mark + 1} most) [
-  | inl same ↦
-      let next : number ≡ suc mark = omega (arith, same) in
-      ap (λ (n : ℕ). came_in sets n node) next ∙ ap (λ (s : Option ℕ). is_among s node) found ∙ has_it
-  | inr before ↦ come number least (omega (arith, before))
-]
-
--- one mark moves
-pub one_marked : (sets marks : List ℕ) (node mark : ℕ) → 1 ≤ node → HaveCome sets node mark → AreMarked sets marks → AreMarked sets (set marks (node - 1) mark)
-one_marked sets marks node mark first come marked at least = by_place (at - 1) refl
-  where
-    this : (place : ℕ) → at - 1 ≡ place → place ≡ node - 1 → at ≡ node
-    this place is same = omega (arith, is, same, first, least)
-
-    -- what stands at a place once one is set
-    by_set : (xs : List ℕ) (k place x : ℕ) → (get_or (set xs k x) place 0 ≡ get_or xs place 0) ⊎ ((place ≡ k) × (get_or (set xs k x) place 0 ≡ x))
-    by_set [] k place x = inl refl
-    by_set (y ∷ xs) zero zero x = inr (refl, refl)
-    by_set (y ∷ xs) zero (suc place) x = inl refl
-    by_set (y ∷ xs) (suc k) zero x = inl refl
-    by_set (y ∷ xs) (suc k) (suc place) x = elim (by_set xs k place x) [ inl other ↦ inl other | inr same ↦ inr (ap suc same.0, same.1) ]
-
-    by_place : (place : ℕ) → at - 1 ≡ place → HaveCome sets at (get_or (set marks (node - 1) mark) (at - 1) 0)
-    by_place place is = elim (by_set marks (node - 1) (at - 1) mark) [
-      | inl other ↦ subst (HaveCome sets at) (sym other) (marked at least)
-      | inr same ↦ subst (HaveCome sets at) (sym same.1) (subst (λ (n : ℕ). HaveCome sets n mark) (sym (this (at - 1) refl same.0)) come)
-    ]
 
 -- ---- while places are made
 

@@ -1,9 +1,8 @@
 -- A packet comes to a node of the centre, which takes it or stops, and a node starts anew.
-use Rattle.std.proofs.Common.{◌≡◌, ℕ, zero, suc, ◌-◌, ◌<◌, ◌≤◌, Bool, true, false, List, [], ◌∷◌, ◌++◌, get_or, length, map, Option, Some, None, Result, Ok, Err, refl, sym, ap, subst, ◌∙◌, arith}
+use Rattle.std.proofs.Common.{◌≡◌, ℕ, zero, suc, ◌-◌, ◌<◌, ◌≤◌, Bool, true, false, List, [], ◌∷◌, ◌++◌, get_or, length, map, Option, Some, Result, Ok, Err, refl, sym, ap, subst, ◌∙◌, arith}
 use Rattle.std.specs.Prelude.{◌==◌, ◌&&◌, ◌||◌, OnOk, option_map, pred, slice_get, slice_set}
 use Rattle.std.specs.List.{insert, remove}
 use Rattle.std.specs.declared.alloc.AllocError.{AllocError}
-use Rattle.std.proofs.lemmas.List.{append-nil}
 use Rattle.mc_model.specs.synod.Packet.{Packet}
 use Rattle.sim_net.specs.Network.{numbered}
 use Rattle.synod_acceptor.specs.Packets.{packet_of as packet_by}
@@ -11,13 +10,13 @@ use Rattle.synod_acceptor.specs.declared.packet.Packet.{Packet as Sent}
 use Rattle.script_site.specs.Sites.{comes_to}
 use Rattle.script_text.specs.Prints.{declined_line}
 use Rattle.script_text.specs.Runner.{Acted, Runner, on_delivery, on_restart}
-use Rattle.script_world.specs.World.{World, acts, comes, comes_if, crashed, crashes, crashes_if, is_down, marked, no_packet, packet_of, restarts, restarts_if, runner_at, shared}
+use Rattle.script_world.specs.World.{World, acts, comes, comes_if, crashed, crashes, crashes_if, is_down, marked, packet_of, restarts, restarts_if, runner_at, shared}
 use Rattle.script_runner.specs.Arrivals.{Came, came_in}
 use Rattle.script_runner.specs.Centres.{Does, HasShared, IsMoved, IsWorld}
-use Rattle.script_runner.specs.Stations.{ActsAt, ActsIf, Begins, HasActed, HasStopped, is_up}
+use Rattle.script_runner.specs.Stations.{ActsAt, Begins, HasActed, HasStopped, is_up}
 use Rattle.script_runner.specs.declared.centre.Centre.{Centre}
 use Rattle.script_runner.specs.declared.station.Station.{Station}
-use Rattle.script_runner.proofs.Moving.{absent_moved, acts_moved, but_there, found_too, if_up_moved, none_too, number_is, refused_moved, set_there, shared_moved, stood_at}
+use Rattle.script_runner.proofs.Moving.{acted_if, acts_moved, but_there, found_too, if_up_moved, number_is, refused_moved, set_there, shared_moved, stood_at}
 
 -- ---- packets by their numbers
 
@@ -36,12 +35,6 @@ packet_in old w number found world is =
     ap (λ (ps : List Packet). packet_of ps number) (sym world.packets) ∙ packet_at old.packets.sent number ∙ ap (option_map packet_by) (sym is)
 
 -- ---- places
-
-past_end : {A : Type 0} (xs : List A) (place : ℕ) → length xs ≤ place → slice_get xs place ≡ None
-past_end [] zero past = refl
-past_end [] (suc place) past = refl
-past_end (x ∷ xs) zero past = absurd (omega (arith, past))
-past_end (x ∷ xs) (suc place) past = past_end xs place (omega (arith, past))
 
 -- what is put back where it was taken from
 put_back : {A : Type 0} (xs : List A) (place : ℕ) (x : A) → place < length xs → insert (remove xs place) place x ≡ slice_set xs place x
@@ -68,21 +61,6 @@ ups_kept_if (Ok done) old mid new k station left inside is up set has =
 
 -- ---- a packet comes
 
-pub unsent_does_if : (r : Result (Unit {0}) AllocError) (old : Centre) (node number : ℕ) (before after : List ℕ) → None ≡ numbered old.packets.sent number →
-    OnOk r (after ≡ before ++ declined_line no_packet) → OnOk r (Does (λ w. comes w number node) old old before after)
-unsent_does_if (Err fault) old node number before after none wrote = tt
-unsent_does_if (Ok done) old node number before after none wrote =
-    λ w world.
-    subst (λ (found : Option Packet). IsMoved (comes_if w number node found) old before after) (sym (packet_in old w number None world none))
-    (refused_moved old w no_packet before after world wrote)
-
-pub absent_does : (old : Centre) (node k number : ℕ) (packet : Sent) (before : List ℕ) → Some packet ≡ numbered old.packets.sent number → k ≡ node → 1 ≤ node →
-    length old.stations.items ≤ k - 1 → Does (λ w. comes w number node) old old before before
-absent_does old node k number packet before found same least past w world =
-    subst (λ (sent : Option Packet). IsMoved (comes_if w number node sent) old before before) (sym (packet_in old w number (Some packet) world found))
-    (absent_moved old w node (k - 1) (λ runner. shared (marked w number node) node (on_delivery runner (packet_by packet) [])) before (number_is node k same least) world
-    (past_end old.stations.items (k - 1) past))
-
 pub down_does_if : (r : Result (Unit {0}) AllocError) (old : Centre) (node k number : ℕ) (packet : Sent) (station : Station) (before after : List ℕ) → Some packet ≡ numbered old.packets.sent number →
     k ≡ node → 1 ≤ node → k - 1 < length old.stations.items → station ≡ get_or old.stations.items (k - 1) station → is_up station ≡ false →
     OnOk r (after ≡ before ++ declined_line is_down) → OnOk r (Does (λ w. comes w number node) old old before after)
@@ -97,11 +75,6 @@ down_does_if (Ok done) old node k number packet station before after found same 
     (λ up. absurd (let clash : true ≡ false = sym up ∙ stands.up ∙ down in cc))
     (λ is_so. refused_moved old w is_down before after world wrote))
 
-acted_up : (b : Bool) (node : ℕ) (act : Runner → Acted) (runner : Runner) (left : Station) (before after : List ℕ) → ActsIf b node act runner left before after → b ≡ true →
-    HasActed node (act runner) left before after
-acted_up true node act runner left before after acts is = acts
-acted_up false node act runner left before after acts is = absurd cc
-
 pub comes_does_if : (r : Result (Unit {0}) AllocError) (old mid new : Centre) (node k number : ℕ) (packet : Sent) (station left : Station) (before after : List ℕ) →
     Some packet ≡ numbered old.packets.sent number → k ≡ node → 1 ≤ node → k - 1 < length old.stations.items → station ≡ get_or old.stations.items (k - 1) station → is_up station ≡ true →
     ((other at : ℕ) → came_in mid.arrivals other at ≡ ((other == number && at == node) || came_in old.arrivals other at)) →
@@ -115,7 +88,7 @@ comes_does_if (Ok done) old mid new node k number packet station left before aft
     let there = found_too old.stations.items w.runners (k - 1) station world.nodes stood in
     let runner = there.0 in
     let stands = world.each (k - 1) station runner stood there.1 in
-    let did_so = acted_up (is_up station) node (λ r. comes_to r (packet_by packet)) runner left before after (did runner stands.like) up in
+    let did_so = acted_if (is_up station) node (λ r. comes_to r (packet_by packet)) runner left before after (did runner stands.like) up in
     let delivered : HasActed node (on_delivery runner (packet_by packet) []) left before after =
     subst (λ (others : List Packet). HasActed node (on_delivery runner (packet_by packet) others) left before after) stands.taken did_so in
     let there_now = subst (λ (ss : List Station). slice_get ss (k - 1) ≡ Some left) (sym set) (set_there old.stations.items (k - 1) left inside) in
@@ -129,21 +102,6 @@ comes_does_if (Ok done) old mid new node k number packet station left before aft
     (λ is_not. absurd (let clash : true ≡ false = sym up ∙ sym stands.up ∙ is_not in cc)))
 
 -- ---- a node stops
-
-pub unsent_crash_if : (r : Result (Unit {0}) AllocError) (old : Centre) (node number : ℕ) (behind : Bool) (before after : List ℕ) → None ≡ numbered old.packets.sent number →
-    OnOk r (after ≡ before ++ declined_line no_packet) → OnOk r (Does (λ w. crashes w node number behind) old old before after)
-unsent_crash_if (Err fault) old node number behind before after none wrote = tt
-unsent_crash_if (Ok done) old node number behind before after none wrote =
-    λ w world.
-    subst (λ (found : Option Packet). IsMoved (crashes_if w node behind found) old before after) (sym (packet_in old w number None world none))
-    (refused_moved old w no_packet before after world wrote)
-
-pub absent_crash : (old : Centre) (node k number : ℕ) (behind : Bool) (packet : Sent) (before : List ℕ) → Some packet ≡ numbered old.packets.sent number → k ≡ node → 1 ≤ node →
-    length old.stations.items ≤ k - 1 → Does (λ w. crashes w node number behind) old old before before
-absent_crash old node k number behind packet before found same least past w world =
-    subst (λ (sent : Option Packet). IsMoved (crashes_if w node behind sent) old before before) (sym (packet_in old w number (Some packet) world found))
-    (absent_moved old w node (k - 1) (λ runner. shared w node (crashed (packet_by packet) behind runner)) before (number_is node k same least) world
-    (past_end old.stations.items (k - 1) past))
 
 pub crash_does_if : (r : Result (Unit {0}) AllocError) (old mid new : Centre) (node k number : ℕ) (behind : Bool) (packet : Sent) (station left : Station) (before after : List ℕ) →
     Some packet ≡ numbered old.packets.sent number → k ≡ node → 1 ≤ node → k - 1 < length old.stations.items → station ≡ get_or old.stations.items (k - 1) station →
@@ -159,13 +117,6 @@ crash_does_if (Ok done) old mid new node k number behind packet station left bef
     stops set there_now packets arrivals has)
 
 -- ---- a node starts anew
-
-pub absent_restart : (old : Centre) (node k : ℕ) (before : List ℕ) → k ≡ node → 1 ≤ node → length old.stations.items ≤ k - 1 → Does (λ w. restarts w node) old old before before
-absent_restart old node k before same least past w world =
-    let nobody : runner_at w node ≡ None =
-    ap (λ (n : ℕ). slice_get w.runners (pred n)) (number_is node k same least)
-    ∙ none_too old.stations.items w.runners (k - 1) world.nodes (past_end old.stations.items (k - 1) past) in
-    subst (λ (found : Option Runner). IsMoved (restarts_if w node found) old before before) (sym nobody) (record { next = world; text = sym (append-nil before) })
 
 pub restart_does_if : (r : Result (Unit {0}) AllocError) (old mid new : Centre) (node k : ℕ) (station left : Station) (before after : List ℕ) →
     k ≡ node → 1 ≤ node → k - 1 < length old.stations.items → station ≡ get_or old.stations.items (k - 1) station →

@@ -149,13 +149,6 @@ still_world old mid new w place station left runner is found there set at packet
 pub refused_moved : (new : Centre) (w : World) (number : ℕ) (before after : List ℕ) → IsWorld new w → after ≡ before ++ declined_line number → IsMoved (refuses w number) new before after
 refused_moved new w number before after is wrote = record { next = is; text = wrote ∙ ap (λ (t : List ℕ). before ++ t) (sym (append-nil (declined_line number))) }
 
--- a node that is not there does nothing
-pub absent_moved : (old : Centre) (w : World) (node place : ℕ) (up : Runner → Moved) (before : List ℕ) → node ≡ suc place → IsWorld old w → slice_get old.stations.items place ≡ None →
-    IsMoved (if_up w node up) old before before
-absent_moved old w node place up before is world none =
-    let nobody : runner_at w node ≡ None = ap (λ (n : ℕ). slice_get w.runners (pred n)) is ∙ none_too old.stations.items w.runners place world.nodes none in
-    subst (λ (found : Option Runner). IsMoved (up_or_refuses w up found) old before before) (sym nobody) (record { next = world; text = sym (append-nil before) })
-
 -- ---- a node acts
 
 -- Either it is up, and does what it does, or it is down, and refuses.
@@ -172,7 +165,7 @@ if_up_moved new w node place up runner before after is there if_so if_not =
     by_test false if_so if_not = if_not refl
 
 -- what it did, if it is up
-acted_if : (b : Bool) (node : ℕ) (act : Runner → Acted) (runner : Runner) (left : Station) (before after : List ℕ) → ActsIf b node act runner left before after → b ≡ true →
+pub acted_if : (b : Bool) (node : ℕ) (act : Runner → Acted) (runner : Runner) (left : Station) (before after : List ℕ) → ActsIf b node act runner left before after → b ≡ true →
     HasActed node (act runner) left before after
 acted_if true node act runner left before after acts is = acts
 acted_if false node act runner left before after acts is = absurd cc

@@ -103,11 +103,6 @@ lacks_is centre w nodes number place station is found =
 
 -- ---- no packet below a number is due
 
-pub from_first : (w : World) (nodes : List ℕ) (from start : ℕ) → start ≡ from - 1 → NothingBefore w nodes from → NothingBefore w nodes (start + 1)
-from_first w nodes zero start is none zero below = refl
-from_first w nodes zero start is none (suc n) below = absurd (omega (arith, below, is))
-from_first w nodes (suc from) start is none n below = none n (omega (arith, below, is))
-
 pub at_or_below : (a b : ℕ) → a < b + 1 → (a < b) ⊎ (a ≡ b)
 at_or_below zero zero below = inr refl
 at_or_below zero (suc b) below = inl (omega arith)

@@ -1,9 +1,10 @@
 -- Packets come that are due, one after another.
 use Rattle.std.proofs.Common.{◌≡◌, ℕ, zero, suc, ◌+◌, ◌<◌, ◌≤◌, Bool, true, false, List, [], ◌∷◌, ◌++◌, find, length, map, Option, Some, None, Result, Ok, Err, refl, sym, ap, ◌∙◌, inl, inr, eq-or-lt_of_le, arith}
-use Rattle.std.specs.Prelude.{◌&&◌, ◌||◌, ◌==◌, OnOk, not, pred, slice_get, option_map, if◌then◌else◌}
+use Rattle.std.specs.Prelude.{◌&&◌, ◌==◌, OnOk, not, pred, slice_get, option_map, if◌then◌else◌}
 use Rattle.std.specs.List.{range_with_len}
 use Rattle.std.specs.declared.alloc.AllocError.{AllocError}
 use Rattle.std.proofs.lemmas.List.{append-nil, length-map}
+use Rattle.std.proofs.lemmas.Bool.{or_right}
 use Rattle.mc_model.specs.synod.Packet.{Packet}
 use Rattle.node_model.specs.Stepped.{sender_of}
 use Rattle.script_text.specs.Prints.{unsettled_line}
@@ -65,15 +66,7 @@ record HasGrown (w next : World) : Type 0 where
   packets : next.packets ≡ w.packets ++ more
 
 still : (w : World) → HasGrown w w
-still w = record { came = λ number node is. is; more = []; packets = sym (append_none w.packets) }
-  where
-    append_none : (ps : List Packet) → ps ++ [] ≡ ps
-    append_none [] = refl
-    append_none (p ∷ ps) = ap (λ (qs : List Packet). p ∷ qs) (append_none ps)
-
-or_true : (one other : Bool) → other ≡ true → (one || other) ≡ true
-or_true true other is = refl
-or_true false other is = is
+still w = record { came = λ number node is. is; more = []; packets = sym (append-nil w.packets) }
 
 came_grows : (w : World) (number node : ℕ) → HasGrown w (comes w number node).next
 came_grows w number node = by_packet (packet_of w.packets number)
@@ -81,7 +74,7 @@ came_grows w number node = by_packet (packet_of w.packets number)
     by_up : (packet : Packet) (runner : Runner) (up : Bool) →
         HasGrown w (if up then shared (marked w number node) node (on_delivery runner packet []) else refuses w is_down).next
     by_up packet runner true = record {
-      came = λ n m is. or_true (n == number && m == node) (w.came n m) is;
+      came = λ n m is. or_right (n == number && m == node) (w.came n m) is;
       more = (on_delivery runner packet []).next.node.packets;
       packets = refl;
     }

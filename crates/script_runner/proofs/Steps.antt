@@ -6,10 +6,10 @@ use Rattle.std.specs.Prelude.{IfOk, nat_le, if◌then◌else◌}
 use Rattle.std.specs.declared.alloc.AllocError.{AllocError}
 use Rattle.script_lines.specs.Said.{Said, Skipped, Nodes, Octets, Deliver, Crash, Tick, Grant, Settle, Restart, Replay, Spells, names_within, said_of}
 use Rattle.script_text.specs.Settings.{script_settings}
-use Rattle.script_world.specs.Script.{Stage, Stepped, moved_by, nodes_of, opened_by, step_by, step_of, stepped}
+use Rattle.script_world.specs.Script.{Stage, Stepped, moved_by, nodes_of, opened_by, step_by, step_of}
 use Rattle.script_world.specs.Prints.{WorldPrint, world_text}
-use Rattle.script_world.specs.World.{Moved, World}
-use Rattle.script_runner.specs.Centres.{Does, IsWorld}
+use Rattle.script_world.specs.World.{World}
+use Rattle.script_runner.specs.Centres.{IsWorld}
 use Rattle.script_runner.specs.Outcome.{IsAct, IsStarted, IsStep, IsStepBy, NumberFits, StandsAt, said_among}
 use Rattle.script_runner.specs.declared.centre.Centre.{Centre}
 
@@ -104,23 +104,10 @@ among_so : (centre : Centre) (w : World) (said : Said) (b : Bool) → IsWorld ce
     said_among (length w.runners) said ≡ (if b then Some said else None)
 among_so centre w said b is within = ap (λ (c : Bool). if c then Some said else None) (ap (λ (n : ℕ). names_within n said) (sym is.nodes) ∙ within)
 
--- a line that names a node that is not there is bad
-pub names_another : (old new : Centre) (said : Said) (before after : List ℕ) → names_within (length old.stations.items) said ≡ false → IsAct old said false new before after
-names_another old new said before after other w is =
-    subst (λ (named : Option Said). IsStepBy (step_by script_settings (Some w) named) false (Some new) before after) (sym (among_so old w said false is other)) refl
-
 pub acts_by : (old new : Centre) (said : Said) (good : Bool) (before after : List ℕ) → names_within (length old.stations.items) said ≡ true →
     ((w : World) → IsWorld old w → IsStepBy (moved_by script_settings w said) good (Some new) before after) → IsAct old said good new before after
 acts_by old new said good before after within does w is =
     subst (λ (named : Option Said). IsStepBy (step_by script_settings (Some w) named) good (Some new) before after) (sym (among_so old w said true is within)) (does w is)
-
-pub moves_by : (old new : Centre) (said : Said) (line : World → Moved) (before after : List ℕ) → names_within (length old.stations.items) said ≡ true →
-    ((w : World) → moved_by script_settings w said ≡ stepped (line w)) → Does line old new before after → IsAct old said true new before after
-moves_by old new said line before after within same does =
-    acts_by old new said true before after within
-    (λ w is.
-    let moved = does w is in
-    subst (λ (step : Option Stepped). IsStepBy step true (Some new) before after) (sym (same w)) (refl, moved.next, moved.text))
 
 pub skips : (old : Centre) (text : List ℕ) → IsAct old Skipped true old text text
 skips old text w is = (refl, is, sym (append-nil text))

@@ -1,9 +1,8 @@
 -- Receipts go out, one after another.
-use Rattle.std.proofs.Common.{◌≡◌, ℕ, zero, suc, ◌+◌, ◌<◌, Bool, true, false, cond, List, [], ◌∷◌, ◌++◌, drop, find, get_or, length, map, Option, Some, None, Result, Ok, Err, refl, sym, ap, ◌∙◌, subst, add-one, arith}
+use Rattle.std.proofs.Common.{◌≡◌, ℕ, zero, suc, ◌+◌, ◌<◌, Bool, true, false, cond, List, [], ◌∷◌, ◌++◌, drop, find, get_or, length, map, Option, Some, None, Ok, Err, refl, sym, ap, ◌∙◌, subst, add-one, arith}
 use Rattle.std.proofs.Math.Seq.{drop-cons}
 use Rattle.std.proofs.lemmas.List.{append-nil}
-use Rattle.std.specs.Prelude.{OnOk, option_map}
-use Rattle.std.specs.declared.alloc.AllocError.{AllocError}
+use Rattle.std.specs.Prelude.{option_map}
 use Rattle.mc_model.specs.message.Chain.{Chain}
 use Rattle.mc_model.specs.node.Outputs.{Receipt}
 use Rattle.receipts.specs.Texts.{Report}
@@ -12,7 +11,7 @@ use Rattle.sessions.specs.Windows.{without_first}
 use Rattle.sessions.specs.declared.pushed.Delivery.TheVariants as deliveries
 use Rattle.script_text.specs.Prints.{Print, text_at}
 use Rattle.script_text.specs.Pushes.{knows_optional, target_in, with_push}
-use Rattle.script_text.specs.Receipts.{Mail, Posted, all_posted, goes_out, goes_out_up_to, is_for, posted, posted_for, posted_for_all, posted_to, reported_by, reports_on, stays, submitter_of, then_posted, waits_for, with_both}
+use Rattle.script_text.specs.Receipts.{Mail, Posted, all_posted, goes_out, goes_out_up_to, is_for, posted, posted_for, posted_for_all, reported_by, reports_on, stays, then_posted, with_both}
 use Rattle.script_sessions.specs.Posting.{IsPosted, mail, report_prints}
 use Rattle.node_model.specs.Reported.{receipt_of}
 use Rattle.script_sessions.specs.Pushing.{GoesOut}
@@ -206,14 +205,3 @@ module _ (node : ℕ) where
   all_due all now sessions waiting chains before text so none =
       all_out all (all_posted now (mail sessions waiting) (map receipt_of chains)) sessions waiting before text so
       (none_due now (mail sessions waiting) (map receipt_of chains) (ap (map receipt_of) none))
-
-  -- It waits for its account, and goes out if it can.
-  pub posted_if : (r : Result (Unit {0}) AllocError) (now : ℕ) (sessions left : List (ℕ × Session)) (waiting with still : List Receipt) (chain : Chain)
-      (account : List ℕ) (before after : List ℕ)
-      → submitter_of (receipt_of chain) ≡ Some account → with ≡ waits_for account waiting (receipt_of chain)
-      → OnOk r (IsPosted node (posted_for now (mail sessions with) account) left still before after)
-      → OnOk r (IsPosted node (posted now (mail sessions waiting) (receipt_of chain)) left still before after)
-  posted_if (Err fault) now sessions left waiting with still chain account before after from waits done = tt
-  posted_if (Ok fine) now sessions left waiting with still chain account before after from waits done =
-      subst (λ (to : Option (List ℕ)). IsPosted node (posted_to now (mail sessions waiting) (receipt_of chain) to) left still before after) (sym from)
-      (subst (λ (w : List Receipt). IsPosted node (posted_for now (mail sessions w) account) left still before after) waits done)

@@ -1,5 +1,5 @@
 -- Replies go out one after another.
-use Rattle.std.proofs.Common.{◌≡◌, ℕ, List, [], ◌∷◌, ◌++◌, map, Option, Some, None, Result, Ok, Err, refl, sym, ◌∙◌, ap, append_assoc}
+use Rattle.std.proofs.Common.{◌≡◌, ℕ, List, [], ◌∷◌, ◌++◌, map, Option, Some, Result, Ok, Err, refl, sym, ◌∙◌, ap, append_assoc}
 use Rattle.std.proofs.lemmas.Grind.{flat_map-append}
 use Rattle.std.proofs.lemmas.List.{append-nil}
 use Rattle.std.specs.Prelude.{OnOk}
@@ -66,12 +66,6 @@ module _ (node : ℕ) where
   late_line (Ok done) connected reply owner octets text after found are wrote =
       wrote ∙ ap (λ (os : List ℕ). text ++ octets_line node owner.number os) are ∙ ap (λ t. text ++ t) (sym (append-nil _))
       ∙ ap (λ (o : Option Owned). text ++ text_at node (reply_prints (reply_given reply) o)) found
-
-  -- One whose session is gone is dropped.
-  pub no_line : (connected : List (ℕ × Session)) (reply : Sent) (text : List ℕ) → None ≡ owner_of connected reply.ticket
-      → text ≡ text ++ text_at node (reply_prints (reply_given reply) (owner_of connected reply.ticket))
-  no_line connected reply text none =
-      sym (append-nil text) ∙ ap (λ (o : Option Owned). text ++ text_at node (reply_prints (reply_given reply) o)) none
 
   pub all_told : (all : Told) (connected : List (ℕ × Session)) (waiting : List Sent) (before text : List ℕ)
       → AreLeft node all (told connected (map reply_given waiting)) before text → waiting ≡ [] → AreTold node all connected before text

@@ -21,7 +21,7 @@ use Rattle.script_text.specs.Settings.{Settings}
 use Rattle.script_text.specs.Node.{Node}
 use Rattle.script_text.specs.Attempts.{Went, delivered_so, rests_at}
 use Rattle.script_text.specs.Prints.{Print, text_at}
-use Rattle.script_text.specs.Runner.{Came, Served, came_by, nothing_came, on_done, on_reaction, on_read, on_request, reaction_prints, unasked}
+use Rattle.script_text.specs.Runner.{Served, came_by, nothing_came, on_done, on_reaction, on_read, on_request, reaction_prints, unasked}
 use Rattle.script_site.specs.Sites.{IsLeft, IsReacted, IsServed, node_by}
 
 -- ---- a frame
@@ -62,14 +62,6 @@ abbrev pub IsOwn : Reaction → Type 0
 IsOwn (Ask requested) = ⊥
 IsOwn (Answered pushed) = ⊥
 IsOwn other = Unit {0}
-
-own_so : (settings : Settings) (number : ℕ) (node : Node) (came : Came) (session : Session) (reaction : Reaction) → IsOwn reaction
-    → IsServedSo settings number node session reaction (on_reaction settings number node came session reaction)
-own_so settings number node came session Nothing own = record { node_is = refl; session_is = refl; prints_are = refl }
-own_so settings number node came session (Respond outgoing) own = record { node_is = refl; session_is = refl; prints_are = refl }
-own_so settings number node came session (Leave outgoing abandoned) own = record { node_is = refl; session_is = refl; prints_are = refl }
-own_so settings number node came session (Ask requested) own = absurd own
-own_so settings number node came session (Answered pushed) own = absurd own
 
 -- fewer than 16 octets have a wrong length
 short_is_wrong : (octets : List ℕ) → length octets < 16 → read_pdu octets ≡ Err faults.Length
@@ -121,15 +113,6 @@ module _ (home : ℕ) where
     session = same ∙ sym so.session_is;
     text = reacted.text ∙ ap (λ (prints : List Print). before ++ text_at home prints) (sym so.prints_are);
   }
-
-  pub own_served_if : (settings : Settings) (number : ℕ) (node left : Node) (came : Came) (done : Done) (remains : Session) (before after : List ℕ)
-      (r : Result (Unit {0}) AllocError)
-      → IsOwn done.reaction → remains ≡ done.next → OnOk r (IsReacted home settings number node done.reaction left before after)
-      → OnOk r (IsServed home (on_done settings number node came done) left remains before after)
-  own_served_if settings number node left came done remains before after (Ok u) own same reacted =
-      reacted_so settings number node left done.next remains done.reaction _ before after
-      (own_so settings number node came done.next done.reaction own) same reacted
-  own_served_if settings number node left came done remains before after (Err e) own same reacted = tt
 
   -- An event that asks for nothing was served.
   pub left_served : (settings : Settings) (number : ℕ) (node left : Node) (done : Done) (remains : Session) (before after : List ℕ)

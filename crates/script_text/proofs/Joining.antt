@@ -144,9 +144,6 @@ ActedGoes runner acted = GoesBy runner.node acted.inputs acted.next.node
 then_goes : (runner : Runner) (first last : Acted) → ActedGoes runner first → ActedGoes first.next last → ActedGoes runner (followed_by first last)
 then_goes runner first last one other = goes_behind runner.node first.next.node last.next.node first.inputs last.inputs one other
 
-rests_goes : (runner : Runner) (prints : List Print) → ActedGoes runner (record { next = runner; inputs = []; prints = prints })
-rests_goes runner prints = goes_nowhere runner.node
-
 served_node : (runner : Runner) (number : ℕ) (node : Node) (session : Session) → (with_session (record runner { node = node }) number session).node ≡ node
 served_node runner number node session = at_test (is_gone session.state)
   where

@@ -4,6 +4,7 @@ use Rattle.std.specs.List.{remove, position, position_or_len, slice_get}
 use Rattle.std.proofs.lemmas.List.Folds.{find_at}
 use Rattle.std.proofs.lemmas.List.Quantifiers.{position-Some}
 use Rattle.std.proofs.lemmas.Grind.{common_steps}
+use Rattle.std.proofs.lemmas.Option.{slice_get_past}
 use Rattle.sessions.specs.Windows.{without_first}
 
 found_at : {X : Type 0} (p : X → Bool) (xs : List X) (i : ℕ) (d : X) → i < length xs → p (get_or xs i d) ≡ true → ((k : ℕ) → k < i → p (get_or xs k d) ≡ false) → find p xs ≡ Some (get_or xs i d)
@@ -26,13 +27,8 @@ pub left_first : {X : Type 0} (p : X → Bool) (xs : List X) (i : ℕ) (d : X) �
 left_first p xs i d stands = let there = position-Some p xs i d stands in left_at p xs i d there.0 there.1 there.2
 
 -- nothing is found where there is no position
-none_past : {X : Type 0} (xs : List X) (n : ℕ) → length xs ≤ n → slice_get xs n ≡ None
-none_past [] n past = refl
-none_past (x ∷ xs) zero past = absurd (omega arith)
-none_past (x ∷ xs) (suc n) past = none_past xs n (omega arith)
-
 pub found_none : {X : Type 0} (p : X → Bool) (xs : List X) → position p xs ≡ None → find p xs ≡ None
-found_none p xs nowhere = find_at p xs ∙ none_past xs (position_or_len p xs) (grind (arith, common_steps))
+found_none p xs nowhere = find_at p xs ∙ slice_get_past xs (position_or_len p xs) (grind (arith, common_steps))
 
 -- a list in which nothing is found stays
 pub stays : {X : Type 0} (p : X → Bool) (xs : List X) → find p xs ≡ None → without_first p xs ≡ xs

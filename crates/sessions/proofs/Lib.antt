@@ -1,4 +1,3 @@
-pub mod Retained
 pub mod Firsts
 pub mod Tickets
 pub mod Kept

@@ -1,5 +1,5 @@
 -- Entries whose keys ascend, one place after another.
-use Rattle.std.proofs.Common.{◌≡◌, ℕ, zero, suc, ◌+◌, ◌<◌, ◌++◌, List, [], ◌∷◌, Some, ap, ◌∙◌, take, arith}
+use Rattle.std.proofs.Common.{◌≡◌, ℕ, zero, suc, ◌<◌, List, [], ◌∷◌, Some, ap, take, arith}
 use Rattle.std.specs.List.{AllByRecursion, slice_get}
 use Rattle.std.specs.List.Sorted.{IsStrictlySortedBy}
 use Rattle.std.specs.Ordering.{nat_cmp}
@@ -42,12 +42,3 @@ module _ {V : Type 0} where
       let low = above x.0 xs place e ascends.0 at in
       let key : nat_cmp e.0 x.0 ≡ Greater = grind (arith, nat_tests) in
       rw key (value_in_place xs place e ascends.1 at)
-
-  -- one key more
-  pub keys_more : (es : List (ℕ × V)) (place : ℕ) (e : ℕ × V) → slice_get es place ≡ Some e →
-      take (place + 1) (keys_of es) ≡ take place (keys_of es) ++ e.0 ∷ []
-  keys_more [] place e at = absurd (cc)
-  keys_more (x ∷ xs) zero e at = let same : x ≡ e = cc in ap (λ (p : ℕ × V). p.0 ∷ []) same
-  keys_more (x ∷ xs) (suc place) e at =
-      let more : suc place + 1 ≡ suc (place + 1) = omega arith in
-      ap (λ (n : ℕ). take n (keys_of (x ∷ xs))) more ∙ ap (λ (ks : List ℕ). x.0 ∷ ks) (keys_more xs place e at)

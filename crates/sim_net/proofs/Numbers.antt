@@ -3,11 +3,12 @@ use Rattle.std.proofs.Common.{◌≡◌, ◌⊎◌, ℕ, zero, suc, ◌+◌, ◌
 use Rattle.std.specs.Prelude.{reverse, nat_lt, nat_le, ◌&&◌}
 use Rattle.std.specs.List.{slice_get}
 use Rattle.std.proofs.Math.ListN.{set}
-use Rattle.std.proofs.lemmas.List.{length-reverse, reverse-append}
+use Rattle.std.proofs.lemmas.List.{length-reverse, map-append, reverse-append}
 use Rattle.std.proofs.lemmas.Bool.Decides.{nat_tests}
 use Rattle.mc_model.specs.synod.Lists.{In}
 use Rattle.mc_model.specs.synod.Packet.{Packet}
 use Rattle.mc_model.specs.node.Outputs.{HasNumber}
+use Rattle.mc_parts.proofs.Membership.{at_place}
 use Rattle.sim_net.specs.Network.{numbered}
 
 some_is : {A : Type 0} {a b : A} → Some a ≡ Some b → a ≡ b
@@ -29,6 +30,10 @@ set_get (x ∷ xs) (suc place) (suc k) new y is = elim (set_get xs place k new y
 
 -- ---- what stands at a place
 
+pub numbered_in : {A : Type 0} (xs : List A) (number : ℕ) (x : A) → numbered xs number ≡ Some x → In x xs
+numbered_in xs zero x is = absurd cc
+numbered_in xs (suc place) x is = at_place xs place x is
+
 pub record IsSplit {A : Type 0} (xs : List A) (place : ℕ) (x : A) : Type 0 where
   pub front : List A
   pub back : List A
@@ -42,10 +47,6 @@ split_at (y ∷ xs) (suc place) x is =
     let rest = split_at xs place x is in
     record { front = y ∷ rest.front; back = rest.back; split = ap (λ ys. y ∷ ys) rest.split; place_is = omega (arith, rest.place_is) }
 
-map_split : {A B : Type 0} (f : A → B) (xs ys : List A) → map f (xs ++ ys) ≡ map f xs ++ map f ys
-map_split f [] ys = refl
-map_split f (x ∷ xs) ys = ap (λ zs. f x ∷ zs) (map_split f xs ys)
-
 pub map_length : {A B : Type 0} (f : A → B) (xs : List A) → length (map f xs) ≡ length xs
 map_length f [] = refl
 map_length f (x ∷ xs) = omega (arith, map_length f xs)
@@ -56,7 +57,7 @@ module _ {A : Type 0} (f : A → Packet) where
   turned : (front back : List A) (x : A) (behind : List Packet) →
       reverse (map f (front ++ x ∷ back)) ++ behind ≡ reverse (map f back) ++ f x ∷ (reverse (map f front) ++ behind)
   turned front back x behind =
-      ap (λ ys. reverse ys ++ behind) (map_split f front (x ∷ back))
+      ap (λ ys. reverse ys ++ behind) (map-append f front (x ∷ back))
       ∙ ap (λ ys. ys ++ behind) (reverse-append (map f front) (f x ∷ map f back))
       ∙ ap (λ ys. (ys ++ reverse (map f front)) ++ behind) (reverse-append (f x ∷ []) (map f back))
       ∙ append_assoc (reverse (map f back) ++ f x ∷ []) (reverse (map f front)) behind

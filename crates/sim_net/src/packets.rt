@@ -49,7 +49,7 @@ impl Packets {
     }
 
     /// The packet with this number, if one has it. It takes no memory.
-    #[tactic(auto, using(crate::proofs::Places::numbered_in))]
+    #[tactic(auto, using(crate::proofs::Numbers::numbered_in))]
     pub fn get(&self, number: u64) -> Option<&Packet>
         ensures packet { option_copied result ≡ numbered self.now.sent number }
         ensures sent { IfSome result (λ packet. In packet.now self.now.sent) }

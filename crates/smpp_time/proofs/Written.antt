@@ -8,7 +8,7 @@ use Rattle.std.proofs.lemmas.Bool.{lt-ltb}
 use Rattle.std.proofs.lemmas.Bool.Decides.{nat_tests}
 use Rattle.mc_model.specs.message.Ids.{IsMoment}
 use Rattle.smpp_time.specs.Calendar.{Date, IsDateOf, is_date, day_number, date_at, date_of, days_in_month}
-use Rattle.smpp_time.specs.Texts.{two_digits, is_shaped, is_clock, moment_of, said_of, time_said, time_text}
+use Rattle.smpp_time.specs.Texts.{two_digits, is_shaped, moment_of, said_of, time_said, time_text}
 use Rattle.smpp_time.proofs.Texts.{said_absolute}
 use Rattle.smpp_time.proofs.Years.{from_2000, to_2099, is_date_of}
 
@@ -34,9 +34,6 @@ two n = omega arith
 shaped : (a b c d e f : ℕ) → a < 100 → b < 100 → c < 100 → d < 100 → e < 100 → f < 100 → is_shaped (written a b c d e f) ≡ true
 shaped a b c d e f ha hb hc hd he hf =
     rw (tens a ha, units a, tens b hb, units b, tens c hc, units c, tens d hd, units d, tens e he, units e, tens f hf, units f) refl
-
-clock_is : (a b c h m s : ℕ) → h < 24 → m < 60 → s < 60 → is_clock (written a b c h m s) ≡ true
-clock_is a b c h m s hh hm hs = rw (two h, two m, two s, lt-ltb h 24 hh, lt-ltb m 60 hm, lt-ltb s 60 hs) refl
 
 date_is : (day : ℕ) (date : Date) → IsDateOf day date → is_date date ≡ true
 date_is day date is = grind (arith, nat_tests)

@@ -1,11 +1,11 @@
 -- The vote at the highest place of a message, record after record.
-use Rattle.std.proofs.Common.{◌≡◌, ◌⊎◌, ℕ, ◌+◌, ◌<◌, ◌≤◌, List, [], ◌∷◌, ◌++◌, length, get_or, take, Option, Some, None, refl, sym, ap, subst, ◌∙◌, inl, inr, arith}
+use Rattle.std.proofs.Common.{◌≡◌, ℕ, ◌+◌, ◌<◌, ◌≤◌, List, [], ◌∷◌, ◌++◌, length, get_or, take, Option, Some, None, refl, sym, ap, subst, ◌∙◌, inl, inr, arith}
 use Rattle.std.proofs.lemmas.List.{map-append, take_more}
 use Rattle.mc_model.specs.synod.Lists.{In}
 use Rattle.mc_model.specs.synod.OneSlot.{Vote}
 use Rattle.mc_model.specs.synod.Packet.{Slot, TopVote, slot_at, top_at}
 use Rattle.mc_model.specs.synod.Acceptor.{SlotRecord, IsTold}
-use Rattle.mc_parts.proofs.Membership.{in_right, in_either}
+use Rattle.mc_parts.proofs.Membership.{in_right, in_left, in_two}
 use Rattle.synod_acceptor.specs.declared.record.Record.{Record}
 use Rattle.synod_acceptor.specs.declared.vote.Vote.{Vote as Cast}
 use Rattle.synod_acceptor.specs.declared.vote.Report.TheVariants.{Nothing, Held}
@@ -15,18 +15,6 @@ use Rattle.synod_acceptor.proofs.Slots.{by_first, held_first, held_later}
 
 abbrev voted_at : ℕ → ℕ → ℕ → Vote → Slot × SlotRecord
 voted_at id place promised vote = (slot_at id place, record { promised = promised; vote = Some vote })
-
-in_left : {A : Type 0} (x : A) (front back : List A) → In x front → In x (front ++ back)
-in_left x [] back is_in = absurd is_in
-in_left x (y ∷ front) back (inl same) = inl same
-in_left x (y ∷ front) back (inr later) = inr (in_left x front back later)
-
-in_two : {A : Type 0} (x : A) (front : List A) (last : A) → In x (front ++ last ∷ []) → In x front ⊎ (x ≡ last)
-in_two x front last is_in = elim (in_either x front (last ∷ []) is_in) [
-  | inl before ↦ inl before
-  | inr (inl same) ↦ inr same
-  | inr (inr none) ↦ absurd none
-]
 
 -- ---- one more record
 

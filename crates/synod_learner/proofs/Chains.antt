@@ -3,27 +3,21 @@ use Rattle.std.proofs.Common.{◌≡◌, ◌⊎◌, ℕ, zero, suc, ◌+◌, ◌
 use Rattle.std.specs.Prelude.{◌==◌, if◌then◌else◌}
 use Rattle.std.proofs.lemmas.List.{take_more}
 use Rattle.std.proofs.lemmas.Option.{slice_get_read}
-use Rattle.std.proofs.lemmas.Bool.{cases_Bool, eq-eqb, eqb-true, true≢false}
+use Rattle.std.proofs.lemmas.Bool.{cases_Bool, eq-eqb, eqb-true, ne_eqb, true≢false}
 use Rattle.mc_model.specs.message.Decree.{Decree}
 use Rattle.mc_model.specs.message.Chain.{Chain}
 use Rattle.synod_learner.specs.Counts.{known_in, AreOfOthers, IsChainAt, IsChainPlace, WithChain}
 
-is_same : (a b : ℕ) → a ≡ b → (a == b) ≡ true
-is_same a b same = eq-eqb a b same
-
-is_other : (a b : ℕ) → (a ≡ b → ⊥) → (a == b) ≡ false
-is_other a b other = elim (cases_Bool (a == b)) [ inl same ↦ absurd (other (eqb-true a b same)) | inr differs ↦ differs ]
-
 known_first : (first : Chain) (others : List Chain) (id : ℕ) → first.id ≡ id → known_in (first ∷ others) id ≡ Some first.decrees
-known_first first others id same = ap (λ (b : Bool). cond b (Some first.decrees) (known_in others id)) (is_same first.id id same)
+known_first first others id same = ap (λ (b : Bool). cond b (Some first.decrees) (known_in others id)) (eq-eqb first.id id same)
 
 known_later : (first : Chain) (others : List Chain) (id : ℕ) → (first.id ≡ id → ⊥) → known_in (first ∷ others) id ≡ known_in others id
-known_later first others id other = ap (λ (b : Bool). cond b (Some first.decrees) (known_in others id)) (is_other first.id id other)
+known_later first others id other = ap (λ (b : Bool). cond b (Some first.decrees) (known_in others id)) (ne_eqb first.id id other)
 
 by_first : (first : Chain) (id : ℕ) → (first.id ≡ id) ⊎ (first.id ≡ id → ⊥)
 by_first first id = elim (cases_Bool (first.id == id)) [
   | inl same ↦ inl (eqb-true first.id id same)
-  | inr differs ↦ inr (λ same. true≢false (sym (is_same first.id id same) ∙ differs))
+  | inr differs ↦ inr (λ same. true≢false (sym (eq-eqb first.id id same) ∙ differs))
 ]
 
 pub found_known : (chains : List Chain) (id place : ℕ) (chain : Chain) → AreOfOthers chains → slice_get chains place ≡ Some chain → chain.id ≡ id → known_in chains id ≡ Some chain.decrees
@@ -42,11 +36,11 @@ known_with chains new id = if id == new.id then Some new.decrees else known_in c
 
 with_first : (first : Chain) (others : List Chain) (new : Chain) (id : ℕ) → first.id ≡ new.id → known_in (new ∷ others) id ≡ known_with (first ∷ others) new id
 with_first first others new id same = elim (by_first new id) [
-  | inl is ↦ known_first new others id is ∙ sym (ap (λ (b : Bool). cond b (Some new.decrees) (known_in (first ∷ others) id)) (is_same id new.id (sym is)))
+  | inl is ↦ known_first new others id is ∙ sym (ap (λ (b : Bool). cond b (Some new.decrees) (known_in (first ∷ others) id)) (eq-eqb id new.id (sym is)))
   | inr differs ↦
       known_later new others id differs
       ∙ sym (known_later first others id (λ is. differs (sym same ∙ is)))
-      ∙ sym (ap (λ (b : Bool). cond b (Some new.decrees) (known_in (first ∷ others) id)) (is_other id new.id (λ is. differs (sym is))))
+      ∙ sym (ap (λ (b : Bool). cond b (Some new.decrees) (known_in (first ∷ others) id)) (ne_eqb id new.id (λ is. differs (sym is))))
 ]
 
 with_later : (first : Chain) (others changed : List Chain) (new : Chain) (id : ℕ) → (first.id ≡ new.id → ⊥) → known_in changed id ≡ known_with others new id → known_in (first ∷ changed) id ≡ known_with (first ∷ others) new id
@@ -54,7 +48,7 @@ with_later first others changed new id apart behind = elim (by_first first id) [
   | inl is ↦
       known_first first changed id is
       ∙ sym (known_first first others id is)
-      ∙ sym (ap (λ (b : Bool). cond b (Some new.decrees) (known_in (first ∷ others) id)) (is_other id new.id (λ same. apart (is ∙ same))))
+      ∙ sym (ap (λ (b : Bool). cond b (Some new.decrees) (known_in (first ∷ others) id)) (ne_eqb id new.id (λ same. apart (is ∙ same))))
   | inr differs ↦
       known_later first changed id differs ∙ behind
       ∙ ap (λ (o : Option (List Decree)). if id == new.id then Some new.decrees else o) (sym (known_later first others id differs))
@@ -76,8 +70,8 @@ none_before first others id none = elim (by_first first id) [
 
 only : (new : Chain) (id : ℕ) → known_in (new ∷ []) id ≡ known_with [] new id
 only new id = elim (by_first new id) [
-  | inl is ↦ known_first new [] id is ∙ sym (ap (λ (b : Bool). cond b (Some new.decrees) None) (is_same id new.id (sym is)))
-  | inr differs ↦ known_later new [] id differs ∙ sym (ap (λ (b : Bool). cond b (Some new.decrees) None) (is_other id new.id (λ is. differs (sym is))))
+  | inl is ↦ known_first new [] id is ∙ sym (ap (λ (b : Bool). cond b (Some new.decrees) None) (eq-eqb id new.id (sym is)))
+  | inr differs ↦ known_later new [] id differs ∙ sym (ap (λ (b : Bool). cond b (Some new.decrees) None) (ne_eqb id new.id (λ is. differs (sym is))))
 ]
 
 known-push : (chains : List Chain) (new : Chain) → known_in chains new.id ≡ None → (id : ℕ) → known_in (chains ++ new ∷ []) id ≡ known_with chains new id
@@ -89,7 +83,7 @@ known-push (first ∷ others) new none id =
 -- ---- no two are of one message then either
 
 none_with : (chains : List Chain) (new : Chain) (id : ℕ) → (id ≡ new.id → ⊥) → known_in chains id ≡ None → known_with chains new id ≡ None
-none_with chains new id differs none = ap (λ (b : Bool). cond b (Some new.decrees) (known_in chains id)) (is_other id new.id differs) ∙ none
+none_with chains new id differs none = ap (λ (b : Bool). cond b (Some new.decrees) (known_in chains id)) (ne_eqb id new.id differs) ∙ none
 
 others-set : (chains : List Chain) (place : ℕ) (chain new : Chain) → AreOfOthers chains → slice_get chains place ≡ Some chain → chain.id ≡ new.id → AreOfOthers (set chains place new)
 others-set [] place chain new apart stands is = absurd (cc)

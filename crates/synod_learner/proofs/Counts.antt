@@ -1,14 +1,14 @@
 -- Counts of votes, of which no two are of one vote.
 use Rattle.std.proofs.Common.{◌≡◌, ◌⊎◌, ◌↔◌, ℕ, zero, suc, ◌+◌, ◌<◌, Bool, true, false, List, [], ◌∷◌, ◌++◌, length, get_or, take, set, slice_get, option_map, Option, Some, None, refl, sym, ap, subst, ◌∙◌, inl, inr, arith}
 use Rattle.std.specs.Prelude.{◌==◌, ◌||◌, IfSome}
-use Rattle.std.proofs.lemmas.Bool.{eq-eqb, eqb-true, or_cases, true≢false}
+use Rattle.std.proofs.lemmas.Bool.{eq-eqb, eqb-true, or_cases, or_right, true≢false}
 use Rattle.std.proofs.lemmas.List.{length-map, map-append, map-set, take_more}
 use Rattle.std.proofs.lemmas.Option.{slice_get-map, slice_get_read, slice_get_within}
 use Rattle.mc_types.specs.Nodes.{has}
 use Rattle.mc_model.specs.synod.Lists.{In}
 use Rattle.mc_model.specs.synod.OneSlot.{Vote}
 use Rattle.mc_model.specs.synod.Packet.{Slot, Voted}
-use Rattle.mc_parts.proofs.Membership.{in_right, in_either}
+use Rattle.mc_parts.proofs.Membership.{in_right, in_left, in_two}
 use Rattle.synod_acceptor.specs.declared.vote.Vote.{Vote as Cast}
 use Rattle.synod_acceptor.specs.Votes.{slot_in, vote_of}
 use Rattle.synod_learner.specs.declared.tally.Tally.{Tally}
@@ -16,18 +16,6 @@ use Rattle.synod_learner.specs.Counts.{AreSingle, Count, IsCountAt, IsCountPlace
 
 abbrev pub count : Slot → Vote → ℕ → Count
 count slot vote voters = record { slot = slot; vote = vote; voters = voters }
-
-in_left : {A : Type 0} (x : A) (front back : List A) → In x front → In x (front ++ back)
-in_left x [] back is_in = absurd is_in
-in_left x (y ∷ front) back (inl same) = inl same
-in_left x (y ∷ front) back (inr later) = inr (in_left x front back later)
-
-in_two : {A : Type 0} (x : A) (front : List A) (last : A) → In x (front ++ last ∷ []) → In x front ⊎ (x ≡ last)
-in_two x front last is_in = elim (in_either x front (last ∷ []) is_in) [
-  | inl before ↦ inl before
-  | inr (inl same) ↦ inr same
-  | inr (inr none) ↦ absurd none
-]
 
 -- ---- what stands in a list, and in its place another
 
@@ -229,16 +217,12 @@ uncounted counts slot vote place voters voter single at is differs counted = tru
 pub joined : (old new voter : ℕ) → ((other : ℕ) → has new other ≡ (has old other || other == voter)) → IsJoined old new voter
 joined old new voter adds = record {
   before = λ node was. adds node ∙ ap (λ (b : Bool). b || node == voter) was;
-  this = adds voter ∙ last (has old voter) (voter == voter) (eq-eqb voter voter refl);
+  this = adds voter ∙ or_right (has old voter) (voter == voter) (eq-eqb voter voter refl);
   only = λ node is. elim (or_cases (has old node) (node == voter) (sym (adds node) ∙ is)) [
     | inl was ↦ inl was
     | inr same ↦ inr (eqb-true node voter same)
   ];
 }
-  where
-    last : (a b : Bool) → b ≡ true → (a || b) ≡ true
-    last true b is = refl
-    last false b is = is
 
 pub new_voters_are : (counts later : List Count) (slot : Slot) (vote : Vote) (place : Option ℕ) (voters new voter : ℕ) → AreSingle counts → IsCountPlace counts slot vote place → IsVotersAt counts place voters → IsJoined voters new voter → IsAdded counts later voter slot vote → (node : ℕ) → (has new node ≡ true) ↔ IsCounted later node slot vote
 new_voters_are counts later slot vote place voters new voter single at is joins added node = (

@@ -1,8 +1,8 @@
 -- Promises, counted one after another.
 use Rattle.std.proofs.Common.{◌≡◌, ◌↔◌, ℕ, ◌*◌, Bool, true, false, cond, List, ◌∷◌, Option, Some, None, refl, sym, ap, inl, inr, arith}
-use Rattle.std.specs.Prelude.{◌==◌, ◌||◌, nat_lt}
+use Rattle.std.specs.Prelude.{◌==◌, nat_lt}
 use Rattle.std.proofs.lemmas.Bool.Decides.{Decides-ltb}
-use Rattle.std.proofs.lemmas.Bool.{eq-eqb, eqb-true, ltb-true, ltb-false, or_cases}
+use Rattle.std.proofs.lemmas.Bool.{eq-eqb, eqb-true, ltb-true, ltb-false, or_cases, or_left, or_right}
 use Rattle.mc_model.specs.synod.Lists.{In}
 use Rattle.mc_model.specs.synod.Majority.{count}
 use Rattle.mc_model.specs.synod.OneSlot.{Vote}
@@ -67,17 +67,9 @@ promised_more old received slot ballot acceptor report are node = (
   λ promised. from promised,
 )
   where
-    last : (a b : Bool) → b ≡ true → (a || b) ≡ true
-    last true b is = refl
-    last false b is = is
-
-    first : (a b : Bool) → a ≡ true → (a || b) ≡ true
-    first true b is = refl
-    first false b is = absurd (cc)
-
     by_packet : (told : Option Vote) → In (Promise node slot ballot told) (Promise acceptor slot ballot report ∷ received) → with_node old acceptor node ≡ true
-    by_packet told (inl same) = let nodes : node ≡ acceptor = cc in last (old node) (node == acceptor) (eq-eqb node acceptor nodes)
-    by_packet told (inr before) = first (old node) (node == acceptor) ((are node).1 (told, before))
+    by_packet told (inl same) = let nodes : node ≡ acceptor = cc in or_right (old node) (node == acceptor) (eq-eqb node acceptor nodes)
+    by_packet told (inr before) = or_left (old node) (node == acceptor) ((are node).1 (told, before))
 
     from : HasPromised (Promise acceptor slot ballot report ∷ received) slot ballot node → with_node old acceptor node ≡ true
     from promised = by_packet promised.0 promised.1

@@ -1,19 +1,19 @@
 -- A round of the code is a round as a node keeps it.
-use Rattle.std.proofs.Common.{◌≡◌, ℕ, ◌*◌, Bool, List, Option, Some, None, inl, inr, sym, ap, subst, ◌∙◌}
+use Rattle.std.proofs.Common.{◌≡◌, ℕ, Bool, Option, Some, None, inl, inr, sym, ap, subst, ◌∙◌}
 use Rattle.std.proofs.Math.Path.{fun_ext}
 use Rattle.std.specs.Prelude.{option_map, if◌then◌else◌}
 use Rattle.std.specs.Bool.{Decides}
 use Rattle.std.proofs.lemmas.Bool.{cases_Bool}
-use Rattle.std.proofs.lemmas.Bool.Decides.{Decides-and, Decides-like, Decides-ltb, Decides-not}
-use Rattle.mc_model.specs.message.Decree.{Decree}
+use Rattle.std.proofs.lemmas.Bool.Decides.{Decides-and, Decides-like, Decides-not}
 use Rattle.mc_types.specs.Nodes.{has}
 use Rattle.mc_model.specs.synod.Majority.{IsMajority, count}
 use Rattle.mc_model.specs.synod.OneSlot.{Vote}
 use Rattle.mc_model.specs.synod.Packet.{Propose, Slot}
 use Rattle.node_model.specs.Message.{Round}
 use Rattle.node_model.specs.Proposer.{completes, offered, promised_by}
-use Rattle.node_model.specs.Sets.{is_majority, nobody, with_node}
-use Rattle.synod_proposer.specs.Proposing.{Completes, IsCounted, IsFresh, Offers, Running, as_round, proposed_in}
+use Rattle.node_model.specs.Sets.{is_majority, with_node}
+use Rattle.node_model.proofs.Decisions.{most_decides}
+use Rattle.synod_proposer.specs.Proposing.{Completes, IsCounted, Offers, Running, as_round, proposed_in}
 
 pub counted_is : (old new : Running) (node : ℕ) (report : Option Vote) → IsCounted old node report new → as_round new ≡ promised_by (as_round old) node report
 counted_is old new node report is = λ i. record {
@@ -23,19 +23,6 @@ counted_is old new node report is = λ i. record {
   promised = fun_ext is.promised i;
   highest = is.highest i;
 }
-
-pub fresh_is : (r : Running) (slot : Slot) (ballot : ℕ) (own : List Decree) → IsFresh r slot ballot own →
-    as_round r ≡ record { slot = slot; ballot = ballot; own = own; promised = nobody; highest = None }
-fresh_is r slot ballot own is = λ i. record {
-  slot = is.slot_is i;
-  ballot = is.ballot_is i;
-  own = is.own_is i;
-  promised = fun_ext {g = nobody} is.promised i;
-  highest = is.highest i;
-}
-
-most_decides : (nodes : ℕ) (members : ℕ → Bool) → Decides (is_majority nodes members) (IsMajority nodes members)
-most_decides nodes members = Decides-ltb nodes (2 * count members nodes)
 
 completes_decides : (nodes : ℕ) (old new : Running) (node : ℕ) (report : Option Vote) → IsCounted old node report new →
     Decides (completes nodes (as_round old) node) (Completes nodes old new)

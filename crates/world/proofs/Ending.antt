@@ -31,7 +31,8 @@ use Rattle.world.specs.Runs.{IsAt, IsDown, IsFault, IsGiven, IsMember, IsSomewhe
 use Rattle.world.specs.Scenes.{Placed, Scene}
 use Rattle.world.proofs.Going.{goes_on, stays}
 use Rattle.world.proofs.Stopping.{stands_down}
-use Rattle.world.proofs.Leading.{away_is, away_none, is_up, kept_up, present, sent_in, setup_up, up_for}
+use Rattle.world.proofs.Leading.{away_is, away_none, is_up, kept_up, present, sent_in, setup_up}
+use Rattle.node_runs.proofs.Running.{up_for}
 use Rattle.world.proofs.Answering.{number_is, unsent_none, unsent_some}
 
 -- what leaves something gives nothing out
@@ -42,7 +43,7 @@ gives_nothing false one other = refl
 unsent_more : (before : List Packet) (o : Outputs) → o ≡ nothing → before ≡ before ++ o.packets
 unsent_more before o is = sym (ap (λ (x : Outputs). before ++ x.packets) is ∙ append-nil before)
 
-one_more : (place : ℕ) → suc place ≡ place + 1
+pub one_more : (place : ℕ) → suc place ≡ place + 1
 one_more place = omega arith
 
 module _ (cluster : Cluster) (behind : List Packet) (inputs : List NodeInput) (old new : Scene) (now : IsAt cluster behind inputs old) where
@@ -106,9 +107,6 @@ module _ (cluster : Cluster) (behind : List Packet) (inputs : List NodeInput) (o
   module _ (node place : ℕ) (gives : Gives) (place_is : node ≡ place + 1) (has : HasBegun old place gives new) where
     abbrev was : Placed
     was = has.member
-
-    was_place : IsPlace old node place was
-    was_place = record { place_is = place_is; found = has.is.found }
 
     abbrev before : Kept
     before = here.kept node

@@ -6,14 +6,14 @@ use Rattle.std.proofs.lemmas.Bool.Decides.{nat_tests}
 use Rattle.mc_model.specs.synod.Lists.{In}
 use Rattle.mc_model.specs.synod.Packet.{Packet}
 use Rattle.mc_model.specs.node.Actor.{Request as Asked}
-use Rattle.mc_model.specs.node.Input.{Arrival, Crash, Delivery, Grant, Input, Refusal, Response, Restart, Tick}
+use Rattle.mc_model.specs.node.Input.{Arrival, Grant, Input, Tick}
 use Rattle.mc_model.specs.node.Setup.{Setup}
 use Rattle.mc_model.specs.cluster.Steps.{Cluster, setup_of}
 use Rattle.node_model.specs.Kept.{Kept}
 use Rattle.node_model.specs.Outputs.{Stepped}
 use Rattle.node_model.specs.Stepped.{stepped}
 use Rattle.node_laws.specs.Clusters.{KeptCluster, NodeInput, WasSentBefore, comes_to, kept_reached, step_at}
-use Rattle.node_laws.specs.Runs.{IsOneOf, IsUpFor, MayCome}
+use Rattle.node_laws.specs.Runs.{IsOneOf, MayCome}
 use Rattle.node_laws.proofs.Orders.{mapped_in, reverse_in}
 use Rattle.pdu_tables.specs.declared.status.Status.{Status}
 use Rattle.desk.specs.Admissions.{admitted}
@@ -32,18 +32,8 @@ use Rattle.world.specs.declared.given.Given.{Given as Gives}
 use Rattle.world.specs.Members.{DoesNotTake, HasTaken, IsPlace, IsSentIn, away_in, down_in, fault_from, step_by}
 use Rattle.world.specs.Runs.{IsAt, IsGiven, IsMember, StandsAs, absent, away, down, or_else}
 use Rattle.world.specs.Scenes.{Placed, Scene}
+use Rattle.node_runs.proofs.Running.{up_for}
 use Rattle.world.proofs.Going.{goes_on}
-
--- to a node that is up anything may come
-pub up_for : (k : Kept) (input : Input) → k.up ≡ true → IsUpFor k input
-up_for k (Restart lost) up = tt
-up_for k (Delivery packet) up = up
-up_for k (Crash packet behind) up = up
-up_for k (Arrival request) up = up
-up_for k (Refusal status) up = up
-up_for k (Tick moment test) up = up
-up_for k (Grant slot) up = up
-up_for k (Response slot outcome) up = up
 
 -- ---- a packet that was sent in this world was sent
 
@@ -93,11 +83,6 @@ module _ (cluster : Cluster) (behind : List Packet) (inputs : List NodeInput) (o
   is_up node place m is up = ap (λ (k : Kept). k.up) (sym (kept_up node place m is up))
 
   -- ---- why nothing comes to a node
-
-  within : {A : Type 0} (xs : List A) (place : ℕ) → length xs ≤ place → slice_get xs place ≡ None
-  within [] place past = refl
-  within (x ∷ xs) zero past = absurd (omega arith)
-  within (x ∷ xs) (suc place) past = within xs place (omega arith)
 
   stands_up : (k : Kept) (up : Bool) (m : Placed) → StandsAs k up m.node → k.up ≡ up
   stands_up k true m stands = ap (λ (kept : Kept). kept.up) (sym stands)

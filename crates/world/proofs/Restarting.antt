@@ -1,5 +1,5 @@
 -- A world that starts over the stores of its nodes, as a run that goes on.
-use Rattle.std.proofs.Common.{◌≡◌, ℕ, zero, suc, ◌+◌, ◌<◌, List, [], ◌∷◌, ◌++◌, length, map, Some, Ok, Err, refl, sym, ap, subst, ◌∙◌, arith}
+use Rattle.std.proofs.Common.{◌≡◌, ℕ, zero, suc, ◌+◌, ◌<◌, List, [], ◌∷◌, ◌++◌, length, map, Some, Ok, Err, refl, sym, ap, subst, ◌∙◌}
 use Rattle.std.specs.Prelude.{reverse}
 use Rattle.std.proofs.lemmas.Bool.{true≢false}
 use Rattle.std.proofs.lemmas.List.{length-set}
@@ -18,10 +18,7 @@ use Rattle.world.specs.declared.step.Step.TheVariants as steps
 use Rattle.world.specs.Members.{CantBegin, HasBegun, HasForgotten, Keeps}
 use Rattle.world.specs.Runs.{HaltsOver, IsAt, IsSomewhere, Leads, StartsOver, begin_anew}
 use Rattle.world.specs.Scenes.{Placed, Scene}
-use Rattle.world.proofs.Ending.{gives_nothing, restart_leads}
-
-one_more : (place : ℕ) → suc place ≡ place + 1
-one_more place = omega arith
+use Rattle.world.proofs.Ending.{gives_nothing, one_more, restart_leads}
 
 -- nodes 1 to so many started anew
 pub record AreBegun (old : Scene) (count : ℕ) (new : Scene) : Type 0 where

@@ -18,9 +18,8 @@ use Rattle.synod_acceptor.specs.declared.packet.Packet.{Packet}
 use Rattle.node_core.specs.declared.input.Input.{Input}
 use Rattle.node_core.specs.declared.input.Input.TheVariants as inputs
 use Rattle.node_core.specs.declared.life.Life.{Life}
-use Rattle.node_core.specs.declared.outputs.Outputs.{Outputs}
 use Rattle.node_core.specs.Keeping.{kept_of}
-use Rattle.node_core.specs.Nodes.{HasOpened, HasTaken, Standing}
+use Rattle.node_core.specs.Nodes.{HasOpened, Standing}
 use Rattle.node_core.specs.Restarts.{ListsRecorded, next_life}
 use Rattle.node_core.proofs.Restarts.{as_restarted, stop_lists}
 use Rattle.world.specs.Members.{HasCrashed, HasRestarted, HasSaved}
@@ -59,18 +58,6 @@ crashed_after old mid new packet one well lists saved same down = record {
         ∙ ap (λ (rs : Records). rs slot) (saved_so old.node.kept.setup (kept_of old.node.kept) (packet_of packet));
   };
 }
-
-pub has_saved : (old new : Placed) (packet : Packet) (input : Input) (outputs : Outputs) → input ≡ inputs.Packet packet →
-    HasTaken old.node input new.node outputs →
-    (new.node.broken ≡ false → AreSame (record_at new.node.store.entries) (kept_of new.node.kept).records) → new.up ≡ old.up → HasSaved old packet new
-has_saved old new packet input outputs came taken saved up =
-    let took = subst (λ (i : Input). HasTaken old.node i new.node outputs) came taken in
-    record {
-      up = up;
-      setup = took.setup;
-      incarnation = took.incarnation;
-      stored = record { each = λ slot. (saved took.works).each slot ∙ ap (λ (k : Kept). k.records slot) took.kept };
-    }
 
 down_then : (setup : Setup) (k : Kept) (packet : Told) (after : Bool) → (stopped setup k packet after).up ≡ false
 down_then setup k packet true = by_member (is_member setup (sender_of packet))

@@ -16,11 +16,6 @@ set_cases (first ∷ items) (suc place) new (suc other) item is = elim (set_case
   | inr apart ↦ inr (apart.0, λ same. apart.1 (omega (arith, same)))
 ]
 
-pub got_in : {A : Type 0} (items : List A) (place : ℕ) (item : A) → slice_get items place ≡ Some item → In item items
-got_in [] place item is = absurd cc
-got_in (first ∷ items) zero item is = inl cc
-got_in (first ∷ items) (suc place) item is = inr (got_in items place item is)
-
 -- ---- numbers in a row
 
 pub row_least : (first count number : ℕ) → In number (range_with_len first count) → first ≤ number

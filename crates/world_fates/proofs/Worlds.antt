@@ -8,7 +8,7 @@ use Rattle.mc_model.specs.synod.Lists.{In}
 use Rattle.mc_model.specs.synod.Packet.{Packet}
 use Rattle.mc_model.specs.node.Input.{Input}
 use Rattle.mc_model.specs.cluster.Steps.{Cluster, setup_of}
-use Rattle.mc_parts.proofs.Membership.{in_either, of_only}
+use Rattle.mc_parts.proofs.Membership.{at_place, in_either, of_only}
 use Rattle.mc_laws.proofs.Growth.{changed_cases}
 use Rattle.node_model.specs.Kept.{Kept}
 use Rattle.node_model.specs.Stepped.{sender_of}
@@ -26,7 +26,7 @@ use Rattle.fate_laws.proofs.ReceiptsOut.{AreReceiptsOut, receipts_out_later}
 use Rattle.fate_laws.proofs.Standing.{IsAt, IsFit, Member, WereSent, crash_steps}
 use Rattle.fate_laws.proofs.Tellings.{FactOfPrints, IsTelling, NodePrint, TakesDeliveries, by_node, prints_at}
 use Rattle.fate_laws.proofs.Acting.{ActsSo, IsServing, delivery_acts, gone_are_mute, grant_acts, mute_acts, octets_act, restart_acts, tick_acts}
-use Rattle.world_fates.proofs.Places.{got_in, row_least, set_cases}
+use Rattle.world_fates.proofs.Places.{row_least, set_cases}
 
 -- ---- a crash of a node
 
@@ -285,7 +285,7 @@ module _ (cluster : Cluster) (Tells : FactOfPrints) (telling : IsTelling cluster
 
     packet_sent : (number : ℕ) (packet : Packet) → packet_of world.packets number ≡ Some packet → In packet (kept_reached cluster past).packets
     packet_sent zero packet is = absurd cc
-    packet_sent (suc place) packet is = stands.sent packet (got_in world.packets place packet is)
+    packet_sent (suc place) packet is = stands.sent packet (at_place world.packets place packet is)
 
     marked_stands : (number node : ℕ) → WorldStands cluster past (marked world number node)
     marked_stands number node = record { fit = stands.fit; few = stands.few; count = stands.count; each = stands.each; sent = stands.sent }

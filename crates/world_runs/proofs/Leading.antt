@@ -28,9 +28,6 @@ module _ (cluster : Cluster) (behind : List Packet) where
   one_step inputs step (Ok given) new goes = record { last = goes.next ∷ inputs; reaches = (goes.next, goes.allowed, goes.comes, goes.gives, refl); at = goes.at }
   one_step inputs step (Err fault) new stays = record { last = inputs; reaches = (stays.refused, refl); at = stays.at }
 
-leads_none : (w : Scene) → LeadsAll w [] [] w
-leads_none w = record { each = λ cluster behind inputs now. record { last = inputs; reaches = refl; at = now } }
-
 leads_more : (old mid new : Scene) (steps : List Step) (answers : List Answer) (step : Step) (answer : Answer) → LeadsAll old steps answers mid → Leads mid step answer new →
     LeadsAll old (steps ++ step ∷ []) (answers ++ answer ∷ []) new
 leads_more old mid new steps answers step answer all one = record {
@@ -49,9 +46,6 @@ pub record IsUnderWay (old : Scene) (steps left : List Step) (answers : List Ans
   pub count : length answers ≡ length done
   pub room_is : length steps ≤ room
   pub leads : LeadsAll old done answers now
-
-pub under_way : (w : Scene) (steps : List Step) (room : ℕ) → length steps ≤ room → IsUnderWay w steps steps [] room w
-under_way w steps room fits = record { done = []; split = refl; count = refl; room_is = fits; leads = leads_none w }
 
 pub goes_on : (old mid new : Scene) (steps left rest : List Step) (answers more : List Answer) (step : Step) (answer : Answer) (room wider : ℕ) →
     IsUnderWay old steps left answers room mid → left ≡ step ∷ rest → Leads mid step answer new → more ≡ answers ++ answer ∷ [] → room ≤ wider →

@@ -1,13 +1,15 @@
 -- The statements of a list of steps, one after the other.
-use Rattle.std.proofs.Common.{◌≡◌, ◌⊎◌, ℕ, zero, suc, ◌+◌, ◌<◌, ◌≤◌, List, [], ◌∷◌, ◌++◌, length, map, take, get_or, flat_map, Option, Some, None, Ok, Err, refl, sym, ap, subst, ◌∙◌, inl, inr, arith, append_assoc}
+use Rattle.std.proofs.Common.{◌≡◌, ◌⊎◌, ℕ, zero, suc, ◌+◌, ◌<◌, ◌≤◌, List, [], ◌∷◌, ◌++◌, length, map, take, get_or, flat_map, Option, Some, None, Ok, Err, refl, sym, ap, subst, ◌∙◌, inl, inr, arith}
 use Rattle.std.specs.List.{enumerate_from, slice_get}
-use Rattle.std.proofs.lemmas.List.{append-nil, length-take-le, take_all, take_more}
+use Rattle.std.proofs.lemmas.List.{append-nil, flat_map_more, length-take-le, take_all, take_more}
+use Rattle.std.proofs.lemmas.List.Concat.{flat_map-append}
+use Rattle.std.proofs.lemmas.List.Folds.{flat_map-map}
 use Rattle.mc_model.specs.message.Decree.{Decree, Final}
 use Rattle.mc_model.specs.message.Chain.{final_in}
 use Rattle.mc_model.specs.synod.Lists.{In}
 use Rattle.mc_model.specs.cluster.Fate.{shown_by}
 use Rattle.mc_model.specs.node.Outputs.{Outputs}
-use Rattle.mc_parts.proofs.Membership.{in_either}
+use Rattle.mc_parts.proofs.Membership.{at_place, in_either}
 use Rattle.node_laws.specs.Clusters.{RepliesWith, StatesFinal}
 use Rattle.node_laws.proofs.Orders.{in_append}
 use Rattle.world.specs.declared.given.Given.{Given}
@@ -16,14 +18,6 @@ use Rattle.world_runs.specs.Traces.{Answer, HasOneFate, told_in}
 
 -- ---- lists that are put together
 
-flat-append : {A B : Type 0} (f : A → List B) (xs ys : List A) → flat_map f (xs ++ ys) ≡ flat_map f xs ++ flat_map f ys
-flat-append f [] ys = refl
-flat-append {A} {B} f (x ∷ xs) ys = ap (λ (zs : List B). f x ++ zs) (flat-append f xs ys) ∙ sym (append_assoc (f x) (flat_map f xs) (flat_map f ys))
-
-pub flat-map : {A B C : Type 0} (f : B → List C) (g : A → B) (xs : List A) → flat_map f (map g xs) ≡ flat_map (λ x. f (g x)) xs
-flat-map f g [] = refl
-flat-map {A} {B} {C} f g (x ∷ xs) = ap (λ (zs : List C). f (g x) ++ zs) (flat-map f g xs)
-
 -- one more of them
 pub one_more : {A B : Type 0} (f : A → List B) (xs : List A) (place : ℕ) (x : A) (old before after : List B) → place < length xs → x ≡ get_or xs place x →
     before ≡ old ++ flat_map f (take place xs) → after ≡ before ++ f x → after ≡ old ++ flat_map f (take (place + 1) xs)
@@ -31,9 +25,7 @@ one_more {A} {B} f xs place x old before after below is so_far more =
     let taken : take (place + 1) xs ≡ take place xs ++ x ∷ [] = take_more xs place x below ∙ ap (λ (y : A). take place xs ++ y ∷ []) (sym is) in
     more
     ∙ ap (λ (ys : List B). ys ++ f x) so_far
-    ∙ append_assoc old (flat_map f (take place xs)) (f x)
-    ∙ ap (λ (ys : List B). old ++ (flat_map f (take place xs) ++ ys)) (sym (append-nil (f x)))
-    ∙ ap (λ (ys : List B). old ++ ys) (sym (flat-append f (take place xs) (x ∷ [])))
+    ∙ flat_map_more f old (take place xs) x
     ∙ ap (λ (ys : List A). old ++ flat_map f ys) (sym taken)
 
 -- all of them
@@ -42,7 +34,7 @@ pub all_told : {A B C : Type 0} (f : B → List C) (g : A → B) (xs : List A) (
 all_told {A} {B} {C} f g xs count old now past is =
     is
     ∙ ap (λ (ys : List A). old ++ flat_map (λ x. f (g x)) ys) (take_all count xs past)
-    ∙ ap (λ (ys : List C). old ++ ys) (sym (flat-map f g xs))
+    ∙ ap (λ (ys : List C). old ++ ys) (sym (flat_map-map f g xs))
 
 -- with their places
 placed-append : {A : Type 0} (n : ℕ) (xs ys : List A) → enumerate_from n (xs ++ ys) ≡ enumerate_from n xs ++ enumerate_from (n + length xs) ys
@@ -66,7 +58,7 @@ told_next answers place answer before after below is so_far more =
     more
     ∙ ap (λ (told : List Statement). told ++ stated_at place (told_in answer)) so_far
     ∙ ap (λ (told : List Statement). flat_map stated_by (enumerate_from 0 (take place answers)) ++ told) (sym (append-nil (stated_at place (told_in answer))))
-    ∙ sym (flat-append stated_by (enumerate_from 0 (take place answers)) ((place, answer) ∷ []))
+    ∙ sym (flat_map-append stated_by (enumerate_from 0 (take place answers)) ((place, answer) ∷ []))
     ∙ ap (flat_map stated_by) (sym placed)
     ∙ ap (λ (those : List Answer). flat_map stated_by (enumerate_from 0 those)) (sym taken)
 
@@ -201,15 +193,10 @@ are_told answers one = (there, back)
         subst (λ (m : ℕ). In (m, told.answer) (enumerate_from 0 answers)) same (get_placed 0 one.step told.answer answers told.at))
         (at_told (told_in told.answer) one told.tells.says told.tells.chain_is)
 
-member_of : {A : Type 0} (xs : List A) (k : ℕ) (x : A) → slice_get xs k ≡ Some x → In x xs
-member_of [] k x is = absurd cc
-member_of (y ∷ xs) zero x is = inl cc
-member_of (y ∷ xs) (suc k) x is = inr (member_of xs k x is)
-
 pub agree : (answers : List Answer) → HasOneFate answers → Agree (statements_of answers)
 agree answers one_fate one other is also same =
     let here = (are_told answers one).0 is in
     let there = (are_told answers other).0 also in
-    one_fate here.answer there.answer one.id one.state other.state (member_of answers one.step here.answer here.at)
-    (member_of answers other.step there.answer there.at) here.tells.says
+    one_fate here.answer there.answer one.id one.state other.state (at_place answers one.step here.answer here.at)
+    (at_place answers other.step there.answer there.at) here.tells.says
     (subst (λ (n : ℕ). StatesFinal (told_in there.answer) n other.state) (sym same) there.tells.says)

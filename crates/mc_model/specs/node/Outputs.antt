@@ -1,10 +1,9 @@
 -- What a step gives out: packets, replies and receipts, each in its order.
 use Rattle.std.specs.Prelude.{◌≡◌, ℕ, suc, List, [], ◌∷◌, ◌++◌, length, reverse, Option, Some, None}
 use Rattle.mc_model.specs.message.Decree.{Decree}
-use Rattle.mc_model.specs.synod.Packet.{Packet, Slot, slot_of}
+use Rattle.mc_model.specs.synod.Packet.{Packet, Slot}
 use Rattle.mc_model.specs.synod.Acceptor.{Records}
 use Rattle.mc_model.specs.node.Actor.{Actor}
-use Rattle.mc_model.specs.node.Knowledge.{Knows}
 use Rattle.mc_model.specs.node.Replies.{Answer}
 use Rattle.mc_model.specs.node.Act.{Act, Replies, Reports}
 use Rattle.mc_model.specs.node.Effect.{did, packets_by, saved}
@@ -69,11 +68,6 @@ outputs_of node a records input acts = record {
   receipts = reverse (receipts_in acts);
   granted = granted_by input;
 }
-
--- the chain of an attempt that is granted
-pub record IsGrantedChain (nodes : ℕ) (a : Actor) (slot : Slot) (chain : List Decree) : Type 0 where
-  pub known : Knows nodes a.received slot.id chain
-  pub place : slot ≡ slot_of slot.id chain
 
 -- ---- the numbers of packets, from 1 in the order of sending
 

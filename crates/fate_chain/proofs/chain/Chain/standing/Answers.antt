@@ -1,8 +1,8 @@
 use Rattle.std.proofs.Common.{reverse, arith}
-use Rattle.fate_chain.proofs.Standings.{tried-few}
+use Rattle.mc_parts.proofs.Lengths.{most_attempts}
 use Rattle.fate_chain.proofs.chain.Chain.standing.Goals as goal
 
 pub returns-clause-attempts : goal.returns-clause-attempts
 returns-clause-attempts c =
     let stands = c.in-Stands.ensures in
-    omega (arith, tried-few c.self.inside.id (reverse c.deref.result.now) stands.0, stands.1.attempts)
+    omega (arith, most_attempts c.self.inside.id (reverse c.deref.result.now) stands.0, stands.1.attempts)

@@ -1,11 +1,12 @@
 use Rattle.std.proofs.Common.{◌≡◌, refl, sym, ap, ◌∙◌, false, Some, None}
 use Rattle.std.specs.Prelude.{◌&&◌}
+use Rattle.std.proofs.lemmas.Bool.{and_left, and_right}
 use Rattle.mc_model.specs.message.Submission.{Submission}
 use Rattle.node_model.specs.Rules.{is_attempt_by}
 use Rattle.node_model.specs.Starts.{is_idle, moment_behind}
 use Rattle.delivery.specs.Targets.{is_up}
 use Rattle.rules.specs.Standpoints.{kept_of}
-use Rattle.rules.proofs.Waiting.{cancelled_not, due_found, idle_is_due, idle_may, waits_not}
+use Rattle.rules.proofs.Waiting.{due_found, idle_is_due, idle_may}
 use Rattle.rules.proofs.standpoint.Standpoint.due.Goals.{else-cancelled-via-then-cancelled+else-is_idle, else-cancelled-via-else-cancelled}
 use Rattle.rules.proofs.standpoint.Standpoint.due.Goals as goal
 
@@ -14,8 +15,8 @@ returns-in-Some-clause-due c =
     let newest = c.newest-newest.result.now in
     let other : is_attempt_by c.args.self.now.author.node newest newest.kind ≡ false = sym c.is_attempt.ensures ∙ c.if-is_attempt.false in
     let kept : (is_idle newest.kind && c.args.cancelled) ≡ false = elim c.else-cancelled.branch [
-      | else-cancelled-via-then-cancelled+else-is_idle w ↦ waits_not (is_idle newest.kind) c.args.cancelled (sym w.is_idle.ensures ∙ w.if-is_idle.false)
-      | else-cancelled-via-else-cancelled w ↦ cancelled_not (is_idle newest.kind) c.args.cancelled w.if-cancelled.false
+      | else-cancelled-via-then-cancelled+else-is_idle w ↦ and_left (is_idle newest.kind) c.args.cancelled (sym w.is_idle.ensures ∙ w.if-is_idle.false)
+      | else-cancelled-via-else-cancelled w ↦ and_right (is_idle newest.kind) c.args.cancelled w.if-cancelled.false
     ] in
     idle_is_due c.args.self.now c.args.attempted c.args.cancelled (is_up c.args.up.now) c.args.chain.now.decrees newest c.submission.result.now
     c.newest-newest.ensures c.submission.ensures other kept (Some c.in-Some.due)
@@ -34,8 +35,8 @@ returns-in-None-clause-due c =
     let newest = c.newest-newest.result.now in
     let other : is_attempt_by c.args.self.now.author.node newest newest.kind ≡ false = sym c.is_attempt.ensures ∙ c.if-is_attempt.false in
     let kept : (is_idle newest.kind && c.args.cancelled) ≡ false = elim c.else-cancelled.branch [
-      | else-cancelled-via-then-cancelled+else-is_idle w ↦ waits_not (is_idle newest.kind) c.args.cancelled (sym w.is_idle.ensures ∙ w.if-is_idle.false)
-      | else-cancelled-via-else-cancelled w ↦ cancelled_not (is_idle newest.kind) c.args.cancelled w.if-cancelled.false
+      | else-cancelled-via-then-cancelled+else-is_idle w ↦ and_left (is_idle newest.kind) c.args.cancelled (sym w.is_idle.ensures ∙ w.if-is_idle.false)
+      | else-cancelled-via-else-cancelled w ↦ and_right (is_idle newest.kind) c.args.cancelled w.if-cancelled.false
     ] in
     idle_is_due c.args.self.now c.args.attempted c.args.cancelled (is_up c.args.up.now) c.args.chain.now.decrees newest c.submission.result.now
     c.newest-newest.ensures c.submission.ensures other kept None
