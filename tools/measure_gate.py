@@ -10,8 +10,8 @@
 
 Each row has the day on which it was measured. Processor time is read off /proc four times a second for each process that
 the gate starts: what a process used after its last reading is lost, and stands under 'other' with compilers, linkers and
-`rt` itself. The wall time of a crate is how long a process of it ran. The last line of the gate is printed as it is. Cores of one machine share its
-memory: on one core alone a process takes less processor time than beside others.
+`rt` itself. The wall time of a crate is how long a process of it ran. The last line of the gate is printed as it is. Beside
+others a process takes more processor time than alone, and on one core the gate runs one at a time.
 """
 import argparse
 import collections
