@@ -7,7 +7,8 @@ use Rattle.octet_fields.proofs.Records.{bind-same, front_at-join, contents_at-jo
 use Rattle.pdu_fields.specs.declared.fault.Field.TheVariants.{ServiceType}
 use Rattle.pdu_fields.specs.declared.fault.PduFault.{PduFault}
 use Rattle.pdu_fields.specs.declared.fault.PduFault.TheVariants.{Extra}
-use Rattle.pdu_fields.specs.Grammar.{Parts, Contents, AreWithin, ◌>>=◌, contents_at, front_at, text, source_parts, destination_parts, envelope_parts, handling_parts, text_parts, message_parts, cancel_parts}
+use Rattle.pdu_fields.specs.Grammar.{Parts, Contents, AreWithin, ◌>>=◌, contents_at, front_at, text, source_parts, destination_parts}
+use Rattle.pdu_fields.specs.Grammar.{envelope_parts, handling_parts, text_parts, message_parts, cancel_parts}
 use Rattle.pdu_fields.specs.Addresses.{address_at, source_at, destination_at}
 use Rattle.pdu_bodies.specs.Pieces.{envelope_at, message_at}
 use Rattle.pdu_bodies.specs.Pieces.{cancelled_parts, cancel_at}
@@ -15,7 +16,10 @@ use Rattle.pdu_bodies.specs.Pieces.{cancelled_parts, cancel_at}
 envelope-in_pieces : (octets : List ℕ) → front_at envelope_parts octets ≡ envelope_at octets
 unfolding address_at envelope_at
 envelope-in_pieces octets =
-    bind-same (told (text ServiceType 6).fault (content_at (text ServiceType 6).kind octets)) (λ x. front_at (source_parts ++ destination_parts) x.1 >>= λ y. Ok ((x.0, y.0), y.1)) (λ x. source_at x.1 >>= λ y. destination_at y.1 >>= λ z. Ok ((x.0, join source_parts destination_parts y.0 z.0), z.1)) (λ x. front_at-join source_parts destination_parts x.1 (λ y. Ok ((x.0, y.0), y.1)))
+    bind-same (told (text ServiceType 6).fault (content_at (text ServiceType 6).kind octets))
+    (λ x. front_at (source_parts ++ destination_parts) x.1 >>= λ y. Ok ((x.0, y.0), y.1))
+    (λ x. source_at x.1 >>= λ y. destination_at y.1 >>= λ z. Ok ((x.0, join source_parts destination_parts y.0 z.0), z.1))
+    (λ x. front_at-join source_parts destination_parts x.1 (λ y. Ok ((x.0, y.0), y.1)))
 
 -- what stands behind the envelope and the handling
 abbrev behind : Contents envelope_parts × List ℕ → Contents handling_parts × List ℕ → Result (Contents message_parts) PduFault
@@ -34,5 +38,6 @@ unfolding address_at cancel_at
 cancel-in_pieces octets = contents_at-join Extra cancelled_parts source_parts destination_parts octets
 
 -- what is read is within the limits of its fields
-pub read-within : (parts : Parts) (octets : List ℕ) (contents : Contents parts) → IsOctets octets → contents_at parts octets ≡ Ok contents → AreWithin parts contents
+pub read-within : (parts : Parts) (octets : List ℕ) (contents : Contents parts) → IsOctets octets → contents_at parts octets ≡ Ok contents →
+    AreWithin parts contents
 read-within parts octets contents are read = (whole_takes Extra parts octets contents are read).within

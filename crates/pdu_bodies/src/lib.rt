@@ -6,9 +6,7 @@ mod bodies;
 mod cancel;
 mod message;
 mod pdu;
+mod reading;
 
-pub use bind::bind_of;
-pub use bodies::{bind_answer_of, message_id_of, query_answer_of, query_of};
-pub use cancel::cancel_of;
-pub use message::message_of;
 pub use pdu::{Bind, BindAnswer, Body, Cancel, Message, Pdu, Query, QueryAnswer};
+pub use reading::body_of;

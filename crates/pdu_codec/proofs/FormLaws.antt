@@ -1,12 +1,14 @@
 -- Forms: what is read is spelled so and within its limits, and what is spelled so is read.
-use Rattle.std.proofs.Common.{◌≡◌, ℕ, ◌+◌, ◌<◌, ◌≤◌, Bool, true, false, ◌&&◌, eqb, leb, cond, List, [], ◌∷◌, length, Option, Some, None, Result, Ok, Err, refl, ap}
+use Rattle.std.proofs.Common.{◌≡◌, ℕ, ◌+◌, ◌<◌, ◌≤◌, Bool, true, false, ◌&&◌, eqb, leb, cond, List, [], ◌∷◌, length, Option, Some, None}
+use Rattle.std.proofs.Common.{Result, Ok, Err, refl, ap}
 use Rattle.std.proofs.Common.{◌∙◌, arith, length-append}
 use Rattle.std.proofs.lemmas.Bool.{and_parts, false≢true, ne_eqb, eqb-true, leb-true}
 use Rattle.std.proofs.lemmas.List.{nil_from_length}
 use Rattle.octet_fields.specs.declared.defect.Defect.{Defect}
 use Rattle.octet_fields.specs.declared.defect.Defect.TheVariants.{Cut, Few, Long, Unfit}
 use Rattle.octet_fields.specs.declared.defect.Defect.TheVariants as defects
-use Rattle.octet_fields.specs.Kinds.{Size, One, Two, Four, Eight, Kind, Number, Text, Counted, Parameters, Part, Content, Contents, number_octets, spelling, spellings, IsWithin, AreWithin, is_delimited, are_closed}
+use Rattle.octet_fields.specs.Kinds.{Size, One, Two, Four, Eight, Kind, Number, Text, Counted, Parameters, Part, Content, Contents}
+use Rattle.octet_fields.specs.Kinds.{number_octets, spelling, spellings, IsWithin, AreWithin, is_delimited, are_closed}
 use Rattle.octet_fields.proofs.Octets.{bind_ok}
 use Rattle.octet_fields.specs.Laws.{IsFirstFault}
 use Rattle.octet_fields.proofs.Records.{whole_takes, whole_again, first_fault}
@@ -104,13 +106,16 @@ pub record TakesForm (octets : List ℕ) (form : Form) (filling : Filling form) 
   pub spelled : octets ≡ filling_octets form filling
   pub fits : FillingFits form filling
 
-pub form_takes : (form : Form) (octets : List ℕ) (filling : Filling form) → IsOctets octets → filling_at form octets ≡ Ok filling → TakesForm octets form filling
+pub form_takes : (form : Form) (octets : List ℕ) (filling : Filling form) → IsOctets octets → filling_at form octets ≡ Ok filling →
+    TakesForm octets form filling
 form_takes (Has parts) octets filling are e =
     let all = whole_takes Extra parts octets filling are e in
     record { spelled = all.spelled; fits = all.within }
 form_takes (MayHave parts) octets None are e = left_out (eqb (length octets) 0) refl e
   where
-    left_out : (b : Bool) → eqb (length octets) 0 ≡ b → ◌≡◌ {A = Result (Option (Contents parts)) PduFault} (cond b (Ok None) (contents_at parts octets >>= λ c. Ok (Some c))) (Ok None) → TakesForm octets (MayHave parts) None
+    left_out : (b : Bool) → eqb (length octets) 0 ≡ b →
+        ◌≡◌ {A = Result (Option (Contents parts)) PduFault} (cond b (Ok None) (contents_at parts octets >>= λ c. Ok (Some c))) (Ok None) →
+        TakesForm octets (MayHave parts) None
     left_out true empty e = record { spelled = nil_from_length octets (eqb-true _ _ empty); fits = tt }
     left_out false some e =
         let b = bind_ok (contents_at parts octets) (λ c. Ok (Some c)) None e in
@@ -118,7 +123,9 @@ form_takes (MayHave parts) octets None are e = left_out (eqb (length octets) 0) 
         absurd cc
 form_takes (MayHave parts) octets (Some c) are e = there (eqb (length octets) 0) e
   where
-    there : (b : Bool) → ◌≡◌ {A = Result (Option (Contents parts)) PduFault} (cond b (Ok None) (contents_at parts octets >>= λ d. Ok (Some d))) (Ok (Some c)) → TakesForm octets (MayHave parts) (Some c)
+    there : (b : Bool) → ◌≡◌ {A = Result (Option (Contents parts)) PduFault}
+        (cond b (Ok None) (contents_at parts octets >>= λ d. Ok (Some d))) (Ok (Some c)) →
+        TakesForm octets (MayHave parts) (Some c)
     there true e = absurd cc
     there false e =
         let b = bind_ok (contents_at parts octets) (λ d. Ok (Some d)) (Some c) e in
@@ -141,7 +148,8 @@ spellings-some [] c some = absurd (false≢true some)
 spellings-some (first ∷ others) c some =
     omega (arith, spelling-some first.kind c.0 some, length-append (spelling first.kind c.0) (spellings others c.1))
 
-pub form_again : (form : Form) (filling : Filling form) → is_sound form ≡ true → FillingFits form filling → filling_at form (filling_octets form filling) ≡ Ok filling
+pub form_again : (form : Form) (filling : Filling form) → is_sound form ≡ true → FillingFits form filling →
+    filling_at form (filling_octets form filling) ≡ Ok filling
 form_again (Has parts) c sound fits = whole_again Extra parts c (and_parts (are_closed parts) (leb (most_in parts) 7400) sound).0 fits
 form_again (MayHave parts) None sound fits = refl
 form_again (MayHave parts) (Some c) sound fits =
@@ -166,13 +174,18 @@ pub bind_err : {A B : Type 0} (r : Result A PduFault) (f : A → B) (fault : Pdu
 bind_err (Ok x) f fault e = absurd cc
 bind_err (Err d) f fault e = cc
 
-pub form_first_fault : (form : Form) (octets : List ℕ) (fault : PduFault) → IsOctets octets → is_sound form ≡ true → filling_at form octets ≡ Err fault → IsFirstFault Extra (parts_of form) octets fault
+pub form_first_fault : (form : Form) (octets : List ℕ) (fault : PduFault) → IsOctets octets → is_sound form ≡ true →
+    filling_at form octets ≡ Err fault →
+    IsFirstFault Extra (parts_of form) octets fault
 form_first_fault (Has parts) octets fault are sound e =
     first_fault Extra parts octets fault are (and_parts (are_closed parts) (leb (most_in parts) 7400) sound).0 e
 form_first_fault (MayHave parts) octets fault are sound e = by (eqb (length octets) 0) e
   where
-    by : (b : Bool) → ◌≡◌ {A = Result (Option (Contents parts)) PduFault} (cond b (Ok None) (contents_at parts octets >>= λ c. Ok (Some c))) (Err fault) → IsFirstFault Extra parts octets fault
+    by : (b : Bool) →
+        ◌≡◌ {A = Result (Option (Contents parts)) PduFault} (cond b (Ok None) (contents_at parts octets >>= λ c. Ok (Some c))) (Err fault) →
+        IsFirstFault Extra parts octets fault
     by true e = absurd cc
     by false e =
         let both = and_parts (has_octet parts) (are_closed parts && leb (most_in parts) 7400) sound in
-        first_fault Extra parts octets fault are (and_parts (are_closed parts) (leb (most_in parts) 7400) both.1).0 (bind_err (contents_at parts octets) (λ c. Some c) fault e)
+        first_fault Extra parts octets fault are (and_parts (are_closed parts) (leb (most_in parts) 7400) both.1).0
+        (bind_err (contents_at parts octets) (λ c. Some c) fault e)

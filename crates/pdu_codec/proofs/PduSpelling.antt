@@ -1,5 +1,7 @@
 -- PDUs: what is read is spelled so and within its limits, and what is spelled so is read.
-use Rattle.std.proofs.Common.{◌≡◌, ℕ, zero, suc, ◌+◌, ◌-◌, ◌^◌, ◌<◌, ◌≤◌, Bool, true, false, cond, eqb, ltb, not, ◌||◌, List, [], ◌∷◌, ◌++◌, length, take, drop, Option, Some, None, IfOk, Result, Ok, Err, refl, sym, ap, subst, ◌∙◌, arith, length-take, length-drop}
+use Rattle.std.proofs.Common.{◌≡◌, ℕ, zero, suc, ◌+◌, ◌-◌, ◌^◌, ◌<◌, ◌≤◌, Bool, true, false, cond, eqb, ltb, not, ◌||◌, List, [], ◌∷◌}
+use Rattle.std.proofs.Common.{◌++◌, length, take, drop, Option, Some, None, IfOk, Result, Ok, Err, refl, sym, ap, subst, ◌∙◌, arith}
+use Rattle.std.proofs.Common.{length-take, length-drop}
 use Rattle.std.specs.List.{find}
 use Rattle.std.specs.Int.{w32, to_be_bytes}
 use Rattle.std.proofs.lemmas.Bool.{eqb-true, ltb-true, ltb-false, or_parts, not-false}
@@ -21,7 +23,8 @@ use Rattle.pdu_codec.specs.Pdu.{framed, octets_of, Fits, has_wrong_length, read_
 use Rattle.octet_fields.proofs.Octets.{IsOctets-drop, bind_ok, guard_ok, ok_is}
 use Rattle.octet_fields.specs.Laws.{IsFirstFault}
 use Rattle.pdu_codec.proofs.FormLaws.{is_sound, tell_body, form_takes, form_again, form-short, bind_err, form_first_fault}
-use Rattle.pdu_codec.proofs.PduLaws.{with_body, read_pdu-whole, bind_answer_again, message_id_again, query_answer_again}
+use Rattle.pdu_bodies.proofs.Making.{bind_answer_again, message_id_again, query_answer_again}
+use Rattle.pdu_codec.proofs.PduLaws.{with_body, read_pdu-whole}
 
 -- ---- commands
 
@@ -61,7 +64,8 @@ pub record TakesBody (command : Option Command) (octets : List ℕ) (b : Body) :
   pub spelled : octets ≡ body_octets b
   pub fits : BodyFits b
 
-made : (command : Command) (filling : Filling (form_of command)) → FillingFits (form_of command) filling → TakesBody (Some command) (filling_octets (form_of command) filling) (body_from command filling)
+made : (command : Command) (filling : Filling (form_of command)) → FillingFits (form_of command) filling →
+    TakesBody (Some command) (filling_octets (form_of command) filling) (body_from command filling)
 made commands.BindReceiver filling fits = record { command_is = refl; spelled = refl; fits = fits }
 made commands.BindReceiverResp None fits = record { command_is = refl; spelled = refl; fits = fits }
 made commands.BindReceiverResp (Some c) fits = record { command_is = refl; spelled = refl; fits = fits }
@@ -128,7 +132,8 @@ body_takes (Some command) octets b are e =
 filled_again : (f : Filled) → FilledFits f → body_at (Some (filled_command f)) (octets_in f) ≡ Ok (body_in f)
 unfolding body_at
 filled_again (Fills command filling) fits =
-    ap (λ (r : Result (Filling (form_of command)) PduFault). r >>= λ x. Ok (body_from command x)) (form_again (form_of command) filling (served command).form fits)
+    ap (λ (r : Result (Filling (form_of command)) PduFault). r >>= λ x. Ok (body_from command x))
+    (form_again (form_of command) filling (served command).form fits)
 
 body_again : (b : Body) → BodyFits b → body_at (Some (command_in b)) (body_octets b) ≡ Ok b
 body_again b fits = filled_again (filled_by b) fits ∙ ap Ok (again b)
@@ -159,19 +164,22 @@ four_octets octets are zero = rw (get_or-take 4 octets 0 0 (omega arith)) (are 0
 four_octets octets are (suc zero) = rw (get_or-take 4 octets 1 0 (omega arith)) (are 1)
 four_octets octets are (suc (suc zero)) = rw (get_or-take 4 octets 2 0 (omega arith)) (are 2)
 four_octets octets are (suc (suc (suc zero))) = rw (get_or-take 4 octets 3 0 (omega arith)) (are 3)
-four_octets octets are (suc (suc (suc (suc i)))) = rw (get_or_past (take 4 octets) (suc (suc (suc (suc i)))) 0 (omega (arith, length-take 4 octets))) (omega arith)
+four_octets octets are (suc (suc (suc (suc i)))) =
+    rw (get_or_past (take 4 octets) (suc (suc (suc (suc i)))) 0 (omega (arith, length-take 4 octets))) (omega arith)
 
 -- four octets are the number that stands there
 word-spelled : (place : ℕ) (octets : List ℕ) → IsOctets octets → place + 4 ≤ length octets → to_be_bytes w32 (word_at place octets) ≡ take 4 (drop place octets)
 word-spelled place octets are long =
-    be_bytes_4 (take 4 (drop place octets)) _ (omega (arith, length-take 4 (drop place octets), length-drop place octets)) (four_octets (drop place octets) (IsOctets-drop place octets are)) refl
+    be_bytes_4 (take 4 (drop place octets)) _ (omega (arith, length-take 4 (drop place octets), length-drop place octets))
+    (four_octets (drop place octets) (IsOctets-drop place octets are)) refl
 
 word-short : (place : ℕ) (octets : List ℕ) → IsOctets octets → word_at place octets < 2 ^ 32
 word-short place octets are =
     let four = four_octets (drop place octets) (IsOctets-drop place octets are) in
     omega (arith, four 0, four 1, four 2, four 3)
 
-header_and_rest : (octets : List ℕ) → 16 ≤ length octets → octets ≡ take 4 (drop 0 octets) ++ take 4 (drop 4 octets) ++ take 4 (drop 8 octets) ++ take 4 (drop 12 octets) ++ drop 16 octets
+header_and_rest : (octets : List ℕ) → 16 ≤ length octets →
+    octets ≡ take 4 (drop 0 octets) ++ take 4 (drop 4 octets) ++ take 4 (drop 8 octets) ++ take 4 (drop 12 octets) ++ drop 16 octets
 header_and_rest (a ∷ b ∷ c ∷ d ∷ e ∷ f ∷ g ∷ h ∷ i ∷ j ∷ k ∷ l ∷ m ∷ n ∷ o ∷ p ∷ rest) long = refl
 header_and_rest other long = absurd (omega arith)
 
@@ -193,17 +201,23 @@ read_pdu-takes octets pdu are e =
     let taken = body_takes command (drop 16 octets) a.0 (IsOctets-drop 16 octets are) a.1 in
     let code_is : word_at 4 octets ≡ command_code (command_in a.0) = sym (code-of_command (word_at 4 octets) (command_in a.0) taken.command_is) in
     let size : 16 + length (body_octets a.0) ≡ word_at 0 octets = omega (arith, length_is, ap length taken.spelled, length-drop 16 octets) in
-    let first : to_be_bytes w32 (16 + length (body_octets a.0)) ≡ take 4 (drop 0 octets) = ap (to_be_bytes w32) size ∙ word-spelled 0 octets are (omega arith) in
-    let second : to_be_bytes w32 (command_code (command_in a.0)) ≡ take 4 (drop 4 octets) = ap (to_be_bytes w32) (sym code_is) ∙ word-spelled 4 octets are (omega arith) in
+    let first : to_be_bytes w32 (16 + length (body_octets a.0)) ≡ take 4 (drop 0 octets) = ap (to_be_bytes w32) size
+    ∙ word-spelled 0 octets are (omega arith) in
+    let second : to_be_bytes w32 (command_code (command_in a.0)) ≡ take 4 (drop 4 octets) = ap (to_be_bytes w32) (sym code_is)
+    ∙ word-spelled 4 octets are (omega arith) in
     let third = word-spelled 8 octets are (omega arith) in
     let fourth = word-spelled 12 octets are (omega arith) in
     let whole : octets ≡ octets_of (with_body octets a.0) =
     header_and_rest octets long
     ∙ ap (λ (w : List ℕ). w ++ take 4 (drop 4 octets) ++ take 4 (drop 8 octets) ++ take 4 (drop 12 octets) ++ drop 16 octets) (sym first)
-    ∙ ap (λ (w : List ℕ). to_be_bytes w32 (16 + length (body_octets a.0)) ++ w ++ take 4 (drop 8 octets) ++ take 4 (drop 12 octets) ++ drop 16 octets) (sym second)
-    ∙ ap (λ (w : List ℕ). to_be_bytes w32 (16 + length (body_octets a.0)) ++ to_be_bytes w32 (command_code (command_in a.0)) ++ w ++ take 4 (drop 12 octets) ++ drop 16 octets) (sym third)
-    ∙ ap (λ (w : List ℕ). to_be_bytes w32 (16 + length (body_octets a.0)) ++ to_be_bytes w32 (command_code (command_in a.0)) ++ to_be_bytes w32 (word_at 8 octets) ++ w ++ drop 16 octets) (sym fourth)
-    ∙ ap (λ (w : List ℕ). to_be_bytes w32 (16 + length (body_octets a.0)) ++ to_be_bytes w32 (command_code (command_in a.0)) ++ to_be_bytes w32 (word_at 8 octets) ++ to_be_bytes w32 (word_at 12 octets) ++ w) taken.spelled in
+    ∙ ap (λ (w : List ℕ). to_be_bytes w32 (16 + length (body_octets a.0)) ++ w ++ take 4 (drop 8 octets) ++ take 4
+    (drop 12 octets) ++ drop 16 octets) (sym second)
+    ∙ ap (λ (w : List ℕ). to_be_bytes w32 (16 + length (body_octets a.0)) ++ to_be_bytes w32 (command_code (command_in a.0)) ++ w ++ take 4
+    (drop 12 octets) ++ drop 16 octets) (sym third)
+    ∙ ap (λ (w : List ℕ). to_be_bytes w32 (16 + length (body_octets a.0)) ++ to_be_bytes w32
+    (command_code (command_in a.0)) ++ to_be_bytes w32 (word_at 8 octets) ++ w ++ drop 16 octets) (sym fourth)
+    ∙ ap (λ (w : List ℕ). to_be_bytes w32 (16 + length (body_octets a.0)) ++ to_be_bytes w32
+    (command_code (command_in a.0)) ++ to_be_bytes w32 (word_at 8 octets) ++ to_be_bytes w32 (word_at 12 octets) ++ w) taken.spelled in
     subst (λ (p : Pdu). TakesPdu octets p) (ok_is (with_body octets a.0) pdu a.2) (record {
       spelled = whole;
       fits = record { status = word-short 8 octets are; sequence = word-short 12 octets are; body = taken.fits };
@@ -217,7 +231,8 @@ read_pdu-again pdu fits =
     let short = body-short pdu.body fits.body in
     let size : length octets ≡ 16 + length body = omega arith in
     let length_is : word_at 0 octets ≡ 16 + length body = from_be_bytes-to_be_bytes_4 (16 + length body) (omega (arith, short)) in
-    let code_is : word_at 4 octets ≡ command_code (command_in pdu.body) = from_be_bytes-to_be_bytes_4 (command_code (command_in pdu.body)) (ltb-true (command_code (command_in pdu.body)) (2 ^ 32) (served (command_in pdu.body)).number) in
+    let code_is : word_at 4 octets ≡ command_code (command_in pdu.body) = from_be_bytes-to_be_bytes_4 (command_code (command_in pdu.body))
+    (ltb-true (command_code (command_in pdu.body)) (2 ^ 32) (served (command_in pdu.body)).number) in
     let status_is : word_at 8 octets ≡ pdu.status = from_be_bytes-to_be_bytes_4 pdu.status fits.status in
     let sequence_is : word_at 12 octets ≡ pdu.sequence = from_be_bytes-to_be_bytes_4 pdu.sequence fits.sequence in
     let command_is : Some (command_in pdu.body) ≡ command_of (word_at 4 octets) = sym (ap command_of code_is ∙ (served (command_in pdu.body)).known) in
@@ -236,7 +251,9 @@ pub read-fits : (octets : List ℕ) (r : Result Pdu PduFault) → IsOctets octet
 read-fits octets (Ok pdu) are gives = (read_pdu-takes octets pdu are gives).fits
 read-fits octets (Err fault) are gives = tt
 
-pub body_first_fault : (command : Command) (octets : List ℕ) (fault : PduFault) → IsOctets octets → body_at (Some command) octets ≡ Err fault → IsFirstFault faults.Extra (parts_of (form_of command)) octets fault
+pub body_first_fault : (command : Command) (octets : List ℕ) (fault : PduFault) → IsOctets octets →
+    body_at (Some command) octets ≡ Err fault →
+    IsFirstFault faults.Extra (parts_of (form_of command)) octets fault
 unfolding body_at
 body_first_fault command octets fault are e =
     form_first_fault (form_of command) octets fault are (served command).form (bind_err (filling_at (form_of command) octets) (body_from command) fault e)
