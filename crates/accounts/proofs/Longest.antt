@@ -1,5 +1,6 @@
 -- The route of the longest prefix.
-use Rattle.std.proofs.Common.{◌≡◌, ℕ, ◌+◌, ◌<◌, ◌≤◌, Bool, true, false, cond, List, [], ◌∷◌, ◌++◌, length, take, drop, get_or, Option, Some, None, refl, sym, ap, subst, ◌∙◌, inl, inr, arith}
+use Rattle.std.proofs.Common.{◌≡◌, ℕ, ◌+◌, ◌<◌, ◌≤◌, Bool, true, false, cond, List, [], ◌∷◌, ◌++◌, length, take, drop, get_or, Option}
+use Rattle.std.proofs.Common.{Some, None, refl, sym, ap, subst, ◌∙◌, inl, inr, arith}
 use Rattle.std.specs.Str.{bytes_eq}
 use Rattle.std.proofs.Math.Seq.{take-append_seam}
 use Rattle.std.proofs.lemmas.Bool.{cases_lt, lt-ltb, le-ltb, or_from, or_parts, true≢false}
@@ -13,7 +14,8 @@ use Rattle.accounts.proofs.Named.{is_same, other_way}
 
 -- ---- no two of one prefix, with one more
 
-none_more : (routes : List Route) (last : Route) (prefix : List ℕ) → has_route routes prefix ≡ false → bytes_eq last.prefix prefix ≡ false → has_route (routes ++ last ∷ []) prefix ≡ false
+none_more : (routes : List Route) (last : Route) (prefix : List ℕ) → has_route routes prefix ≡ false → bytes_eq last.prefix prefix ≡ false →
+    has_route (routes ++ last ∷ []) prefix ≡ false
 none_more [] last prefix none differs = or_from _ _ differs refl
 none_more (first ∷ others) last prefix none differs =
     let parts = or_parts (bytes_eq first.prefix prefix) (has_route others prefix) none in
@@ -44,21 +46,26 @@ three a b c = elim (cases_lt (length b.prefix) (length c.prefix)) [
 ]
 
 passes : (first last : Route) (destination : List ℕ) (fits also : Bool) (others : Option Route) → is_front last destination ≡ also
-    → cond fits (Some (longer first (better others last destination))) (better others last destination) ≡ better (cond fits (Some (longer first others)) others) last destination
+    → cond fits (Some (longer first (better others last destination))) (better others last destination) ≡ better
+    (cond fits (Some (longer first others)) others) last destination
 passes first last destination false also others is = refl
 passes first last destination true false others is = rw is
 passes first last destination true true None is = rw is
 passes first last destination true true (Some other) is = rw is (ap (λ (r : Route). Some r) (three first other last))
 
-one_more : (routes : List Route) (last : Route) (destination : List ℕ) → route_of (routes ++ last ∷ []) destination ≡ better (route_of routes destination) last destination
+one_more : (routes : List Route) (last : Route) (destination : List ℕ) →
+    route_of (routes ++ last ∷ []) destination ≡ better (route_of routes destination) last destination
 one_more [] last destination = refl
 one_more (first ∷ others) last destination =
     ap (λ (o : Option Route). cond (is_front first destination) (Some (longer first o)) o) (one_more others last destination)
     ∙ passes first last destination (is_front first destination) (is_front last destination) (route_of others destination) refl
 
-pub route_more : (routes : List Route) (place : ℕ) (route : Route) (destination : List ℕ) → place < length routes → route ≡ get_or routes place route → route_of (take (place + 1) routes) destination ≡ better (route_of (take place routes) destination) route destination
+pub route_more : (routes : List Route) (place : ℕ) (route : Route) (destination : List ℕ) → place < length routes →
+    route ≡ get_or routes place route →
+    route_of (take (place + 1) routes) destination ≡ better (route_of (take place routes) destination) route destination
 route_more routes place route destination below is =
-    let more : take (place + 1) routes ≡ take place routes ++ route ∷ [] = take_more routes place route below ∙ ap (λ (r : Route). take place routes ++ r ∷ []) (sym is) in
+    let more : take (place + 1) routes ≡ take place routes ++ route ∷ [] = take_more routes place route below ∙ ap
+    (λ (r : Route). take place routes ++ r ∷ []) (sym is) in
     ap (λ (rs : List Route). route_of rs destination) more ∙ one_more (take place routes) route destination
 
 -- ---- the longest of those that fit
@@ -77,7 +84,9 @@ passed_by : (first other : Route) (destination : List ℕ) → is_front first de
 passed_by first other destination not same is =
     true≢false (sym (is_fits first destination (subst (λ (r : Route). IsPrefix r.prefix destination) same is)) ∙ not)
 
-best_step : (first : Route) (others : List Route) (destination : List ℕ) (fits : Bool) (best : Option Route) → is_front first destination ≡ fits → IsBest others destination best → IsBest (first ∷ others) destination (cond fits (Some (longer first best)) best)
+best_step : (first : Route) (others : List Route) (destination : List ℕ) (fits : Bool) (best : Option Route) →
+    is_front first destination ≡ fits → IsBest others destination best →
+    IsBest (first ∷ others) destination (cond fits (Some (longer first best)) best)
 best_step first others destination false None is before = λ route among prefix. elim among [
   | inl same ↦ passed_by first route destination is same prefix
   | inr after ↦ before route after prefix
@@ -122,10 +131,13 @@ is_best [] destination = λ route among prefix. absurd among
 is_best (first ∷ others) destination =
     best_step first others destination (is_front first destination) (route_of others destination) refl (is_best others destination)
 
-pub found_is_longest : (routes : List Route) (destination : List ℕ) (route : Route) → route_of routes destination ≡ Some route → IsLongest routes destination route
+pub found_is_longest : (routes : List Route) (destination : List ℕ) (route : Route) → route_of routes destination ≡ Some route →
+    IsLongest routes destination route
 found_is_longest routes destination route found = subst (λ (o : Option Route). IsBest routes destination o) found (is_best routes destination)
 
-pub none_fits : (routes : List Route) (destination : List ℕ) → route_of routes destination ≡ None → (route : Route) → IsAmong route routes → IsPrefix route.prefix destination → ⊥
+pub none_fits : (routes : List Route) (destination : List ℕ) → route_of routes destination ≡ None → (route : Route) → IsAmong route routes →
+    IsPrefix route.prefix destination →
+    ⊥
 none_fits routes destination none = subst (λ (o : Option Route). IsBest routes destination o) none (is_best routes destination)
 
 -- ---- there is only one
@@ -154,13 +166,19 @@ only_one (first ∷ others) one other distinct (inr is) (inl too) same =
     absurd (has_among others one first.prefix is (same ∙ ap (λ (r : Route). r.prefix) too) distinct.0)
 only_one (first ∷ others) one other distinct (inr is) (inr too) same = only_one others one other distinct.1 is too same
 
-longest_found : (routes : List Route) (destination : List ℕ) (route : Route) (found : Option Route) → AreDistinct routes → IsLongest routes destination route → IsBest routes destination found → found ≡ Some route
+longest_found : (routes : List Route) (destination : List ℕ) (route : Route) (found : Option Route) → AreDistinct routes →
+    IsLongest routes destination route → IsBest routes destination found →
+    found ≡ Some route
 longest_found routes destination route None distinct is best = absurd (best route is.given is.prefix)
 longest_found routes destination route (Some other) distinct is best =
     let above = best.longest route is.given is.prefix in
     let below = is.longest other best.given best.prefix in
     let lengths : length other.prefix ≡ length route.prefix = omega arith in
-    ap (λ (r : Route). Some r) (only_one routes other route distinct best.given is.given (same_front other.prefix route.prefix destination best.prefix is.prefix lengths))
+    ap (λ (r : Route). Some r) (only_one routes other route distinct best.given is.given
+    (same_front other.prefix route.prefix destination best.prefix is.prefix lengths))
 
-pub longest_is_found : (routes : List Route) (destination : List ℕ) (route : Route) → AreDistinct routes → IsLongest routes destination route → route_of routes destination ≡ Some route
-longest_is_found routes destination route distinct is = longest_found routes destination route (route_of routes destination) distinct is (is_best routes destination)
+pub longest_is_found : (routes : List Route) (destination : List ℕ) (route : Route) → AreDistinct routes →
+    IsLongest routes destination route →
+    route_of routes destination ≡ Some route
+longest_is_found routes destination route distinct is =
+    longest_found routes destination route (route_of routes destination) distinct is (is_best routes destination)

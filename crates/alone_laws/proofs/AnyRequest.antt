@@ -16,7 +16,8 @@ use Rattle.alone_laws.proofs.Ending.{settles_after}
 use Rattle.alone_laws.proofs.Leading.{leads_same, few_enough}
 
 pub request_settles : (first validity : ℕ) (k : Kept) (t : TableNode) → IsResting k t → (request : Request) → MayCome t request →
-    SettlesOn (alone first validity) (stepped (alone first validity) k (Arrival request)) (requested t request) (reply_to t request ∷ []) (receipts_by t request)
+    SettlesOn (alone first validity) (stepped (alone first validity) k (Arrival request)) (requested t request) (reply_to t request ∷ [])
+    (receipts_by t request)
 request_settles first validity k t resting (Submit id message) next =
     submit_settles first validity k t id message resting (subst IsSerial (sym resting.serial) next.serial)
     (next.id_is ∙ (λ i. id_of 1 (sym resting.incarnation i) (sym resting.serial i)))
@@ -32,7 +33,8 @@ pub refusal_settles : (first validity : ℕ) (k : Kept) (t : TableNode) → IsRe
     SettlesOn (alone first validity) (stepped (alone first validity) k (Refusal status)) t [] []
 refusal_settles first validity k t resting status =
     let begun : stepped (alone first validity) k (Refusal status) ≡ refused_with k status = rw resting.up refl in
-    settles_after (alone first validity) _ _ t [] [] begun refl refl (inl refl) (record { kept = k; leads = leads_same (alone first validity) _ _ refl; resting = resting })
+    settles_after (alone first validity) _ _ t [] [] begun refl refl (inl refl)
+    (record { kept = k; leads = leads_same (alone first validity) _ _ refl; resting = resting })
     (few_enough t (omega arith))
 
 pub refusal_given : (first validity : ℕ) (k : Kept) (t : TableNode) → IsResting k t → (status : ℕ) →

@@ -93,7 +93,8 @@ module _ (first validity : ℕ) (k : Kept) (t : TableNode) (request : Request) (
       rw (up, eqb_self k.incarnation, found, about) refl
 
 -- an answer to the only one who waits
-pub answer_given : (setup : Setup) (k : Kept) (known : Option (List Decree)) (old told new : Held) (answer : Answer) → k.held ≡ old ∷ [] → ticket_of old ≡ ticket_of new →
+pub answer_given : (setup : Setup) (k : Kept) (known : Option (List Decree)) (old told new : Held) (answer : Answer) → k.held ≡ old ∷ [] →
+    ticket_of old ≡ ticket_of new →
     start_told setup k known told new ≡ None → answer_to setup.nodes known new ≡ Some answer →
     settled_told setup k known told new ≡ sends (record k { held = [] }) [] (record { ticket = ticket_of new; id = id_of new; answer = answer } ∷ []) []
 answer_given setup k known old told new answer held_is tickets none is =

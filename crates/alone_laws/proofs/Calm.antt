@@ -114,14 +114,15 @@ calm_at_rest k t resting = record {
 
 -- an id that was given was given
 given_next : (k : Kept) (id : ℕ) → was_given k id ≡ true → was_given (record k { serial = suc k.serial }) id ≡ true
-given_next k id given = elim (or_cases (nat_lt (incarnation_of id) k.incarnation) ((incarnation_of id == k.incarnation) && nat_lt (serial_of id) k.serial) given) [
-  | inl earlier ↦ or_left (nat_lt (incarnation_of id) k.incarnation) ((incarnation_of id == k.incarnation) && nat_lt (serial_of id) (suc k.serial)) earlier
-  | inr now ↦
-      let parts = and_parts (incarnation_of id == k.incarnation) (nat_lt (serial_of id) k.serial) now in
-      let below = ltb-true (serial_of id) k.serial parts.1 in
-      or_right (nat_lt (incarnation_of id) k.incarnation) ((incarnation_of id == k.incarnation) && nat_lt (serial_of id) (suc k.serial))
-      (and_from (incarnation_of id == k.incarnation) (nat_lt (serial_of id) (suc k.serial)) parts.0 (lt-ltb (serial_of id) (suc k.serial) (omega arith)))
-]
+given_next k id given =
+    elim (or_cases (nat_lt (incarnation_of id) k.incarnation) ((incarnation_of id == k.incarnation) && nat_lt (serial_of id) k.serial) given) [
+      | inl earlier ↦ or_left (nat_lt (incarnation_of id) k.incarnation) ((incarnation_of id == k.incarnation) && nat_lt (serial_of id) (suc k.serial)) earlier
+      | inr now ↦
+          let parts = and_parts (incarnation_of id == k.incarnation) (nat_lt (serial_of id) k.serial) now in
+          let below = ltb-true (serial_of id) k.serial parts.1 in
+          or_right (nat_lt (incarnation_of id) k.incarnation) ((incarnation_of id == k.incarnation) && nat_lt (serial_of id) (suc k.serial))
+          (and_from (incarnation_of id == k.incarnation) (nat_lt (serial_of id) (suc k.serial)) parts.0 (lt-ltb (serial_of id) (suc k.serial) (omega arith)))
+    ]
 
 pub given_later : (k : Kept) (request : Request) (new : Held) (id : ℕ) → was_given k id ≡ true → was_given (waits_too k request new) id ≡ true
 given_later k (Submit other message) new id given = given_next k id given
@@ -148,7 +149,8 @@ calm_arrived k t request resting = record {
   ticket = ap suc resting.ticket;
   ids = resting.ids;
   ascends = resting.ascends;
-  message = λ id. rest_as k (arrived k request) id (entry_at t.table id) refl (λ place. refl) (given_later k request (newcomer k request) id) (resting.message id);
+  message = λ id. rest_as k (arrived k request) id (entry_at t.table id) refl (λ place. refl)
+      (given_later k request (newcomer k request) id) (resting.message id);
 }
 
 pub held_arrived : (k : Kept) (t : TableNode) (request : Request) → IsResting k t → (arrived k request).held ≡ newcomer k request ∷ []

@@ -22,7 +22,8 @@ use Rattle.node_model.specs.Starts.{delete_for, is_idle}
 use Rattle.node_model.specs.Stepped.{stepped}
 use Rattle.node_model.specs.Ticks.{begun_with}
 use Rattle.alone_laws.specs.Alone.{alone}
-use Rattle.alone_laws.specs.Tables.{TableNode, cancelled, decree_by, is_deleted, is_meant, known_as, receipts_by, removed, reply_to, requested, with_entry, chain_at, Table, extended, decreed, Entry}
+use Rattle.alone_laws.specs.Tables.{TableNode, cancelled, decree_by, is_deleted, is_meant, known_as, receipts_by, removed, reply_to}
+use Rattle.alone_laws.specs.Tables.{requested, with_entry, chain_at, Table, extended, decreed, Entry}
 use Rattle.alone_laws.specs.Resting.{IsResting, IsTaken, IsTakenIfAny}
 use Rattle.alone_laws.specs.Settling.{SettlesOn}
 use Rattle.alone_laws.proofs.Frames.{eqb_self, entry_here}
@@ -104,9 +105,25 @@ module _ (first validity : ℕ) (k : Kept) (t : TableNode) (id : ℕ) (account s
   delete_is (newest ∷ older) taken = rw (taken.taken, eqb_self id) (by_tests (is_idle newest.kind) (is_match taken.message account source destination))
     where
       by_tests : (idle match : Bool) →
-          (if idle && (match || false) then Some (record { place = length (newest ∷ older); chain = record { author = record { node = 1; incarnation = k.incarnation }; moment = max k.clock newest.moment; kind = Fate Deleted 0 } ∷ newest ∷ older }) else None)
+          (if idle && (match || false) then Some (record {
+            place = length (newest ∷ older);
+            chain = record {
+              author = record { node = 1; incarnation = k.incarnation };
+              moment = max k.clock newest.moment;
+              kind =
+                  Fate Deleted 0;
+            } ∷ newest ∷ older;
+          }) else None)
           ≡ (if idle && match then Some (start first validity id (newest ∷ older) (decree_by t (newest ∷ older) (Fate Deleted 0))) else None)
-      by_tests true true = λ i. Some (record { place = length (newest ∷ older); chain = record { author = record { node = 1; incarnation = resting.incarnation i }; moment = max (resting.clock i) newest.moment; kind = Fate Deleted 0 } ∷ newest ∷ older })
+      by_tests true true = λ i. Some (record {
+        place = length (newest ∷ older);
+        chain = record {
+          author = record { node = 1; incarnation = resting.incarnation i };
+          moment = max (resting.clock i) newest.moment;
+          kind =
+              Fate Deleted 0;
+        } ∷ newest ∷ older;
+      })
       by_tests true false = refl
       by_tests false match = refl
 
@@ -133,7 +150,8 @@ module _ (first validity : ℕ) (k : Kept) (t : TableNode) (id : ℕ) (account s
 
   abbrev Comes : Table → List Decree → Type 0
   Comes table chain =
-      SettlesOn setup (stepped setup k (Arrival request)) (record (noted t request) { table = table }) (reply_for chain ∷ []) (receipts_of 1 id (known_as old) chain)
+      SettlesOn setup (stepped setup k (Arrival request)) (record (noted t request) { table = table }) (reply_for chain ∷ [])
+      (receipts_of 1 id (known_as old) chain)
 
   -- ---- it is not deleted
 
@@ -169,7 +187,8 @@ module _ (first validity : ℕ) (k : Kept) (t : TableNode) (id : ℕ) (account s
         leads = asked (record k0 { held = [] }) [] (reply_for old ∷ []) (told_is
             ∙ (answer_given setup k0 known new heard held (cancelled account source destination old (taken_in old)) (held_arrived k t request resting) refl
             (start_is ∙ ap deletes not_deleted) (answer_is ∙ kept_answer old (resting.message id).taken not_deleted)
-            ∙ (λ i. sends (record k0 { held = [] }) [] (record { ticket = resting.ticket i; id = id; answer = cancelled account source destination old (taken_in old) } ∷ []) [])));
+            ∙ (λ i. sends (record k0 { held = [] }) []
+            (record { ticket = resting.ticket i; id = id; answer = cancelled account source destination old (taken_in old) } ∷ []) [])));
         resting = rests_still k0 (noted t request) calm;
       }) (few_enough (noted t request) (omega arith)))
 
@@ -213,7 +232,8 @@ module _ (first validity : ℕ) (k : Kept) (t : TableNode) (id : ℕ) (account s
         ap (λ (hs : List Held). with_held hs held) (held_arrived k t request resting) ∙ one
 
     told_then : stepped setup k0 (Delivery (Tell 1 named told))
-        ≡ sends (with_message k1 id (tried first validity id old decree k1)) (Prepare 1 (slot_at id (length old)) (ballot first validity id old decree k1) ∷ []) [] []
+        ≡ sends (with_message k1 id (tried first validity id old decree k1))
+        (Prepare 1 (slot_at id (length old)) (ballot first validity id old decree k1) ∷ []) [] []
     told_then =
         told_is
         ∙ (ap (λ (o : Option Start). answer_told (started setup k1 id o) held (answer_to 1 known held)) (start_is ∙ ap deletes deleted)
@@ -237,9 +257,11 @@ module _ (first validity : ℕ) (k : Kept) (t : TableNode) (id : ℕ) (account s
         (receipts_of 1 id (known_as old) (decree ∷ old)) begun_is refl refl
         (inr (inr (round_orderly first validity k1 (noted t request) id decree (held ∷ []) (reply_for (decree ∷ old) ∷ [])
         (calm_but id k1 (noted t request) calm_then) (calm_then.message id).ready held_is taken_then answered _ (asked _ _ [] told_then))))
-        (ends_after setup _ _ (record (noted t request) { table = with_entry t.table id (extended old decree) }) (reply_for (decree ∷ old) ∷ []) (receipts_of 1 id (known_as old) (decree ∷ old))
+        (ends_after setup _ _ (record (noted t request) { table = with_entry t.table id (extended old decree) })
+        (reply_for (decree ∷ old) ∷ []) (receipts_of 1 id (known_as old) (decree ∷ old))
         (asked _ _ [] told_then)
-        (round_ends first validity k1 (noted t request) id decree (held ∷ []) (reply_for (decree ∷ old) ∷ []) (calm_but id k1 (noted t request) calm_then) (calm_then.message id).ready held_is taken_then answered))
+        (round_ends first validity k1 (noted t request) id decree (held ∷ []) (reply_for (decree ∷ old) ∷ [])
+        (calm_but id k1 (noted t request) calm_then) (calm_then.message id).ready held_is taken_then answered))
         (few_enough (record (noted t request) { table = with_entry t.table id (extended old decree) }) (omega arith))
 
   pub cancel_settles : SettlesOn setup (stepped setup k (Arrival request)) (requested t request) (reply_to t request ∷ []) (receipts_by t request)
@@ -248,5 +270,6 @@ module _ (first validity : ℕ) (k : Kept) (t : TableNode) (id : ℕ) (account s
       by_test : (test : Bool) → is_deleted account source destination old ≡ test →
           Comes (if test then decreed t id (Fate Deleted 0) else t.table) (chain_at (if test then decreed t id (Fate Deleted 0) else t.table) id)
       by_test true deleted =
-          subst (Comes (with_entry t.table id (extended old decree))) (sym (ap (λ (e : Entry). e.chain) (entry_here t.table id (extended old decree)))) (deleted_then deleted)
+          subst (Comes (with_entry t.table id (extended old decree)))
+          (sym (ap (λ (e : Entry). e.chain) (entry_here t.table id (extended old decree)))) (deleted_then deleted)
       by_test false not_deleted = kept not_deleted

@@ -49,7 +49,8 @@ module _ (first validity : ℕ) (id : ℕ) (old : List Decree) (decree : Decree)
       started setup k id (Some start) ≡ record { kept = with_message k id (tried k); packets = Prepare 1 slot (ballot k) ∷ [] }
   round_starts k rest = rw (rest.idle, unseen_before k rest) refl
 
-  pub round_is_under_way : (k : Kept) → IsReady k id old → IsUnderWay id old (with_message k id (tried k)) (Some (begun_round slot (ballot k) (decree ∷ old))) blank
+  pub round_is_under_way : (k : Kept) → IsReady k id old →
+      IsUnderWay id old (with_message k id (tried k)) (Some (begun_round slot (ballot k) (decree ∷ old))) blank
   round_is_under_way k rest =
       under_with first validity id old decree (ballot k) k (tried k) None (Some (begun_round slot (ballot k) (decree ∷ old))) blank
       (record {
@@ -74,7 +75,8 @@ module _ (first validity : ℕ) (id : ℕ) (old : List Decree) (decree : Decree)
     pub same : IsSameBut id k voted
     pub held : voted.held ≡ k.held
     pub leads : (replies : List Reply) (receipts : List Receipt) →
-        Leads setup 3 (settling (with_message k id (tried k)) (Prepare 1 slot (ballot k) ∷ []) replies receipts) (settling voted (Voted 1 slot (vote k) ∷ []) replies receipts)
+        Leads setup 3 (settling (with_message k id (tried k)) (Prepare 1 slot (ballot k) ∷ []) replies receipts)
+        (settling voted (Voted 1 slot (vote k) ∷ []) replies receipts)
 
   module _ (k : Kept) (up : k.up ≡ true) (rest : IsReady k id old) where
     abbrev b : ℕ
@@ -108,7 +110,8 @@ module _ (first validity : ℕ) (id : ℕ) (old : List Decree) (decree : Decree)
     round_carried = record {
       voted = three.new;
       under = three.under;
-      same = same_then id k k1 three.new (same_with k id (tried k) k.held) (same_then id k1 one.new three.new one.same (same_then id one.new two.new three.new two.same three.same));
+      same = same_then id k k1 three.new (same_with k id (tried k) k.held)
+          (same_then id k1 one.new three.new one.same (same_then id one.new two.new three.new two.same three.same));
       held = three.held ∙ (two.held ∙ one.held);
       leads = λ replies receipts.
           leads_then setup _ _ _ (leads_sending setup k1 (Prepare 1 slot b) [] replies receipts one.new (Promise 1 slot b None ∷ []) one.step)

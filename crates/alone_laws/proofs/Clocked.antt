@@ -1,5 +1,6 @@
 -- A tick comes to a node by itself, which settles.
-use Rattle.std.proofs.Common.{◌≡◌, ℕ, max, true, List, [], ◌∷◌, ◌++◌, filter, flat_map, map, Option, Some, None, refl, sym, ap, subst, ◌∙◌, inl, inr, arith, Bool, length, ◌≤◌, ◌*◌, ◌+◌}
+use Rattle.std.proofs.Common.{◌≡◌, ℕ, max, true, List, [], ◌∷◌, ◌++◌, filter, flat_map, map, Option, Some, None, refl, sym, ap, subst, ◌∙◌}
+use Rattle.std.proofs.Common.{inl, inr, arith, Bool, length, ◌≤◌, ◌*◌, ◌+◌}
 use Rattle.std.specs.Prelude.{nat_lt, not}
 use Rattle.std.proofs.lemmas.Bool.{lt-ltb}
 use Rattle.std.specs.List.Sorted.{IsStrictlySortedBy}
@@ -44,7 +45,8 @@ module _ (t : TableNode) (up : List ℕ → Bool) where
   few_due [] = omega arith
   few_due (id ∷ ids) = by_due (due_at id) (few_due ids)
     where
-      by_due : (kind : Option Kind) → length (rounds_of t up ids) ≤ length ids → length (round_if t up id (entry_at t.table id) kind ++ rounds_of t up ids) ≤ length (id ∷ ids)
+      by_due : (kind : Option Kind) → length (rounds_of t up ids) ≤ length ids →
+          length (round_if t up id (entry_at t.table id) kind ++ rounds_of t up ids) ≤ length (id ∷ ids)
       by_due None few = omega (arith, few)
       by_due (Some kind) few = omega (arith, few)
 
@@ -53,7 +55,8 @@ module _ (t : TableNode) (up : List ℕ → Bool) where
   apart_if_none other none [] = tt
   apart_if_none other none (id ∷ ids) = by_due (due_at id) refl (apart_if_none other none ids)
     where
-      by_due : (kind : Option Kind) → due_at id ≡ kind → IsApart other (rounds_of t up ids) → IsApart other (round_if t up id (entry_at t.table id) kind ++ rounds_of t up ids)
+      by_due : (kind : Option Kind) → due_at id ≡ kind → IsApart other (rounds_of t up ids) →
+          IsApart other (round_if t up id (entry_at t.table id) kind ++ rounds_of t up ids)
       by_due None is apart = apart
       by_due (Some kind) is apart = ((λ same. let both : None ≡ Some kind = sym none ∙ (ap due_at same ∙ is) in absurd (cc)), apart)
 
@@ -82,7 +85,8 @@ module _ (t : TableNode) (up : List ℕ → Bool) where
   entry_after id = at_mapped (entry_then t up) nothing refl (is_at (nat_cmp id)) t.table
 
   receipts_are : (first validity : ℕ) (b : ℕ) (ids : List ℕ) →
-      flat_map (receipts first validity b) (rounds_of t up ids) ≡ flat_map (λ id. receipts_of 1 id (known_as (chain_at t.table id)) (chain_at (each_due t up).table id)) ids
+      flat_map (receipts first validity b) (rounds_of t up ids) ≡ flat_map
+      (λ id. receipts_of 1 id (known_as (chain_at t.table id)) (chain_at (each_due t up).table id)) ids
   receipts_are first validity b [] = refl
   receipts_are first validity b (id ∷ ids) =
       by_due (due_at id) (receipts_are first validity b ids)
@@ -90,12 +94,14 @@ module _ (t : TableNode) (up : List ℕ → Bool) where
       ++ flat_map (λ id. receipts_of 1 id (known_as (chain_at t.table id)) (chain_at (each_due t up).table id)) ids) (sym (entry_after id))
     where
       by_due : (kind : Option Kind) →
-          flat_map (receipts first validity b) (rounds_of t up ids) ≡ flat_map (λ id. receipts_of 1 id (known_as (chain_at t.table id)) (chain_at (each_due t up).table id)) ids →
+          flat_map (receipts first validity b) (rounds_of t up ids) ≡ flat_map
+          (λ id. receipts_of 1 id (known_as (chain_at t.table id)) (chain_at (each_due t up).table id)) ids →
           flat_map (receipts first validity b) (round_if t up id (entry_at t.table id) kind ++ rounds_of t up ids)
           ≡ receipts_of 1 id (known_as (chain_at t.table id)) (entry_with t (entry_at t.table id) kind).chain
           ++ flat_map (λ id. receipts_of 1 id (known_as (chain_at t.table id)) (chain_at (each_due t up).table id)) ids
       by_due None rest = rw (no_receipt id (chain_at t.table id)) rest
-      by_due (Some kind) rest = ap (λ (xs : List Receipt). receipts_of 1 id (known_as (chain_at t.table id)) (decree_by t (chain_at t.table id) kind ∷ chain_at t.table id) ++ xs) rest
+      by_due (Some kind) rest = ap (λ (xs : List Receipt). receipts_of 1 id (known_as (chain_at t.table id))
+          (decree_by t (chain_at t.table id) kind ∷ chain_at t.table id) ++ xs) rest
 
 -- ---- the tick
 
@@ -118,10 +124,16 @@ module _ (first validity : ℕ) (k : Kept) (t0 : TableNode) (moment : ℕ) (up :
 
   begun_is : stepped setup k (Tick moment up) ≡ sends (ruled_each setup up ids k1).kept (ruled_each setup up ids k1).packets [] []
   begun_is =
-      let works : stepped setup k (Tick moment up) ≡ tick_then setup (record k { clock = clock; held = filter (λ h. not (is_late clock h)) k.held; messages = map without_round k.messages }) up
+      let works : stepped setup k (Tick moment up) ≡ tick_then setup
+      (record k { clock = clock; held = filter (λ h. not (is_late clock h)) k.held; messages = map without_round k.messages }) up
       (map late_reply (filter (is_late clock) k.held)) = rw resting.up refl in
       works
-      ∙ ((λ i. tick_then setup (record k { clock = clock; held = filter (λ (h : Held). not (is_late clock h)) (resting.waits i); messages = map without_round k.messages }) up
+      ∙ ((λ i. tick_then setup (record k {
+        clock = clock;
+        held = filter (λ (h : Held). not (is_late clock h)) (resting.waits i);
+        messages =
+            map without_round k.messages;
+      }) up
       (map late_reply (filter (is_late clock) (resting.waits i))))
       ∙ ap (λ (xs : List ℕ). rules_then setup k1 [] (ruled_each setup up xs k1))
       (keys_mapped (λ (m : Message). record m { round = None }) k.messages ∙ resting.ids))
@@ -158,7 +170,8 @@ module _ (first validity : ℕ) (k : Kept) (t0 : TableNode) (moment : ℕ) (up :
   ended =
       all_end first validity (ballot first validity t up) above (rounds_of t up ids) begun.new (begun.same.up ∙ resting.up) begun.same.held
       (are_apart t up ids (distinct_of ids resting.ascends))
-      (are_listed t up (keys_of begun.new.messages) ids (subst (λ (keys : List ℕ). AreAmong keys ids) (sym (begun.same.ids ∙ keys_ticked)) (among_of ids resting.ascends)))
+      (are_listed t up (keys_of begun.new.messages) ids
+      (subst (λ (keys : List ℕ). AreAmong keys ids) (sym (begun.same.ids ∙ keys_ticked)) (among_of ids resting.ascends)))
       begun.each
 
   same : IsSameApart (rounds_of t up ids) k1 ended.new
@@ -171,7 +184,8 @@ module _ (first validity : ℕ) (k : Kept) (t0 : TableNode) (moment : ℕ) (up :
       by_due : (kind : Option Kind) → due t up (entry_at t.table id) ≡ kind → IsAtRest ended.new id (entry_with t (entry_at t.table id) kind)
       by_due None none =
           let apart = apart_if_none t up id none ids in
-          rest_as k1 ended.new id (entry_at t.table id) (same.message id apart) (same.records id apart) (given_as k1 ended.new id same.incarnation same.serial) (rest_ticked id)
+          rest_as k1 ended.new id (entry_at t.table id) (same.message id apart) (same.records id apart)
+          (given_as k1 ended.new id same.incarnation same.serial) (rest_ticked id)
       by_due (Some kind) some = elim (among_keys id t.table) [
         | inl none ↦
             let nothing_due : due t up (entry_at t.table id) ≡ None = ap (λ (o : Option Entry). due t up (unwrap_or o nothing)) none in
@@ -212,7 +226,8 @@ module _ (first validity : ℕ) (k : Kept) (t0 : TableNode) (moment : ℕ) (up :
       (inl refl)
       (record {
         kept = ended.new;
-        leads = leads_then setup _ _ _ ended.leads (leads_same setup _ _ (λ i. settling ended.new [] [] (receipts_are t up first validity (ballot first validity t up) ids i)));
+        leads = leads_then setup _ _ _ ended.leads
+            (leads_same setup _ _ (λ i. settling ended.new [] [] (receipts_are t up first validity (ballot first validity t up) ids i)));
         resting = rests_then;
       })
       few_rounds

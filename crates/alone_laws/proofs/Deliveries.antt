@@ -46,7 +46,8 @@ module _ (first validity : ℕ) (k : Kept) (up : k.up ≡ true) where
 
   pub promise_delivered : (slot : Slot) (ballot : ℕ) (chain : List Decree) → (message_at k slot.id).round ≡ Some (begun_round slot ballot chain) →
       stepped (alone first validity) k (Delivery (Promise 1 slot ballot None))
-      ≡ sends (with_message k slot.id (record (message_at k slot.id) { round = Some (promised_round slot ballot chain) })) (Propose 1 slot (vote_at ballot chain) ∷ []) [] []
+      ≡ sends (with_message k slot.id (record (message_at k slot.id) { round = Some (promised_round slot ballot chain) }))
+      (Propose 1 slot (vote_at ballot chain) ∷ []) [] []
   promise_delivered slot ballot chain is = rw (up, is, slot_self slot, eqb_self ballot) refl
 
   pub propose_delivered : (slot : Slot) (ballot : ℕ) (chain : List Decree) → k.records slot ≡ record { promised = ballot; vote = None } →
@@ -57,7 +58,8 @@ module _ (first validity : ℕ) (k : Kept) (up : k.up ≡ true) where
 
   pub voted_delivered : (slot : Slot) (vote : Vote) → same_slot slot (slot_of slot.id vote.chain) ≡ true → was_given k slot.id ≡ true →
       is_shorter (message_at k slot.id).known vote.chain ≡ true →
-      stepped (alone first validity) k (Delivery (Voted 1 slot vote)) ≡ on_known (alone first validity) k slot.id (heard (message_at k slot.id) 1 vote) vote.chain
+      stepped (alone first validity) k (Delivery (Voted 1 slot vote)) ≡ on_known (alone first validity) k slot.id
+      (heard (message_at k slot.id) 1 vote) vote.chain
   voted_delivered slot vote placed given shorter =
       let mine : (not (node_of slot.id == 1) || was_given k slot.id) ≡ true = or_right (not (node_of slot.id == 1)) (was_given k slot.id) given in
       rw (up, placed, mine, heard_by_most (message_at k slot.id) vote, shorter) refl

@@ -86,7 +86,8 @@ pub record Ends (setup : Setup) (most : ℕ) (s : Settling) (t : TableNode) (rep
   pub leads : Leads setup most s (settling kept [] replies receipts)
   pub resting : IsResting kept t
 
-pub ends_after : (setup : Setup) {m n : ℕ} (s u : Settling) (t : TableNode) (replies : List Reply) (receipts : List Receipt) → Leads setup m s u → Ends setup n u t replies receipts →
+pub ends_after : (setup : Setup) {m n : ℕ} (s u : Settling) (t : TableNode) (replies : List Reply) (receipts : List Receipt) →
+    Leads setup m s u → Ends setup n u t replies receipts →
     Ends setup (m + n) s t replies receipts
 ends_after setup s u t replies receipts leads ends = record { kept = ends.kept; leads = leads_then setup s u _ leads ends.leads; resting = ends.resting }
 
@@ -98,7 +99,8 @@ settles_after setup step begun t replies receipts is no_replies no_receipts orde
     (settles_on setup begun (settling ends.kept [] replies receipts) t no_replies no_receipts order
     (leads_most setup (most_deliveries t) _ _ within ends.leads) refl ends.resting)
 
-module _ (first validity : ℕ) (k : Kept) (t : TableNode) (id : ℕ) (decree : Decree) (held : List Held) (replies : List Reply) (calm : IsCalmBut id k t) (ready : IsReady k id (chain_at t.table id))
+module _ (first validity : ℕ) (k : Kept) (t : TableNode) (id : ℕ) (decree : Decree) (held : List Held) (replies : List Reply)
+    (calm : IsCalmBut id k t) (ready : IsReady k id (chain_at t.table id))
     (held_is : k.held ≡ held) (taken : IsTaken k id (decree ∷ chain_at t.table id))
     (answered : AllAnswered (alone first validity) id (decree ∷ chain_at t.table id) held replies) where
   abbrev setup : Setup

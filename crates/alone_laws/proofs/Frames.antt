@@ -40,7 +40,8 @@ record_of_other records slot other r apart =
     let differs : same_slot other slot ≡ false = and_left (other.id == slot.id) (other.place == slot.place) (ne_eqb other.id slot.id apart) in
     rw differs refl
 
-pub record_at_other : (records : Records) (slot other : Slot) (r : SlotRecord) → (other.place ≡ slot.place → ⊥) → with_record records slot r other ≡ records other
+pub record_at_other : (records : Records) (slot other : Slot) (r : SlotRecord) → (other.place ≡ slot.place → ⊥) →
+    with_record records slot r other ≡ records other
 record_at_other records slot other r apart =
     let differs : same_slot other slot ≡ false = and_right (other.id == slot.id) (other.place == slot.place) (ne_eqb other.place slot.place apart) in
     rw differs refl
@@ -143,7 +144,8 @@ votes_as old new id (newest ∷ older) same votes = (
 pub given_as : (k new : Kept) (id : ℕ) → new.incarnation ≡ k.incarnation → new.serial ≡ k.serial → was_given k id ≡ true → was_given new id ≡ true
 given_as k new id incarnation serial given = rw (incarnation, serial) given
 
-pub taken_as : (k new : Kept) (id : ℕ) (chain : List Decree) → (was_given k id ≡ true → was_given new id ≡ true) → IsTakenIfAny k id chain → IsTakenIfAny new id chain
+pub taken_as : (k new : Kept) (id : ℕ) (chain : List Decree) → (was_given k id ≡ true → was_given new id ≡ true) → IsTakenIfAny k id chain →
+    IsTakenIfAny new id chain
 taken_as k new id [] given taken = tt
 taken_as k new id (newest ∷ older) given taken = record { message = taken.message; taken = taken.taken; given = given taken.given }
 
@@ -175,7 +177,8 @@ rest_as k new id entry message records given rest = record {
   unclosed = ap (λ (m : Message). m.closed (pred (length entry.chain))) message ∙ rest.unclosed;
 }
 
-pub rest_but : (id : ℕ) (k new : Kept) → IsSameBut id k new → (other : ℕ) → (other ≡ id → ⊥) → (entry : Entry) → IsAtRest k other entry → IsAtRest new other entry
+pub rest_but : (id : ℕ) (k new : Kept) → IsSameBut id k new → (other : ℕ) → (other ≡ id → ⊥) → (entry : Entry) → IsAtRest k other entry →
+    IsAtRest new other entry
 rest_but id k new same other apart entry rest =
     rest_as k new other entry (same.message other apart) (same.records other apart) (given_as k new other same.incarnation same.serial) rest
 

@@ -79,7 +79,8 @@ module _ (first validity : ℕ) (k : Kept) (t : TableNode) (id : ℕ) (resting :
 
     beyond_newest : (other : ℕ) → length old ≤ other → given.granted other ≡ (message_at k id).granted other
     beyond_newest other above =
-        let differs : (other == place) ≡ false = ne_eqb other place (λ same. let is : other ≡ pred (length old) = same in omega (arith, some, above, is)) in rw differs refl
+        let differs : (other == place) ≡ false = ne_eqb other place
+        (λ same. let is : other ≡ pred (length old) = same in omega (arith, some, above, is)) in rw differs refl
 
     newest_given : given.granted place ≡ true
     newest_given = rw (eqb_self place) refl
@@ -108,7 +109,8 @@ module _ (first validity : ℕ) (k : Kept) (t : TableNode) (id : ℕ) (resting :
         settles_after setup _ _ (granted_at t id) [] [] begun refl refl (inl refl) (record {
           kept = after_grant;
           leads = leads_same setup _ _ refl;
-          resting = rests_with k after_grant t id (record entry { granted = true }) (calm_but id k t (calm_at_rest k t resting)) (same_with k id given k.held) resting.waits granted_rests;
+          resting = rests_with k after_grant t id (record entry { granted = true }) (calm_but id k t (calm_at_rest k t resting))
+              (same_with k id given k.held) resting.waits granted_rests;
         }) (few_enough (granted_at t id) (omega arith))
 
     -- ---- an outcome
@@ -127,7 +129,8 @@ module _ (first validity : ℕ) (k : Kept) (t : TableNode) (id : ℕ) (resting :
       taken = taken_now k id old some rest.taken
 
       concluded_as : (chain : List Decree) → IsTaken k id chain →
-          concluded setup k (slot_at id (pred (length chain))) outcome (known_as chain) ≡ Some (start first validity id chain (decree_by t chain (decree_of outcome)))
+          concluded setup k (slot_at id (pred (length chain))) outcome (known_as chain) ≡ Some
+          (start first validity id chain (decree_by t chain (decree_of outcome)))
       concluded_as [] was_taken = let both = was_taken.taken in absurd (cc)
       concluded_as (newest ∷ older) was_taken =
           rw (slot_self (slot_at id (length older)), was_taken.taken)
@@ -160,7 +163,8 @@ module _ (first validity : ℕ) (k : Kept) (t : TableNode) (id : ℕ) (resting :
             (same_with k id (closed_then k id old some outcome) k.held).ids
             ∙ (ap (λ (ids : List ℕ). insert_key nat_cmp ids id) resting.ids ∙ insert_listed id (keys_of t.table) resting.ascends (listed entry refl));
         ascends = resting.ascends;
-        message = λ other apart. rest_but id k closed (same_with k id (closed_then k id old some outcome) k.held) other apart (entry_at t.table other) (resting.message other);
+        message = λ other apart. rest_but id k closed (same_with k id (closed_then k id old some outcome) k.held) other apart
+            (entry_at t.table other) (resting.message other);
       }
 
       pub response_settles : SettlesOn setup (stepped setup k (Response (newest_slot t id) outcome)) (concluded_at t id outcome) [] (receipts_on t id outcome)
@@ -169,7 +173,8 @@ module _ (first validity : ℕ) (k : Kept) (t : TableNode) (id : ℕ) (resting :
           ≡ concluded_then (started setup closed id (concluded setup k (newest_slot t id) outcome (message_at k id).known)) = rw resting.up refl in
           settles_after setup _ _ (concluded_at t id outcome) [] (receipts_on t id outcome)
           (begun
-          ∙ (ap (λ (o : Option Start). concluded_then (started setup closed id o)) (ap (concluded setup k (newest_slot t id) outcome) rest.ready.known ∙ concluded_as old taken)
+          ∙ (ap (λ (o : Option Start). concluded_then (started setup closed id o))
+          (ap (concluded setup k (newest_slot t id) outcome) rest.ready.known ∙ concluded_as old taken)
           ∙ ap concluded_then (round_starts first validity id old decree closed ground.ready)))
           refl
           refl

@@ -52,7 +52,8 @@ module _ (setup : Setup) where
       record { deliveries = 1; few = omega arith; reached = ap (goes_on (settling k (packet ∷ others) replies receipts) others) is }
 
   -- and nothing but packets is given out
-  pub leads_sending : (k : Kept) (packet : Packet) (others : List Packet) (replies : List Reply) (receipts : List Receipt) (new : Kept) (packets : List Packet) →
+  pub leads_sending : (k : Kept) (packet : Packet) (others : List Packet) (replies : List Reply) (receipts : List Receipt) (new : Kept)
+      (packets : List Packet) →
       stepped setup k (Delivery packet) ≡ sends new packets [] [] →
       Leads setup 1 (settling k (packet ∷ others) replies receipts) (settling new (others ++ packets) replies receipts)
   leads_sending k packet others replies receipts new packets is = record {

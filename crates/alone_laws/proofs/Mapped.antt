@@ -24,7 +24,8 @@ module _ {V : Type 0} where
   at_mapped f default same test (e ∷ es) = by_test (test e.0) (at_mapped f default same test es)
     where
       by_test : (found : Bool) → unwrap_or (lookup test (map (λ e. (e.0, f e.1)) es)) default ≡ f (unwrap_or (lookup test es) default) →
-          unwrap_or (cond found (Some (f e.1)) (lookup test (map (λ e. (e.0, f e.1)) es))) default ≡ f (unwrap_or (cond found (Some e.1) (lookup test es)) default)
+          unwrap_or (cond found (Some (f e.1)) (lookup test (map (λ e. (e.0, f e.1)) es))) default ≡ f
+          (unwrap_or (cond found (Some e.1) (lookup test es)) default)
       by_test true rest = refl
       by_test false rest = rest
 

@@ -42,11 +42,14 @@ module _ (setup : Setup) (P Q : Kept → Next → Type 0) (packet : Next → Pac
   joined own round rounds k queue replies receipts apart listed one rest = record {
     new = rest.new;
     leads =
-        leads_most setup (length (round ∷ rounds)) _ _ (omega arith) (leads_then setup _ _ _ (leads_on setup k (packet round) (map packet rounds ++ queue) replies receipts (sends one.new (sent round) [] (due round)) one.step)
+        leads_most setup (length (round ∷ rounds)) _ _ (omega arith)
+        (leads_then setup _ _ _ (leads_on setup k (packet round) (map packet rounds ++ queue) replies receipts
+        (sends one.new (sent round) [] (due round)) one.step)
         (leads_then setup _ _ _
         (leads_same setup _ _ (λ i. settling one.new (append_assoc (map packet rounds) queue (sent round) i) (append-nil replies i) (receipts ++ due round)))
         (leads_then setup _ _ _ rest.leads
-        (leads_same setup _ _ (λ i. settling rest.new (append_assoc queue (sent round) (flat_map sent rounds) i) replies (append_assoc receipts (due round) (flat_map due rounds) i))))));
+        (leads_same setup _ _ (λ i. settling rest.new (append_assoc queue (sent round) (flat_map sent rounds) i) replies
+        (append_assoc receipts (due round) (flat_map due rounds) i))))));
     each = (own.behind rounds one.new rest.new rest.same round apart one.after, rest.each);
     same = apart_more round rounds k one.new rest.new one.same one.held listed rest.same;
   }

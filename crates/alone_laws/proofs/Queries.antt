@@ -107,7 +107,8 @@ module _ (first validity : ℕ) (k : Kept) (t : TableNode) (id : ℕ) (account s
   answered : stepped setup k0 (Delivery (Tell 1 named told)) ≡ sends end [] (reply_to t request ∷ []) []
   answered =
       tell_delivered first validity k t request resting told reached.about
-      ∙ (answer_given setup k0 known new (told_by new 1 told) (told_by new 1 told) (shown account source old (taken_in old)) (held_arrived k t request resting) refl
+      ∙ (answer_given setup k0 known new (told_by new 1 told) (told_by new 1 told) (shown account source old (taken_in old))
+      (held_arrived k t request resting) refl
       unstarted answer
       ∙ (λ i. sends end [] (record { ticket = resting.ticket i; id = id; answer = shown account source old (taken_in old) } ∷ []) []))
 
@@ -117,7 +118,8 @@ module _ (first validity : ℕ) (k : Kept) (t : TableNode) (id : ℕ) (account s
       (settles_after setup _ _ (requested t request) (reply_to t request ∷ []) [] begun_is refl refl (inr (inl refl)) (record {
         kept = end;
         leads =
-            leads_then setup _ _ _ (leads_sending setup k0 (Ask 1 id named) [] [] [] k0 (Tell 1 named told ∷ []) (ask_delivered first validity k0 calm.up id named))
+            leads_then setup _ _ _ (leads_sending setup k0 (Ask 1 id named) [] [] [] k0 (Tell 1 named told ∷ [])
+            (ask_delivered first validity k0 calm.up id named))
             (leads_on setup k0 (Tell 1 named told) [] [] [] (sends end [] (reply_to t request ∷ []) []) answered);
         resting = rests_still k0 (noted t request) calm;
       }) (few_enough (requested t request) (omega arith)))

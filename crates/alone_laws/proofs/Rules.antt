@@ -92,7 +92,8 @@ module _ (first validity : ℕ) (k : Kept) (t0 : TableNode) (id : ℕ) (up : Lis
         (fits_both (newest (Attempt number)) older GiveUp (Failed no_session_error) (author.incarnation == k.incarnation) (not granted && not target)))
     attempt_as number false = rw (undeleted (newest (Attempt number)) older, none_so Try target) tt
 
-    own_as : (kind : Kind) → Fits (newest kind ∷ older) (ruled_by kind (is_attempt_by 1 (newest kind) kind)) (due_behind t granted target message (newest kind) older kind)
+    own_as : (kind : Kind) →
+        Fits (newest kind ∷ older) (ruled_by kind (is_attempt_by 1 (newest kind) kind)) (due_behind t granted target message (newest kind) older kind)
     own_as (Taken taken) =
         rw (undeleted (newest (Taken taken)) older)
         (fits_or (newest (Taken taken) ∷ older) _ _ _ _
@@ -133,7 +134,8 @@ module _ (first validity : ℕ) (k : Kept) (t0 : TableNode) (id : ℕ) (up : Lis
     first_as = rw (untaken, unfollowed, rest.ready.known) (known_fits entry.chain entry.granted rest)
 
 -- by the clock and the incarnation of the table
-pub first_fits : (first validity : ℕ) (k : Kept) (t : TableNode) (id : ℕ) (up : List ℕ → Bool) → k.held ≡ [] → k.incarnation ≡ t.incarnation → k.clock ≡ t.clock →
+pub first_fits : (first validity : ℕ) (k : Kept) (t : TableNode) (id : ℕ) (up : List ℕ → Bool) → k.held ≡ [] →
+    k.incarnation ≡ t.incarnation → k.clock ≡ t.clock →
     (entry : Entry) → IsAtRest k id entry → FitsAs first validity id t entry.chain (first_rule (alone first validity) k up id) (due t up entry)
 first_fits first validity k t id up held incarnation clock entry rest =
     subst (λ (n : TableNode). FitsAs first validity id n entry.chain (first_rule (alone first validity) k up id) (due n up entry))

@@ -100,7 +100,8 @@ record Found (first validity id : ℕ) (t : TableNode) (chain : List Decree) (ki
   is : found ≡ Some fit
   start_is : fit.start ≡ start first validity id chain (decree_by t chain kind)
 
-found_fits : (first validity id : ℕ) (t : TableNode) (chain : List Decree) (kind : Kind) (found : Option Fitting) → FitsAs first validity id t chain found (Some kind) →
+found_fits : (first validity id : ℕ) (t : TableNode) (chain : List Decree) (kind : Kind) (found : Option Fitting) →
+    FitsAs first validity id t chain found (Some kind) →
     Found first validity id t chain kind found
 found_fits first validity id t chain kind None fits = absurd fits
 found_fits first validity id t chain kind (Some fit) fits = record { fit = fit; is = refl; start_is = fits }
@@ -252,7 +253,9 @@ module _ (first validity : ℕ) (t : TableNode) (up : List ℕ → Bool) where
       }))
       (λ (k1 : Kept). all_ruled ids k1))
     where
-      by_due : (kind : Option Kind) → due t up (entry_at t.table id) ≡ kind → Ruled ids k → ((k1 : Kept) → IsTicking ids k1 → Ruled ids k1) → RuledBy id ids k kind
+      by_due : (kind : Option Kind) → due t up (entry_at t.table id) ≡ kind → Ruled ids k →
+          ((k1 : Kept) → IsTicking ids k1 → Ruled ids k1) →
+          RuledBy id ids k kind
       by_due None is others after =
           then_none id ids k
           (ap (ruled setup k id) (none_fits first validity id t (entry_at t.table id).chain (first_rule setup k up id)

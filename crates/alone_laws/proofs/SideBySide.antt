@@ -40,7 +40,8 @@ pub record Goes (round : Next → Option Round) (here : Next → SlotRecord) (k 
   pub under : IsUnderWay next.id next.old k (round next) (here next)
   pub taken : IsTaken k next.id (next.decree ∷ next.old)
 
-taken_still : (k new : Kept) (id : ℕ) (chain : List Decree) → new.incarnation ≡ k.incarnation → new.serial ≡ k.serial → IsTaken k id chain → IsTaken new id chain
+taken_still : (k new : Kept) (id : ℕ) (chain : List Decree) → new.incarnation ≡ k.incarnation → new.serial ≡ k.serial → IsTaken k id chain →
+    IsTaken new id chain
 taken_still k new id chain incarnation serial taken =
     record { message = taken.message; taken = taken.taken; given = given_as k new id incarnation serial taken.given }
 
@@ -143,7 +144,8 @@ module _ (first validity ballot : ℕ) where
         Passes setup (Goes promised voted) Rests votes (λ round. []) receipts k next
     vote_passes k next up held goes = record {
       new = known_with first validity next.id next.old next.decree ballot k [];
-      step = vote_answered first validity next.id next.old next.decree ballot k up goes.under goes.taken [] [] held (none_answered first validity next.id next.decree next.old);
+      step = vote_answered first validity next.id next.old next.decree ballot k up goes.under goes.taken [] [] held
+          (none_answered first validity next.id next.decree next.old);
       after = known_rests first validity next.id next.old next.decree ballot k [] goes.under goes.taken;
       same = known_same first validity next.id next.old next.decree ballot k [];
       held = sym held;
@@ -154,7 +156,8 @@ module _ (first validity ballot : ℕ) where
       passes = vote_passes;
       before = goes_but promised voted;
       behind = λ rounds k new same next apart rest.
-          rest_as k new next.id (extended next.old next.decree) (same.message next.id apart) (same.records next.id apart) (given_as k new next.id same.incarnation same.serial) rest;
+          rest_as k new next.id (extended next.old next.decree) (same.message next.id apart) (same.records next.id apart)
+          (given_as k new next.id same.incarnation same.serial) rest;
     }
 
     -- ---- all of them, from their starts to their ends
@@ -167,20 +170,25 @@ module _ (first validity ballot : ℕ) where
 
     -- packets of one kind lead to those of the next, and to nothing else
     one_kind : (packet next : Next → Packet) (rounds : List Next) (k new : Kept) →
-        Leads setup (length rounds) (settling k (map packet rounds ++ []) [] []) (settling new ([] ++ flat_map (λ round. next round ∷ []) rounds) [] ([] ++ flat_map nothing_due rounds)) →
+        Leads setup (length rounds) (settling k (map packet rounds ++ []) [] [])
+        (settling new ([] ++ flat_map (λ round. next round ∷ []) rounds) [] ([] ++ flat_map nothing_due rounds)) →
         Leads setup (length rounds) (settling k (map packet rounds) [] []) (settling new (map next rounds) [] [])
     one_kind packet next rounds k new leads =
-        leads_most setup (length rounds) _ _ (omega arith) (leads_then setup _ _ _ (leads_same setup _ _ (λ i. settling k (sym (append-nil (map packet rounds)) i) [] []))
+        leads_most setup (length rounds) _ _ (omega arith)
+        (leads_then setup _ _ _ (leads_same setup _ _ (λ i. settling k (sym (append-nil (map packet rounds)) i) [] []))
         (leads_then setup _ _ _ leads (leads_same setup _ _ (λ i. settling new (one_each next rounds i) [] (none_each nothing_due (λ round. refl) rounds i)))))
 
     pub all_end : (rounds : List Next) (k : Kept) → k.up ≡ true → k.held ≡ [] → AreApart rounds → AreListed (keys_of k.messages) rounds →
         Each (Goes begun untouched) k rounds → AllEnd rounds k
     all_end rounds k up held apart listed each =
-        let one = all_pass setup (Goes begun untouched) (Goes begun promise) prepares (λ next. promises next ∷ []) nothing_due prepares_own rounds k [] [] [] up held apart listed each in
-        let two = all_pass setup (Goes begun promise) (Goes promised promise) promises (λ next. proposes next ∷ []) nothing_due promises_own rounds one.new [] [] []
+        let one = all_pass setup (Goes begun untouched) (Goes begun promise) prepares
+        (λ next. promises next ∷ []) nothing_due prepares_own rounds k [] [] [] up held apart listed each in
+        let two = all_pass setup (Goes begun promise) (Goes promised promise) promises
+        (λ next. proposes next ∷ []) nothing_due promises_own rounds one.new [] [] []
         (one.same.up ∙ up) (one.same.held ∙ held) apart (listed_as _ _ rounds one.same.ids listed) one.each in
         let same_two = apart_then rounds k one.new two.new one.same two.same in
-        let three = all_pass setup (Goes promised promise) (Goes promised voted) proposes (λ next. votes next ∷ []) nothing_due proposes_own rounds two.new [] [] []
+        let three = all_pass setup (Goes promised promise) (Goes promised voted) proposes
+        (λ next. votes next ∷ []) nothing_due proposes_own rounds two.new [] [] []
         (same_two.up ∙ up) (same_two.held ∙ held) apart (listed_as _ _ rounds same_two.ids listed) two.each in
         let same_three = apart_then rounds k two.new three.new same_two three.same in
         let four = all_pass setup (Goes promised voted) Rests votes (λ next. []) receipts votes_own rounds three.new [] [] []

@@ -63,8 +63,10 @@ module _ (first validity : ℕ) (id : ℕ) (old : List Decree) (decree : Decree)
   abbrev promise : SlotRecord
   promise = record { promised = ballot; vote = None }
 
-  pub under_with : (k : Kept) (m : Message) (round new : Option Round) (here : SlotRecord) → IsUnderWay id old k round here → m.known ≡ (message_at k id).known →
-      ((place : ℕ) → length old < place → get_or m.seen place 0 ≡ get_or (message_at k id).seen place 0) → m.round ≡ new → m.granted ≡ (message_at k id).granted →
+  pub under_with : (k : Kept) (m : Message) (round new : Option Round) (here : SlotRecord) → IsUnderWay id old k round here → m.known ≡
+      (message_at k id).known →
+      ((place : ℕ) → length old < place → get_or m.seen place 0 ≡ get_or (message_at k id).seen place 0) → m.round ≡ new → m.granted ≡
+      (message_at k id).granted →
       m.closed ≡ (message_at k id).closed → IsUnderWay id old (with_message k id m) new here
   under_with k m round new here under known seen round_is granted closed = record {
     known = ap (λ (x : Message). x.known) (message_here k id m) ∙ (known ∙ under.known);
@@ -77,11 +79,13 @@ module _ (first validity : ℕ) (id : ℕ) (old : List Decree) (decree : Decree)
       record_is = (under.beyond place above).record_is;
       seen = ap (λ (x : Message). get_or x.seen place 0) (message_here k id m) ∙ (seen place above ∙ (under.beyond place above).seen);
       ungranted = ap (λ (x : Message). x.granted place) (message_here k id m) ∙ (ap (λ (f : ℕ → Bool). f place) granted ∙ (under.beyond place above).ungranted);
-      unclosed = ap (λ (x : Message). x.closed place) (message_here k id m) ∙ (ap (λ (f : ℕ → Option Outcome). f place) closed ∙ (under.beyond place above).unclosed);
+      unclosed = ap (λ (x : Message). x.closed place) (message_here k id m) ∙
+          (ap (λ (f : ℕ → Option Outcome). f place) closed ∙ (under.beyond place above).unclosed);
     };
   }
 
-  under_saved : (k : Kept) (r : SlotRecord) (round : Option Round) (here : SlotRecord) → IsUnderWay id old k round here → IsUnderWay id old (saved k slot r) round r
+  under_saved : (k : Kept) (r : SlotRecord) (round : Option Round) (here : SlotRecord) → IsUnderWay id old k round here →
+      IsUnderWay id old (saved k slot r) round r
   under_saved k r round here under = record {
     known = ap (λ (x : Message). x.known) (message_saved k slot r id) ∙ under.known;
     round_is = ap (λ (x : Message). x.round) (message_saved k slot r id) ∙ under.round_is;
@@ -115,7 +119,8 @@ module _ (first validity : ℕ) (id : ℕ) (old : List Decree) (decree : Decree)
     held = refl;
   }
 
-  pub promise_advances : (k : Kept) → k.up ≡ true → IsUnderWay id old k begun promise → Advances k (Promise 1 slot ballot None) (Propose 1 slot vote) promised promise
+  pub promise_advances : (k : Kept) → k.up ≡ true → IsUnderWay id old k begun promise →
+      Advances k (Promise 1 slot ballot None) (Propose 1 slot vote) promised promise
   promise_advances k up under = record {
     new = with_message k id (record (message_at k id) { round = promised });
     step = promise_delivered first validity k up slot ballot chain under.round_is;
@@ -124,7 +129,8 @@ module _ (first validity : ℕ) (id : ℕ) (old : List Decree) (decree : Decree)
     held = refl;
   }
 
-  pub propose_advances : (k : Kept) → k.up ≡ true → IsUnderWay id old k promised promise → Advances k (Propose 1 slot vote) (Voted 1 slot vote) promised (after_vote vote)
+  pub propose_advances : (k : Kept) → k.up ≡ true → IsUnderWay id old k promised promise →
+      Advances k (Propose 1 slot vote) (Voted 1 slot vote) promised (after_vote vote)
   propose_advances k up under = record {
     new = saved k slot (after_vote vote);
     step = propose_delivered first validity k up slot ballot chain under.here_is;
@@ -180,9 +186,12 @@ module _ (first validity : ℕ) (id : ℕ) (old : List Decree) (decree : Decree)
   pub vote_ends : (k : Kept) → k.up ≡ true → IsUnderWay id old k promised (after_vote vote) → IsTaken k id chain →
       delete_for setup (known_with k (settled_held k)) id (settled_held k) (Some chain) ≡ None →
       stepped setup k (Delivery (Voted 1 slot vote))
-      ≡ sends (known_with k (filter (still_waits 1 (Some chain) id) (settled_held k))) [] (replies_to 1 (Some chain) id (settled_held k)) (receipts_of 1 id (known_as old) chain)
+      ≡ sends (known_with k (filter (still_waits 1 (Some chain) id) (settled_held k))) [] (replies_to 1 (Some chain) id (settled_held k))
+      (receipts_of 1 id (known_as old) chain)
   vote_ends k up under taken none =
-      voted_delivered first validity k up slot vote (slot_self slot) taken.given (ap (λ (o : Option (List Decree)). is_shorter o chain) under.known ∙ is_longer old decree)
-      ∙ (ap (λ (start : Option Start). answered_then setup (known_with k (settled_held k)) id (message_at k id).known chain (started setup (known_with k (settled_held k)) id start)) none
+      voted_delivered first validity k up slot vote (slot_self slot) taken.given
+      (ap (λ (o : Option (List Decree)). is_shorter o chain) under.known ∙ is_longer old decree)
+      ∙ (ap (λ (start : Option Start). answered_then setup (known_with k (settled_held k)) id (message_at k id).known chain
+      (started setup (known_with k (settled_held k)) id start)) none
       ∙ ap (λ (before : Option (List Decree)). sends (known_with k (filter (still_waits 1 (Some chain) id) (settled_held k))) []
       (replies_to 1 (Some chain) id (settled_held k)) (receipts_of 1 id before chain)) under.known)

@@ -140,5 +140,6 @@ module _ (first validity : ℕ) (k : Kept) (t : TableNode) (id : ℕ) (message :
       subst Comes (sym (ap (λ (e : Entry). e.chain) (entry_here t.table id (extended old decree))))
       (settles_after setup _ _ (requested t request) (reply_to t request ∷ []) (receipts_of 1 id (known_as old) chain) begun_is refl refl
       (inr (inl unreported))
-      (round_ends first validity k0 (noted t request) id decree (new ∷ []) (reply_to t request ∷ []) (calm_but id k0 (noted t request) calm) (calm.message id).ready held_is taken answered)
+      (round_ends first validity k0 (noted t request) id decree (new ∷ []) (reply_to t request ∷ []) (calm_but id k0 (noted t request) calm)
+      (calm.message id).ready held_is taken answered)
       (few_enough (requested t request) (omega arith)))

@@ -10,7 +10,9 @@ use Rattle.node_model.specs.Kept.{Held, Kept, message_at, with_message}
 use Rattle.node_model.specs.Learner.{heard, makes_known}
 use Rattle.node_model.specs.Message.{Message, Round}
 use Rattle.node_model.specs.Outputs.{Stepped, leaves}
-use Rattle.node_model.specs.Packets.{answer_told, heard_in, if_member, is_member, is_own_name, known_then, on_ask, on_known, on_packet, on_prepare, on_promise, on_propose, on_refused, on_tell, on_voted, promised_in, settled_for, start_told, tell_held, tells_about, told_to, vote_concerns}
+use Rattle.node_model.specs.Packets.{answer_told, heard_in, if_member, is_member, is_own_name, known_then, on_ask, on_known, on_packet}
+use Rattle.node_model.specs.Packets.{on_prepare, on_promise, on_propose, on_refused, on_tell, on_voted, promised_in, settled_for}
+use Rattle.node_model.specs.Packets.{start_told, tell_held, tells_about, told_to, vote_concerns}
 use Rattle.node_model.specs.Proposer.{Prepared, Start, is_free, is_own_ballot, prepared_at, runs_at, started}
 use Rattle.node_model.specs.Requests.{held_at, id_of, settled_by, told_by, with_held}
 use Rattle.node_model.specs.Starts.{delete_for}

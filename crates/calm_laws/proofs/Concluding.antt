@@ -26,7 +26,8 @@ some_underway [] underway = absurd underway
 some_underway (newest ∷ older) underway = omega arith
 
 module _ (settings : Settings) (first left : ℕ) (one : OneNode) (k : Kept) (fit : IsFit one) (room : one.node.ticket + left < 2 ^ 64)
-    (resting : IsResting k one.node) (owed : one.owed ≡ []) (due : one.due ≡ []) (slot : Slot) (outcome : Outcome) (newest : IsNewest (entry_at one.node.table slot.id) slot)
+    (resting : IsResting k one.node) (owed : one.owed ≡ []) (due : one.due ≡ []) (slot : Slot) (outcome : Outcome)
+    (newest : IsNewest (entry_at one.node.table slot.id) slot)
     (off : AreOff slot.id one.sessions) where
   abbrev setup : Setup
   setup = alone first settings.validity

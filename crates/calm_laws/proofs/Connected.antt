@@ -8,7 +8,8 @@ use Rattle.std.proofs.lemmas.Bool.{cases_eq}
 use Rattle.node_model.proofs.Places.{elsewhere, here}
 use Rattle.sessions.specs.Session.{Session}
 use Rattle.script_text.specs.Runner.{Owned, session_in, session_or_opened}
-use Rattle.calm_laws.proofs.Entries.{AreApart, IsNot, all_to, insert_all, insert_apart, remove_all, remove_apart, remove_elsewhere, set_all, set_apart, set_elsewhere, set_here}
+use Rattle.calm_laws.proofs.Entries.{AreApart, IsNot, all_to, insert_all, insert_apart, remove_all, remove_apart, remove_elsewhere}
+use Rattle.calm_laws.proofs.Entries.{set_all, set_apart, set_elsewhere, set_here}
 use Rattle.calm_laws.proofs.Plain.{holding}
 use Rattle.calm_laws.proofs.Standing.{requests_at}
 

@@ -1,5 +1,6 @@
 -- An attempt is asked for in a calm script: it is granted and goes out, or fails, or is not granted, by the runner and the one node alike.
-use Rattle.std.proofs.Common.{◌≡◌, ℕ, suc, pred, ◌+◌, ◌<◌, ◌^◌, Bool, true, false, cond, List, [], ◌∷◌, length, Option, Some, None, refl, sym, ◌∙◌, ap, subst, arith}
+use Rattle.std.proofs.Common.{◌≡◌, ℕ, suc, pred, ◌+◌, ◌<◌, ◌^◌, Bool, true, false, cond, List, [], ◌∷◌, length, Option, Some, None, refl}
+use Rattle.std.proofs.Common.{sym, ◌∙◌, ap, subst, arith}
 use Rattle.mc_model.specs.message.Chain.{taken_in}
 use Rattle.mc_model.specs.message.Decree.{Attempt, Decree, Failed, Fate, Kind, Taken}
 use Rattle.mc_model.specs.message.Submission.{Submission}
@@ -49,7 +50,8 @@ module _ (settings : Settings) (first left : ℕ) (streams : List (ℕ × List �
   -- ---- an attempt is granted, and no attempt of its message waits
 
   module _ (one : OneNode) (k : Kept) (connected : List (ℕ × Session)) (held : List (ℕ × List ℕ)) (waits : List Receipt) (id : ℕ) (fit : IsFit one)
-      (room : one.node.ticket + left < 2 ^ 64) (resting : IsResting k one.node) (owed : one.owed ≡ []) (due : one.due ≡ []) (were : AreConnected one.sessions None connected)
+      (room : one.node.ticket + left < 2 ^ 64) (resting : IsResting k one.node) (owed : one.owed ≡ []) (due : one.due ≡ [])
+      (were : AreConnected one.sessions None connected)
       (same : (number : ℕ) → held_in held number ≡ held_in streams number) (waiting : waits ≡ one.waiting)
       (newest : IsNewest (entry_at one.node.table id) (newest_slot one.node id)) (off : AreOff id one.sessions) where
     abbrev now : Runner
@@ -253,7 +255,8 @@ module _ (settings : Settings) (first left : ℕ) (streams : List (ℕ × List �
         subst (λ (by : Stepped). AreGranted by (newest_slot t id) (submission_at runner.node id)) (sym begun)
         (subst (AreGranted step (newest_slot t id)) (sym submission_is)
         (subst (λ (place : Slot). AreGranted step place (taken_in entry.chain)) slot_is
-        (sent_alike settings first left streams once_granted step.kept connected held waits id fit_then room_left rests_then quiet.owed quiet.due were same waiting newest_then off
+        (sent_alike settings first left streams once_granted step.kept connected held waits id fit_then room_left rests_then quiet.owed
+        quiet.due were same waiting newest_then off
         (taken_in entry.chain))))
 
   by_refusal : (refusal : Option GrantRefusal) → refusal_at t id ≡ refusal →

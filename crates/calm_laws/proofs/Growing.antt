@@ -37,7 +37,8 @@ use Rattle.delivery.specs.Targets.{is_up}
 use Rattle.script_text.specs.Runner.{came_by, nothing_came, session_in}
 use Rattle.script_text.specs.Runner as runner
 use Rattle.script_text.specs.Events.{Comes, Event, Grants, Settles, Ticks}
-use Rattle.script_text.specs.OneNode.{OneNode, answered, asked, asked_so, came, done_by, door_of, granted_unless, happen, happens, next_id, reacted, sent, sent_over, with_session}
+use Rattle.script_text.specs.OneNode.{OneNode, answered, asked, asked_so, came, done_by, door_of, granted_unless, happen, happens, next_id}
+use Rattle.script_text.specs.OneNode.{reacted, sent, sent_over, with_session}
 
 -- ---- tables
 

@@ -1,5 +1,6 @@
 -- Line after line of a calm script, the runner goes as the one node does, and prints what it prints.
-use Rattle.std.proofs.Common.{◌≡◌, ℕ, suc, ◌<◌, ◌≤◌, ◌-◌, ◌^◌, Bool, true, false, cond, List, [], ◌∷◌, ◌++◌, length, map, Option, Some, None, refl, sym, ◌∙◌, ap, subst, arith}
+use Rattle.std.proofs.Common.{◌≡◌, ℕ, suc, ◌<◌, ◌≤◌, ◌-◌, ◌^◌, Bool, true, false, cond, List, [], ◌∷◌, ◌++◌, length, map, Option, Some}
+use Rattle.std.proofs.Common.{None, refl, sym, ◌∙◌, ap, subst, arith}
 use Rattle.std.specs.Option.{option_map}
 use Rattle.std.specs.Ordering.{nat_cmp}
 use Rattle.std.specs.BTreeMap.{insert_entry}
@@ -154,7 +155,8 @@ module _ (settings : Settings) (first : ℕ) (lines : List (List ℕ)) (behind :
       (λ tail tail_is runs calm small. behind streams quiet one runner tail (suc line) runs tail_is calm small) is
   said_calm events (Some (Tick node moment)) is =
       tail_of (SaidCalm (Some (Tick node moment))) (Ticks moment ∷ []) (events_from streams lines) events (tick_calm node moment) is
-  said_calm events (Some (Grant node id)) is = tail_of (SaidCalm (Some (Grant node id))) (Grants id ∷ []) (events_from streams lines) events (grant_calm node id) is
+  said_calm events (Some (Grant node id)) is = tail_of (SaidCalm (Some (Grant node id))) (Grants id ∷ []) (events_from streams lines) events
+      (grant_calm node id) is
   said_calm events (Some (Settle nodes)) is = tail_of (SaidCalm (Some (Settle nodes))) (Settles ∷ []) (events_from streams lines) events (settle_calm nodes) is
   said_calm events (Some (Octets node number octets)) is = octets_said node number octets events (begins_wrong (stream node number octets).rest) refl is
 
@@ -216,7 +218,8 @@ module _ (lines : List (List ℕ)) (play : Play) (number : ℕ) (calm : IsCalmPl
       (opened_runs serial events least so.few) found so.calm so.small)
 
   -- the first line says this, or the lines behind it are those of the script
-  first_said : (line : List ℕ) (said : Option Said) → said_within script_nodes line ≡ said → (play_of_lines lines ≡ Some play → StagePrints play None (suc number) lines) →
+  first_said : (line : List ℕ) (said : Option Said) → said_within script_nodes line ≡ said →
+      (play_of_lines lines ≡ Some play → StagePrints play None (suc number) lines) →
       play_from said lines (play_of_lines lines) ≡ Some play →
       PlayPrints play (after [] (λ (done : Stepped). done.prints ++ prints_from script_settings done.stage lines) (step_by script_settings None said))
       (after (Some number) (λ (done : Stepped). bad_from script_settings done.stage (suc number) lines) (step_by script_settings None said))
@@ -236,7 +239,8 @@ module _ (lines : List (List ℕ)) (play : Play) (number : ℕ) (calm : IsCalmPl
 first_calm : (lines : List (List ℕ)) (play : Play) (number : ℕ) → IsCalmPlay play → play_of_lines lines ≡ Some play → StagePrints play None number lines
 unfolding play_of_lines prints_from bad_from step_of
 first_calm [] play number calm is = absurd cc
-first_calm (line ∷ lines) play number calm is = first_said lines play number calm line (said_within script_nodes line) refl (first_calm lines play (suc number) calm) is
+first_calm (line ∷ lines) play number calm is =
+    first_said lines play number calm line (said_within script_nodes line) refl (first_calm lines play (suc number) calm) is
 
 pub calm_text : (script : List ℕ) → IsCalm script → (bad_line script ≡ None) × (text_of script ≡ one_node_text script)
 calm_text script is =

@@ -16,7 +16,9 @@ use Rattle.sessions.specs.declared.pushed.Delivery.TheVariants as deliveries
 use Rattle.sessions.specs.declared.request.OpenRequest.{OpenRequest}
 use Rattle.script_text.specs.Prints.{Print}
 use Rattle.script_text.specs.Pushes.{pushed_on, session_at, target_in, with_push}
-use Rattle.script_text.specs.Receipts.{Mail, Posted, all_posted, goes_out, goes_out_up_to, is_for, posted, posted_for, posted_for_all, posted_for_any, posted_to, reported_by, reports_on, stays, submitter_of, then_posted, waits_for, with_both}
+use Rattle.script_text.specs.Receipts.{Mail, Posted, all_posted, goes_out, goes_out_up_to, is_for, posted, posted_for, posted_for_all}
+use Rattle.script_text.specs.Receipts.{posted_for_any, posted_to, reported_by, reports_on, stays, submitter_of, then_posted, waits_for}
+use Rattle.script_text.specs.Receipts.{with_both}
 use Rattle.script_text.specs.Runner.{Owned}
 use Rattle.calm_laws.proofs.Connected.{AreConnected}
 use Rattle.calm_laws.proofs.Entries.{set_elsewhere, set_here}
@@ -125,7 +127,8 @@ module _ (now : ℕ) (node : TableNode) (holds : Option Owned) where
     up_to_alike : (more : ℕ) (theirs ours : List (ℕ × Session)) (waiting : List Receipt) → AreConnected theirs holds ours → AreFit node theirs →
         ArePosted (mail ours waiting) (goes_out_up_to more now account (mail theirs waiting)) (goes_out_up_to more now account (mail ours waiting))
     unfolding goes_out_up_to
-    up_to_alike zero theirs ours waiting were fit = stays_alike (mail theirs waiting) (mail ours waiting) (record { connected = were; fit = fit; waiting = refl })
+    up_to_alike zero theirs ours waiting were fit = stays_alike (mail theirs waiting) (mail ours waiting)
+        (record { connected = were; fit = fit; waiting = refl })
     up_to_alike (suc more) theirs ours waiting were fit =
         subst
         (λ (target : Option ℕ). ArePosted (mail ours waiting)

@@ -24,7 +24,8 @@ use Rattle.script_text.specs.Node.{Node, tick_at, with_step}
 use Rattle.script_text.specs.Pushes.{accounts_up, overdue_in, timely_in}
 use Rattle.delivery.specs.Targets.{is_up}
 use Rattle.script_text.specs.Receipts.{posted_for_all}
-use Rattle.script_text.specs.Runner.{Acted, Owned, Runner, Told, answered, followed_by, gives_up, gives_up_by, mail_of, makes_room, on_tick, posts_for_all, rests, session_in, session_or_opened, told, with_posted}
+use Rattle.script_text.specs.Runner.{Acted, Owned, Runner, Told, answered, followed_by, gives_up, gives_up_by, mail_of, makes_room}
+use Rattle.script_text.specs.Runner.{on_tick, posts_for_all, rests, session_in, session_or_opened, told, with_posted}
 use Rattle.script_text.specs.OneNode.{OneNode, ticks}
 use Rattle.script_text.specs.Calm.{may_happen, pushed_in, tick_stir}
 use Rattle.calm_laws.proofs.Connected.{AreConnected, EntryIs}

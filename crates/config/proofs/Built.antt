@@ -1,5 +1,7 @@
 -- The accounts, routes and nodes of rows, row by row.
-use Rattle.std.proofs.Common.{◌≡◌, ◌⊎◌, ℕ, zero, suc, ◌+◌, ◌-◌, ◌<◌, ◌≤◌, Bool, true, false, not, ◌||◌, ◌==◌, cond, List, [], ◌∷◌, ◌++◌, length, map, take, drop, get_or, slice_get, Option, Some, None, IsTrue, IsSome, IfSome, option_map, codes, refl, sym, ap, subst, ◌∙◌, inl, inr, arith}
+use Rattle.std.proofs.Common.{◌≡◌, ◌⊎◌, ℕ, zero, suc, ◌+◌, ◌-◌, ◌<◌, ◌≤◌, Bool, true, false, not, ◌||◌, ◌==◌, cond, List, [], ◌∷◌, ◌++◌}
+use Rattle.std.proofs.Common.{length, map, take, drop, get_or, slice_get, Option, Some, None, IsTrue, IsSome, IfSome, option_map, codes}
+use Rattle.std.proofs.Common.{refl, sym, ap, subst, ◌∙◌, inl, inr, arith}
 use Rattle.std.specs.List.{AllByRecursion, find, list_any}
 use Rattle.std.specs.Str.{bytes_eq}
 use Rattle.std.proofs.lemmas.Bool.{cases_Bool, cases_lt, cond-false, cond-true, eqb-true, or_cases, or_left, or_right, true≢false, false≢true}
@@ -23,14 +25,17 @@ use Rattle.config.specs.Building.{AreNumbered, IsAccountRow, IsRouteRow}
 -- ---- one more row
 
 -- the rows, parted at one
-parted : {A B : Type 0} (g : A → B) (xs : List A) (place : ℕ) (x : A) → place < length xs → x ≡ get_or xs place x → map g xs ≡ map g (take place xs) ++ g x ∷ map g (drop (place + 1) xs)
+parted : {A B : Type 0} (g : A → B) (xs : List A) (place : ℕ) (x : A) → place < length xs → x ≡ get_or xs place x →
+    map g xs ≡ map g (take place xs) ++ g x ∷ map g (drop (place + 1) xs)
 parted {A} g xs place x below is =
-    ap (map g) (sym (take-append-drop place xs) ∙ ap (λ (ys : List A). take place xs ++ ys) (drop_more xs place x below ∙ ap (λ (y : A). y ∷ drop (place + 1) xs) (sym is)))
+    ap (map g) (sym (take-append-drop place xs) ∙ ap (λ (ys : List A). take place xs ++ ys)
+    (drop_more xs place x below ∙ ap (λ (y : A). y ∷ drop (place + 1) xs) (sym is)))
     ∙ map-append g (take place xs) (x ∷ drop (place + 1) xs)
 
 -- ---- one text twice
 
-twice_apart : (name : List ℕ) (front back : List Data) (row : Data) → list_any (λ other. same_value name other row) front ≡ true → has_twice name (front ++ row ∷ back) ≡ true
+twice_apart : (name : List ℕ) (front back : List Data) (row : Data) → list_any (λ other. same_value name other row) front ≡ true →
+    has_twice name (front ++ row ∷ back) ≡ true
 twice_apart name [] back row any = absurd (false≢true any)
 twice_apart name (first ∷ front) back row any = elim (or_cases (same_value name first row) (list_any (λ other. same_value name other row) front) any) [
   | inl here ↦ or_left _ _ (list_any-append (same_value name first) front (row ∷ back) ∙ or_right _ _ (or_left _ _ here))
@@ -54,17 +59,20 @@ account_before (first ∷ front) row are given found = elim (cases_Bool (bytes_e
 route_before : (front : List Data) (row : Data) → AllByRecursion IsRouteRow front → IsSome (text_in (codes "prefix") row)
     → has_route (map route_at front) (text_at (codes "prefix") row) ≡ true → list_any (λ other. same_value (codes "prefix") other row) front ≡ true
 route_before [] row are given found = absurd (false≢true found)
-route_before (first ∷ front) row are given found = elim (or_cases (bytes_eq (text_at (codes "prefix") first) (text_at (codes "prefix") row)) (has_route (map route_at front) (text_at (codes "prefix") row)) found) [
-  | inl same ↦ or_left _ _ (or_left _ _ (same_texts (text_in (codes "prefix") first) (text_in (codes "prefix") row) are.0.given given same))
-  | inr later ↦ or_right _ _ (route_before front row are.1 given later)
-]
+route_before (first ∷ front) row are given found =
+    elim (or_cases (bytes_eq (text_at (codes "prefix") first) (text_at (codes "prefix") row)) (has_route (map route_at front) (text_at (codes "prefix") row)) found) [
+      | inl same ↦ or_left _ _ (or_left _ _ (same_texts (text_in (codes "prefix") first) (text_in (codes "prefix") row) are.0.given given same))
+      | inr later ↦ or_right _ _ (route_before front row are.1 given later)
+    ]
 
 all_front : {A B : Type 0} (P : B → Type 0) (g : A → B) (place : ℕ) (xs : List A) → AllByRecursion (λ x. P (g x)) xs → AllByRecursion P (map g (take place xs))
 all_front P g zero xs all = tt
 all_front P g (suc place) [] all = tt
 all_front P g (suc place) (x ∷ xs) all = (all.0, all_front P g place xs all.1)
 
-pub no_account_twice : (rows : List Value) (place : ℕ) (row : Value) (accounts : List Account) → place < length rows → row ≡ get_or rows place row → AllByRecursion (λ row. IsAccountRow (view row)) rows
+pub no_account_twice : (rows : List Value) (place : ℕ) (row : Value) (accounts : List Account) → place < length rows →
+    row ≡ get_or rows place row →
+    AllByRecursion (λ row. IsAccountRow (view row)) rows
     → IsAccountRow (view row) → has_twice (codes "system_id") (map view rows) ≡ false → accounts ≡ map account_at (map view (take place rows))
     → IsSome (account_of accounts (text_at (codes "system_id") (view row))) → ⊥
 no_account_twice rows place row accounts below is are here once so_far found =
@@ -73,7 +81,9 @@ no_account_twice rows place row accounts below is are here once so_far found =
     let twice = twice_apart (codes "system_id") (map view (take place rows)) (map view (drop (place + 1) rows)) (view row) before in
     true≢false (sym twice ∙ ap (λ (ds : List Data). has_twice (codes "system_id") ds) (sym (parted view rows place row below is)) ∙ once)
 
-pub no_route_twice : (rows : List Value) (place : ℕ) (row : Value) (routes : List Route) → place < length rows → row ≡ get_or rows place row → AllByRecursion (λ row. IsRouteRow (view row)) rows
+pub no_route_twice : (rows : List Value) (place : ℕ) (row : Value) (routes : List Route) → place < length rows →
+    row ≡ get_or rows place row →
+    AllByRecursion (λ row. IsRouteRow (view row)) rows
     → IsRouteRow (view row) → has_twice (codes "prefix") (map view rows) ≡ false → routes ≡ map route_at (map view (take place rows))
     → has_route routes (text_at (codes "prefix") (view row)) ≡ true → ⊥
 no_route_twice rows place row routes below is are here once so_far found =
@@ -109,7 +119,9 @@ number_here : (all : List Data) (n : Option ℕ) (number : ℕ) → IfSome n (Fo
 number_here all None number is same = absurd (false≢true same)
 number_here all (Some m) number is same = subst (Follows all) (eqb-true m number same) is
 
-number_follows : (all rows : List Data) (number : ℕ) → AllByRecursion (λ row. IfSome (number_in (codes "number") row) (Follows all)) rows → list_any (is_numbered number) rows ≡ true → Follows all number
+number_follows : (all rows : List Data) (number : ℕ) → AllByRecursion (λ row. IfSome (number_in (codes "number") row) (Follows all)) rows →
+    list_any (is_numbered number) rows ≡ true →
+    Follows all number
 number_follows all [] number are any = absurd (false≢true any)
 number_follows all (row ∷ rows) number are any = elim (or_cases (is_numbered number row) (list_any (is_numbered number) rows) any) [
   | inl here ↦ number_here all (number_in (codes "number") row) number are.0 here
@@ -123,7 +135,9 @@ one_before all number is above = elim (or_cases (suc number == 1) (list_any (is_
 ]
 
 -- where there is no number, there is none behind it
-next_none : (rows : List Data) (number : ℕ) → AreNumbered rows → 1 ≤ number → numbered rows number ≡ None → (found : Option Data) → numbered rows (suc number) ≡ found → found ≡ None
+next_none : (rows : List Data) (number : ℕ) → AreNumbered rows → 1 ≤ number → numbered rows number ≡ None → (found : Option Data) →
+    numbered rows (suc number) ≡ found →
+    found ≡ None
 next_none rows number are above none None is = refl
 next_none rows number are above none (Some row) is =
     absurd (in_found rows number (one_before rows number (number_follows rows rows (suc number) are (found_in rows (suc number) row is)) above) none)
@@ -138,7 +152,8 @@ none_behind rows number (suc more) are above none =
 
 none_above : (rows : List Data) (number : ℕ) (found : Option Data) → AreNumbered rows → 9 < number → numbered rows number ≡ found → found ≡ None
 none_above rows number None are above is = refl
-none_above rows number (Some row) are above is = let within = number_follows rows rows number are (found_in rows number row is) in absurd (omega (arith, within.1))
+none_above rows number (Some row) are above is =
+    let within = number_follows rows rows number are (found_in rows number row is) in absurd (omega (arith, within.1))
 
 -- the nodes of the numbers up to a place
 abbrev pub AreNodesBelow : List Data → ℕ → List NodeConfig → Type 0
@@ -153,7 +168,9 @@ slice_get-last : {A : Type 0} (xs : List A) (last : A) → slice_get (xs ++ last
 slice_get-last [] last = refl
 slice_get-last (x ∷ xs) last = slice_get-last xs last
 
-node_last : (rows : List Data) (nodes : List NodeConfig) (node : NodeConfig) (row : Data) (place : ℕ) → AreNodesBelow rows (length nodes) nodes → numbered rows (suc (length nodes)) ≡ Some row → IsNode row node
+node_last : (rows : List Data) (nodes : List NodeConfig) (node : NodeConfig) (row : Data) (place : ℕ) →
+    AreNodesBelow rows (length nodes) nodes → numbered rows (suc (length nodes)) ≡ Some row →
+    IsNode row node
     → (place < length nodes) ⊎ (place ≡ length nodes) → IsNodeAt (numbered rows (suc place)) (slice_get (nodes ++ node ∷ []) place)
 node_last rows nodes node row place so_far found is (inl before) = rw (slice_get-front nodes (node ∷ []) place before) (so_far place before)
 node_last rows nodes node row place so_far found is (inr same) =
@@ -164,7 +181,8 @@ pub record IsBegun (rows : List Value) (count : ℕ) (nodes : List NodeConfig) :
   pub long : length nodes ≡ count
   pub nodes_are : AreNodesBelow (map view rows) count nodes
 
-seen : (rows : List Value) (number : ℕ) (found : Option Value) → found ≡ find (λ row. is_numbered number (view row)) rows → numbered (map view rows) number ≡ option_map view found
+seen : (rows : List Value) (number : ℕ) (found : Option Value) → found ≡ find (λ row. is_numbered number (view row)) rows →
+    numbered (map view rows) number ≡ option_map view found
 seen rows number found is = sym (find_of_map (is_numbered number) view rows) ∙ ap (λ (o : Option Value). option_map view o) (sym is)
 
 pub begun_more : (rows : List Value) (count : ℕ) (nodes after : List NodeConfig) (row : Value) (node : NodeConfig) → IsBegun rows count nodes
@@ -173,7 +191,8 @@ begun_more rows count nodes after row node begun found is after_is =
     let long : length after ≡ count + 1 = ap (λ (ns : List NodeConfig). length ns) after_is ∙ grind (arith, length-append {A = NodeConfig}, begun.long) in
     let here : numbered (map view rows) (suc (length nodes)) ≡ Some (view row) =
     ap (λ (n : ℕ). numbered (map view rows) n) (omega (arith, begun.long)) ∙ seen rows (count + 1) (Some row) found in
-    let so_far : AreNodesBelow (map view rows) (length nodes) nodes = subst (λ (n : ℕ). AreNodesBelow (map view rows) n nodes) (sym begun.long) begun.nodes_are in
+    let so_far : AreNodesBelow (map view rows) (length nodes) nodes = subst (λ (n : ℕ). AreNodesBelow (map view rows) n nodes)
+    (sym begun.long) begun.nodes_are in
     record {
       long = long;
       nodes_are = λ place below. subst (λ (ns : List NodeConfig). IsNodeAt (numbered (map view rows) (suc place)) (slice_get ns place)) (sym after_is)
@@ -183,7 +202,9 @@ begun_more rows count nodes after row node begun found is after_is =
           ]));
     }
 
-are_nodes : (rows : List Data) (nodes : List NodeConfig) (count : ℕ) → length nodes ≡ count → AreNodesBelow rows count nodes → ((place : ℕ) → count ≤ place → numbered rows (suc place) ≡ None) → AreNodes rows nodes
+are_nodes : (rows : List Data) (nodes : List NodeConfig) (count : ℕ) → length nodes ≡ count → AreNodesBelow rows count nodes →
+    ((place : ℕ) → count ≤ place → numbered rows (suc place) ≡ None) →
+    AreNodes rows nodes
 are_nodes rows nodes count long below above = λ place. elim (cases_lt place count) [
   | inl before ↦ below place before
   | inr behind ↦ rw (above place behind, slice_get_past nodes place (omega arith)) tt
@@ -198,7 +219,8 @@ nodes_stop rows count nodes are begun none =
 
 pub nodes_end : (rows : List Value) (nodes : List NodeConfig) → AreNumbered (map view rows) → IsBegun rows 9 nodes → AreNodes (map view rows) nodes
 nodes_end rows nodes are begun =
-    are_nodes (map view rows) nodes 9 begun.long begun.nodes_are (λ place above. none_above (map view rows) (suc place) (numbered (map view rows) (suc place)) are (omega arith) refl)
+    are_nodes (map view rows) nodes 9 begun.long begun.nodes_are
+    (λ place above. none_above (map view rows) (suc place) (numbered (map view rows) (suc place)) are (omega arith) refl)
 
 pub all_found : {A : Type 0} (P : A → Type 0) (p : A → Bool) (xs : List A) (x : A) → AllByRecursion P xs → Some x ≡ find p xs → P x
 all_found P p [] x all found = absurd (cc)

@@ -1,5 +1,6 @@
 -- What the rows of a document say of its keys.
-use Rattle.std.proofs.Common.{◌≡◌, ◌↔◌, ℕ, ◌+◌, ◌<◌, Bool, true, false, not, ◌||◌, List, ◌∷◌, length, map, drop, get_or, Option, Some, None, MatchOption, IsTrue, is_some, refl, sym, ap, subst, ◌∙◌}
+use Rattle.std.proofs.Common.{◌≡◌, ◌↔◌, ℕ, ◌+◌, ◌<◌, Bool, true, false, not, ◌||◌, List, ◌∷◌, length, map, drop, get_or, Option, Some}
+use Rattle.std.proofs.Common.{None, MatchOption, IsTrue, is_some, refl, sym, ap, subst, ◌∙◌}
 use Rattle.std.proofs.lemmas.Bool.{false≢true}
 use Rattle.std.proofs.lemmas.List.{drop_more, length-map}
 use Rattle.std.specs.List.{AllByRecursion, list_all, list_any}
@@ -39,7 +40,8 @@ count_view values = ap (λ (ds : List Data). length ds) (listed_view values) ∙
 pub any_here : (p : Data → Bool) (rows : List Value) (all : List Data) → map view rows ≡ all → list_any (λ row. p (view row)) rows ≡ list_any p all
 any_here p rows all are = sym (any_of_map p view rows) ∙ ap (λ (ds : List Data). list_any p ds) are
 
-pub listen_found : (text : List ℕ) (found : Option SocketAddrV4) → MatchOption found ((address : SocketAddrV4) → IsListen text address → ⊥) (λ address. IsListen text address)
+pub listen_found : (text : List ℕ) (found : Option SocketAddrV4) →
+    MatchOption found ((address : SocketAddrV4) → IsListen text address → ⊥) (λ address. IsListen text address)
     → IsTrue (is_some found) ↔ ((address : SocketAddrV4) × IsListen text address)
 listen_found text None is = (λ yes. absurd (false≢true yes), λ some. absurd (is some.0 some.1))
 listen_found text (Some address) is = (λ yes. (address, is), λ some. refl)
@@ -47,7 +49,8 @@ listen_found text (Some address) is = (λ yes. (address, is), λ some. refl)
 -- ---- row by row
 
 twice_here : (name : List ℕ) (rows : List Value) (place : ℕ) (first : Value) → place < length rows → first ≡ get_or rows place first
-    → has_twice name (map view (drop place rows)) ≡ (list_any (λ other. same_value name (view first) (view other)) (drop (place + 1) rows) || has_twice name (map view (drop (place + 1) rows)))
+    → has_twice name (map view (drop place rows)) ≡
+    (list_any (λ other. same_value name (view first) (view other)) (drop (place + 1) rows) || has_twice name (map view (drop (place + 1) rows)))
 twice_here name rows place first below is =
     ap (λ (vs : List Value). has_twice name (map view vs)) (drop_more rows place first below ∙ ap (λ (v : Value). v ∷ drop (place + 1) rows) (sym is))
     ∙ ap (λ (b : Bool). b || has_twice name (map view (drop (place + 1) rows))) (any_of_map (same_value name (view first)) view (drop (place + 1) rows))
@@ -60,6 +63,7 @@ again_here name rows place first below is so_far again =
 
 pub not_again : (name : List ℕ) (rows : List Value) (place : ℕ) (first : Value) → place < length rows → first ≡ get_or rows place first
     → has_twice name (map view (drop place rows)) ≡ has_twice name (map view rows)
-    → list_any (λ other. same_value name (view first) (view other)) (drop (place + 1) rows) ≡ false → has_twice name (map view (drop (place + 1) rows)) ≡ has_twice name (map view rows)
+    → list_any (λ other. same_value name (view first) (view other)) (drop (place + 1) rows) ≡ false → has_twice name
+    (map view (drop (place + 1) rows)) ≡ has_twice name (map view rows)
 not_again name rows place first below is so_far again =
     sym (ap (λ (b : Bool). b || has_twice name (map view (drop (place + 1) rows))) again) ∙ sym (twice_here name rows place first below is) ∙ so_far

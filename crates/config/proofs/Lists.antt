@@ -1,5 +1,6 @@
 -- What is in an array, and what holds of each of a list.
-use Rattle.std.proofs.Common.{◌≡◌, Bool, true, false, ◌&&◌, ◌||◌, cond, ℕ, zero, suc, ◌+◌, ◌<◌, List, [], ◌∷◌, ◌++◌, length, ◌==◌, map, Option, Some, option_map, take, get_or, refl, sym, ap, subst, ◌∙◌, arith}
+use Rattle.std.proofs.Common.{◌≡◌, Bool, true, false, ◌&&◌, ◌||◌, cond, ℕ, zero, suc, ◌+◌, ◌<◌, List, [], ◌∷◌, ◌++◌, length, ◌==◌, map}
+use Rattle.std.proofs.Common.{Option, Some, option_map, take, get_or, refl, sym, ap, subst, ◌∙◌, arith}
 use Rattle.std.proofs.lemmas.Bool.{ne_eqb}
 use Rattle.std.proofs.lemmas.List.{take_more}
 use Rattle.std.specs.List.{AllByRecursion, find, list_all, list_any}
@@ -22,7 +23,9 @@ all_last P [] x all here = (here, tt)
 all_last P (y ∷ ys) x all here = (all.0, all_last P ys x all.1 here)
 
 -- one more holds
-pub all_more : {A : Type 0} (P : A → Type 0) (xs : List A) (place : ℕ) (x : A) → place < length xs → x ≡ get_or xs place x → P x → AllByRecursion P (take place xs) → AllByRecursion P (take (place + 1) xs)
+pub all_more : {A : Type 0} (P : A → Type 0) (xs : List A) (place : ℕ) (x : A) → place < length xs → x ≡ get_or xs place x → P x →
+    AllByRecursion P (take place xs) →
+    AllByRecursion P (take (place + 1) xs)
 all_more {A} P xs place x below is here all =
     let more : take (place + 1) xs ≡ take place xs ++ x ∷ [] = take_more xs place x below ∙ ap (λ (y : A). take place xs ++ y ∷ []) (sym is) in
     subst (AllByRecursion P) (sym more) (all_last P (take place xs) x all here)
@@ -51,7 +54,8 @@ pub all_to_map : {A B : Type 0} (P : B → Type 0) (f : A → B) (xs : List A) �
 all_to_map P f [] all = tt
 all_to_map P f (x ∷ xs) all = (all.0, all_to_map P f xs all.1)
 
-found_either : {A B : Type 0} (f : A → B) (x : A) (found : Option A) (b : Bool) → option_map f (cond b (Some x) found) ≡ cond b (Some (f x)) (option_map f found)
+found_either : {A B : Type 0} (f : A → B) (x : A) (found : Option A) (b : Bool) →
+    option_map f (cond b (Some x) found) ≡ cond b (Some (f x)) (option_map f found)
 found_either f x found true = refl
 found_either f x found false = refl
 

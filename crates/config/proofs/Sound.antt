@@ -1,5 +1,6 @@
 -- What is known of the rows of a document that has no fault.
-use Rattle.std.proofs.Common.{◌≡◌, ℕ, ◌-◌, ◌<◌, ◌≤◌, Bool, true, false, not, ◌||◌, ◌==◌, List, [], ◌∷◌, length, Option, Some, None, IsTrue, IsSome, IfSome, IsSomeAnd, option_and_then, codes, refl, sym, ap, subst, ◌∙◌, inl, inr, arith}
+use Rattle.std.proofs.Common.{◌≡◌, ℕ, ◌-◌, ◌<◌, ◌≤◌, Bool, true, false, not, ◌||◌, ◌==◌, List, [], ◌∷◌, length, Option, Some, None, IsTrue}
+use Rattle.std.proofs.Common.{IsSome, IfSome, IsSomeAnd, option_and_then, codes, refl, sym, ap, subst, ◌∙◌, inl, inr, arith}
 use Rattle.std.specs.List.{All, AllByRecursion, list_all, list_any}
 use Rattle.std.specs.declared.net.socket_addr.SocketAddrV4.{SocketAddrV4}
 use Rattle.std.proofs.lemmas.Bool.{and_parts, or_cases, false≢true, not-true}
@@ -13,7 +14,8 @@ use Rattle.config.specs.declared.key.Part.TheVariants.{Nodes, Accounts, Routes}
 use Rattle.config.specs.Keys.{name_of}
 use Rattle.config.specs.Listen.{IsListen}
 use Rattle.config.specs.Rows.{as_number, elements_of, has_twice, is_table, listed, number_in, rows_of, same_text, text_in}
-use Rattle.config.specs.Faults.{Admits, AreNodes, AreTables, Fits, IsAccountName, IsListenText, IsNodeNumber, IsNumberOf, IsTextOf, has_key, is_named, is_numbered, stands}
+use Rattle.config.specs.Faults.{Admits, AreNodes, AreTables, Fits, IsAccountName, IsListenText, IsNodeNumber, IsNumberOf, IsTextOf}
+use Rattle.config.specs.Faults.{has_key, is_named, is_numbered, stands}
 use Rattle.config.specs.Config.{IsFaultless, or_default, or_empty}
 use Rattle.config.specs.Building.{AreNumbered, IsAccountRow, IsNodeRow, IsRouteRow}
 use Rattle.config.proofs.Lists.{all_weaker}
@@ -23,7 +25,9 @@ use Rattle.config.proofs.Lists.{all_weaker}
 no_text : (limit : ℕ) → 0 < limit → IsText limit []
 no_text limit above = record { short = above; no_zero = All-nil (λ octet. 0 < octet) }
 
-short_of : (t : Option (List ℕ)) (least most limit : ℕ) → most < limit → IsSomeAnd t (λ text. (least ≤ length text) × (length text ≤ most) × All (λ octet. 0 < octet) text) → IsText limit (or_empty t)
+short_of : (t : Option (List ℕ)) (least most limit : ℕ) → most < limit →
+    IsSomeAnd t (λ text. (least ≤ length text) × (length text ≤ most) × All (λ octet. 0 < octet) text) →
+    IsText limit (or_empty t)
 short_of None least most limit below is = absurd is
 short_of (Some text) least most limit below is = record { short = omega (arith, is.1); no_zero = is.2 }
 
@@ -41,17 +45,20 @@ text_given (Some value) least most is = some_of (as_str value) _ is
 
 -- ---- a number
 
-number_below : (n : Option ℕ) (default least most bound : ℕ) → most ≤ bound → IsSomeAnd n (λ number. (least ≤ number) × (number ≤ most)) → or_default default n ≤ bound
+number_below : (n : Option ℕ) (default least most bound : ℕ) → most ≤ bound → IsSomeAnd n (λ number. (least ≤ number) × (number ≤ most)) →
+    or_default default n ≤ bound
 number_below None default least most bound below is = absurd is
 number_below (Some number) default least most bound below is = omega (arith, is.1)
 
-pub number_within : (o : Option Data) (default least most bound : ℕ) → default ≤ bound → most ≤ bound → IfSome o (IsNumberOf least most) → or_default default (option_and_then as_number o) ≤ bound
+pub number_within : (o : Option Data) (default least most bound : ℕ) → default ≤ bound → most ≤ bound → IfSome o (IsNumberOf least most) →
+    or_default default (option_and_then as_number o) ≤ bound
 number_within None default least most bound first below is = first
 number_within (Some value) default least most bound first below is = number_below (as_number value) default least most bound below is
 
 -- ---- what a listen is
 
-listen_text : (t : Option (List ℕ)) → IsSomeAnd t (λ text. (address : SocketAddrV4) × IsListen text address) → (address : SocketAddrV4) × IsListen (or_empty t) address
+listen_text : (t : Option (List ℕ)) → IsSomeAnd t (λ text. (address : SocketAddrV4) × IsListen text address) →
+    (address : SocketAddrV4) × IsListen (or_empty t) address
 listen_text None is = absurd is
 listen_text (Some text) is = is
 
@@ -65,7 +72,8 @@ number_some : (n : Option ℕ) (P : ℕ → Type 0) → IsSomeAnd n P → IfSome
 number_some None P is = absurd is
 number_some (Some number) P is = is
 
-number_value : (document : Data) (o : Option Data) → IfSome o (IsNodeNumber document) → IfSome (option_and_then as_number o) (λ number. (1 ≤ number) × (number ≤ 9)
+number_value : (document : Data) (o : Option Data) → IfSome o (IsNodeNumber document) → IfSome (option_and_then as_number o)
+    (λ number. (1 ≤ number) × (number ≤ 9)
     × IsTrue ((number == 1) || list_any (is_numbered (number - 1)) (rows_of document Nodes)))
 number_value document None is = tt
 number_value document (Some value) is = number_some (as_number value) _ is
@@ -76,11 +84,13 @@ tables_in : (o : Option Items) → IfSome o (λ items. IsTrue (list_all is_table
 tables_in None are = refl
 tables_in (Some items) are = are
 
-some_tables : (o : Option Items) → IsSomeAnd o (λ items. IsTrue (list_all is_table (listed items))) → IfSome o (λ items. IsTrue (list_all is_table (listed items)))
+some_tables : (o : Option Items) → IsSomeAnd o (λ items. IsTrue (list_all is_table (listed items))) →
+    IfSome o (λ items. IsTrue (list_all is_table (listed items)))
 some_tables None are = absurd are
 some_tables (Some items) are = are
 
-some_nodes : (o : Option Items) → IsSomeAnd o (λ items. (length (listed items) ≤ 9) × IsTrue (list_all is_table (listed items))) → IfSome o (λ items. IsTrue (list_all is_table (listed items)))
+some_nodes : (o : Option Items) → IsSomeAnd o (λ items. (length (listed items) ≤ 9) × IsTrue (list_all is_table (listed items))) →
+    IfSome o (λ items. IsTrue (list_all is_table (listed items)))
 some_nodes None are = absurd are
 some_nodes (Some items) are = are.1
 
@@ -96,7 +106,8 @@ stands_some : (key : Key) (o : Option Data) (P : Data → Type 0) → stands key
 stands_some key None P is fits = absurd (false≢true is)
 stands_some key (Some value) P is fits = fits
 
-pub have : (document : Data) (key : Key) (rows : List Data) → list_all is_table rows ≡ true → list_all (has_key key) rows ≡ true → AllByRecursion (Fits document key) rows
+pub have : (document : Data) (key : Key) (rows : List Data) → list_all is_table rows ≡ true → list_all (has_key key) rows ≡ true →
+    AllByRecursion (Fits document key) rows
     → AllByRecursion (λ row. IsSomeAnd (get (name_of key) row) (Admits document key)) rows
 have document key [] tables given fit = tt
 have document key (row ∷ rows) tables given fit =
@@ -136,7 +147,9 @@ account_rows document is =
       password = text_short (get (codes "password") row) 0 8 9 (omega arith) fits.1;
     }) (rows_of document Accounts)
     (have document keys.AccountSystemId (rows_of document Accounts) (account_tables document is) (is.given keys.AccountSystemId) (is.fit keys.AccountSystemId))
-    (both (Fits document keys.AccountSystemId) (Fits document keys.AccountPassword) (λ row. Fits document keys.AccountSystemId row × Fits document keys.AccountPassword row) (λ row p q. (p, q)) (rows_of document Accounts) (is.fit keys.AccountSystemId) (is.fit keys.AccountPassword))
+    (both (Fits document keys.AccountSystemId) (Fits document keys.AccountPassword)
+    (λ row. Fits document keys.AccountSystemId row × Fits document keys.AccountPassword row) (λ row p q. (p, q))
+    (rows_of document Accounts) (is.fit keys.AccountSystemId) (is.fit keys.AccountPassword))
 
 -- ---- a route leads to an account
 
@@ -151,11 +164,15 @@ named_short (row ∷ rows) text are any = elim (or_cases (is_named text row) (li
   | inr later ↦ named_short rows text are.1 later
 ]
 
-name_text : (document : Data) (t : Option (List ℕ)) → AllByRecursion IsAccountRow (rows_of document Accounts) → IsSomeAnd t (λ text. IsTrue (list_any (is_named text) (rows_of document Accounts))) → IsText 16 (or_empty t)
+name_text : (document : Data) (t : Option (List ℕ)) → AllByRecursion IsAccountRow (rows_of document Accounts) →
+    IsSomeAnd t (λ text. IsTrue (list_any (is_named text) (rows_of document Accounts))) →
+    IsText 16 (or_empty t)
 name_text document None are is = absurd is
 name_text document (Some text) are is = named_short (rows_of document Accounts) text are is
 
-account_text : (document : Data) (o : Option Data) → AllByRecursion IsAccountRow (rows_of document Accounts) → IfSome o (IsAccountName document) → IsText 16 (or_empty (option_and_then as_str o))
+account_text : (document : Data) (o : Option Data) → AllByRecursion IsAccountRow (rows_of document Accounts) →
+    IfSome o (IsAccountName document) →
+    IsText 16 (or_empty (option_and_then as_str o))
 account_text document None are is = no_text 16 (omega arith)
 account_text document (Some value) are is = name_text document (as_str value) are is
 
@@ -168,7 +185,9 @@ route_rows document is =
       account = account_text document (get (codes "account") row) (account_rows document is) fits.1;
     }) (rows_of document Routes)
     (have document keys.RoutePrefix (rows_of document Routes) (route_tables document is) (is.given keys.RoutePrefix) (is.fit keys.RoutePrefix))
-    (both (Fits document keys.RoutePrefix) (Fits document keys.RouteAccount) (λ row. Fits document keys.RoutePrefix row × Fits document keys.RouteAccount row) (λ row p q. (p, q)) (rows_of document Routes) (is.fit keys.RoutePrefix) (is.fit keys.RouteAccount))
+    (both (Fits document keys.RoutePrefix) (Fits document keys.RouteAccount)
+    (λ row. Fits document keys.RoutePrefix row × Fits document keys.RouteAccount row) (λ row p q. (p, q)) (rows_of document Routes)
+    (is.fit keys.RoutePrefix) (is.fit keys.RouteAccount))
 
 -- ---- nothing is given twice
 

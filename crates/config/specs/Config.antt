@@ -1,5 +1,6 @@
 -- What a configuration is read to say.
-use Rattle.std.specs.Prelude.{Bool, true, false, ◌≡◌, ℕ, suc, List, [], map, codes, slice_get, string_bytes, IsUtf8, Option, Some, None, option_map, option_and_then, Result, Ok, Err}
+use Rattle.std.specs.Prelude.{Bool, true, false, ◌≡◌, ℕ, suc, List, [], map, codes, slice_get, string_bytes, IsUtf8, Option, Some, None}
+use Rattle.std.specs.Prelude.{option_map, option_and_then, Result, Ok, Err}
 use Rattle.std.specs.List.{find}
 use Rattle.toml.specs.Data.{Data, Members, table, get, as_bool}
 use Rattle.toml.specs.Parse.{parse_document}

@@ -1,10 +1,13 @@
 -- The faults of a configuration: what is missing, what has a value that it may not have, and what is given twice (own).
-use Rattle.std.specs.Prelude.{Bool, true, false, ◌||◌, not, ◌==◌, ◌<◌, ◌≤◌, ◌-◌, ℕ, List, [], ◌∷◌, length, All, codes, Option, Some, None, IsSome, IsSomeAnd, IfSome, IsTrue}
+use Rattle.std.specs.Prelude.{Bool, true, false, ◌||◌, not, ◌==◌, ◌<◌, ◌≤◌, ◌-◌, ℕ, List, [], ◌∷◌, length, All, codes, Option, Some, None}
+use Rattle.std.specs.Prelude.{IsSome, IsSomeAnd, IfSome, IsTrue}
 use Rattle.std.specs.List.{AllByRecursion, list_all, list_any}
 use Rattle.std.specs.declared.net.socket_addr.SocketAddrV4.{SocketAddrV4}
 use Rattle.toml.specs.Data.{Data, Items, get, as_str, as_bool, as_array}
 use Rattle.config.specs.declared.key.Key.{Key}
-use Rattle.config.specs.declared.key.Key.TheVariants.{SystemId, DefaultValidity, FirstSerial, StopAfter, Node, Account, Route, NodeNumber, NodeListen, NodeStore, AccountSystemId, AccountPassword, AccountTransmit, AccountReceive, RoutePrefix, RouteAccount}
+use Rattle.config.specs.declared.key.Key.TheVariants.{SystemId, DefaultValidity, FirstSerial, StopAfter, Node, Account, Route, NodeNumber}
+use Rattle.config.specs.declared.key.Key.TheVariants.{NodeListen, NodeStore, AccountSystemId, AccountPassword, AccountTransmit}
+use Rattle.config.specs.declared.key.Key.TheVariants.{AccountReceive, RoutePrefix, RouteAccount}
 use Rattle.config.specs.declared.key.Part.TheVariants.{Nodes, Accounts}
 use Rattle.config.specs.Keys.{is_needed, is_unique, name_of, part_of}
 use Rattle.config.specs.Rows.{as_number, has_twice, is_table, listed, number_in, rows_of, same_number, same_text, text_in}

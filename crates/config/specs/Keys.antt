@@ -1,7 +1,9 @@
 -- The keys of a configuration: in which tables of the text each stands, and under which name.
 use Rattle.std.specs.Prelude.{Bool, true, false, ℕ, List, [], ◌∷◌, codes}
 use Rattle.config.specs.declared.key.Key.{Key}
-use Rattle.config.specs.declared.key.Key.TheVariants.{SystemId, DefaultValidity, FirstSerial, StopAfter, Node, Account, Route, NodeNumber, NodeListen, NodeStore, AccountSystemId, AccountPassword, AccountTransmit, AccountReceive, RoutePrefix, RouteAccount}
+use Rattle.config.specs.declared.key.Key.TheVariants.{SystemId, DefaultValidity, FirstSerial, StopAfter, Node, Account, Route, NodeNumber}
+use Rattle.config.specs.declared.key.Key.TheVariants.{NodeListen, NodeStore, AccountSystemId, AccountPassword, AccountTransmit}
+use Rattle.config.specs.declared.key.Key.TheVariants.{AccountReceive, RoutePrefix, RouteAccount}
 use Rattle.config.specs.declared.key.Part.{Part}
 use Rattle.config.specs.declared.key.Part.TheVariants.{Whole, Nodes, Accounts, Routes}
 

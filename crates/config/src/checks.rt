@@ -15,7 +15,8 @@ use toml::Value;
 
 /// The first of some keys of which something is missing.
 pub(crate) fn first_missing(document: &Value, keys: &[Key]) -> Option<Key>
-    ensures { MatchOption result (AllByRecursion (λ key. spec.is_given (view document.now) key ≡ true) keys.now) (λ key. spec.is_given (view document.now) key ≡ false) }
+    ensures { MatchOption result (AllByRecursion (λ key. spec.is_given (view document.now) key ≡ true) keys.now)
+        (λ key. spec.is_given (view document.now) key ≡ false) }
 {
     for key in keys {
         if !is_given(document, *key) {
@@ -39,7 +40,8 @@ pub(crate) fn first_bad(document: &Value, keys: &[Key]) -> Option<Key>
 
 /// The first of some keys that is given twice with one value.
 pub(crate) fn first_repeated(document: &Value, keys: &[Key]) -> Option<Key>
-    ensures { MatchOption result (AllByRecursion (λ key. spec.is_once (view document.now) key ≡ true) keys.now) (λ key. spec.is_once (view document.now) key ≡ false) }
+    ensures { MatchOption result (AllByRecursion (λ key. spec.is_once (view document.now) key ≡ true) keys.now)
+        (λ key. spec.is_once (view document.now) key ≡ false) }
 {
     for key in keys {
         if !is_once(document, *key) {

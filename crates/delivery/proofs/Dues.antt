@@ -18,18 +18,24 @@ next_number attempts (Attempt number) = attempts + 1
 next_number attempts (Failed error) = attempts + 1
 next_number attempts (Fate final error) = attempts + 1
 
-number_follows : (message : Submission) (attempts : ℕ) (old : Author) (before : ℕ) (kind : Kind) (author : Author) (now number : ℕ) → IsIdleKind kind → MayFollow message attempts old before kind author now (Attempt number) → number ≡ next_number attempts kind
+number_follows : (message : Submission) (attempts : ℕ) (old : Author) (before : ℕ) (kind : Kind) (author : Author) (now number : ℕ) →
+    IsIdleKind kind → MayFollow message attempts old before kind author now (Attempt number) →
+    number ≡ next_number attempts kind
 number_follows message attempts old before (Taken taken) author now number idle may = may.first
 number_follows message attempts old before (Attempt tried) author now number idle may = absurd idle
 number_follows message attempts old before (Failed error) author now number idle may = may.next
 number_follows message attempts old before (Fate final error) author now number idle may = absurd idle
 
-number_extends : (message : Option Submission) (newest : Decree) (older : List Decree) (author : Author) (now number : ℕ) → IsIdleKind newest.kind → MayExtend message (newest ∷ older) (record { author = author; moment = now; kind = Attempt number }) → number ≡ next_number (attempts_in (newest ∷ older)) newest.kind
+number_extends : (message : Option Submission) (newest : Decree) (older : List Decree) (author : Author) (now number : ℕ) →
+    IsIdleKind newest.kind → MayExtend message (newest ∷ older) (record { author = author; moment = now; kind = Attempt number }) →
+    number ≡ next_number (attempts_in (newest ∷ older)) newest.kind
 number_extends None newest older author now number idle may = absurd may
 number_extends (Some message) newest older author now number idle may =
     number_follows message (attempts_in (newest ∷ older)) newest.author newest.moment newest.kind author now number idle may.1
 
-pub number_of_due : (decrees : List Decree) (newest : Decree) (now number : ℕ) → slice_get decrees 0 ≡ Some newest → MayBeDue decrees now (dues.Attempt number) → number ≡ next_number (attempts_in decrees) newest.kind
+pub number_of_due : (decrees : List Decree) (newest : Decree) (now number : ℕ) → slice_get decrees 0 ≡ Some newest →
+    MayBeDue decrees now (dues.Attempt number) →
+    number ≡ next_number (attempts_in decrees) newest.kind
 number_of_due [] newest now number is due = cc
 number_of_due (first ∷ rest) newest now number is due =
     let same : first ≡ newest = cc in
@@ -39,7 +45,8 @@ number_of_due (first ∷ rest) newest now number is due =
     ∙ ap (λ (d : Decree). next_number (attempts_in (first ∷ rest)) d.kind) same
 
 -- unless the message was just taken, it is one more than the attempts so far
-pub number_after : (attempts : ℕ) (kind : Decided) → ((message : Submission) → kind ≡ decided.Taken message → ⊥) → next_number attempts (kind_of kind) ≡ attempts + 1
+pub number_after : (attempts : ℕ) (kind : Decided) → ((message : Submission) → kind ≡ decided.Taken message → ⊥) →
+    next_number attempts (kind_of kind) ≡ attempts + 1
 number_after attempts (decided.Taken message) other = absurd (other message refl)
 number_after attempts (decided.Attempt number) other = refl
 number_after attempts (decided.Failed error) other = refl
@@ -63,7 +70,9 @@ same_number [] now one other first second = let none : [] ≡ first.newest ∷ f
 same_number (newest ∷ older) now one other first second =
     number_of_due (newest ∷ older) newest now one refl first ∙ sym (number_of_due (newest ∷ older) newest now other refl second)
 
-first_is_one : (decrees : List Decree) (now : ℕ) (up : Bool) (one other : DueDecree) → IsFirstDue decrees now up one → IsFirstDue decrees now up other → one ≡ other
+first_is_one : (decrees : List Decree) (now : ℕ) (up : Bool) (one other : DueDecree) → IsFirstDue decrees now up one →
+    IsFirstDue decrees now up other →
+    one ≡ other
 first_is_one decrees now up dues.Expired dues.Expired a b = refl
 first_is_one decrees now up dues.Expired dues.Undeliverable a b = absurd (b.first dues.Expired (omega arith) a.fits)
 first_is_one decrees now up dues.Expired (dues.Attempt m) a b = absurd (b.first dues.Expired (omega arith) a.fits)
@@ -74,7 +83,9 @@ first_is_one decrees now up (dues.Attempt n) dues.Expired a b = absurd (a.first 
 first_is_one decrees now up (dues.Attempt n) dues.Undeliverable a b = absurd (a.first dues.Undeliverable (omega arith) b.fits)
 first_is_one decrees now up (dues.Attempt n) (dues.Attempt m) a b = ap (λ (k : ℕ). dues.Attempt k) (same_number decrees now n m a.fits.0 b.fits.0)
 
-pub due_is_one : (decrees : List Decree) (now : ℕ) (up : Bool) (one other : Option DueDecree) → IsDue decrees now up one → IsDue decrees now up other → one ≡ other
+pub due_is_one : (decrees : List Decree) (now : ℕ) (up : Bool) (one other : Option DueDecree) → IsDue decrees now up one →
+    IsDue decrees now up other →
+    one ≡ other
 due_is_one decrees now up None None a b = refl
 due_is_one decrees now up None (Some other) a b = absurd (a other b.fits)
 due_is_one decrees now up (Some one) None a b = absurd (b one a.fits)

@@ -1,5 +1,6 @@
 -- Chains: what is read is spelled so and within its limits, and what is spelled so is read.
-use Rattle.std.proofs.Common.{◌≡◌, ℕ, zero, suc, ◌+◌, ◌≤◌, Bool, true, false, cond, eqb, List, [], ◌∷◌, ◌++◌, length, Option, Some, None, Result, Ok, refl, sym, ap, subst, ◌∙◌, arith, append_assoc}
+use Rattle.std.proofs.Common.{◌≡◌, ℕ, zero, suc, ◌+◌, ◌≤◌, Bool, true, false, cond, eqb, List, [], ◌∷◌, ◌++◌, length, Option, Some, None}
+use Rattle.std.proofs.Common.{Result, Ok, refl, sym, ap, subst, ◌∙◌, arith, append_assoc}
 use Rattle.std.proofs.lemmas.Bool.{eqb-true, eqb-false}
 use Rattle.std.proofs.lemmas.List.{append-nil}
 use Rattle.mc_model.specs.message.Submission.{Submission}
@@ -16,7 +17,10 @@ use Rattle.octet_fields.proofs.Records.{front_takes, front_again}
 use Rattle.pdu_fields.proofs.Optional.{tlvs-given, tlvs_in-octets}
 use Rattle.pdu_codec.proofs.PduSpelling.{find-passes}
 use Rattle.fate_chain.specs.States.{final_code, finals, final_in}
-use Rattle.fate_chain.specs.Bytes.{octet, error, party_fields, parties_in, handling_fields, handling_in, text_fields, texts_in, kind_code, head_fields, head_in, submission_octets, kind_octets, decree_octets, decrees_octets, chain_fields, chain_octets, MessageFits, KindFits, DecreeFits, DecreesFit, Fits, message_of, message_at, found, kind_at, decree_of, decree_at, decrees_at, chain_from, chain_at, read_chain}
+use Rattle.fate_chain.specs.Bytes.{octet, error, party_fields, parties_in, handling_fields, handling_in, text_fields, texts_in, kind_code}
+use Rattle.fate_chain.specs.Bytes.{head_fields, head_in, submission_octets, kind_octets, decree_octets, decrees_octets, chain_fields}
+use Rattle.fate_chain.specs.Bytes.{chain_octets, MessageFits, KindFits, DecreeFits, DecreesFit, Fits, message_of, message_at, found}
+use Rattle.fate_chain.specs.Bytes.{kind_at, decree_of, decree_at, decrees_at, chain_from, chain_at, read_chain}
 
 abbrev done : {A : Type 0} → A → Result A Defect
 done x = Ok x
@@ -34,7 +38,8 @@ apart a b c rest = append_assoc (a ++ b) c rest ∙ append_assoc a b (c ++ rest)
 message_takes : (octets : List ℕ) (x : Submission × List ℕ) → IsOctets octets → message_at octets ≡ Ok x → TakesMessage octets x
 unfolding message_at
 message_takes octets x are e =
-    let a = bind_ok (front_at party_fields octets) (λ p. front_at handling_fields p.1 >>= λ h. front_at text_fields h.1 >>= λ t. Ok (message_of p.0 h.0 t.0, t.1)) x e in
+    let a = bind_ok (front_at party_fields octets)
+    (λ p. front_at handling_fields p.1 >>= λ h. front_at text_fields h.1 >>= λ t. Ok (message_of p.0 h.0 t.0, t.1)) x e in
     let b = bind_ok (front_at handling_fields a.0.1) (λ h. front_at text_fields h.1 >>= λ t. Ok (message_of a.0.0 h.0 t.0, t.1)) x a.2 in
     let c = bind_ok (front_at text_fields b.0.1) (λ t. Ok (message_of a.0.0 b.0.0 t.0, t.1)) x b.2 in
     let parties = front_takes party_fields octets a.0 are a.1 in
@@ -44,11 +49,19 @@ message_takes octets x are e =
     let passed = tlvs-given c.0.0.1.0 texts.octets.1.0 texts.within.1.0.1 in
     let texts_are : texts_in made.0 ≡ c.0.0 = ap (λ (o : List ℕ). (c.0.0.0, (o, tt))) (sym passed.spelled) in
     let whole : octets ≡ spellings party_fields a.0.0 ++ (spellings handling_fields b.0.0 ++ (spellings text_fields c.0.0 ++ c.0.1)) =
-    parties.parts ∙ ap (λ (r : List ℕ). spellings party_fields a.0.0 ++ r) (handling.parts ∙ ap (λ (r : List ℕ). spellings handling_fields b.0.0 ++ r) texts.parts) in
+    parties.parts ∙ ap (λ (r : List ℕ). spellings party_fields a.0.0 ++ r)
+    (handling.parts ∙ ap (λ (r : List ℕ). spellings handling_fields b.0.0 ++ r) texts.parts) in
     subst (λ (y : Submission × List ℕ). TakesMessage octets y) (ok_is made x c.2) (record {
-      parts = whole ∙ sym (apart (spellings party_fields a.0.0) (spellings handling_fields b.0.0) (spellings text_fields c.0.0) c.0.1) ∙ ap (λ (t : Contents text_fields). (spellings party_fields a.0.0 ++ spellings handling_fields b.0.0 ++ spellings text_fields t) ++ c.0.1) (sym texts_are);
+      parts = whole ∙ sym (apart (spellings party_fields a.0.0) (spellings handling_fields b.0.0) (spellings text_fields c.0.0) c.0.1) ∙ ap
+          (λ (t : Contents text_fields). (spellings party_fields a.0.0 ++ spellings handling_fields b.0.0 ++ spellings text_fields t) ++ c.0.1) (sym texts_are);
       rest = texts.rest;
-      fits = record { parties = parties.within; handling = handling.within; texts = subst (λ (t : Contents text_fields). AreWithin text_fields t) (sym texts_are) texts.within; passed = passed.limits };
+      fits = record {
+        parties = parties.within;
+        handling = handling.within;
+        texts = subst
+            (λ (t : Contents text_fields). AreWithin text_fields t) (sym texts_are) texts.within;
+        passed = passed.limits;
+      };
     })
 
 message_again : (m : Submission) (rest : List ℕ) → MessageFits m → message_at (submission_octets m ++ rest) ≡ Ok (m, rest)
@@ -57,9 +70,12 @@ message_again m rest fits =
     let handling : List ℕ = spellings handling_fields (handling_in m) in
     let texts : List ℕ = spellings text_fields (texts_in m) in
     ap message_at (apart (spellings party_fields (parties_in m)) handling texts rest)
-    ∙ ap (λ (o : Result (Contents party_fields × List ℕ) Defect). o >>= λ p. front_at handling_fields p.1 >>= λ h. front_at text_fields h.1 >>= λ t. Ok (message_of p.0 h.0 t.0, t.1)) (front_again party_fields (parties_in m) (handling ++ (texts ++ rest)) refl fits.parties)
-    ∙ ap (λ (o : Result (Contents handling_fields × List ℕ) Defect). o >>= λ h. front_at text_fields h.1 >>= λ t. Ok (message_of (parties_in m) h.0 t.0, t.1)) (front_again handling_fields (handling_in m) (texts ++ rest) refl fits.handling)
-    ∙ ap (λ (o : Result (Contents text_fields × List ℕ) Defect). o >>= λ t. Ok (message_of (parties_in m) (handling_in m) t.0, t.1)) (front_again text_fields (texts_in m) rest refl fits.texts)
+    ∙ ap (λ (o : Result (Contents party_fields × List ℕ) Defect). o >>= λ p. front_at handling_fields p.1 >>= λ h. front_at text_fields
+    h.1 >>= λ t. Ok (message_of p.0 h.0 t.0, t.1)) (front_again party_fields (parties_in m) (handling ++ (texts ++ rest)) refl fits.parties)
+    ∙ ap (λ (o : Result (Contents handling_fields × List ℕ) Defect). o >>= λ h. front_at text_fields h.1 >>= λ t. Ok
+    (message_of (parties_in m) h.0 t.0, t.1)) (front_again handling_fields (handling_in m) (texts ++ rest) refl fits.handling)
+    ∙ ap (λ (o : Result (Contents text_fields × List ℕ) Defect). o >>= λ t. Ok (message_of (parties_in m) (handling_in m) t.0, t.1))
+    (front_again text_fields (texts_in m) rest refl fits.texts)
     ∙ ap (λ (tlvs : List (ℕ × List ℕ)). done (record m { passed = tlvs }, rest)) (tlvs_in-octets m.passed fits.passed)
 
 -- ---- kinds
@@ -92,21 +108,24 @@ module _ (code : ℕ) (octets : List ℕ) (x : Kind × List ℕ) (are : IsOctets
       let b = bind_ok (message_at octets) (λ y. done (Taken y.0, y.1)) x e in
       let front = message_takes octets b.0 are b.1 in
       let made : Kind × List ℕ = (Taken b.0.0, b.0.1) in
-      subst (λ (y : Kind × List ℕ). TakesKind code octets y) (ok_is made x b.2) (record { code_is = sym is; parts = front.parts; rest = front.rest; fits = front.fits })
+      subst (λ (y : Kind × List ℕ). TakesKind code octets y) (ok_is made x b.2)
+      (record { code_is = sym is; parts = front.parts; rest = front.rest; fits = front.fits })
 
   attempt : code ≡ 2 → (front_at (octet ∷ []) octets >>= λ y. done (Attempt y.0.0, y.1)) ≡ Ok x → TakesKind code octets x
   attempt is e =
       let b = bind_ok (front_at (octet ∷ []) octets) (λ y. done (Attempt y.0.0, y.1)) x e in
       let front = front_takes (octet ∷ []) octets b.0 are b.1 in
       let made : Kind × List ℕ = (Attempt b.0.0.0, b.0.1) in
-      subst (λ (y : Kind × List ℕ). TakesKind code octets y) (ok_is made x b.2) (record { code_is = sym is; parts = front.parts; rest = front.rest; fits = front.within })
+      subst (λ (y : Kind × List ℕ). TakesKind code octets y) (ok_is made x b.2)
+      (record { code_is = sym is; parts = front.parts; rest = front.rest; fits = front.within })
 
   failed : code ≡ 3 → (front_at (error ∷ []) octets >>= λ y. done (Failed y.0.0, y.1)) ≡ Ok x → TakesKind code octets x
   failed is e =
       let b = bind_ok (front_at (error ∷ []) octets) (λ y. done (Failed y.0.0, y.1)) x e in
       let front = front_takes (error ∷ []) octets b.0 are b.1 in
       let made : Kind × List ℕ = (Failed b.0.0.0, b.0.1) in
-      subst (λ (y : Kind × List ℕ). TakesKind code octets y) (ok_is made x b.2) (record { code_is = sym is; parts = front.parts; rest = front.rest; fits = front.within })
+      subst (λ (y : Kind × List ℕ). TakesKind code octets y) (ok_is made x b.2)
+      (record { code_is = sym is; parts = front.parts; rest = front.rest; fits = front.within })
 
   fate : code ≡ 4 → (front_at (octet ∷ error ∷ []) octets >>= λ y. found (final_in y.0.0) >>= λ f. done (Fate f y.0.1.0, y.1)) ≡ Ok x → TakesKind code octets x
   fate is e =
@@ -122,7 +141,9 @@ module _ (code : ℕ) (octets : List ℕ) (x : Kind × List ℕ) (are : IsOctets
         fits = subst (λ (h : Contents (octet ∷ error ∷ [])). AreWithin (octet ∷ error ∷ []) h) code_is front.within;
       })
 
-  choose : {r s : Result (Kind × List ℕ) Defect} (n : ℕ) → (code ≡ n → r ≡ Ok x → TakesKind code octets x) → ((code ≡ n → ⊥) → s ≡ Ok x → TakesKind code octets x) → cond (eqb code n) r s ≡ Ok x → TakesKind code octets x
+  choose : {r s : Result (Kind × List ℕ) Defect} (n : ℕ) → (code ≡ n → r ≡ Ok x → TakesKind code octets x) →
+      ((code ≡ n → ⊥) → s ≡ Ok x → TakesKind code octets x) → cond (eqb code n) r s ≡ Ok x →
+      TakesKind code octets x
   choose {r} {s} n then' else' e = by (eqb code n) refl e
     where
       by : (b : Bool) → eqb code n ≡ b → cond b r s ≡ Ok x → TakesKind code octets x
@@ -137,10 +158,13 @@ module _ (code : ℕ) (octets : List ℕ) (x : Kind × List ℕ) (are : IsOctets
 kind_again : (kind : Kind) (rest : List ℕ) → KindFits kind → kind_at (kind_code kind) (kind_octets kind ++ rest) ≡ Ok (kind, rest)
 unfolding kind_at
 kind_again (Taken message) rest fits = ap (λ (o : Result (Submission × List ℕ) Defect). o >>= λ y. done (Taken y.0, y.1)) (message_again message rest fits)
-kind_again (Attempt number) rest fits = ap (λ (o : Result (Contents (octet ∷ []) × List ℕ) Defect). o >>= λ y. done (Attempt y.0.0, y.1)) (front_again (octet ∷ []) (number, tt) rest refl fits)
-kind_again (Failed cause) rest fits = ap (λ (o : Result (Contents (error ∷ []) × List ℕ) Defect). o >>= λ y. done (Failed y.0.0, y.1)) (front_again (error ∷ []) (cause, tt) rest refl fits)
+kind_again (Attempt number) rest fits =
+    ap (λ (o : Result (Contents (octet ∷ []) × List ℕ) Defect). o >>= λ y. done (Attempt y.0.0, y.1)) (front_again (octet ∷ []) (number, tt) rest refl fits)
+kind_again (Failed cause) rest fits =
+    ap (λ (o : Result (Contents (error ∷ []) × List ℕ) Defect). o >>= λ y. done (Failed y.0.0, y.1)) (front_again (error ∷ []) (cause, tt) rest refl fits)
 kind_again (Fate final cause) rest fits =
-    ap (λ (o : Result (Contents (octet ∷ error ∷ []) × List ℕ) Defect). o >>= λ y. found (final_in y.0.0) >>= λ f. done (Fate f y.0.1.0, y.1)) (front_again (octet ∷ error ∷ []) (final_code final, (cause, tt)) rest refl fits)
+    ap (λ (o : Result (Contents (octet ∷ error ∷ []) × List ℕ) Defect). o >>= λ y. found (final_in y.0.0) >>= λ f. done
+    (Fate f y.0.1.0, y.1)) (front_again (octet ∷ error ∷ []) (final_code final, (cause, tt)) rest refl fits)
     ∙ ap (λ (o : Option Final). found o >>= λ f. done (Fate f cause, rest)) (final-told final)
 
 -- ---- decrees
@@ -161,7 +185,9 @@ decree_takes octets x are e =
     let made : Decree × List ℕ = (decree_of a.0.0 b.0.0, b.0.1) in
     let head_is : head_in made.0 ≡ a.0.0 = ap (λ (code : ℕ). (code, a.0.0.1)) kind.code_is in
     subst (λ (y : Decree × List ℕ). TakesDecree octets y) (ok_is made x b.2) (record {
-      parts = head.parts ∙ ap (λ (r : List ℕ). spellings head_fields a.0.0 ++ r) kind.parts ∙ sym (append_assoc (spellings head_fields a.0.0) (kind_octets b.0.0) b.0.1) ∙ ap (λ (h : Contents head_fields). (spellings head_fields h ++ kind_octets b.0.0) ++ b.0.1) (sym head_is);
+      parts = head.parts ∙ ap (λ (r : List ℕ). spellings head_fields a.0.0 ++ r) kind.parts ∙ sym
+          (append_assoc (spellings head_fields a.0.0) (kind_octets b.0.0) b.0.1) ∙ ap
+          (λ (h : Contents head_fields). (spellings head_fields h ++ kind_octets b.0.0) ++ b.0.1) (sym head_is);
       rest = kind.rest;
       fits = record { head = subst (λ (h : Contents head_fields). AreWithin head_fields h) (sym head_is) head.within; kind = kind.fits };
     })
@@ -170,7 +196,8 @@ decree_again : (d : Decree) (rest : List ℕ) → DecreeFits d → decree_at (de
 unfolding decree_at decree_octets
 decree_again d rest fits =
     ap decree_at (append_assoc (spellings head_fields (head_in d)) (kind_octets d.kind) rest)
-    ∙ ap (λ (o : Result (Contents head_fields × List ℕ) Defect). o >>= λ h. kind_at h.0.0 h.1 >>= λ k. Ok (decree_of h.0 k.0, k.1)) (front_again head_fields (head_in d) (kind_octets d.kind ++ rest) refl fits.head)
+    ∙ ap (λ (o : Result (Contents head_fields × List ℕ) Defect). o >>= λ h. kind_at h.0.0 h.1 >>= λ k. Ok (decree_of h.0 k.0, k.1))
+    (front_again head_fields (head_in d) (kind_octets d.kind ++ rest) refl fits.head)
     ∙ ap (λ (o : Result (Kind × List ℕ) Defect). o >>= λ k. Ok (decree_of (head_in d) k.0, k.1)) (kind_again d.kind rest fits.kind)
 
 -- ---- decrees one after another
@@ -180,7 +207,9 @@ record TakesDecrees (count : ℕ) (older : List Decree) (octets : List ℕ) (x :
   fit : DecreesFit x.0
   counted : length x.0 ≡ length older + count
 
-decrees_take : (count : ℕ) (older : List Decree) (octets : List ℕ) (x : List Decree × List ℕ) → IsOctets octets → DecreesFit older → decrees_at count older octets ≡ Ok x → TakesDecrees count older octets x
+decrees_take : (count : ℕ) (older : List Decree) (octets : List ℕ) (x : List Decree × List ℕ) → IsOctets octets → DecreesFit older →
+    decrees_at count older octets ≡ Ok x →
+    TakesDecrees count older octets x
 unfolding decrees_at
 decrees_take zero older octets x are fit e =
     let made : List Decree × List ℕ = (older, octets) in
@@ -195,7 +224,8 @@ decrees_take (suc count) older octets x are fit e =
       counted = omega (arith, others.counted);
     }
 
-decrees_again : (decrees : List Decree) (count : ℕ) (rest : List ℕ) → DecreesFit decrees → decrees_at (length decrees + count) [] (decrees_octets decrees ++ rest) ≡ decrees_at count decrees rest
+decrees_again : (decrees : List Decree) (count : ℕ) (rest : List ℕ) → DecreesFit decrees →
+    decrees_at (length decrees + count) [] (decrees_octets decrees ++ rest) ≡ decrees_at count decrees rest
 unfolding decrees_at
 decrees_again [] count rest fit = ap (λ (n : ℕ). decrees_at n [] rest) (omega arith)
 decrees_again (newest ∷ older) count rest fit =
@@ -232,10 +262,13 @@ chain_takes octets c are e =
     let made : Chain = record { id = id; decrees = b.0.0 } in
     let format_is : a.0.0.0 ≡ 1 = omega (arith, is_between-tells 1 1 a.0.0.0 head.within.0.1) in
     let count_is : count ≡ length b.0.0 = omega (arith, decrees.counted) in
-    let head_is : ◌≡◌ {A = Contents chain_fields} a.0.0 (1, (id, (length b.0.0, tt))) = ap (λ (n : ℕ). (n, (id, (count, tt)))) format_is ∙ ap (λ (n : ℕ). (1, (id, (n, tt)))) count_is in
-    let rest_is : a.0.1 ≡ decrees_octets b.0.0 = decrees.parts ∙ ap (λ (r : List ℕ). decrees_octets b.0.0 ++ r) whole.nothing ∙ append-nil (decrees_octets b.0.0) in
+    let head_is : ◌≡◌ {A = Contents chain_fields} a.0.0 (1, (id, (length b.0.0, tt))) = ap (λ (n : ℕ). (n, (id, (count, tt)))) format_is
+    ∙ ap (λ (n : ℕ). (1, (id, (n, tt)))) count_is in
+    let rest_is : a.0.1 ≡ decrees_octets b.0.0 = decrees.parts ∙ ap (λ (r : List ℕ). decrees_octets b.0.0 ++ r) whole.nothing ∙ append-nil
+    (decrees_octets b.0.0) in
     subst (λ (d : Chain). TakesChain octets d) whole.chain (record {
-      spelled = head.parts ∙ ap (λ (h : Contents chain_fields). spellings chain_fields h ++ a.0.1) head_is ∙ ap (λ (r : List ℕ). spellings chain_fields (1, (id, (length b.0.0, tt))) ++ r) rest_is;
+      spelled = head.parts ∙ ap (λ (h : Contents chain_fields). spellings chain_fields h ++ a.0.1) head_is ∙ ap
+          (λ (r : List ℕ). spellings chain_fields (1, (id, (length b.0.0, tt))) ++ r) rest_is;
       fits = record { id = is_id-tells id head.within.1.0.1; count = omega (arith, count_is, head.within.1.1.0.0); decrees = decrees.fit };
     })
 
@@ -251,6 +284,10 @@ pub chain_again : (c : Chain) → Fits c → read_chain (chain_octets c) ≡ Ok 
 unfolding read_chain
 chain_again c fits =
     let head : Contents chain_fields = (1, (c.id, (length c.decrees, tt))) in
-    let within : AreWithin chain_fields head = ((omega arith, refl), ((omega (arith, fits.id.node.most), is_id-told c.id fits.id), ((omega (arith, fits.count), refl), tt))) in
-    ap (λ (o : Result (Contents chain_fields × List ℕ) Defect). o >>= λ h. chain_at h.0.1.0 h.0.1.1.0 h.1) (front_again chain_fields head (decrees_octets c.decrees) refl within)
+    let within : AreWithin chain_fields head = (
+      (omega arith, refl),
+      ((omega (arith, fits.id.node.most), is_id-told c.id fits.id), ((omega (arith, fits.count), refl), tt)),
+    ) in
+    ap (λ (o : Result (Contents chain_fields × List ℕ) Defect). o >>= λ h. chain_at h.0.1.0 h.0.1.1.0 h.1)
+    (front_again chain_fields head (decrees_octets c.decrees) refl within)
     ∙ ap (λ (o : Result (List Decree × List ℕ) Defect). o >>= λ d. chain_from c.id d) (all_again c.decrees fits.decrees)

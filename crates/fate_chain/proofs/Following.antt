@@ -10,14 +10,23 @@ use Rattle.fate_chain.specs.declared.marks.Mark.{Mark}
 use Rattle.fate_chain.specs.declared.marks.Standing.{Standing}
 
 first-bare : (m : Submission) (moment number : ℕ) → IsFirstAttempt (bare_message m.schedule m.expiry) moment number ↔ IsFirstAttempt m moment number
-first-bare m moment number =
-    (λ is. record { first = is.first; scheduled = is.scheduled; valid = is.valid }, λ is. record { first = is.first; scheduled = is.scheduled; valid = is.valid })
+first-bare m moment number = (
+  λ is. record { first = is.first; scheduled = is.scheduled; valid = is.valid },
+  λ is. record
+      { first = is.first; scheduled = is.scheduled; valid = is.valid },
+)
 
-next-bare : (m : Submission) (attempt failed moment number : ℕ) → IsNextAttempt (bare_message m.schedule m.expiry) attempt failed moment number ↔ IsNextAttempt m attempt failed moment number
-next-bare m attempt failed moment number =
-    (λ is. record { next = is.next; most = is.most; valid = is.valid; delayed = is.delayed }, λ is. record { next = is.next; most = is.most; valid = is.valid; delayed = is.delayed })
+next-bare : (m : Submission) (attempt failed moment number : ℕ) →
+    IsNextAttempt (bare_message m.schedule m.expiry) attempt failed moment number ↔ IsNextAttempt m attempt failed moment number
+next-bare m attempt failed moment number = (
+  λ is. record { next = is.next; most = is.most; valid = is.valid; delayed = is.delayed },
+  λ is. record
+      { next = is.next; most = is.most; valid = is.valid; delayed = is.delayed },
+)
 
-follow-bare : (m : Submission) (attempts : ℕ) (old : Author) (before : ℕ) (kind : Kind) (author : Author) (moment : ℕ) (next : Kind) → MayFollow (bare_message m.schedule m.expiry) attempts old before (bare kind) author moment (bare next) ↔ MayFollow m attempts old before kind author moment next
+follow-bare : (m : Submission) (attempts : ℕ) (old : Author) (before : ℕ) (kind : Kind) (author : Author) (moment : ℕ) (next : Kind) →
+    MayFollow (bare_message m.schedule m.expiry) attempts old before (bare kind) author moment
+    (bare next) ↔ MayFollow m attempts old before kind author moment next
 follow-bare m attempts old before (Taken message) author moment (Taken again) = (λ x. x, λ x. x)
 follow-bare m attempts old before (Taken message) author moment (Attempt number) = first-bare m moment number
 follow-bare m attempts old before (Taken message) author moment (Failed error) = (λ x. x, λ x. x)
@@ -51,14 +60,33 @@ follow-bare m attempts old before (Fate last why) author moment (Fate Deleted er
 follow-bare m attempts old before (Fate last why) author moment (Fate Undeliverable error) = (λ x. x, λ x. x)
 follow-bare m attempts old before (Fate last why) author moment (Fate Rejected error) = (λ x. x, λ x. x)
 
-extend-bare : (m : Submission) (decrees : List Decree) (newest next : Decree) → slice_get decrees 0 ≡ Some newest → ((newest.moment ≤ next.moment) × MayFollow (bare_message m.schedule m.expiry) (attempts_in decrees) newest.author newest.moment (bare newest.kind) next.author next.moment (bare next.kind)) ↔ MayExtend (Some m) decrees next
+extend-bare : (m : Submission) (decrees : List Decree) (newest next : Decree) → slice_get decrees 0 ≡ Some newest →
+    ((newest.moment ≤ next.moment) × MayFollow (bare_message m.schedule m.expiry) (attempts_in decrees) newest.author newest.moment
+    (bare newest.kind) next.author next.moment (bare next.kind)) ↔ MayExtend (Some m) decrees next
 extend-bare m [] newest next first = absurd cc
 extend-bare m (top ∷ older) newest next first =
     let same : newest ≡ top = cc in
     let follows = follow-bare m (attempts_in (top ∷ older)) top.author top.moment top.kind next.author next.moment next.kind in
-    subst (λ (d : Decree). ((d.moment ≤ next.moment) × MayFollow (bare_message m.schedule m.expiry) (attempts_in (top ∷ older)) d.author d.moment (bare d.kind) next.author next.moment (bare next.kind)) ↔ MayExtend (Some m) (top ∷ older) next) (sym same) (λ x. (x.0, follows.0 x.1), λ x. (x.0, follows.1 x.1))
+    subst (λ (d : Decree). ((d.moment ≤ next.moment) × MayFollow (bare_message m.schedule m.expiry)
+    (attempts_in (top ∷ older)) d.author d.moment (bare d.kind) next.author next.moment (bare next.kind)) ↔ MayExtend (Some m)
+    (top ∷ older) next) (sym same) (λ x. (x.0, follows.0 x.1), λ x. (x.0, follows.1 x.1))
 
 -- a standing tells which decree may follow, by its mark
-pub extend-standing : (standing : Standing) (mark : Mark) (decrees : List Decree) (next : Decree) → IsStandingOf decrees standing → IsMarkOf next mark → ((standing.newest.moment ≤ mark.moment) × MayFollow (bare_message standing.term.schedule standing.term.expiry) standing.attempts (author_of standing.newest.author) standing.newest.moment (bare_kind standing.newest.act) (author_of mark.author) mark.moment (bare_kind mark.act)) ↔ MayExtend (taken_in decrees) decrees next
+pub extend-standing : (standing : Standing) (mark : Mark) (decrees : List Decree) (next : Decree) → IsStandingOf decrees standing →
+    IsMarkOf next mark →
+    ((standing.newest.moment ≤ mark.moment) × MayFollow (bare_message standing.term.schedule standing.term.expiry) standing.attempts
+    (author_of standing.newest.author) standing.newest.moment (bare_kind standing.newest.act) (author_of mark.author) mark.moment
+    (bare_kind mark.act)) ↔ MayExtend (taken_in decrees) decrees next
 extend-standing standing mark decrees next stands marked =
-    rw (stands.taken, stands.schedule, stands.expiry, stands.attempts, stands.mark.author, stands.mark.moment, stands.mark.kind, marked.author, marked.moment, marked.kind) (extend-bare stands.message decrees stands.newest next stands.first)
+    rw (
+      stands.taken,
+      stands.schedule,
+      stands.expiry,
+      stands.attempts,
+      stands.mark.author,
+      stands.mark.moment,
+      stands.mark.kind,
+      marked.author,
+      marked.moment,
+      marked.kind,
+    ) (extend-bare stands.message decrees stands.newest next stands.first)

@@ -40,7 +40,8 @@ found-only octets (Err NotPermitted) found c is = tt
 found-only octets (Err NotBytes) found c is = tt
 found-only octets (Err Memory) found c is = tt
 
-pub found-not_bytes : (octets : List ℕ) (r : Result Chain ChainFault) → IsOctets octets → Found octets r → IsErrOf r NotBytes ↔ ((c : Chain) → IsSpelled octets c → ⊥)
+pub found-not_bytes : (octets : List ℕ) (r : Result Chain ChainFault) → IsOctets octets → Found octets r →
+    IsErrOf r NotBytes ↔ ((c : Chain) → IsSpelled octets c → ⊥)
 found-not_bytes octets (Ok x) are found = (λ is. absurd cc, λ none. absurd (none found.0 (spells octets found.0 are found.1)))
 found-not_bytes octets (Err NotPermitted) are found = (λ is. absurd cc, λ none. absurd (none found.0 (spells octets found.0 are found.1)))
 found-not_bytes octets (Err NotBytes) are found = (λ is c so. never octets c found.0 found.1 (spelled octets c so), λ none. refl)
@@ -59,7 +60,8 @@ found-not_permitted octets (Err NotPermitted) are found = (λ is. (found.0, spel
 found-not_permitted octets (Err NotBytes) are found = (λ is. absurd cc, λ other. absurd (never octets other.0 found.0 found.1 (spelled octets other.0 other.1)))
 found-not_permitted octets (Err Memory) are found = (λ is. absurd cc, λ other. absurd (strayed-not octets found.0 found.1 found.2 other))
 
-pub found-memory : (octets : List ℕ) (r : Result Chain ChainFault) → IsOctets octets → Found octets r → IsErrOf r Memory → (c : Chain) × IsSpelled octets c × IsPermitted c.id c.decrees
+pub found-memory : (octets : List ℕ) (r : Result Chain ChainFault) → IsOctets octets → Found octets r → IsErrOf r Memory →
+    (c : Chain) × IsSpelled octets c × IsPermitted c.id c.decrees
 found-memory octets (Ok x) are found is = absurd cc
 found-memory octets (Err NotPermitted) are found is = absurd cc
 found-memory octets (Err NotBytes) are found is = absurd cc

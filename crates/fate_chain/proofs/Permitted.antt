@@ -10,7 +10,9 @@ use Rattle.fate_chain.specs.declared.decree.Kind.{Kind as Decided}
 use Rattle.fate_chain.specs.declared.decree.Kind.TheVariants as decided
 
 -- what follows takes no message again
-taken-followed : (message : Submission) (attempt : ℕ) (old : Author) (before : ℕ) (kind : Kind) (author : Author) (moment : ℕ) (next : Kind) → MayFollow message attempt old before kind author moment next → (taken : Option Submission) → taken_by next taken ≡ taken
+taken-followed : (message : Submission) (attempt : ℕ) (old : Author) (before : ℕ) (kind : Kind) (author : Author) (moment : ℕ) (next : Kind) →
+    MayFollow message attempt old before kind author moment next → (taken : Option Submission) →
+    taken_by next taken ≡ taken
 taken-followed message attempt old before (Taken older) author moment (Taken again) may taken = absurd may
 taken-followed message attempt old before (Attempt number) author moment (Taken again) may taken = absurd may
 taken-followed message attempt old before (Failed error) author moment (Taken again) may taken = absurd may
@@ -19,7 +21,9 @@ taken-followed message attempt old before kind author moment (Attempt number) ma
 taken-followed message attempt old before kind author moment (Failed error) may taken = refl
 taken-followed message attempt old before kind author moment (Fate final error) may taken = refl
 
-pub taken-extended : (message : Option Submission) (older : Decree) (oldest : List Decree) (newest : Decree) → MayExtend message (older ∷ oldest) newest → (taken : Option Submission) → taken_by newest.kind taken ≡ taken
+pub taken-extended : (message : Option Submission) (older : Decree) (oldest : List Decree) (newest : Decree) →
+    MayExtend message (older ∷ oldest) newest → (taken : Option Submission) →
+    taken_by newest.kind taken ≡ taken
 taken-extended None older oldest newest may taken = absurd may
 taken-extended (Some message) older oldest newest may taken = taken-followed message _ _ _ _ _ _ newest.kind may.1 taken
 
@@ -41,18 +45,24 @@ reverse-first [] first is = cc
 reverse-first (oldest ∷ later) first is =
     let same : oldest ≡ first = cc in reverse-append (oldest ∷ []) later ∙ ap (λ (x : Decree). reverse later ++ x ∷ []) same
 
-pub submission_of : (id : ℕ) (decrees : List Decree) (first : Decree) (message : Submission) → IsPermitted id (reverse decrees) → slice_get decrees 0 ≡ Some first → first.kind ≡ Taken message → taken_in (reverse decrees) ≡ Some message
+pub submission_of : (id : ℕ) (decrees : List Decree) (first : Decree) (message : Submission) → IsPermitted id (reverse decrees) →
+    slice_get decrees 0 ≡ Some first → first.kind ≡ Taken message →
+    taken_in (reverse decrees) ≡ Some message
 submission_of id decrees first message permitted is taken =
     let order = reverse-first decrees first is in
     rw order (taken-first id (reverse (drop 1 decrees)) first (rw order at permitted) ∙ ap (λ (kind : Kind). taken_by kind None) taken)
 
-begins_taken : (id : ℕ) (author : Author) (moment : ℕ) (kind : Decided) → MayBegin id author moment (kind_of kind) → ((message : Submission) → kind ≡ decided.Taken message → ⊥) → ⊥
+begins_taken : (id : ℕ) (author : Author) (moment : ℕ) (kind : Decided) → MayBegin id author moment (kind_of kind) →
+    ((message : Submission) → kind ≡ decided.Taken message → ⊥) →
+    ⊥
 begins_taken id author moment (decided.Taken message) may other = other message refl
 begins_taken id author moment (decided.Attempt number) may other = may
 begins_taken id author moment (decided.Failed error) may other = may
 begins_taken id author moment (decided.Fate final error) may other = may
 
-pub first_taken : (id : ℕ) (decrees : List Decree) (first : Decree) (kind : Decided) → IsPermitted id (reverse decrees) → slice_get decrees 0 ≡ Some first → kind_of kind ≡ first.kind → ((message : Submission) → kind ≡ decided.Taken message → ⊥) → ⊥
+pub first_taken : (id : ℕ) (decrees : List Decree) (first : Decree) (kind : Decided) → IsPermitted id (reverse decrees) →
+    slice_get decrees 0 ≡ Some first → kind_of kind ≡ first.kind → ((message : Submission) → kind ≡ decided.Taken message → ⊥) →
+    ⊥
 first_taken id decrees first kind permitted is same other =
     let order = reverse-first decrees first is in
     begins_taken id first.author first.moment kind (rw same (begins-first id (reverse (drop 1 decrees)) first (rw order at permitted))) other

@@ -25,12 +25,16 @@ pub attempts-few : (decrees : List Decree) → attempts_in decrees ≤ length de
 attempts-few [] = omega arith
 attempts-few (newest ∷ older) = omega (arith, attempts-few older, attempts_of-few newest.kind)
 
-taken-more : (decrees : List Decree) (decree : Decree) (message : Option Submission) → MayExtend message decrees decree → taken_in (decree ∷ decrees) ≡ taken_in decrees
+taken-more : (decrees : List Decree) (decree : Decree) (message : Option Submission) → MayExtend message decrees decree →
+    taken_in (decree ∷ decrees) ≡ taken_in decrees
 taken-more [] decree None may = absurd may
 taken-more [] decree (Some m) may = absurd may
 taken-more (older ∷ oldest) decree message may = taken-extended message older oldest decree may (taken_in (older ∷ oldest))
 
-pub standing-after : (standing : Standing) (mark : Mark) (decrees : List Decree) (decree : Decree) (attempts : ℕ) → IsStandingOf decrees standing → IsMarkOf decree mark → MayExtend (taken_in decrees) decrees decree → attempts ≡ standing.attempts + attempts_of (bare_kind mark.act) → IsStandingOf (decree ∷ decrees) (record { term = standing.term; attempts = attempts; newest = mark })
+pub standing-after : (standing : Standing) (mark : Mark) (decrees : List Decree) (decree : Decree) (attempts : ℕ) →
+    IsStandingOf decrees standing → IsMarkOf decree mark → MayExtend (taken_in decrees) decrees decree →
+    attempts ≡ standing.attempts + attempts_of (bare_kind mark.act) →
+    IsStandingOf (decree ∷ decrees) (record { term = standing.term; attempts = attempts; newest = mark })
 standing-after standing mark decrees decree attempts stands is may more =
     let one_more : attempts_of (bare_kind mark.act) ≡ attempts_of decree.kind = ap attempts_of is.kind ∙ attempts-bare decree.kind in
     record {
@@ -44,11 +48,13 @@ standing-after standing mark decrees decree attempts stands is may more =
       mark = is;
     }
 
-pub permitted-more : (id : ℕ) (decrees : List Decree) (decree : Decree) → IsPermitted id decrees → MayExtend (taken_in decrees) decrees decree → IsPermitted id (decree ∷ decrees)
+pub permitted-more : (id : ℕ) (decrees : List Decree) (decree : Decree) → IsPermitted id decrees →
+    MayExtend (taken_in decrees) decrees decree →
+    IsPermitted id (decree ∷ decrees)
 permitted-more id [] decree permitted may = absurd permitted
 permitted-more id (newest ∷ older) decree permitted may = (permitted, may)
 
--- so the place in which it stands is one of 18
+-- a permitted chain has at least one decree and at most 18, so the place of each is one of 18
 pub record HasPlace (decrees : List Decree) : Type 0 where
   pub least : 1 ≤ length decrees
   pub most : length decrees ≤ 18

@@ -8,7 +8,8 @@ use Rattle.mc_model.specs.message.Chain.{Chain, IsPermitted}
 use Rattle.mc_types.specs.Texts.{is_id}
 use Rattle.octet_fields.specs.declared.defect.Defect.{Defect}
 use Rattle.octet_fields.specs.declared.defect.Defect.TheVariants.{Unfit, Extra}
-use Rattle.octet_fields.specs.Kinds.{Kind as FieldKind, Size, One, Two, Four, Eight, Number, Counted, any, is_between, is_text, Part, Contents, spellings, AreWithin}
+use Rattle.octet_fields.specs.Kinds.{Kind as FieldKind, Size, One, Two, Four, Eight, Number, Counted, any, is_between, is_text, Part}
+use Rattle.octet_fields.specs.Kinds.{Contents, spellings, AreWithin}
 use Rattle.octet_fields.specs.Reading.{◌>>=◌, front_at, nothing_at}
 use Rattle.pdu_codec.specs.Text.{AreOptional, optional_octets}
 use Rattle.pdu_codec.specs.Grammar.{optional_at}
@@ -58,7 +59,25 @@ abbrev pub party_fields : List (Part Defect)
 party_fields = text 16 ∷ text 16 ∷ text 6 ∷ octet ∷ octet ∷ text 21 ∷ octet ∷ octet ∷ text 21 ∷ []
 
 abbrev pub parties_in : Submission → Contents party_fields
-parties_in m = (m.submitter, (m.target, (m.service_type, (m.source.ton, (m.source.npi, (m.source.digits, (m.destination.ton, (m.destination.npi, (m.destination.digits, tt)))))))))
+parties_in m = (
+  m.submitter,
+  (
+    m.target,
+    (
+      m.service_type,
+      (
+        m.source.ton,
+        (
+          m.source.npi,
+          (
+            m.source.digits,
+            (m.destination.ton, (m.destination.npi, (m.destination.digits, tt))),
+          ),
+        ),
+      ),
+    ),
+  ),
+)
 
 -- its esm_class, protocol_id, priority_flag, registered_delivery and data_coding, its schedule and its expiry
 abbrev pub handling_fields : List (Part Defect)

@@ -5,7 +5,8 @@ ghost use Rattle.fate_chain.specs.Bytes.{party_fields, handling_fields, text_fie
 ghost use Rattle.octet_fields.specs.Reading.{IsRead, front_at};
 ghost use Rattle.fate_chain.specs.Kinds.{kind_of};
 ghost use Rattle.fate_chain.specs.Marks.{bare, bare_kind, IsMarkOf};
-ghost use Rattle.fate_chain.specs.Octets.{parties_seen, handling_seen, texts_seen, message_seen, kind_seen, decree_seen, PartiesAreTexts, AreTexts, MessageHasTexts, HasTexts};
+ghost use Rattle.fate_chain.specs.Octets.{parties_seen, handling_seen, texts_seen, message_seen, kind_seen, decree_seen, PartiesAreTexts};
+ghost use Rattle.fate_chain.specs.Octets.{AreTexts, MessageHasTexts, HasTexts};
 
 use crate::decree::{Author, Decree, ErrorCode, Final, Kind};
 use crate::fields::{

@@ -3,7 +3,9 @@
 ghost use Rattle.std.specs.Prelude.{◌≡◌, ◌<◌, ◌≤◌, ◌++◌, ◌∷◌, [], length, reverse, IfOk, OnOk};
 ghost use Rattle.std.specs.Int.{w16, w32, w64, to_be_bytes};
 ghost use Rattle.pdu_codec.specs.Text.{IsText, IsShortMessage, AreOptional, optional_octets};
-ghost use Rattle.fate_chain.specs.Bytes.{party_fields, parties_in, handling_fields, handling_in, text_fields, texts_in, head_fields, chain_fields, kind_code, kind_octets, submission_octets, decree_octets, decrees_octets, DecreeFits, DecreesFit, KindFits, MessageFits};
+ghost use Rattle.fate_chain.specs.Bytes.{party_fields, parties_in, handling_fields, handling_in, text_fields, texts_in, head_fields};
+ghost use Rattle.fate_chain.specs.Bytes.{chain_fields, kind_code, kind_octets, submission_octets, decree_octets, decrees_octets};
+ghost use Rattle.fate_chain.specs.Bytes.{DecreeFits, DecreesFit, KindFits, MessageFits};
 ghost use Rattle.octet_fields.specs.Kinds.{spellings, AreWithin};
 ghost use Rattle.fate_chain.specs.Kinds.{author_of, kind_of};
 ghost use Rattle.mc_model.specs.message.Ids.{IsId, IsIncarnation, IsMoment, IsNode};

@@ -26,7 +26,11 @@ use Rattle.sessions.specs.States.{is_gone}
 use Rattle.script_text.specs.Prints.{Delivers}
 use Rattle.script_text.specs.Pushes.{accounts_up, delivery_on, overdue_in, session_at, target_in}
 use Rattle.script_text.specs.Receipts.{Posted, all_posted, posted_for_all, posted_for_any}
-use Rattle.script_text.specs.Runner.{Runner, Acted, Served, answered_by, declined, ends, fails_by, followed_by, gives_up, gone_prints, granted, granted_unless, held_in, holds, last_incarnation, mail_of, makes_room, no_incarnation, on_delivery, on_frame, on_frames, on_grant, on_octets, on_read, on_rest, on_restart, on_tick, opened_at, posts, posts_for, posts_for_all, pushes, put_at, reports_by, restarted, sent, sent_to, served_at, serves, session_in, ticked, told, with_posted, with_session}
+use Rattle.script_text.specs.Runner.{Runner, Acted, Served, answered_by, declined, ends, fails_by, followed_by, gives_up, gone_prints}
+use Rattle.script_text.specs.Runner.{granted, granted_unless, held_in, holds, last_incarnation, mail_of, makes_room, no_incarnation}
+use Rattle.script_text.specs.Runner.{on_delivery, on_frame, on_frames, on_grant, on_octets, on_read, on_rest, on_restart, on_tick}
+use Rattle.script_text.specs.Runner.{opened_at, posts, posts_for, posts_for_all, pushes, put_at, reports_by, restarted, sent, sent_to}
+use Rattle.script_text.specs.Runner.{served_at, serves, session_in, ticked, told, with_posted, with_session}
 use Rattle.fate_laws.proofs.Telling.{AreMute, declined_is_mute, delivery_is_mute, gone_is_mute, ungranted_is_mute}
 use Rattle.fate_laws.proofs.Behind.{came_to, input_to}
 use Rattle.fate_laws.proofs.ReceiptsOut.{AreReceiptsOut, receipts_out_later}

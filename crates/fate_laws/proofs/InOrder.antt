@@ -20,7 +20,8 @@ use Rattle.fate_laws.proofs.Decided.{IsDecided}
 use Rattle.fate_laws.proofs.Replying.{AreFit, Grows, replies_fit}
 use Rattle.fate_laws.proofs.Behind.{after_holds, decided_next, next_acts, next_run, next_world, world_after}
 use Rattle.fate_laws.proofs.StepsOut.{replies_are, step_now}
-use Rattle.fate_laws.proofs.Telling.{IsMute, TellsFates, TellsOnly, fates_told_later, mute_tells_fates, mute_tells_only, reply_is_told, reply_tells_fates, reply_tells_only, report_tells_fates, report_tells_no_state}
+use Rattle.fate_laws.proofs.Telling.{IsMute, TellsFates, TellsOnly, fates_told_later, mute_tells_fates, mute_tells_only, reply_is_told}
+use Rattle.fate_laws.proofs.Telling.{reply_tells_fates, reply_tells_only, report_tells_fates, report_tells_no_state}
 use Rattle.fate_laws.proofs.Tellings.{IsTelling, NodePrint, TakesDeliveries, by_node, prints_at}
 
 -- a print of a node tells this state of a message, if it tells one

@@ -11,7 +11,9 @@ use Rattle.sessions.specs.Session.{Session}
 use Rattle.sessions.specs.Windows.{without_first}
 use Rattle.script_text.specs.Prints.{Print}
 use Rattle.script_text.specs.Pushes.{knows_optional, session_at, target_in}
-use Rattle.script_text.specs.Receipts.{Mail, Posted, all_posted, goes_out, goes_out_up_to, is_for, most_waiting, posted, posted_for, posted_for_all, posted_for_any, posted_to, reported_by, reports_on, stays, submitter_of, then_posted, waits_for, with_both}
+use Rattle.script_text.specs.Receipts.{Mail, Posted, all_posted, goes_out, goes_out_up_to, is_for, most_waiting, posted, posted_for}
+use Rattle.script_text.specs.Receipts.{posted_for_all, posted_for_any, posted_to, reported_by, reports_on, stays, submitter_of}
+use Rattle.script_text.specs.Receipts.{then_posted, waits_for, with_both}
 use Rattle.fate_laws.proofs.Reports.{report_is}
 use Rattle.fate_laws.proofs.ReceiptsOut.{AreReceiptsOut, IsReceiptOut}
 use Rattle.fate_laws.proofs.Tellings.{FactOfPrints, IsTelling, NodePrint, both_at, prints_at}

@@ -17,7 +17,8 @@ use Rattle.pdu_tables.specs.StateCodes.{state_code}
 use Rattle.pdu_tables.specs.declared.state.State.TheVariants as states
 use Rattle.script_text.specs.Settings.{Settings, script_settings}
 use Rattle.script_text.specs.Prints.{Print}
-use Rattle.script_text.specs.Runner.{Runner, Acted, first_or, followed_by, most_deliveries, on_delivery, on_grant, on_octets, on_restart, on_settle, on_tick, rests, settles, unsettled}
+use Rattle.script_text.specs.Runner.{Runner, Acted, first_or, followed_by, most_deliveries, on_delivery, on_grant, on_octets, on_restart}
+use Rattle.script_text.specs.Runner.{on_settle, on_tick, rests, settles, unsettled}
 use Rattle.script_text.specs.Script.{Stepped, after, opened, prints_from, prints_of, script_nodes, step_by, step_of}
 use Rattle.script_text.specs.Laws.{StatesFate, TellsDeletion, TellsState}
 use Rattle.fate_laws.proofs.Decided.{IsDecided, decided_once}

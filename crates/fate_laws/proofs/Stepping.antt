@@ -22,7 +22,9 @@ use Rattle.node_model.specs.Answers.{answer_to, still_waits}
 use Rattle.node_model.specs.Attempts.{closed_by, concluded, on_grant, on_response}
 use Rattle.node_model.specs.Starts.{delete_for, take_for}
 use Rattle.node_model.specs.Outputs.{Stepped, leaves, sends}
-use Rattle.node_model.specs.Packets.{answer_told, if_member, is_member, is_own_name, known_then, on_known, on_packet, on_promise, on_refused, on_tell, on_voted, promised_in, proposals, settled_for, settled_told, start_told, tell_held, tells_about, told_to, vote_concerns}
+use Rattle.node_model.specs.Packets.{answer_told, if_member, is_member, is_own_name, known_then, on_known, on_packet, on_promise}
+use Rattle.node_model.specs.Packets.{on_refused, on_tell, on_voted, promised_in, proposals, settled_for, settled_told, start_told}
+use Rattle.node_model.specs.Packets.{tell_held, tells_about, told_to, vote_concerns}
 use Rattle.node_model.specs.Stepped.{stepped, stepped_down, stepped_up}
 use Rattle.node_model.specs.Ticks.{ids_of, is_late, late_reply, ruled_each, ticked, waits_too}
 use Rattle.node_laws.specs.Runs.{IsUpFor}

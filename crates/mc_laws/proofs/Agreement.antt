@@ -21,7 +21,8 @@ pub standing : (w : World) → Keeps w → Links w → (id : ℕ) (chain : List 
 standing w keeps links id chain c = chosen_standing w keeps links (slot_of id chain) (vote_at c.ballot chain) c.chosen
 
 -- what a node learned is chosen
-pub learned_chosen : (w : World) → Keeps w → (node : ℕ) (slot : Slot) (vote : Vote) → IsLearned w.nodes (w.actors node).received slot vote → IsChosenIn w slot vote
+pub learned_chosen : (w : World) → Keeps w → (node : ℕ) (slot : Slot) (vote : Vote) → IsLearned w.nodes (w.actors node).received slot vote →
+    IsChosenIn w slot vote
 learned_chosen w keeps node slot vote learned = record {
   test = learned.test;
   most = learned.most;
@@ -48,10 +49,12 @@ chosen_same w keeps slot one other is_one is_other = elim (cases_lt one.ballot o
 same_length : (w : World) → Keeps w → (id : ℕ) (one other : List Decree) → Chosen w id one → Chosen w id other → length one ≡ length other → other ≡ one
 same_length w keeps id one other is_one is_other same =
     let slots : slot_of id one ≡ slot_of id other = ap (λ (n : ℕ). record { id = id; place = pred n }) same in
-    chosen_same w keeps (slot_of id other) (vote_at is_other.ballot other) (vote_at is_one.ballot one) is_other.chosen (subst (λ (s : Slot). IsChosenIn w s (vote_at is_one.ballot one)) slots is_one.chosen)
+    chosen_same w keeps (slot_of id other) (vote_at is_other.ballot other) (vote_at is_one.ballot one) is_other.chosen
+    (subst (λ (s : Slot). IsChosenIn w s (vote_at is_one.ballot one)) slots is_one.chosen)
 
 -- a chosen chain is behind what is chosen one place before
-pub behind : (w : World) → Keeps w → Links w → (id : ℕ) (next newest : Decree) (older : List Decree) → Chosen w id (next ∷ newest ∷ older) → Chosen w id (newest ∷ older)
+pub behind : (w : World) → Keeps w → Links w → (id : ℕ) (next newest : Decree) (older : List Decree) → Chosen w id (next ∷ newest ∷ older) →
+    Chosen w id (newest ∷ older)
 behind w keeps links id next newest older chosen =
     let s = standing w keeps links id (next ∷ newest ∷ older) chosen in
     record { ballot = s.fits.ballot; chosen = s.fits.chosen }
@@ -60,7 +63,9 @@ pub not_empty : (w : World) → Keeps w → Links w → (id : ℕ) (chain : List
 not_empty w keeps links id [] chosen = absurd (standing w keeps links id [] chosen).permitted
 not_empty w keeps links id (newest ∷ older) chosen = omega arith
 
-pub begins : (w : World) → Keeps w → Links w → (id : ℕ) (first chain : List Decree) → Chosen w id first → Chosen w id chain → length first ≤ length chain → GoesOn chain first
+pub begins : (w : World) → Keeps w → Links w → (id : ℕ) (first chain : List Decree) → Chosen w id first → Chosen w id chain →
+    length first ≤ length chain →
+    GoesOn chain first
 begins w keeps links id first [] is_first is_chain long = absurd (let some = not_empty w keeps links id [] is_chain in omega (arith, some))
 begins w keeps links id first (next ∷ []) is_first is_chain long =
     let some = not_empty w keeps links id first is_first in
@@ -77,17 +82,25 @@ pub record Extended (w : World) (id : ℕ) (chain : List Decree) : Type 0 where
   pub next : Decree
   pub chosen : Chosen w id (next ∷ chain)
 
-pub extended : (w : World) → Keeps w → Links w → (id : ℕ) (last : Decree) (more chain : List Decree) → Chosen w id (last ∷ (more ++ chain)) → Extended w id chain
+pub extended : (w : World) → Keeps w → Links w → (id : ℕ) (last : Decree) (more chain : List Decree) →
+    Chosen w id (last ∷ (more ++ chain)) →
+    Extended w id chain
 extended w keeps links id last [] chain chosen = record { next = last; chosen = chosen }
 extended w keeps links id last (next ∷ more) chain chosen = extended w keeps links id next more chain (behind w keeps links id last next (more ++ chain) chosen)
 
 -- whatever the ballots, and whatever the places
-pub agree : (w : World) → Keeps w → Links w → (one other : Slot) (first second : Vote) → one.id ≡ other.id → IsChosenIn w one first → IsChosenIn w other second → GoesOn first.chain second.chain ⊎ GoesOn second.chain first.chain
+pub agree : (w : World) → Keeps w → Links w → (one other : Slot) (first second : Vote) → one.id ≡ other.id → IsChosenIn w one first →
+    IsChosenIn w other second →
+    GoesOn first.chain second.chain ⊎ GoesOn second.chain first.chain
 agree w keeps links one other first second same is_one is_other =
     let s = chosen_standing w keeps links one first is_one in
     let t = chosen_standing w keeps links other second is_other in
     let a : Chosen w one.id first.chain = record { ballot = first.ballot; chosen = subst (λ (x : Slot). IsChosenIn w x first) s.place is_one } in
-    let b : Chosen w one.id second.chain = record { ballot = second.ballot; chosen = subst (λ (i : ℕ). IsChosenIn w (slot_of i second.chain) second) (sym same) (subst (λ (x : Slot). IsChosenIn w x second) t.place is_other) } in
+    let b : Chosen w one.id second.chain = record {
+      ballot = second.ballot;
+      chosen = subst
+          (λ (i : ℕ). IsChosenIn w (slot_of i second.chain) second) (sym same) (subst (λ (x : Slot). IsChosenIn w x second) t.place is_other);
+    } in
     elim (cases_lt (length first.chain) (length second.chain)) [
       | inl shorter ↦ inr (begins w keeps links one.id first.chain second.chain a b (omega (arith, shorter)))
       | inr longer ↦ inl (begins w keeps links one.id second.chain first.chain b a longer)

@@ -15,7 +15,8 @@ reached_on w (act ∷ later) earlier = ap (λ (v : World). after v act.0 act.1) 
 
 pub run_on : (w : World) (later earlier : List (ℕ × Act)) → IsRun (reached w earlier) later → IsRun w earlier → IsRun w (later ++ earlier)
 run_on w [] earlier run before = before
-run_on w (act ∷ later) earlier run before = (subst (λ (v : World). May v act.0 act.1) (sym (reached_on w later earlier)) run.0, run_on w later earlier run.1 before)
+run_on w (act ∷ later) earlier run before =
+    (subst (λ (v : World). May v act.0 act.1) (sym (reached_on w later earlier)) run.0, run_on w later earlier run.1 before)
 
 -- and the later part of a run is one from where the earlier part led
 pub run_behind : (w : World) (later earlier : List (ℕ × Act)) → IsRun w (later ++ earlier) → IsRun (reached w earlier) later
@@ -49,10 +50,12 @@ records_so w node (newest ∷ older) =
     changed_here (reached w (by_node node older)).records node (records_by ((reached w (by_node node older)).records node) newest)
     ∙ ap (λ (r : Records). records_by r newest) (records_so w node older)
 
-pub packets_so : (w : World) (node : ℕ) (acts : List Act) → (reached w (by_node node acts)).packets ≡ packets_in node (w.actors node) (w.records node) acts ++ w.packets
+pub packets_so : (w : World) (node : ℕ) (acts : List Act) →
+    (reached w (by_node node acts)).packets ≡ packets_in node (w.actors node) (w.records node) acts ++ w.packets
 packets_so w node [] = refl
 packets_so w node (newest ∷ older) =
     let a = actor_so w node older in
     let r = records_so w node older in
     (λ i. packets_by node (a i) (r i) newest ++ packets_so w node older i)
-    ∙ sym (append_assoc (packets_by node (did node (w.actors node) older) (saved (w.records node) older) newest) (packets_in node (w.actors node) (w.records node) older) w.packets)
+    ∙ sym (append_assoc (packets_by node (did node (w.actors node) older) (saved (w.records node) older) newest)
+    (packets_in node (w.actors node) (w.records node) older) w.packets)

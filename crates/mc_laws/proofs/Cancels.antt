@@ -22,7 +22,8 @@ use Rattle.mc_model.specs.node.Phases.{DueToSettle, DueToEnd, DueToAsk, DueToAba
 use Rattle.mc_model.specs.node.Alone.{IsStepAlone}
 use Rattle.mc_laws.specs.Stories.{first_id, first_ballot, first_setup, decreed, taken_chain, deleted_chain, taken_slot, taken_vote}
 use Rattle.mc_laws.specs.NodeStories.{no_records, node_of_actor}
-use Rattle.mc_laws.specs.CancelStories.{behind_slot, high_ballot, next_ballot, second_question, told_of_taking, cancelling_at, cancelled_twice, cancelling_again}
+use Rattle.mc_laws.specs.CancelStories.{behind_slot, high_ballot, next_ballot, second_question, told_of_taking, cancelling_at}
+use Rattle.mc_laws.specs.CancelStories.{cancelled_twice, cancelling_again}
 use Rattle.mc_laws.proofs.Rounds.{all_of_one, one_of_one}
 use Rattle.mc_parts.proofs.Known.{knows_one}
 use Rattle.mc_parts.proofs.Membership.{never_empty}
@@ -54,7 +55,8 @@ module _ (message : Submission) where
   ]
 
   known_is : (id : ℕ) (chain : List Decree) → Knows 1 heard.received id chain → chain ≡ taken_chain message
-  known_is id chain known = knows_one 1 heard.received first_id chain (taken_chain message) (subst (λ (i : ℕ). Knows 1 heard.received i chain) (known_id id chain known) known) taken_known
+  known_is id chain known = knows_one 1 heard.received first_id chain (taken_chain message)
+      (subst (λ (i : ℕ). Knows 1 heard.received i chain) (known_id id chain known) known) taken_known
 
   -- ---- which requests wait
 
@@ -93,20 +95,25 @@ module _ (message : Submission) where
 
       back : (act : Act) → DueToSettle 1 1 heard act → In act (Settles 2 ∷ [])
       back (Settles ticket) due =
-          let is : due.waiting.ticket ≡ 2 = of_both (λ w. w.settled ≡ false → w.ticket ≡ 2) (cancelling_at message 1 true) (cancelling_at message 2 false) (λ clash. absurd cc) (λ same. refl) due.waiting due.waits due.unsettled in
+          let is : due.waiting.ticket ≡ 2 = of_both (λ w. w.settled ≡ false → w.ticket ≡ 2) (cancelling_at message 1 true)
+          (cancelling_at message 2 false) (λ clash. absurd cc) (λ same. refl) due.waiting due.waits due.unsettled in
           inl (ap (λ (t : ℕ). Settles t) (sym due.ticket_is ∙ is))
       back act due = absurd due
 
   -- ---- the round that was refused does not run
 
-  one_round : (slot : Slot) (ballot : ℕ) (newer older : List Packet) → (Prepare 1 behind_slot first_ballot ∷ []) ≡ newer ++ Prepare 1 slot ballot ∷ older → (slot ≡ behind_slot) × (ballot ≡ first_ballot)
+  one_round : (slot : Slot) (ballot : ℕ) (newer older : List Packet) →
+      (Prepare 1 behind_slot first_ballot ∷ []) ≡ newer ++ Prepare 1 slot ballot ∷ older →
+      (slot ≡ behind_slot) × (ballot ≡ first_ballot)
   one_round slot ballot [] older is = let heads : Prepare 1 behind_slot first_ballot ≡ Prepare 1 slot ballot = cc in (cc, cc)
   one_round slot ballot (first ∷ newer) older is = absurd (never_empty newer older (Prepare 1 slot ballot) cc)
 
   refused : (slot : Slot) (ballot : ℕ) → IsRunning 1 1 now slot ballot → ⊥
   refused slot ballot running =
       let is = one_round slot ballot running.round.newer running.round.older running.round.split in
-      running.accepted (subst (λ (s : Slot). IsRefused now s ballot) (sym is.0) (subst (λ (n : ℕ). IsRefused now behind_slot n) (sym is.1) (record { sender = 1; promised = high_ballot; heard = inr (inl refl); greater = omega arith })))
+      running.accepted (subst (λ (s : Slot). IsRefused now s ballot) (sym is.0)
+      (subst (λ (n : ℕ). IsRefused now behind_slot n) (sym is.1)
+      (record { sender = 1; promised = high_ballot; heard = inr (inl refl); greater = omega arith })))
 
   proposes_none : (act : Act) → DueToPropose 1 1 before now act → ⊥
   proposes_none (Proposes slot vote) due = refused slot vote.ballot due.0.running
@@ -118,7 +125,8 @@ module _ (message : Submission) where
   matches = record { owner = record { same_account = refl; same_source = refl }; same_destination = inl refl }
 
   not_settled : WasSettled before 2 → ⊥
-  not_settled was = of_both (λ w. w.ticket ≡ 2 → w.settled ≡ true → ⊥) (cancelling_at message 1 true) (cancelling_at message 2 false) (λ ticket settled. omega (arith, ticket)) (λ ticket settled. cc) was.waiting was.waits was.ticket_is was.settled
+  not_settled was = of_both (λ w. w.ticket ≡ 2 → w.settled ≡ true → ⊥) (cancelling_at message 1 true) (cancelling_at message 2 false)
+      (λ ticket settled. omega (arith, ticket)) (λ ticket settled. cc) was.waiting was.waits was.ticket_is was.settled
 
   seen_most : (round : ℕ) → HasSeen 1 now no_records behind_slot round → round ≤ 5
   seen_most round (inl own) = omega (arith, own)
@@ -142,7 +150,15 @@ module _ (message : Submission) where
     none = λ other ballot same running. refused other ballot running;
     next = record {
       highest = 5;
-      seen = inr (inl (record { sender = 1; ballot = first_ballot; promised = high_ballot; heard = inr (inl refl); proposer = refl; incarnation = refl; names = refl }));
+      seen = inr (inl (record {
+        sender = 1;
+        ballot = first_ballot;
+        promised = high_ballot;
+        heard = inr (inl refl);
+        proposer = refl;
+        incarnation = refl;
+        names = refl;
+      }));
       most = seen_most;
       ballot_is = refl;
       round = record { least = omega arith; most = omega arith };
@@ -159,7 +175,16 @@ module _ (message : Submission) where
       only act (inl same) = subst Due (sym same) (
         inr (inr (inr (record {
           deletes = record {
-            further = record { newest = decreed (Taken message); older = []; taken = message; known = taken_known; behind = refl; message = refl; chain_is = refl };
+            further = record {
+              newest = decreed (Taken message);
+              older = [];
+              taken = message;
+              known = taken_known;
+              behind = refl;
+              message =
+                  refl;
+              chain_is = refl;
+            };
             idle = inl (message, refl);
             cancelled = record { waiting = cancelling_at message 2 true; waits = inr (inl refl); settled = refl; cancels = (refl, matches) };
           };
@@ -175,7 +200,8 @@ module _ (message : Submission) where
           by_cause : Causes 1 1 before now (Delivery (told_of_taking message)) slot.id slot.place chain → slot.id ≡ first_id
           by_cause (inl take) = absurd take
           by_cause (inr (inl close)) = absurd close
-          by_cause (inr (inr (inl follow))) = sym follow.1.about ∙ of_both (λ w. id_in w.request ≡ first_id) (cancelling_at message 1 true) (cancelling_at message 2 true) refl refl follow.1.waiting follow.1.waits
+          by_cause (inr (inr (inl follow))) = sym follow.1.about ∙ of_both (λ w. id_in w.request ≡ first_id) (cancelling_at message 1 true)
+              (cancelling_at message 2 true) refl refl follow.1.waiting follow.1.waits
           by_cause (inr (inr (inr delete))) = known_id slot.id _ delete.deletes.further.known
       all act due = absurd due
 
@@ -185,8 +211,11 @@ module _ (message : Submission) where
   asks_none (Asks id ticket) due = due
   asks_none act due = due
 
-  no_answer : (waiting : Waiting) (answer : Answer) → FitsCancel 1 1 now waiting message.submitter message.source.digits [] answer → id_in waiting.request ≡ first_id → ⊥
-  no_answer waiting (Removed chain) fits about = let same = known_is (id_in waiting.request) chain fits.known in let none : Some Deleted ≡ None = sym fits.deleted ∙ ap final_in same in cc
+  no_answer : (waiting : Waiting) (answer : Answer) → FitsCancel 1 1 now waiting message.submitter message.source.digits [] answer →
+      id_in waiting.request ≡ first_id →
+      ⊥
+  no_answer waiting (Removed chain) fits about = let same = known_is (id_in waiting.request) chain fits.known in
+      let none : Some Deleted ≡ None = sym fits.deleted ∙ ap final_in same in cc
   no_answer waiting (Kept chain) fits about =
       let same : (fits.newest ∷ fits.older) ≡ taken_chain message = sym fits.chain_is ∙ known_is (id_in waiting.request) chain fits.known in
       let heads : fits.newest ≡ decreed (Taken message) = cc in
@@ -196,12 +225,14 @@ module _ (message : Submission) where
       let takens : Some fits.taken ≡ Some message = sym fits.message ∙ ap taken_in same in
       let is : fits.taken ≡ message = cc in
       fits.other (subst (λ (m : Submission). IsMatch m message.submitter message.source.digits []) (sym is) matches)
-  no_answer waiting Unknown fits about = fits.nothing 0 (taken_vote message) (subst (λ (i : ℕ). IsLearned 1 heard.received (slot_at i 0) (taken_vote message)) (sym about) (all_of_one 1 _ refl (inr (inr (inl refl)))))
+  no_answer waiting Unknown fits about = fits.nothing 0 (taken_vote message)
+      (subst (λ (i : ℕ). IsLearned 1 heard.received (slot_at i 0) (taken_vote message)) (sym about) (all_of_one 1 _ refl (inr (inr (inl refl)))))
   no_answer waiting answer fits about = fits
 
   replies_none : (act : Act) → DueToReply 1 1 now act → ⊥
   replies_none (Replies ticket id answer) due =
-      let request = of_both (λ w. w.request ≡ Cancel first_id message.submitter message.source.digits []) (cancelling_at message 1 true) (cancelling_at message 2 true) refl refl due.asked.waiting due.asked.waits in
+      let request = of_both (λ w. w.request ≡ Cancel first_id message.submitter message.source.digits []) (cancelling_at message 1 true)
+      (cancelling_at message 2 true) refl refl due.asked.waiting due.asked.waits in
       no_answer due.asked.waiting answer (subst (λ (r : Request). FitsRequest 1 1 now due.asked.waiting r answer) request due.fits) (ap id_in request)
   replies_none act due = due
 
@@ -240,7 +271,17 @@ module _ (message : Submission) where
       replies = [];
       reports = [];
       acts_are = refl;
-      core_is = inl ((record { least = omega arith; most = omega arith }, λ mine same. record { given = omega arith; about = λ waiting waits is. of_both (λ w. first_id ≡ id_in w.request) (cancelling_at message 1 true) (cancelling_at message 2 false) refl refl waiting waits }), record { answer = []; answered = refl; acts_are = refl });
+      core_is = inl (
+        (
+          record { least = omega arith; most = omega arith },
+          λ mine same. record {
+            given = omega arith;
+            about = λ waiting waits is. of_both (λ w. first_id ≡ id_in w.request) (cancelling_at message 1 true)
+                (cancelling_at message 2 false) refl refl waiting waits;
+          },
+        ),
+        record { answer = []; answered = refl; acts_are = refl },
+      );
       settled = settles_second;
       ended = none_due (DueToEnd (Delivery (told_of_taking message)) now) (λ act due. due);
       asked = none_due (DueToAsk 1 1 before now (Delivery (told_of_taking message))) asks_none;

@@ -33,7 +33,9 @@ module _ (vote : Vote) (other : List Decree) where
   no_votes acceptor slot held (inr (inr (inl same))) = cc
   no_votes acceptor slot held (inr (inr (inr none))) = none
 
-  round_slot : (slot : Slot) (ballot : ℕ) (newer older : List Packet) → (Prepare 1 second_slot second_ballot ∷ []) ≡ newer ++ Prepare 1 slot ballot ∷ older → slot ≡ second_slot
+  round_slot : (slot : Slot) (ballot : ℕ) (newer older : List Packet) →
+      (Prepare 1 second_slot second_ballot ∷ []) ≡ newer ++ Prepare 1 slot ballot ∷ older →
+      slot ≡ second_slot
   round_slot slot ballot [] older is = let heads : Prepare 1 second_slot second_ballot ≡ Prepare 1 slot ballot = cc in cc
   round_slot slot ballot (first ∷ newer) older is = absurd (never_empty newer older (Prepare 1 slot ballot) cc)
 
@@ -99,7 +101,8 @@ module _ (vote : Vote) (other : List Decree) where
       only act (inr none) = absurd none
 
       all : (act : Act) → DueToPropose 3 1 before now act → In (key_of act) (second_id ∷ [])
-      all (Proposes slot voted) due = inl (ap (λ (s : Slot). s.id) (round_slot slot voted.ballot due.0.running.round.newer due.0.running.round.older due.0.running.round.split))
+      all (Proposes slot voted) due = inl (ap (λ (s : Slot). s.id)
+          (round_slot slot voted.ballot due.0.running.round.newer due.0.running.round.older due.0.running.round.split))
       all act due = absurd due
 
   pub carried_on : IsStepAlone among_three (carrying vote other) (Delivery (Promise 3 second_slot second_ballot None)) (carrying_on vote)
@@ -139,7 +142,8 @@ module _ (vote : Vote) (other : List Decree) where
       ended = none_due (DueToEnd (Delivery (Promise 3 second_slot second_ballot None)) now) (λ act due. due);
       asked = none_due (DueToAsk 3 1 before now (Delivery (Promise 3 second_slot second_ballot None))) asks_none;
       abandoned = none_due (DueToAbandon 3 1 now (carrying vote other).records (Delivery (Promise 3 second_slot second_ballot None))) (λ act due. due);
-      prepared = none_due_once (DueToPrepare 3 1 before now (carrying vote other).records (Delivery (Promise 3 second_slot second_ballot None))) (prepares_none (carrying vote other).records);
+      prepared = none_due_once (DueToPrepare 3 1 before now (carrying vote other).records
+          (Delivery (Promise 3 second_slot second_ballot None))) (prepares_none (carrying vote other).records);
       proposed = one_proposal;
       replied = none_due (DueToReply 3 1 now) replies_none;
       reported = none_due (DueToReport 3 1 before now) reports_none;

@@ -21,7 +21,9 @@ pub record WasAllowed (deed : Deed) : Type 0 where
   pub world : World
   pub may : May world deed.node deed.act
 
-allowed_in : (nodes : ℕ) (serials : ℕ → ℕ) (acts : List (ℕ × Act)) → IsRun (start nodes serials) acts → (deed : Deed) → In deed (reached (start nodes serials) acts).past → WasAllowed deed
+allowed_in : (nodes : ℕ) (serials : ℕ → ℕ) (acts : List (ℕ × Act)) → IsRun (start nodes serials) acts → (deed : Deed) →
+    In deed (reached (start nodes serials) acts).past →
+    WasAllowed deed
 allowed_in nodes serials [] run deed is_in = absurd is_in
 allowed_in nodes serials (newest ∷ older) run deed (inl same) =
     record { world = reached (start nodes serials) older; may = subst (λ (d : Deed). May (reached (start nodes serials) older) d.node d.act) (sym same) run.0 }
@@ -30,13 +32,17 @@ allowed_in nodes serials (newest ∷ older) run deed (inr later) = allowed_in no
 pub was_allowed : (run : Run) (deed : Deed) → In deed (past_of run) → WasAllowed deed
 was_allowed run = allowed_in run.nodes run.serials run.acts run.may
 
-pub removed_deleted : (nodes node : ℕ) (a : Actor) (w : Waiting) (request : Request) (chain : List Decree) → FitsRequest nodes node a w request (Removed chain) → final_in chain ≡ Some Deleted
+pub removed_deleted : (nodes node : ℕ) (a : Actor) (w : Waiting) (request : Request) (chain : List Decree) →
+    FitsRequest nodes node a w request (Removed chain) →
+    final_in chain ≡ Some Deleted
 removed_deleted nodes node a w (Cancel id account source destination) chain fits = fits.deleted
 removed_deleted nodes node a w (Query id account source) chain fits = absurd fits
 removed_deleted nodes node a w (Submit id message) chain fits = absurd fits
 
 -- ESME_ROK to a cancel_sm tells of a deletion
-pub removes : (run : Run) (deed : Deed) (ticket id : ℕ) (chain : List Decree) → In deed (past_of run) → deed.act ≡ Replies ticket id (Removed chain) → final_in chain ≡ Some Deleted
+pub removes : (run : Run) (deed : Deed) (ticket id : ℕ) (chain : List Decree) → In deed (past_of run) →
+    deed.act ≡ Replies ticket id (Removed chain) →
+    final_in chain ≡ Some Deleted
 removes run deed ticket id chain is_in is =
     let allowed = was_allowed run deed is_in in
     let may : May allowed.world deed.node (Replies ticket id (Removed chain)) = subst (May allowed.world deed.node) is allowed.may in
@@ -57,7 +63,9 @@ possible run deed slot outcome is_in is =
     may.needs.possible
 
 -- an outcome comes once
-pub concluded_once : (run : Run) (newer : List Deed) (deed : Deed) (older : List Deed) (slot : Slot) (outcome other : Outcome) → past_of run ≡ newer ++ deed ∷ older → deed.act ≡ Concludes slot outcome → In (record deed { act = Concludes slot other }) older → ⊥
+pub concluded_once : (run : Run) (newer : List Deed) (deed : Deed) (older : List Deed) (slot : Slot) (outcome other : Outcome) →
+    past_of run ≡ newer ++ deed ∷ older → deed.act ≡ Concludes slot outcome → In (record deed { act = Concludes slot other }) older →
+    ⊥
 concluded_once run newer deed older slot outcome other is act earlier =
     let first = start run.nodes run.serials in
     let d = done run.nodes run.serials run.acts newer deed older is in
@@ -66,13 +74,16 @@ concluded_once run newer deed older slot outcome other is act earlier =
     let h = holds run.nodes run.serials d.earlier from.1 in
     let may : May w deed.node (Concludes slot outcome) = subst (May w deed.node) act from.0 in
     let was : In (deed_by (record { node = deed.node; incarnation = (w.actors deed.node).incarnation }) (Concludes slot other)) w.past =
-    subst (λ (ds : List Deed). In (deed_by (record { node = deed.node; incarnation = (w.actors deed.node).incarnation }) (Concludes slot other)) ds) (sym d.past)
+    subst (λ (ds : List Deed). In (deed_by (record { node = deed.node; incarnation = (w.actors deed.node).incarnation })
+    (Concludes slot other)) ds) (sym d.past)
     (subst (λ (i : ℕ). In (deed_by (record { node = deed.node; incarnation = i }) (Concludes slot other)) older) d.incarnation earlier)
     in
     may.needs.closed other (h.links.recalls deed.node slot other (inl was))
 
 -- a node that has stopped does nothing in that incarnation but start anew
-pub starts_anew : (run : Run) (newer : List Deed) (deed : Deed) (older : List Deed) → past_of run ≡ newer ++ deed ∷ older → In (record deed { act = Stops }) older → StartsAnew deed.act
+pub starts_anew : (run : Run) (newer : List Deed) (deed : Deed) (older : List Deed) → past_of run ≡ newer ++ deed ∷ older →
+    In (record deed { act = Stops }) older →
+    StartsAnew deed.act
 starts_anew run newer deed older is earlier =
     let first = start run.nodes run.serials in
     let d = done run.nodes run.serials run.acts newer deed older is in

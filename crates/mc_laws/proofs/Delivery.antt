@@ -11,7 +11,8 @@ use Rattle.mc_model.specs.node.Knowledge.{IsLearned, Knows}
 use Rattle.mc_model.specs.node.Replies.{Accepted}
 use Rattle.mc_model.specs.node.Act.{Act, Begins, Replies, Reports, Grants, Concludes}
 use Rattle.mc_model.specs.cluster.World.{World, May, reached, IsRun, after}
-use Rattle.mc_laws.specs.Stories.{first_id, first_ballot, decreed, taken_chain, attempted_chain, delivered_chain, round_for, by_node_1, delivery_story, one_node, MayBeTried}
+use Rattle.mc_laws.specs.Stories.{first_id, first_ballot, decreed, taken_chain, attempted_chain, delivered_chain, round_for, by_node_1}
+use Rattle.mc_laws.specs.Stories.{delivery_story, one_node, MayBeTried}
 use Rattle.mc_parts.proofs.Membership.{in_right}
 use Rattle.mc_laws.proofs.Behind.{run_on}
 use Rattle.mc_laws.proofs.Rounds.{all_of_one, one_of_one, IsReady, round_runs}
@@ -32,7 +33,9 @@ abbrev VotesWithin : ℕ → Slot → Vote → List Packet → Type 0
 VotesWithin bound slot vote [] = Unit {0}
 VotesWithin bound slot vote (packet ∷ packets) = VoteWithin bound slot vote packet × VotesWithin bound slot vote packets
 
-within : (bound : ℕ) (slot : Slot) (vote : Vote) (packets : List Packet) → VotesWithin bound slot vote packets → (packet : Packet) → In packet packets → VoteWithin bound slot vote packet
+within : (bound : ℕ) (slot : Slot) (vote : Vote) (packets : List Packet) → VotesWithin bound slot vote packets → (packet : Packet) →
+    In packet packets →
+    VoteWithin bound slot vote packet
 within bound slot vote [] are packet is_in = absurd is_in
 within bound slot vote (first ∷ packets) are packet (inl same) = subst (VoteWithin bound slot vote) (sym same) are.0
 within bound slot vote (first ∷ packets) are packet (inr later) = within bound slot vote packets are.1 packet later
@@ -41,14 +44,20 @@ in_whole : (packet : Packet) (newer older packets : List Packet) → packets ≡
 in_whole packet newer older packets is is_in = subst (λ (ps : List Packet). In packet ps) (sym is) (in_right packet newer older is_in)
 
 -- so node 1 knows the chain of the highest place
-pub knows : (received : List Packet) (chain : List Decree) → VotesWithin (pred (length chain)) (slot_of first_id chain) (vote_at first_ballot chain) received → In (Voted 1 (slot_of first_id chain) (vote_at first_ballot chain)) received → Knows 1 received first_id chain
+pub knows : (received : List Packet) (chain : List Decree) →
+    VotesWithin (pred (length chain)) (slot_of first_id chain) (vote_at first_ballot chain) received →
+    In (Voted 1 (slot_of first_id chain) (vote_at first_ballot chain)) received →
+    Knows 1 received first_id chain
 knows received chain are is_in = record {
   ballot = first_ballot;
   learned = all_of_one 1 _ refl is_in;
-  longest = λ place vote learned. (within (pred (length chain)) (slot_of first_id chain) (vote_at first_ballot chain) received are _ (one_of_one (λ acceptor. In (Voted acceptor (slot_at first_id place) vote) received) learned)).0;
+  longest = λ place vote learned. (within (pred (length chain)) (slot_of first_id chain) (vote_at first_ballot chain) received are _
+      (one_of_one (λ acceptor. In (Voted acceptor (slot_at first_id place) vote) received) learned)).0;
   first = λ newer older vote is learned.
       let told = one_of_one (λ acceptor. In (Voted acceptor (slot_of first_id chain) vote) older) learned in
-      let same : vote ≡ vote_at first_ballot chain = (within (pred (length chain)) (slot_of first_id chain) (vote_at first_ballot chain) received are _ (in_whole (Voted 1 (slot_of first_id chain) vote) newer older received is told)).1 refl in
+      let same : vote ≡ vote_at first_ballot chain =
+      (within (pred (length chain)) (slot_of first_id chain) (vote_at first_ballot chain) received are _
+      (in_whole (Voted 1 (slot_of first_id chain) vote) newer older received is told)).1 refl in
       (first_ballot, subst (λ (v : Vote). IsLearned 1 older (slot_of first_id chain) v) same learned);
 }
 
@@ -84,7 +93,16 @@ may_begin message tried = record {
   least = omega arith;
   most = omega arith;
   up = refl;
-  needs = record { next = refl; room = refl; fit = record { serial = record { least = omega arith; most = omega arith }; id_is = refl; takes = record { node = refl; incarnation = refl; expiry = tried.valid; schedule = let s = tried.scheduled in let v = tried.valid in omega (arith, s, v) } } };
+  needs = record {
+    next = refl;
+    room = refl;
+    fit = record {
+      serial = record { least = omega arith; most = omega arith };
+      id_is = refl;
+      takes = record
+          { node = refl; incarnation = refl; expiry = tried.valid; schedule = let s = tried.scheduled in let v = tried.valid in omega (arith, s, v) };
+    };
+  };
 }
 
 ready_to_take : (message : Submission) → IsReady (begun message) (slot_of first_id (taken_chain message)) (vote_at first_ballot (taken_chain message))
@@ -97,7 +115,14 @@ ready_to_take message = record {
   unused = refl;
   once = λ chain is_in. absurd is_in;
   place = refl;
-  mine = inl (record { waiting = record { ticket = 1; since = opening_clock; request = Submit first_id message; settled = false }; message = message; waits = inl refl; submits = refl; chain_is = refl });
+  mine = inl (record {
+    waiting = record { ticket = 1; since = opening_clock; request = Submit first_id message; settled = false };
+    message =
+        message;
+    waits = inl refl;
+    submits = refl;
+    chain_is = refl;
+  });
 }
 
 knows_taken : (message : Submission) → Knows 1 ((taken message).actors 1).received first_id (taken_chain message)
@@ -109,12 +134,19 @@ may_accept message = record {
   most = omega arith;
   up = refl;
   needs = record {
-    asked = record { waiting = record { ticket = 1; since = opening_clock; request = Submit first_id message; settled = false }; waits = inl refl; ticket_is = refl; about = refl };
+    asked = record {
+      waiting = record { ticket = 1; since = opening_clock; request = Submit first_id message; settled = false };
+      waits =
+          inl refl;
+      ticket_is = refl;
+      about = refl;
+    };
     fits = record { chain = taken_chain message; known = knows_taken message };
   };
 }
 
-ready_to_attempt : (message : Submission) → MayBeTried message → IsReady (accepted message) (slot_of first_id (attempted_chain message)) (vote_at first_ballot (attempted_chain message))
+ready_to_attempt : (message : Submission) → MayBeTried message →
+    IsReady (accepted message) (slot_of first_id (attempted_chain message)) (vote_at first_ballot (attempted_chain message))
 ready_to_attempt message tried = record {
   nodes = refl;
   up = refl;
@@ -122,7 +154,11 @@ ready_to_attempt message tried = record {
   incarnation = refl;
   above = omega arith;
   unused = refl;
-  once = λ chain is_in. elim is_in [ inl proposed ↦ apart 1 1 _ _ _ _ (λ place. omega (arith, place)) proposed | inr older ↦ elim older [ inl prepared ↦ cc | inr none ↦ absurd none ] ];
+  once = λ chain is_in. elim is_in [
+    | inl proposed ↦ apart 1 1 _ _ _ _ (λ place. omega (arith, place)) proposed
+    | inr older ↦ elim older
+        [ inl prepared ↦ cc | inr none ↦ absurd none ]
+  ];
   place = refl;
   mine = inr (record {
     next = decreed (Attempt 1);
@@ -142,7 +178,9 @@ ready_to_attempt message tried = record {
 }
 
 knows_attempted : (message : Submission) → Knows 1 ((attempted message).actors 1).received first_id (attempted_chain message)
-knows_attempted message = knows ((attempted message).actors 1).received (attempted_chain message) ((omega arith, λ same. refl), (tt, (tt, (tt, ((omega arith, λ same. absurd (omega (arith, same))), (tt, (tt, (tt, tt)))))))) (inl refl)
+knows_attempted message =
+    knows ((attempted message).actors 1).received (attempted_chain message)
+    ((omega arith, λ same. refl), (tt, (tt, (tt, ((omega arith, λ same. absurd (omega (arith, same))), (tt, (tt, (tt, tt)))))))) (inl refl)
 
 may_grant : (message : Submission) → May (attempted message) 1 (Grants (slot_of first_id (attempted_chain message)))
 may_grant message = record {
@@ -165,9 +203,11 @@ may_grant message = record {
 }
 
 may_answer : (message : Submission) → May (granted message) 1 (Concludes (slot_of first_id (attempted_chain message)) (Concluded Delivered 0))
-may_answer message = record { least = omega arith; most = omega arith; up = refl; needs = record { granted = inl refl; closed = λ outcome none. none; possible = refl } }
+may_answer message =
+    record { least = omega arith; most = omega arith; up = refl; needs = record { granted = inl refl; closed = λ outcome none. none; possible = refl } }
 
-ready_to_deliver : (message : Submission) → IsReady (answered message) (slot_of first_id (delivered_chain message)) (vote_at first_ballot (delivered_chain message))
+ready_to_deliver : (message : Submission) →
+    IsReady (answered message) (slot_of first_id (delivered_chain message)) (vote_at first_ballot (delivered_chain message))
 ready_to_deliver message = record {
   nodes = refl;
   up = refl;
@@ -204,7 +244,23 @@ ready_to_deliver message = record {
 }
 
 knows_delivered : (message : Submission) → Knows 1 ((delivered message).actors 1).received first_id (delivered_chain message)
-knows_delivered message = knows ((delivered message).actors 1).received (delivered_chain message) ((omega arith, λ same. refl), (tt, (tt, (tt, ((omega arith, λ same. absurd (omega (arith, same))), (tt, (tt, (tt, ((omega arith, λ same. absurd (omega (arith, same))), (tt, (tt, (tt, tt)))))))))))) (inl refl)
+knows_delivered message =
+    knows ((delivered message).actors 1).received (delivered_chain message) (
+      (omega arith, λ same. refl),
+      (
+        tt,
+        (
+          tt,
+          (
+            tt,
+            (
+              (omega arith, λ same. absurd (omega (arith, same))),
+              (tt, (tt, (tt, ((omega arith, λ same. absurd (omega (arith, same))), (tt, (tt, (tt, tt))))))),
+            ),
+          ),
+        ),
+      ),
+    ) (inl refl)
 
 may_report : (message : Submission) → May (delivered message) 1 (Reports first_id (delivered_chain message))
 may_report message = record {
@@ -216,8 +272,11 @@ may_report message = record {
 
 -- ---- all of it
 
-taken_run : (message : Submission) → MayBeTried message → IsRun one_node (map by_node_1 (round_for (taken_chain message)) ++ (1, Begins 1 (Submit first_id message)) ∷ [])
-taken_run message tried = run_on one_node (map by_node_1 (round_for (taken_chain message))) ((1, Begins 1 (Submit first_id message)) ∷ []) (round_runs (begun message) _ _ (ready_to_take message)) (may_begin message tried, tt)
+taken_run : (message : Submission) → MayBeTried message →
+    IsRun one_node (map by_node_1 (round_for (taken_chain message)) ++ (1, Begins 1 (Submit first_id message)) ∷ [])
+taken_run message tried =
+    run_on one_node (map by_node_1 (round_for (taken_chain message))) ((1, Begins 1 (Submit first_id message)) ∷ [])
+    (round_runs (begun message) _ _ (ready_to_take message)) (may_begin message tried, tt)
 
 abbrev pub until_accepted : Submission → List (ℕ × Act)
 until_accepted message = (1, Replies 1 first_id Accepted) ∷ map by_node_1 (round_for (taken_chain message)) ++ (1, Begins 1 (Submit first_id message)) ∷ []
@@ -232,9 +291,18 @@ until_answered message =
     ∷ map by_node_1 (round_for (attempted_chain message)) ++ until_accepted message
 
 answered_run : (message : Submission) → MayBeTried message → IsRun one_node (until_answered message)
-answered_run message tried =
-    (may_answer message, (may_grant message, run_on one_node (map by_node_1 (round_for (attempted_chain message))) (until_accepted message) (round_runs (accepted message) _ _ (ready_to_attempt message tried)) (accepted_run message tried)))
+answered_run message tried = (
+  may_answer message,
+  (
+    may_grant message,
+    run_on one_node (map by_node_1 (round_for (attempted_chain message))) (until_accepted message)
+        (round_runs (accepted message) _ _ (ready_to_attempt message tried)) (accepted_run message tried),
+  ),
+)
 
 pub delivery_run : (message : Submission) → MayBeTried message → IsRun one_node (delivery_story message)
-delivery_run message tried =
-    (may_report message, run_on one_node (map by_node_1 (round_for (delivered_chain message))) (until_answered message) (round_runs (answered message) _ _ (ready_to_deliver message)) (answered_run message tried))
+delivery_run message tried = (
+  may_report message,
+  run_on one_node (map by_node_1 (round_for (delivered_chain message))) (until_answered message)
+      (round_runs (answered message) _ _ (ready_to_deliver message)) (answered_run message tried),
+)

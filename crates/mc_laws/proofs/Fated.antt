@@ -11,7 +11,8 @@ use Rattle.mc_model.specs.synod.Packet.{Slot, slot_of}
 use Rattle.mc_model.specs.node.Outcome.{Outcome, Concluded, Unanswered, decree_of}
 use Rattle.mc_model.specs.node.Actor.{Actor, Request, Submit, Query, Cancel, Waiting, id_in}
 use Rattle.mc_model.specs.node.Knowledge.{Knows}
-use Rattle.mc_model.specs.node.Replies.{Answer, Accepted, Shown, Removed, Kept, NotOwner, NotMatched, Unknown, TooLate, IsAccepted, FitsRequest, IsAnswer, MayReply}
+use Rattle.mc_model.specs.node.Replies.{Answer, Accepted, Shown, Removed, Kept, NotOwner, NotMatched, Unknown, TooLate, IsAccepted}
+use Rattle.mc_model.specs.node.Replies.{FitsRequest, IsAnswer, MayReply}
 use Rattle.mc_model.specs.node.Grant.{MayGrant}
 use Rattle.mc_model.specs.node.Act.{Act, Replies, Reports, Grants, Concludes, Restarts}
 use Rattle.mc_model.specs.node.Effect.{actor_by}
@@ -25,9 +26,13 @@ use Rattle.mc_laws.proofs.Agreement.{Chosen, standing, known_chosen, begins, Ext
 
 -- ---- the chain of which an ESME is told is known
 
-shown_known : (nodes node : ℕ) (a : Actor) (w : Waiting) (request : Request) (answer : Answer) (chain : List Decree) → FitsRequest nodes node a w request answer → shown_by answer ≡ Some chain → Knows nodes a.received (id_in w.request) chain
-shown_known nodes node a w (Query id account source) (Shown shown) chain fits is = let same : shown ≡ chain = cc in subst (λ (c : List Decree). Knows nodes a.received (id_in w.request) c) same fits.known
-shown_known nodes node a w (Cancel id account source destination) (Removed shown) chain fits is = let same : shown ≡ chain = cc in subst (λ (c : List Decree). Knows nodes a.received (id_in w.request) c) same fits.known
+shown_known : (nodes node : ℕ) (a : Actor) (w : Waiting) (request : Request) (answer : Answer) (chain : List Decree) →
+    FitsRequest nodes node a w request answer → shown_by answer ≡ Some chain →
+    Knows nodes a.received (id_in w.request) chain
+shown_known nodes node a w (Query id account source) (Shown shown) chain fits is =
+    let same : shown ≡ chain = cc in subst (λ (c : List Decree). Knows nodes a.received (id_in w.request) c) same fits.known
+shown_known nodes node a w (Cancel id account source destination) (Removed shown) chain fits is =
+    let same : shown ≡ chain = cc in subst (λ (c : List Decree). Knows nodes a.received (id_in w.request) c) same fits.known
 shown_known nodes node a w (Submit id message) (Shown shown) chain fits is = absurd fits
 shown_known nodes node a w (Submit id message) (Removed shown) chain fits is = absurd fits
 shown_known nodes node a w (Query id account source) (Removed shown) chain fits is = absurd fits
@@ -39,7 +44,9 @@ shown_known nodes node a w request (NotMatched kept) chain fits is = cc
 shown_known nodes node a w request Unknown chain fits is = cc
 shown_known nodes node a w request TooLate chain fits is = cc
 
-answer_known : (nodes node : ℕ) (a : Actor) (w : Waiting) (answer : Answer) (chain : List Decree) → IsAnswer nodes node a w answer → shown_by answer ≡ Some chain → Knows nodes a.received (id_in w.request) chain
+answer_known : (nodes node : ℕ) (a : Actor) (w : Waiting) (answer : Answer) (chain : List Decree) → IsAnswer nodes node a w answer →
+    shown_by answer ≡ Some chain →
+    Knows nodes a.received (id_in w.request) chain
 answer_known nodes node a w TooLate chain fits is = cc
 answer_known nodes node a w Accepted chain fits is = cc
 answer_known nodes node a w (Shown shown) chain fits is = shown_known nodes node a w w.request (Shown shown) chain fits is
@@ -49,10 +56,12 @@ answer_known nodes node a w NotOwner chain fits is = cc
 answer_known nodes node a w (NotMatched kept) chain fits is = cc
 answer_known nodes node a w Unknown chain fits is = cc
 
-pub tells_known : (w : World) (node : ℕ) (act : Act) → May w node act → (id : ℕ) (chain : List Decree) → TellsOf act id chain → Knows w.nodes (w.actors node).received id chain
+pub tells_known : (w : World) (node : ℕ) (act : Act) → May w node act → (id : ℕ) (chain : List Decree) → TellsOf act id chain →
+    Knows w.nodes (w.actors node).received id chain
 tells_known w node (Replies ticket other answer) may id chain tells =
     let m : MayReply w.nodes node (w.actors node) ticket other answer = may.needs in
-    subst (λ (i : ℕ). Knows w.nodes (w.actors node).received i chain) (m.asked.about ∙ tells.0) (answer_known w.nodes node (w.actors node) m.asked.waiting answer chain m.fits tells.1)
+    subst (λ (i : ℕ). Knows w.nodes (w.actors node).received i chain) (m.asked.about ∙ tells.0)
+    (answer_known w.nodes node (w.actors node) m.asked.waiting answer chain m.fits tells.1)
 tells_known w node (Reports other shown) may id chain tells =
     subst (λ (i : ℕ). Knows w.nodes (w.actors node).received i chain) tells.0 (subst (Knows w.nodes (w.actors node).received other) tells.1 may.needs.known)
 tells_known w node act may id chain tells = absurd tells
@@ -78,10 +87,13 @@ pub record HasChain (w : World) (id : ℕ) : Type 0 where
 pub record Told (w : World) : Type 0 where
   pub accepted : (deed : Deed) (ticket id : ℕ) → In deed w.past → deed.act ≡ Replies ticket id Accepted → HasChain w id
   pub chosen : (deed : Deed) (id : ℕ) (chain : List Decree) → In deed w.past → TellsOf deed.act id chain → Chosen w id chain
-  pub granted : (node : ℕ) (slot : Slot) → In slot (w.actors node).granted → In (deed_by (record { node = node; incarnation = (w.actors node).incarnation }) (Grants slot)) w.past
+  pub granted : (node : ℕ) (slot : Slot) → In slot (w.actors node).granted →
+      In (deed_by (record { node = node; incarnation = (w.actors node).incarnation }) (Grants slot)) w.past
   pub timely : AllTimely w.past
 
-chosen_after : (w : World) → Keeps w → Told w → (node : ℕ) (act : Act) → May w node act → (deed : Deed) (id : ℕ) (chain : List Decree) → In deed (after w node act).past → TellsOf deed.act id chain → Chosen (after w node act) id chain
+chosen_after : (w : World) → Keeps w → Told w → (node : ℕ) (act : Act) → May w node act → (deed : Deed) (id : ℕ) (chain : List Decree) →
+    In deed (after w node act).past → TellsOf deed.act id chain →
+    Chosen (after w node act) id chain
 chosen_after w keeps told node act may deed id chain is_in tells =
     let c : Chosen w id chain = elim is_in [
       | inl new ↦ known_chosen w keeps node id chain (tells_known w node act may id chain (subst (λ (d : Deed). TellsOf d.act id chain) new tells))
@@ -89,7 +101,8 @@ chosen_after w keeps told node act may deed id chain is_in tells =
     ] in
     record { ballot = c.ballot; chosen = chosen_still w (after w node act) (grows w node act may) (slot_of id chain) (vote_at c.ballot chain) c.chosen }
 
-accepted_known : (nodes node : ℕ) (a : Actor) (w : Waiting) (request : Request) → FitsRequest nodes node a w request Accepted → IsAccepted nodes a (id_in request)
+accepted_known : (nodes node : ℕ) (a : Actor) (w : Waiting) (request : Request) → FitsRequest nodes node a w request Accepted →
+    IsAccepted nodes a (id_in request)
 accepted_known nodes node a w (Submit id message) fits = fits
 accepted_known nodes node a w (Query id account source) fits = absurd fits
 accepted_known nodes node a w (Cancel id account source destination) fits = absurd fits
@@ -99,13 +112,22 @@ accepted_new w keeps node ticket id may =
     let a = accepted_known w.nodes node (w.actors node) may.asked.waiting may.asked.waiting.request may.fits in
     subst (HasChain w) may.asked.about (record { chain = a.chain; chosen = known_chosen w keeps node (id_in may.asked.waiting.request) a.chain a.known })
 
-accepted_after : (w : World) → Keeps w → Told w → (node : ℕ) (act : Act) → May w node act → (deed : Deed) (ticket id : ℕ) → In deed (after w node act).past → deed.act ≡ Replies ticket id Accepted → HasChain (after w node act) id
+accepted_after : (w : World) → Keeps w → Told w → (node : ℕ) (act : Act) → May w node act → (deed : Deed) (ticket id : ℕ) →
+    In deed (after w node act).past → deed.act ≡ Replies ticket id Accepted →
+    HasChain (after w node act) id
 accepted_after w keeps told node act may deed ticket id is_in is =
     let c : HasChain w id = elim is_in [
       | inl new ↦ accepted_new w keeps node ticket id (subst (May w node) (ap (λ (d : Deed). d.act) (sym new) ∙ is) may).needs
       | inr old ↦ told.accepted deed ticket id old is
     ] in
-    record { chain = c.chain; chosen = record { ballot = c.chosen.ballot; chosen = chosen_still w (after w node act) (grows w node act may) (slot_of id c.chain) (vote_at c.chosen.ballot c.chain) c.chosen.chosen } }
+    record {
+      chain = c.chain;
+      chosen = record {
+        ballot = c.chosen.ballot;
+        chosen = chosen_still w (after w node act) (grows w node act may)
+            (slot_of id c.chain) (vote_at c.chosen.ballot c.chain) c.chosen.chosen;
+      };
+    }
 
 -- ---- an attempt that may be granted is of no message that has a fate
 
@@ -114,45 +136,64 @@ attempt_open : (newest : Decree) (older : List Decree) (number : ℕ) (final : F
 attempt_open newest older number final attempt ends = let none : final_by newest.kind ≡ None = ap final_by attempt in cc
 
 -- so no chain that begins with one that has a fate ends in an attempt
-attempt_behind : (id : ℕ) (newest : Decree) (older chain more : List Decree) (number : ℕ) (final : Final) → newest.kind ≡ Attempt number → (newest ∷ older) ≡ more ++ chain → IsPermitted id (newest ∷ older) → final_in chain ≡ Some final → ⊥
+attempt_behind : (id : ℕ) (newest : Decree) (older chain more : List Decree) (number : ℕ) (final : Final) → newest.kind ≡ Attempt number →
+    (newest ∷ older) ≡ more ++ chain → IsPermitted id (newest ∷ older) → final_in chain ≡ Some final →
+    ⊥
 attempt_behind id newest older chain more number final attempt is permitted ends =
     let last = fate_is_last id chain more final (subst (IsPermitted id) is permitted) ends in
     let same : (newest ∷ older) ≡ chain = is ∙ ap (λ (m : List Decree). m ++ chain) last in
     attempt_open newest older number final attempt (ap final_in same ∙ ends)
 
-goes_on : (w : World) → Keeps w → Links w → (id : ℕ) (newest : Decree) (older chain more : List Decree) (number : ℕ) (final : Final) → newest.kind ≡ Attempt number → chain ≡ more ++ (newest ∷ older) → Chosen w id chain → final_in chain ≡ Some final → Extended w id (newest ∷ older)
-goes_on w keeps links id newest older chain [] number final attempt is chosen ends = absurd (attempt_open newest older number final attempt (ap final_in (sym is) ∙ ends))
-goes_on w keeps links id newest older chain (last ∷ more) number final attempt is chosen ends = extended w keeps links id last more (newest ∷ older) (subst (Chosen w id) is chosen)
+goes_on : (w : World) → Keeps w → Links w → (id : ℕ) (newest : Decree) (older chain more : List Decree) (number : ℕ) (final : Final) →
+    newest.kind ≡ Attempt number → chain ≡ more ++ (newest ∷ older) → Chosen w id chain → final_in chain ≡ Some final →
+    Extended w id (newest ∷ older)
+goes_on w keeps links id newest older chain [] number final attempt is chosen ends =
+    absurd (attempt_open newest older number final attempt (ap final_in (sym is) ∙ ends))
+goes_on w keeps links id newest older chain (last ∷ more) number final attempt is chosen ends =
+    extended w keeps links id last more (newest ∷ older) (subst (Chosen w id) is chosen)
 
 -- a message with a fate whose chosen chain had come to an attempt went on from there
-beyond_attempt : (w : World) → Keeps w → Links w → (id : ℕ) (newest : Decree) (older chain : List Decree) (number : ℕ) (final : Final) → newest.kind ≡ Attempt number → Chosen w id (newest ∷ older) → Chosen w id chain → final_in chain ≡ Some final → Extended w id (newest ∷ older)
+beyond_attempt : (w : World) → Keeps w → Links w → (id : ℕ) (newest : Decree) (older chain : List Decree) (number : ℕ) (final : Final) →
+    newest.kind ≡ Attempt number → Chosen w id (newest ∷ older) → Chosen w id chain → final_in chain ≡ Some final →
+    Extended w id (newest ∷ older)
 beyond_attempt w keeps links id newest older chain number final attempt is_attempt is_chain ends = elim (cases_lt (length chain) (length (newest ∷ older))) [
   | inl shorter ↦
       let b = begins w keeps links id chain (newest ∷ older) is_chain is_attempt (omega (arith, shorter)) in
-      absurd (attempt_behind id newest older chain b.more number final attempt b.chain_is (standing w keeps links id (newest ∷ older) is_attempt).permitted ends)
+      absurd (attempt_behind id newest older chain b.more number final attempt b.chain_is
+      (standing w keeps links id (newest ∷ older) is_attempt).permitted ends)
   | inr longer ↦
       let b = begins w keeps links id (newest ∷ older) chain is_attempt is_chain longer in
       goes_on w keeps links id newest older chain b.more number final attempt b.chain_is is_chain ends
 ]
 
 -- what goes on from an attempt has it closed, or its author started anew
-pub open_passed : (w : World) → Links w → (node : ℕ) (slot : Slot) (attempted : Author) (next : Kind) → attempted ≡ record { node = node; incarnation = (w.actors node).incarnation } → ((outcome : Outcome) → In (slot, outcome) (w.actors node).closed → ⊥) → PassedClosed w attempted slot next ⊎ PassedLost w attempted next → ⊥
+pub open_passed : (w : World) → Links w → (node : ℕ) (slot : Slot) (attempted : Author) (next : Kind) →
+    attempted ≡ record { node = node; incarnation = (w.actors node).incarnation } →
+    ((outcome : Outcome) → In (slot, outcome) (w.actors node).closed → ⊥) →
+    PassedClosed w attempted slot next ⊎ PassedLost w attempted next →
+    ⊥
 open_passed w links node slot attempted next is unclosed (inl closed) =
     unclosed closed.outcome (links.recalls node slot closed.outcome (subst (λ (a : Author). ClosedIn w.past a slot closed.outcome) is closed.closed))
 open_passed w links node slot attempted next is unclosed (inr lost) =
     let later = subst (λ (a : Author). a.incarnation < (w.actors a.node).incarnation) is lost.later in omega (arith, later)
 
-pub passed_at : (w : World) (attempted : Author) (slot : Slot) (kind next : Kind) (number : ℕ) → kind ≡ Attempt number → Passed w attempted slot kind next → PassedClosed w attempted slot next ⊎ PassedLost w attempted next
+pub passed_at : (w : World) (attempted : Author) (slot : Slot) (kind next : Kind) (number : ℕ) → kind ≡ Attempt number →
+    Passed w attempted slot kind next →
+    PassedClosed w attempted slot next ⊎ PassedLost w attempted next
 passed_at w attempted slot kind next number is passed = subst (λ (k : Kind). Passed w attempted slot k next) is passed
 
-no_fate_at_grant : (w : World) → Keeps w → Links w → Told w → (node : ℕ) (slot : Slot) → MayGrant w.nodes node (w.actors node) slot → (earlier : Deed) (final : Final) → In earlier w.past → States earlier slot.id final → ⊥
+no_fate_at_grant : (w : World) → Keeps w → Links w → Told w → (node : ℕ) (slot : Slot) → MayGrant w.nodes node (w.actors node) slot →
+    (earlier : Deed) (final : Final) → In earlier w.past → States earlier slot.id final →
+    ⊥
 no_fate_at_grant w keeps links told node slot may earlier final is_in states =
     let a = may.attempting in
     let attempt = known_chosen w keeps node slot.id (a.newest ∷ a.older) a.known in
     let fated = told.chosen earlier slot.id states.chain is_in states.tells in
     let e = beyond_attempt w keeps links slot.id a.newest a.older states.chain a.number final a.attempt attempt fated states.state in
     let s = standing w keeps links slot.id (e.next ∷ a.newest ∷ a.older) e.chosen in
-    open_passed w links node (slot_of slot.id (a.newest ∷ a.older)) a.newest.author e.next.kind a.author (λ outcome is_closed. may.closed outcome (subst (λ (s : Slot). In (s, outcome) (w.actors node).closed) (sym a.place) is_closed)) (passed_at w a.newest.author (slot_of slot.id (a.newest ∷ a.older)) a.newest.kind e.next.kind a.number a.attempt s.fits.passed)
+    open_passed w links node (slot_of slot.id (a.newest ∷ a.older)) a.newest.author e.next.kind a.author
+    (λ outcome is_closed. may.closed outcome (subst (λ (s : Slot). In (s, outcome) (w.actors node).closed) (sym a.place) is_closed))
+    (passed_at w a.newest.author (slot_of slot.id (a.newest ∷ a.older)) a.newest.kind e.next.kind a.number a.attempt s.fits.passed)
 
 -- ---- what the fate DELIVERED stands on
 
@@ -163,8 +204,11 @@ pub record IsDelivered (attempted author : Author) (kind next : Kind) : Type 0 w
   pub delivered : next ≡ Fate Delivered error
   pub same : author ≡ attempted
 
-delivered_next : (message : Submission) (attempts : ℕ) (old : Author) (before : ℕ) (kind : Kind) (author : Author) (moment : ℕ) (next : Kind) → MayFollow message attempts old before kind author moment next → final_by next ≡ Some Delivered → IsDelivered old author kind next
-delivered_next message attempts old before (Attempt number) author moment (Fate Delivered error) may is = record { number = number; error = error; attempt = refl; delivered = refl; same = may }
+delivered_next : (message : Submission) (attempts : ℕ) (old : Author) (before : ℕ) (kind : Kind) (author : Author) (moment : ℕ) (next : Kind) →
+    MayFollow message attempts old before kind author moment next → final_by next ≡ Some Delivered →
+    IsDelivered old author kind next
+delivered_next message attempts old before (Attempt number) author moment (Fate Delivered error) may is =
+    record { number = number; error = error; attempt = refl; delivered = refl; same = may }
 delivered_next message attempts old before (Taken taken) author moment (Fate Delivered error) may is = absurd may
 delivered_next message attempts old before (Failed cause) author moment (Fate Delivered error) may is = absurd may
 delivered_next message attempts old before (Fate final cause) author moment (Fate Delivered error) may is = absurd may
@@ -176,9 +220,12 @@ delivered_next message attempts old before kind author moment (Taken taken) may 
 delivered_next message attempts old before kind author moment (Attempt number) may is = cc
 delivered_next message attempts old before kind author moment (Failed error) may is = cc
 
-delivered_after : (message : Option Submission) (attempt : Decree) (older : List Decree) (fate : Decree) → MayExtend message (attempt ∷ older) fate → final_by fate.kind ≡ Some Delivered → IsDelivered attempt.author fate.author attempt.kind fate.kind
+delivered_after : (message : Option Submission) (attempt : Decree) (older : List Decree) (fate : Decree) →
+    MayExtend message (attempt ∷ older) fate → final_by fate.kind ≡ Some Delivered →
+    IsDelivered attempt.author fate.author attempt.kind fate.kind
 delivered_after None attempt older fate may is = absurd may
-delivered_after (Some message) attempt older fate may is = delivered_next message _ attempt.author attempt.moment attempt.kind fate.author fate.moment fate.kind may.1 is
+delivered_after (Some message) attempt older fate may is =
+    delivered_next message _ attempt.author attempt.moment attempt.kind fate.author fate.moment fate.kind may.1 is
 
 begun_by_fate : (id : ℕ) (author : Author) (moment : ℕ) (kind : Kind) (final : Final) → MayBegin id author moment kind → final_by kind ≡ Some final → ⊥
 begun_by_fate id author moment (Taken message) final may is = cc
@@ -191,16 +238,23 @@ delivering : (outcome : Outcome) (error : ℕ) → Fate Delivered error ≡ decr
 delivering (Concluded final other) error is = cc
 delivering (Unanswered other) error is = cc
 
-answered_delivery : (past : List Deed) (author : Author) (slot : Slot) (outcome : Outcome) (error : ℕ) → outcome ≡ Concluded Delivered error → ClosedIn past author slot outcome → In (deed_by author (Concludes slot (Concluded Delivered error))) past
+answered_delivery : (past : List Deed) (author : Author) (slot : Slot) (outcome : Outcome) (error : ℕ) →
+    outcome ≡ Concluded Delivered error → ClosedIn past author slot outcome →
+    In (deed_by author (Concludes slot (Concluded Delivered error))) past
 answered_delivery past author slot outcome error is (inl answered) = subst (λ (o : Outcome). In (deed_by author (Concludes slot o)) past) is answered
 answered_delivery past author slot outcome error is (inr abandoned) = let clash : Unanswered 998 ≡ Concluded Delivered error = sym abandoned.0 ∙ is in cc
 
-passed_delivery : (w : World) (author : Author) (slot : Slot) (error : ℕ) → PassedClosed w author slot (Fate Delivered error) ⊎ PassedLost w author (Fate Delivered error) → In (deed_by author (Concludes slot (Concluded Delivered error))) w.past
-passed_delivery w author slot error (inl closed) = answered_delivery w.past author slot closed.outcome error (delivering closed.outcome error closed.kind) closed.closed
+passed_delivery : (w : World) (author : Author) (slot : Slot) (error : ℕ) →
+    PassedClosed w author slot (Fate Delivered error) ⊎ PassedLost w author (Fate Delivered error) →
+    In (deed_by author (Concludes slot (Concluded Delivered error))) w.past
+passed_delivery w author slot error (inl closed) =
+    answered_delivery w.past author slot closed.outcome error (delivering closed.outcome error closed.kind) closed.closed
 passed_delivery w author slot error (inr lost) = let clash : Fate Delivered error ≡ Failed 999 = lost.kind in cc
 
 -- an answered attempt was granted before
-granted_before : (past : List Deed) → AllTimely past → (author : Author) (slot : Slot) (outcome : Outcome) → In (deed_by author (Concludes slot outcome)) past → CameBefore (deed_by author (Grants slot)) (deed_by author (Concludes slot outcome)) past
+granted_before : (past : List Deed) → AllTimely past → (author : Author) (slot : Slot) (outcome : Outcome) →
+    In (deed_by author (Concludes slot outcome)) past →
+    CameBefore (deed_by author (Grants slot)) (deed_by author (Concludes slot outcome)) past
 granted_before [] timely author slot outcome is_in = absurd is_in
 granted_before (deed ∷ older) timely author slot outcome (inl same) = record {
   newer = [];
@@ -212,14 +266,17 @@ granted_before (deed ∷ older) timely author slot outcome (inr later) =
     let b = granted_before older timely.1 author slot outcome later in
     record { newer = deed ∷ b.newer; older = b.older; split = ap (λ (ds : List Deed). deed ∷ ds) b.split; before = b.before }
 
-delivery : (w : World) → Keeps w → Links w → Told w → (id : ℕ) (chain : List Decree) → Chosen w id chain → final_in chain ≡ Some Delivered → IsDelivery id chain w.past
+delivery : (w : World) → Keeps w → Links w → Told w → (id : ℕ) (chain : List Decree) → Chosen w id chain → final_in chain ≡ Some Delivered →
+    IsDelivery id chain w.past
 delivery w keeps links told id [] chosen is = cc
-delivery w keeps links told id (fate ∷ []) chosen is = absurd (begun_by_fate id fate.author fate.moment fate.kind Delivered (standing w keeps links id (fate ∷ []) chosen).permitted is)
+delivery w keeps links told id (fate ∷ []) chosen is =
+    absurd (begun_by_fate id fate.author fate.moment fate.kind Delivered (standing w keeps links id (fate ∷ []) chosen).permitted is)
 delivery w keeps links told id (fate ∷ attempt ∷ older) chosen is =
     let s = standing w keeps links id (fate ∷ attempt ∷ older) chosen in
     let d = delivered_after (taken_in (attempt ∷ older)) attempt older fate s.permitted.1 is in
     let passed = passed_at w attempt.author (slot_of id (attempt ∷ older)) attempt.kind fate.kind d.number d.attempt s.fits.passed in
-    let answered = passed_delivery w attempt.author (slot_of id (attempt ∷ older)) d.error (subst (λ (k : Kind). PassedClosed w attempt.author (slot_of id (attempt ∷ older)) k ⊎ PassedLost w attempt.author k) d.delivered passed) in
+    let answered = passed_delivery w attempt.author (slot_of id (attempt ∷ older)) d.error
+    (subst (λ (k : Kind). PassedClosed w attempt.author (slot_of id (attempt ∷ older)) k ⊎ PassedLost w attempt.author k) d.delivered passed) in
     record {
       fate = fate;
       attempt = attempt;
@@ -235,27 +292,33 @@ delivery w keeps links told id (fate ∷ attempt ∷ older) chosen is =
 
 -- ---- every world that is reached
 
-granted_by : (w : World) → Told w → (node : ℕ) (act : Act) (slot : Slot) → In slot (actor_by node (w.actors node) act).granted → In (deed_by (record { node = node; incarnation = (actor_by node (w.actors node) act).incarnation }) (Grants slot)) (after w node act).past
+granted_by : (w : World) → Told w → (node : ℕ) (act : Act) (slot : Slot) → In slot (actor_by node (w.actors node) act).granted →
+    In (deed_by (record { node = node; incarnation = (actor_by node (w.actors node) act).incarnation }) (Grants slot)) (after w node act).past
 granted_by w told node (Grants other) slot (inl new) = inl (λ i. record { node = node; incarnation = (w.actors node).incarnation; act = Grants (new i) })
 granted_by w told node (Grants other) slot (inr old) = inr (told.granted node slot old)
 granted_by w told node (Restarts lost serial) slot is_in = absurd is_in
 granted_by w told node act slot is_in = inr (told.granted node slot is_in)
 
-granted_after : (w : World) → Told w → (node : ℕ) (act : Act) (other : ℕ) (slot : Slot) → In slot ((after w node act).actors other).granted → In (deed_by (record { node = other; incarnation = ((after w node act).actors other).incarnation }) (Grants slot)) (after w node act).past
+granted_after : (w : World) → Told w → (node : ℕ) (act : Act) (other : ℕ) (slot : Slot) →
+    In slot ((after w node act).actors other).granted →
+    In (deed_by (record { node = other; incarnation = ((after w node act).actors other).incarnation }) (Grants slot)) (after w node act).past
 granted_after w told node act other slot is_in = elim (actors_after w node act other) [
   | inl here ↦
       subst (λ (a : Actor). In (deed_by (record { node = other; incarnation = a.incarnation }) (Grants slot)) (after w node act).past) (sym here.actor_is) (
-      subst (λ (n : ℕ). In (deed_by (record { node = n; incarnation = (actor_by node (w.actors node) act).incarnation }) (Grants slot)) (after w node act).past) (sym here.node_is) (
+      subst (λ (n : ℕ). In (deed_by (record { node = n; incarnation = (actor_by node (w.actors node) act).incarnation }) (Grants slot))
+      (after w node act).past) (sym here.node_is) (
       granted_by w told node act slot (subst (λ (a : Actor). In slot a.granted) here.actor_is is_in)))
   | inr elsewhere ↦
       subst (λ (a : Actor). In (deed_by (record { node = other; incarnation = a.incarnation }) (Grants slot)) (after w node act).past) (sym elsewhere) (
       inr (told.granted other slot (subst (λ (a : Actor). In slot a.granted) elsewhere is_in)))
 ]
 
-timely_new : (w : World) → Keeps w → Links w → Told w → (node : ℕ) (act : Act) → May w node act → Timely (record { node = node; incarnation = (w.actors node).incarnation; act = act }) w.past
+timely_new : (w : World) → Keeps w → Links w → Told w → (node : ℕ) (act : Act) → May w node act →
+    Timely (record { node = node; incarnation = (w.actors node).incarnation; act = act }) w.past
 timely_new w keeps links told node act may = record {
   answers = λ slot outcome is. let m : May w node (Concludes slot outcome) = subst (May w node) is may in told.granted node slot m.needs.granted;
-  grants = λ slot earlier final is is_in states. let m : May w node (Grants slot) = subst (May w node) is may in no_fate_at_grant w keeps links told node slot m.needs earlier final is_in states;
+  grants = λ slot earlier final is is_in states. let m : May w node (Grants slot) = subst (May w node) is may in
+      no_fate_at_grant w keeps links told node slot m.needs earlier final is_in states;
   delivers = λ id chain tells is. delivery w keeps links told id chain (known_chosen w keeps node id chain (tells_known w node act may id chain tells)) is;
 }
 

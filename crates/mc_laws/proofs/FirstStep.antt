@@ -49,7 +49,10 @@ none_known : (id : ℕ) (chain : List Decree) → Knows 1 [] id chain → ⊥
 none_known id chain known = none_learned (slot_of id chain) (vote_at known.ballot chain) known.learned
 
 -- the one request that waits
-only_waiting : (message : Submission) (P : Waiting → Type 0) → P (record { ticket = 1; since = opening_clock; request = Submit first_id message; settled = false }) → (waiting : Waiting) → In waiting (asked message).waiting → P waiting
+only_waiting : (message : Submission) (P : Waiting → Type 0) →
+    P (record { ticket = 1; since = opening_clock; request = Submit first_id message; settled = false }) → (waiting : Waiting) →
+    In waiting (asked message).waiting →
+    P waiting
 only_waiting message P holds waiting (inl same) = subst P (sym same) holds
 only_waiting message P holds waiting (inr none) = absurd none
 
@@ -71,7 +74,8 @@ no_answer message waiting answer fits = fits
 
 nothing_to_reply : (message : Submission) (act : Act) → DueToReply 1 1 (asked message) act → ⊥
 nothing_to_reply message (Replies ticket id answer) due =
-    only_waiting message (λ w. (other : Waiting) → FitsRequest 1 1 (asked message) other w.request answer → ⊥) (λ other. no_answer message other answer) due.asked.waiting due.asked.waits due.asked.waiting due.fits
+    only_waiting message (λ w. (other : Waiting) → FitsRequest 1 1 (asked message) other w.request answer → ⊥)
+    (λ other. no_answer message other answer) due.asked.waiting due.asked.waits due.asked.waiting due.fits
 nothing_to_reply message act due = due
 
 nothing_to_report : (message : Submission) (act : Act) → DueToReport 1 1 new_node (asked message) act → ⊥
@@ -107,12 +111,15 @@ record Cause (message : Submission) (id place : ℕ) (chain : List Decree) : Typ
 -- what causes a round
 only_chain : (message : Submission) (id : ℕ) (chain : List Decree) → IsFirst 1 (asked message) id chain → chain ≡ taken_chain message
 only_chain message id chain first =
-    first.chain_is ∙ only_waiting message (λ w. w.request ≡ Submit id first.message → taken_at w.since first.message ≡ taken_chain message) (λ is. ap (taken_at opening_clock) (same_message message id first.message is)) first.waiting first.waits first.submits
+    first.chain_is ∙ only_waiting message (λ w. w.request ≡ Submit id first.message → taken_at w.since first.message ≡ taken_chain message)
+    (λ is. ap (taken_at opening_clock) (same_message message id first.message is)) first.waiting first.waits first.submits
   where
     same_message : (one : Submission) (id : ℕ) (other : Submission) → Submit first_id one ≡ Submit id other → other ≡ one
     same_message one id other is = cc
 
-only_cause : (message : Submission) (id place : ℕ) (chain : List Decree) → Causes 1 1 new_node (asked message) (Arrival (Submit first_id message)) id place chain → Cause message id place chain
+only_cause : (message : Submission) (id place : ℕ) (chain : List Decree) →
+    Causes 1 1 new_node (asked message) (Arrival (Submit first_id message)) id place chain →
+    Cause message id place chain
 only_cause message id place chain (inl take) = record { id_is = sym take.0; place_is = take.1; chain_is = only_chain message id chain take.2 }
 only_cause message id place chain (inr (inl close)) = absurd close
 only_cause message id place chain (inr (inr (inl follow))) = absurd follow
@@ -127,12 +134,17 @@ taken_first message = record {
   chain_is = refl;
 }
 
-prepared_only : (message : Submission) (act : Act) → In act (Prepares (slot_of first_id (taken_chain message)) first_ballot (taken_chain message) ∷ []) → DueToPrepare 1 1 new_node (asked message) no_records (Arrival (Submit first_id message)) act
+prepared_only : (message : Submission) (act : Act) →
+    In act (Prepares (slot_of first_id (taken_chain message)) first_ballot (taken_chain message) ∷ []) →
+    DueToPrepare 1 1 new_node (asked message) no_records (Arrival (Submit first_id message)) act
 prepared_only message act (inr none) = absurd none
 prepared_only message act (inl same) =
-    subst (DueToPrepare 1 1 new_node (asked message) no_records (Arrival (Submit first_id message))) (sym same) (inl (refl, refl, taken_first message), may_prepare message (slot_of first_id (taken_chain message)))
+    subst (DueToPrepare 1 1 new_node (asked message) no_records (Arrival (Submit first_id message))) (sym same)
+    (inl (refl, refl, taken_first message), may_prepare message (slot_of first_id (taken_chain message)))
 
-prepared_all : (message : Submission) (act : Act) → DueToPrepare 1 1 new_node (asked message) no_records (Arrival (Submit first_id message)) act → In (key_of act) (first_id ∷ [])
+prepared_all : (message : Submission) (act : Act) →
+    DueToPrepare 1 1 new_node (asked message) no_records (Arrival (Submit first_id message)) act →
+    In (key_of act) (first_id ∷ [])
 prepared_all message (Prepares slot ballot chain) due = inl (only_cause message slot.id slot.place chain due.0).id_is
 prepared_all message act due = absurd due
 

@@ -1,5 +1,6 @@
 -- A node that is told of a vote starts a round for its chain, and proposes it.
-use Rattle.std.proofs.Common.{◌≡◌, ◌⊎◌, ℕ, zero, suc, ◌*◌, ◌<◌, true, false, List, [], ◌∷◌, ◌++◌, Option, Some, None, refl, sym, ◌∙◌, ap, subst, inl, inr, arith}
+use Rattle.std.proofs.Common.{◌≡◌, ◌⊎◌, ℕ, zero, suc, ◌*◌, ◌<◌, true, false, List, [], ◌∷◌, ◌++◌, Option, Some, None, refl, sym, ◌∙◌, ap}
+use Rattle.std.proofs.Common.{subst, inl, inr, arith}
 use Rattle.std.specs.Prelude.{◌==◌, not}
 use Rattle.std.proofs.lemmas.Bool.{eq-eqb, true≢false}
 use Rattle.mc_model.specs.message.Decree.{Decree}
@@ -92,19 +93,29 @@ module _ (account source : List ℕ) where
   settles_none received sent offers act due = due
 
   -- it is not answered while nothing is known, unless a majority has told of nothing
-  no_answer : (received sent : List Packet) (offers : List Offer) → NoVotes received → (IsSettled 3 received question None → ⊥) → (waiting : Waiting) → waiting ≡ asked_for → (answer : Answer) → FitsRequest 3 1 (asking_at received sent offers) waiting (Query second_id account source) answer → ⊥
+  no_answer : (received sent : List Packet) (offers : List Offer) → NoVotes received → (IsSettled 3 received question None → ⊥) →
+      (waiting : Waiting) → waiting ≡ asked_for → (answer : Answer) →
+      FitsRequest 3 1 (asking_at received sent offers) waiting (Query second_id account source) answer →
+      ⊥
   no_answer received sent offers none unsettled waiting is (Shown chain) fits = none_known 3 received none _ chain fits.known
   no_answer received sent offers none unsettled waiting is NotOwner fits = none_known 3 received none _ fits.chain fits.known
-  no_answer received sent offers none unsettled waiting is Unknown fits = unsettled (subst (λ (w : Waiting). IsSettled 3 received (name_of 1 (asking_at received sent offers) w) None) is fits.settled)
+  no_answer received sent offers none unsettled waiting is Unknown fits = unsettled
+      (subst (λ (w : Waiting). IsSettled 3 received (name_of 1 (asking_at received sent offers) w) None) is fits.settled)
   no_answer received sent offers none unsettled waiting is answer fits = fits
 
-  replies_none : (received sent : List Packet) (offers : List Offer) → NoVotes received → (IsSettled 3 received question None → ⊥) → (act : Act) → DueToReply 3 1 (asking_at received sent offers) act → ⊥
+  replies_none : (received sent : List Packet) (offers : List Offer) → NoVotes received → (IsSettled 3 received question None → ⊥) →
+      (act : Act) → DueToReply 3 1 (asking_at received sent offers) act →
+      ⊥
   replies_none received sent offers none unsettled (Replies ticket id answer) due =
       let is = only_waiting (λ w. w ≡ asked_for) refl due.asked.waiting due.asked.waits in
-      no_answer received sent offers none unsettled due.asked.waiting is answer (subst (λ (r : Request). FitsRequest 3 1 (asking_at received sent offers) due.asked.waiting r answer) (ap (λ (w : Waiting). w.request) is) due.fits)
+      no_answer received sent offers none unsettled due.asked.waiting is answer
+      (subst (λ (r : Request). FitsRequest 3 1 (asking_at received sent offers) due.asked.waiting r answer)
+      (ap (λ (w : Waiting). w.request) is) due.fits)
   replies_none received sent offers none unsettled act due = due
 
-  reports_none : (before : Actor) (received sent : List Packet) (offers : List Offer) → NoVotes received → (act : Act) → DueToReport 3 1 before (asking_at received sent offers) act → ⊥
+  reports_none : (before : Actor) (received sent : List Packet) (offers : List Offer) → NoVotes received → (act : Act) →
+      DueToReport 3 1 before (asking_at received sent offers) act →
+      ⊥
   reports_none before received sent offers none (Reports id chain) due = none_known 3 received none id chain due.known
   reports_none before received sent offers none act due = due
 
@@ -113,7 +124,13 @@ module _ (account source : List ℕ) where
   asks_none before a packet act due = due
 
   -- a packet that the acceptor does not answer
-  pub heard_exact : (packet : Packet) (received sent : List Packet) (offers : List Offer) → IsCore among_three (asking_at received sent offers) no_records (Delivery packet) (Receives packet ∷ []) → NoVotes (packet ∷ received) → (IsSettled 3 (packet ∷ received) question None → ⊥) → (prepares proposes : List Act) → AreDueOnce (DueToPrepare 3 1 (asking_at received sent offers) (asking_at (packet ∷ received) sent offers) no_records (Delivery packet)) prepares → AreDueOnce (DueToPropose 3 1 (asking_at received sent offers) (asking_at (packet ∷ received) sent offers)) proposes → (acts : List Act) → acts ≡ (proposes ++ prepares) ++ Receives packet ∷ [] → IsExact among_three (asking_at received sent offers) no_records (Delivery packet) acts
+  pub heard_exact : (packet : Packet) (received sent : List Packet) (offers : List Offer) →
+      IsCore among_three (asking_at received sent offers) no_records (Delivery packet) (Receives packet ∷ []) →
+      NoVotes (packet ∷ received) → (IsSettled 3 (packet ∷ received) question None → ⊥) → (prepares proposes : List Act) →
+      AreDueOnce (DueToPrepare 3 1 (asking_at received sent offers) (asking_at (packet ∷ received) sent offers) no_records (Delivery packet)) prepares →
+      AreDueOnce (DueToPropose 3 1 (asking_at received sent offers) (asking_at (packet ∷ received) sent offers)) proposes →
+      (acts : List Act) → acts ≡ (proposes ++ prepares) ++ Receives packet ∷ [] →
+      IsExact among_three (asking_at received sent offers) no_records (Delivery packet) acts
   heard_exact packet received sent offers core none unsettled prepares proposes prepared proposed acts is = record {
     core = Receives packet ∷ [];
     settles = [];
@@ -128,12 +145,14 @@ module _ (account source : List ℕ) where
     core_is = core;
     settled = none_due (DueToSettle 3 1 (asking_at (packet ∷ received) sent offers)) (settles_none (packet ∷ received) sent offers);
     ended = none_due (DueToEnd (Delivery packet) (asking_at (packet ∷ received) sent offers)) (λ act due. due);
-    asked = none_due (DueToAsk 3 1 (asking_at received sent offers) (asking_at (packet ∷ received) sent offers) (Delivery packet)) (asks_none (asking_at received sent offers) (asking_at (packet ∷ received) sent offers) packet);
+    asked = none_due (DueToAsk 3 1 (asking_at received sent offers) (asking_at (packet ∷ received) sent offers) (Delivery packet))
+        (asks_none (asking_at received sent offers) (asking_at (packet ∷ received) sent offers) packet);
     abandoned = none_due (DueToAbandon 3 1 (asking_at (packet ∷ received) sent offers) no_records (Delivery packet)) (λ act due. due);
     prepared = prepared;
     proposed = proposed;
     replied = none_due (DueToReply 3 1 (asking_at (packet ∷ received) sent offers)) (replies_none (packet ∷ received) sent offers none unsettled);
-    reported = none_due (DueToReport 3 1 (asking_at received sent offers) (asking_at (packet ∷ received) sent offers)) (reports_none (asking_at received sent offers) (packet ∷ received) sent offers none);
+    reported = none_due (DueToReport 3 1 (asking_at received sent offers) (asking_at (packet ∷ received) sent offers))
+        (reports_none (asking_at received sent offers) (packet ∷ received) sent offers none);
   }
 
 -- ---- the packets that come
@@ -194,7 +213,10 @@ module _ (account source : List ℕ) (vote : Vote) where
   at received sent offers = asking_at account source received sent offers
 
   -- nothing but a Tell starts a round here
-  no_cause : (before : Actor) (packet : Packet) (received sent : List Packet) (offers : List Offer) → NoVotes received → ((id place : ℕ) (chain : List Decree) → CausesFollow 3 1 before (at received sent offers) (Delivery packet) id place chain → ⊥) → (act : Act) → DueToPrepare 3 1 before (at received sent offers) no_records (Delivery packet) act → ⊥
+  no_cause : (before : Actor) (packet : Packet) (received sent : List Packet) (offers : List Offer) → NoVotes received →
+      ((id place : ℕ) (chain : List Decree) → CausesFollow 3 1 before (at received sent offers) (Delivery packet) id place chain → ⊥) →
+      (act : Act) → DueToPrepare 3 1 before (at received sent offers) no_records (Delivery packet) act →
+      ⊥
   no_cause before packet received sent offers none no_follow (Prepares slot ballot chain) due = by_cause due.0
     where
       by_cause : Causes 3 1 before (at received sent offers) (Delivery packet) slot.id slot.place chain → ⊥
@@ -236,7 +258,8 @@ module _ (account source : List ℕ) (vote : Vote) where
   nobody_told : IsSettled 3 [] question None → ⊥
   nobody_told settled = (both 3 _ _ settled.majority settled.majority).one.heard
 
-  arrival_exact : IsExact among_three (opened 1 1) no_records (Arrival (Query second_id account source)) (Asks second_id 1 ∷ Begins 1 (Query second_id account source) ∷ [])
+  arrival_exact : IsExact among_three (opened 1 1) no_records (Arrival (Query second_id account source))
+      (Asks second_id 1 ∷ Begins 1 (Query second_id account source) ∷ [])
   arrival_exact = record {
     core = Begins 1 (Query second_id account source) ∷ [];
     settles = [];
@@ -263,12 +286,22 @@ module _ (account source : List ℕ) (vote : Vote) where
   few_2 : (settled : IsSettled 3 (Tell 2 question None ∷ []) question None) → ⊥
   few_2 settled = few_told (HasTold (Tell 2 question None ∷ []) question) (λ node heard. from_2 node heard.told heard.heard) settled.majority
 
-  no_follow_2 : (id place : ℕ) (chain : List Decree) → CausesFollow 3 1 (at [] [] []) (at (Tell 2 question None ∷ []) [] []) (Delivery (Tell 2 question None)) id place chain → ⊥
-  no_follow_2 id place chain follow = few_told (HasTold (Tell 2 question None ∷ []) question) (λ node heard. from_2 node heard.told heard.heard) follow.1.majority
+  no_follow_2 : (id place : ℕ) (chain : List Decree) →
+      CausesFollow 3 1 (at [] [] []) (at (Tell 2 question None ∷ []) [] []) (Delivery (Tell 2 question None)) id place chain →
+      ⊥
+  no_follow_2 id place chain follow = few_told (HasTold (Tell 2 question None ∷ []) question)
+      (λ node heard. from_2 node heard.told heard.heard) follow.1.majority
 
   told_2_exact : IsExact among_three (at [] [] []) no_records (Delivery (Tell 2 question None)) (Receives (Tell 2 question None) ∷ [])
   told_2_exact = heard_exact account source (Tell 2 question None) [] [] []
-      (inl ((record { least = omega arith; most = omega arith }, λ mine now. record { given = omega arith; about = λ waiting waits is. tt }), record { answer = []; answered = refl; acts_are = refl }))
+      (inl (
+        (
+          record { least = omega arith; most = omega arith },
+          λ mine now. record
+              { given = omega arith; about = λ waiting waits is. tt },
+        ),
+        record { answer = []; answered = refl; acts_are = refl },
+      ))
       no_votes_2 few_2 [] []
       (none_due_once _ (no_cause (at [] [] []) (Tell 2 question None) (Tell 2 question None ∷ []) [] [] no_votes_2 no_follow_2))
       (none_due_once (DueToPropose 3 1 (at [] [] []) (at (Tell 2 question None ∷ []) [] [])) (proposes_none (at [] [] []) (Tell 2 question None ∷ [])))
@@ -277,7 +310,8 @@ module _ (account source : List ℕ) (vote : Vote) where
   -- node 3 tells of a vote
   only_told : (id place : ℕ) (other : Vote) → ToldBy (at (told vote) [] []) question id place other → (id ≡ second_id) × (place ≡ 0) × (other ≡ vote)
   only_told id place other t = elim t.heard [
-    | inl same ↦ let tops : ◌≡◌ {A = TopVote} (top_at (slot_at id place) other) (top_at second_slot vote) = cc in (ap (λ (x : TopVote). x.id) tops, ap (λ (x : TopVote). x.place) tops, ap (λ (x : TopVote). x.vote) tops)
+    | inl same ↦ let tops : ◌≡◌ {A = TopVote} (top_at (slot_at id place) other) (top_at second_slot vote) = cc in
+        (ap (λ (x : TopVote). x.id) tops, ap (λ (x : TopVote). x.place) tops, ap (λ (x : TopVote). x.vote) tops)
     | inr earlier ↦ elim earlier [ inl same ↦ cc | inr none ↦ absurd none ]
   ]
 
@@ -288,11 +322,13 @@ module _ (account source : List ℕ) (vote : Vote) where
     waits = inl refl;
     named = refl;
     about = refl;
-    majority = two_and_three (HasTold (told vote) question) (record { told = None; heard = inr (inl refl) }) (record { told = Some (top_at second_slot vote); heard = inl refl });
+    majority = two_and_three (HasTold (told vote) question) (record { told = None; heard = inr (inl refl) })
+        (record { told = Some (top_at second_slot vote); heard = inl refl });
     highest = record {
       shown = record { teller = 3; heard = inl refl };
       place_most = λ place held shown. let p = (only_told second_id place held shown).1 in omega (arith, p);
-      ballot_most = λ held shown. let same = (only_told second_id 0 held shown).2 in let ballots : held.ballot ≡ vote.ballot = ap (λ (v : Vote). v.ballot) same in omega (arith, ballots);
+      ballot_most = λ held shown. let same = (only_told second_id 0 held shown).2 in let ballots : held.ballot ≡ vote.ballot = ap
+          (λ (v : Vote). v.ballot) same in omega (arith, ballots);
     };
     ahead = λ chain known. absurd (none_known 3 (told vote) (no_votes_3 vote) second_id chain known);
     chain_is = refl;
@@ -324,51 +360,72 @@ module _ (account source : List ℕ) (vote : Vote) where
     };
   }
 
-  one_round : AreDueOnce (DueToPrepare 3 1 (at (Tell 2 question None ∷ []) [] []) (at (told vote) [] []) no_records (Delivery (told_by_3 vote))) (Prepares second_slot first_ballot vote.chain ∷ [])
+  one_round : AreDueOnce (DueToPrepare 3 1 (at (Tell 2 question None ∷ []) [] []) (at (told vote) [] []) no_records
+      (Delivery (told_by_3 vote))) (Prepares second_slot first_ballot vote.chain ∷ [])
   one_round = record { only = only; all = all; order = tt }
     where
-      only : (act : Act) → In act (Prepares second_slot first_ballot vote.chain ∷ []) → DueToPrepare 3 1 (at (Tell 2 question None ∷ []) [] []) (at (told vote) [] []) no_records (Delivery (told_by_3 vote)) act
-      only act (inl same) = subst (DueToPrepare 3 1 (at (Tell 2 question None ∷ []) [] []) (at (told vote) [] []) no_records (Delivery (told_by_3 vote))) (sym same) (inr (inr (inl (concerned_3, shows))), prepares_so)
+      only : (act : Act) → In act (Prepares second_slot first_ballot vote.chain ∷ []) →
+          DueToPrepare 3 1 (at (Tell 2 question None ∷ []) [] []) (at (told vote) [] []) no_records (Delivery (told_by_3 vote)) act
+      only act (inl same) = subst (DueToPrepare 3 1 (at (Tell 2 question None ∷ []) [] []) (at (told vote) [] []) no_records
+          (Delivery (told_by_3 vote))) (sym same) (inr (inr (inl (concerned_3, shows))), prepares_so)
       only act (inr none) = absurd none
 
-      all : (act : Act) → DueToPrepare 3 1 (at (Tell 2 question None ∷ []) [] []) (at (told vote) [] []) no_records (Delivery (told_by_3 vote)) act → In (key_of act) (second_id ∷ [])
+      all : (act : Act) →
+          DueToPrepare 3 1 (at (Tell 2 question None ∷ []) [] []) (at (told vote) [] []) no_records (Delivery (told_by_3 vote)) act →
+          In (key_of act) (second_id ∷ [])
       all (Prepares slot ballot chain) due = by_cause due.0
         where
-          by_cause : Causes 3 1 (at (Tell 2 question None ∷ []) [] []) (at (told vote) [] []) (Delivery (told_by_3 vote)) slot.id slot.place chain → In slot.id (second_id ∷ [])
+          by_cause : Causes 3 1 (at (Tell 2 question None ∷ []) [] []) (at (told vote) [] [])
+              (Delivery (told_by_3 vote)) slot.id slot.place chain →
+              In slot.id (second_id ∷ [])
           by_cause (inl take) = absurd take
           by_cause (inr (inl close)) = absurd close
-          by_cause (inr (inr (inl follow))) = inl (sym follow.1.about ∙ only_waiting account source (λ w. id_in w.request ≡ second_id) refl follow.1.waiting follow.1.waits)
+          by_cause (inr (inr (inl follow))) = inl (sym follow.1.about ∙ only_waiting account source
+              (λ w. id_in w.request ≡ second_id) refl follow.1.waiting follow.1.waits)
           by_cause (inr (inr (inr delete))) = absurd (none_known 3 (told vote) (no_votes_3 vote) _ _ delete.deletes.further.known)
       all act due = absurd due
 
-  told_3_exact : IsExact among_three (at (Tell 2 question None ∷ []) [] []) no_records (Delivery (told_by_3 vote)) (Prepares second_slot first_ballot vote.chain ∷ Receives (told_by_3 vote) ∷ [])
+  told_3_exact : IsExact among_three (at (Tell 2 question None ∷ []) [] []) no_records (Delivery (told_by_3 vote))
+      (Prepares second_slot first_ballot vote.chain ∷ Receives (told_by_3 vote) ∷ [])
   told_3_exact = heard_exact account source (told_by_3 vote) (Tell 2 question None ∷ []) [] []
       (inl (concerned_3, record { answer = []; answered = refl; acts_are = refl }))
       (no_votes_3 vote) (unsettled_by_3 vote (told vote) (inl refl)) (Prepares second_slot first_ballot vote.chain ∷ []) []
       one_round
-      (none_due_once (DueToPropose 3 1 (at (Tell 2 question None ∷ []) [] []) (at (told vote) [] [])) (proposes_none (at (Tell 2 question None ∷ []) [] []) (told vote)))
+      (none_due_once (DueToPropose 3 1 (at (Tell 2 question None ∷ []) [] []) (at (told vote) [] []))
+      (proposes_none (at (Tell 2 question None ∷ []) [] []) (told vote)))
       (Prepares second_slot first_ballot vote.chain ∷ Receives (told_by_3 vote) ∷ []) refl
 
   -- node 2 promises, and one promise is no majority
   promised_by_2 : (slot : Slot) (ballot node : ℕ) → (report : Option Vote) × In (Promise node slot ballot report) (promised vote) → node ≡ 2
-  promised_by_2 slot ballot node p = elim p.1 [ inl same ↦ cc | inr earlier ↦ elim earlier [ inl same ↦ cc | inr first ↦ elim first [ inl same ↦ cc | inr none ↦ absurd none ] ] ]
+  promised_by_2 slot ballot node p = elim p.1 [
+    | inl same ↦ cc
+    | inr earlier ↦ elim earlier
+        [ inl same ↦ cc | inr first ↦ elim first [ inl same ↦ cc | inr none ↦ absurd none ] ]
+  ]
 
   few_promised : (slot : Slot) (ballot : ℕ) → IsPromised 3 (at (promised vote) prepared_so (offered_so vote)) slot ballot → ⊥
   few_promised slot ballot majority = few_told _ (promised_by_2 slot ballot) majority
 
-  no_follow_promise : (before : Actor) (received : List Packet) (node : ℕ) (id place : ℕ) (chain : List Decree) → CausesFollow 3 1 before (at received prepared_so (offered_so vote)) (Delivery (Promise node second_slot first_ballot None)) id place chain → ⊥
+  no_follow_promise : (before : Actor) (received : List Packet) (node : ℕ) (id place : ℕ) (chain : List Decree) →
+      CausesFollow 3 1 before (at received prepared_so (offered_so vote))
+      (Delivery (Promise node second_slot first_ballot None)) id place chain →
+      ⊥
   no_follow_promise before received node id place chain follow = follow
 
   proposes_none_yet : (before : Actor) (act : Act) → DueToPropose 3 1 before (at (promised vote) prepared_so (offered_so vote)) act → ⊥
   proposes_none_yet before (Proposes slot other) due = few_promised slot other.ballot due.0.promised
   proposes_none_yet before act due = due
 
-  promised_2_exact : IsExact among_three (at (told vote) prepared_so (offered_so vote)) no_records (Delivery (Promise 2 second_slot first_ballot None)) (Receives (Promise 2 second_slot first_ballot None) ∷ [])
+  promised_2_exact : IsExact among_three (at (told vote) prepared_so (offered_so vote)) no_records
+      (Delivery (Promise 2 second_slot first_ballot None)) (Receives (Promise 2 second_slot first_ballot None) ∷ [])
   promised_2_exact = heard_exact account source (Promise 2 second_slot first_ballot None) (told vote) prepared_so (offered_so vote)
       (inl ((record { least = omega arith; most = omega arith }, λ mine. inl refl), record { answer = []; answered = refl; acts_are = refl }))
       (no_votes_4 vote) (unsettled_by_3 vote (promised vote) (inr (inl refl))) [] []
-      (none_due_once _ (no_cause (at (told vote) prepared_so (offered_so vote)) (Promise 2 second_slot first_ballot None) (promised vote) prepared_so (offered_so vote) (no_votes_4 vote) (no_follow_promise (at (told vote) prepared_so (offered_so vote)) (promised vote) 2)))
-      (none_due_once (DueToPropose 3 1 (at (told vote) prepared_so (offered_so vote)) (at (promised vote) prepared_so (offered_so vote))) (proposes_none_yet (at (told vote) prepared_so (offered_so vote))))
+      (none_due_once _ (no_cause (at (told vote) prepared_so (offered_so vote)) (Promise 2 second_slot first_ballot None)
+      (promised vote) prepared_so (offered_so vote) (no_votes_4 vote)
+      (no_follow_promise (at (told vote) prepared_so (offered_so vote)) (promised vote) 2)))
+      (none_due_once (DueToPropose 3 1 (at (told vote) prepared_so (offered_so vote)) (at (promised vote) prepared_so (offered_so vote)))
+      (proposes_none_yet (at (told vote) prepared_so (offered_so vote))))
       (Receives (Promise 2 second_slot first_ballot None) ∷ []) refl
 
   -- node 3 promises, and the chain of which it had told is proposed
@@ -402,22 +459,32 @@ module _ (account source : List ℕ) (vote : Vote) where
   round_slot slot ballot [] rest is = let heads : Prepare 1 second_slot first_ballot ≡ Prepare 1 slot ballot = cc in cc
   round_slot slot ballot (first ∷ newer) rest is = absurd (never_empty newer rest (Prepare 1 slot ballot) cc)
 
-  one_proposal : AreDueOnce (DueToPropose 3 1 (at (promised vote) prepared_so (offered_so vote)) (at all_promised prepared_so (offered_so vote))) (Proposes second_slot (vote_at first_ballot vote.chain) ∷ [])
+  one_proposal : AreDueOnce (DueToPropose 3 1 (at (promised vote) prepared_so (offered_so vote))
+      (at all_promised prepared_so (offered_so vote))) (Proposes second_slot (vote_at first_ballot vote.chain) ∷ [])
   one_proposal = record { only = only; all = all; order = tt }
     where
-      only : (act : Act) → In act (Proposes second_slot (vote_at first_ballot vote.chain) ∷ []) → DueToPropose 3 1 (at (promised vote) prepared_so (offered_so vote)) (at all_promised prepared_so (offered_so vote)) act
-      only act (inl same) = subst (DueToPropose 3 1 (at (promised vote) prepared_so (offered_so vote)) (at all_promised prepared_so (offered_so vote))) (sym same) (complete, inl (record { offered = inl refl; unreported = no_reports }))
+      only : (act : Act) → In act (Proposes second_slot (vote_at first_ballot vote.chain) ∷ []) →
+          DueToPropose 3 1 (at (promised vote) prepared_so (offered_so vote)) (at all_promised prepared_so (offered_so vote)) act
+      only act (inl same) = subst (DueToPropose 3 1 (at (promised vote) prepared_so (offered_so vote))
+          (at all_promised prepared_so (offered_so vote))) (sym same) (complete, inl (record { offered = inl refl; unreported = no_reports }))
       only act (inr none) = absurd none
 
-      all : (act : Act) → DueToPropose 3 1 (at (promised vote) prepared_so (offered_so vote)) (at all_promised prepared_so (offered_so vote)) act → In (key_of act) (second_id ∷ [])
-      all (Proposes slot other) due = inl (ap (λ (s : Slot). s.id) (round_slot slot other.ballot due.0.running.round.newer due.0.running.round.older due.0.running.round.split))
+      all : (act : Act) →
+          DueToPropose 3 1 (at (promised vote) prepared_so (offered_so vote)) (at all_promised prepared_so (offered_so vote)) act →
+          In (key_of act) (second_id ∷ [])
+      all (Proposes slot other) due = inl (ap (λ (s : Slot). s.id)
+          (round_slot slot other.ballot due.0.running.round.newer due.0.running.round.older due.0.running.round.split))
       all act due = absurd due
 
-  promised_3_exact : IsExact among_three (at (promised vote) prepared_so (offered_so vote)) no_records (Delivery (Promise 3 second_slot first_ballot None)) (Proposes second_slot (vote_at first_ballot vote.chain) ∷ Receives (Promise 3 second_slot first_ballot None) ∷ [])
+  promised_3_exact : IsExact among_three (at (promised vote) prepared_so (offered_so vote)) no_records
+      (Delivery (Promise 3 second_slot first_ballot None))
+      (Proposes second_slot (vote_at first_ballot vote.chain) ∷ Receives (Promise 3 second_slot first_ballot None) ∷ [])
   promised_3_exact = heard_exact account source (Promise 3 second_slot first_ballot None) (promised vote) prepared_so (offered_so vote)
       (inl ((record { least = omega arith; most = omega arith }, λ mine. inl refl), record { answer = []; answered = refl; acts_are = refl }))
       (no_votes_5 vote) (unsettled_by_3 vote all_promised (inr (inr (inl refl)))) [] (Proposes second_slot (vote_at first_ballot vote.chain) ∷ [])
-      (none_due_once _ (no_cause (at (promised vote) prepared_so (offered_so vote)) (Promise 3 second_slot first_ballot None) all_promised prepared_so (offered_so vote) (no_votes_5 vote) (no_follow_promise (at (promised vote) prepared_so (offered_so vote)) all_promised 3)))
+      (none_due_once _ (no_cause (at (promised vote) prepared_so (offered_so vote))
+      (Promise 3 second_slot first_ballot None) all_promised prepared_so (offered_so vote) (no_votes_5 vote)
+      (no_follow_promise (at (promised vote) prepared_so (offered_so vote)) all_promised 3)))
       one_proposal
       (Proposes second_slot (vote_at first_ballot vote.chain) ∷ Receives (Promise 3 second_slot first_ballot None) ∷ []) refl
 
@@ -435,7 +502,8 @@ module _ (account source : List ℕ) (vote : Vote) where
             once = λ chain is_in. elim is_in [ inl same ↦ cc | inr none ↦ none ];
             justified = record {
               highest = None;
-              majority = two_and_three _ (record { report = None; made = inr (inl refl); within = tt }) (record { report = None; made = inl refl; within = tt });
+              majority = two_and_three _ (record { report = None; made = inr (inl refl); within = tt })
+                  (record { report = None; made = inl refl; within = tt });
               carried = tt;
             };
             free = inl (inr (inr (inr (inl (3, question, vote.ballot, inr (inr (inl refl)))))));
@@ -449,7 +517,10 @@ module _ (account source : List ℕ) (vote : Vote) where
       record { run = (record { least = omega arith; most = omega arith; up = refl; needs = tt }, tt); exact = promised_2_exact },
       (
         record {
-          run = (record { least = omega arith; most = omega arith; up = refl; needs = (refl, refl) }, (record { least = omega arith; most = omega arith; up = refl; needs = tt }, tt));
+          run = (
+            record { least = omega arith; most = omega arith; up = refl; needs = (refl, refl) },
+            (record { least = omega arith; most = omega arith; up = refl; needs = tt }, tt),
+          );
           exact = told_3_exact;
         },
         (
@@ -457,7 +528,13 @@ module _ (account source : List ℕ) (vote : Vote) where
           (
             record {
               run = (
-                record { least = omega arith; most = omega arith; up = refl; needs = record { waiting = asked_for account source; waits = inl refl; ticket_is = refl; about = refl } },
+                record {
+                  least = omega arith;
+                  most = omega arith;
+                  up = refl;
+                  needs = record
+                      { waiting = asked_for account source; waits = inl refl; ticket_is = refl; about = refl };
+                },
                 (record { least = omega arith; most = omega arith; up = refl; needs = record { next = refl; room = refl; fit = tt } }, tt),
               );
               exact = arrival_exact;

@@ -32,13 +32,19 @@ pub record Names (w : World) : Type 0 where
 -- an actor goes on having given it
 named_by : (node : ℕ) (a : Actor) (act : Act) (name : Name) → WasNamed a name → WasNamed (actor_by node a act) name
 named_by node a act name named = elim (remembers node a act) [
-  | inl anew ↦ subst (λ (x : Act). WasNamed (actor_by node a x) name) (sym anew.2) (elim named [ inl before ↦ inl (omega (arith, before)) | inr now ↦ inl (omega (arith, now.0)) ])
-  | inr r ↦ elim named [ inl before ↦ inl (let same = r.incarnation in omega (arith, before, same)) | inr now ↦ inr (now.0 ∙ sym r.incarnation, let more = r.ticket in omega (arith, now.1, more)) ]
+  | inl anew ↦ subst (λ (x : Act). WasNamed (actor_by node a x) name) (sym anew.2)
+      (elim named [ inl before ↦ inl (omega (arith, before)) | inr now ↦ inl (omega (arith, now.0)) ])
+  | inr r ↦ elim named [
+    | inl before ↦ inl (let same = r.incarnation in omega (arith, before, same))
+    | inr now ↦ inr
+        (now.0 ∙ sym r.incarnation, let more = r.ticket in omega (arith, now.1, more))
+  ]
 ]
 
 pub named_after : (w : World) (node : ℕ) (act : Act) (name : Name) → WasNamed (w.actors name.node) name → WasNamed ((after w node act).actors name.node) name
 named_after w node act name named = elim (actors_after w node act name.node) [
-  | inl here ↦ subst (λ (a : Actor). WasNamed a name) (sym here.actor_is) (named_by node (w.actors node) act name (subst (λ (n : ℕ). WasNamed (w.actors n) name) here.node_is named))
+  | inl here ↦ subst (λ (a : Actor). WasNamed a name) (sym here.actor_is)
+      (named_by node (w.actors node) act name (subst (λ (n : ℕ). WasNamed (w.actors n) name) here.node_is named))
   | inr elsewhere ↦ subst (λ (a : Actor). WasNamed a name) (sym elsewhere) named
 ]
 
@@ -66,7 +72,8 @@ asking w node (Prepares slot ballot chain) sender id name is = cc
 asking w node (Proposes slot vote) sender id name is = cc
 asking w node act sender id name is = absurd is
 
-pub ask_cases : (w : World) (node : ℕ) (act : Act) (sender id : ℕ) (name : Name) → In (Ask sender id name) (after w node act).packets → Asking w node act sender id name ⊎ In (Ask sender id name) w.packets
+pub ask_cases : (w : World) (node : ℕ) (act : Act) (sender id : ℕ) (name : Name) → In (Ask sender id name) (after w node act).packets →
+    Asking w node act sender id name ⊎ In (Ask sender id name) w.packets
 ask_cases w node act sender id name is_in = elim (in_either (Ask sender id name) (sent_by w node act) w.packets is_in) [
   | inl new ↦ inl (asking w node act sender id name (sent_is w node act _ new))
   | inr old ↦ inr old
@@ -78,7 +85,9 @@ pub record Telling (node : ℕ) (act : Act) (teller : ℕ) (name : Name) (told :
   pub by : act ≡ Tells id name told
   pub teller_is : teller ≡ node
 
-pub telling : (w : World) (node : ℕ) (act : Act) (teller : ℕ) (name : Name) (told : Option TopVote) → IsSent w node act (Tell teller name told) → Telling node act teller name told
+pub telling : (w : World) (node : ℕ) (act : Act) (teller : ℕ) (name : Name) (told : Option TopVote) →
+    IsSent w node act (Tell teller name told) →
+    Telling node act teller name told
 telling w node (Tells id other answer) teller name told is =
     let names : name ≡ other = cc in
     let tolds : told ≡ answer = cc in
@@ -91,13 +100,17 @@ telling w node (Prepares slot ballot chain) teller name told is = cc
 telling w node (Proposes slot vote) teller name told is = cc
 telling w node act teller name told is = absurd is
 
-pub tell_cases : (w : World) (node : ℕ) (act : Act) (teller : ℕ) (name : Name) (told : Option TopVote) → In (Tell teller name told) (after w node act).packets → Telling node act teller name told ⊎ In (Tell teller name told) w.packets
+pub tell_cases : (w : World) (node : ℕ) (act : Act) (teller : ℕ) (name : Name) (told : Option TopVote) →
+    In (Tell teller name told) (after w node act).packets →
+    Telling node act teller name told ⊎ In (Tell teller name told) w.packets
 tell_cases w node act teller name told is_in = elim (in_either (Tell teller name told) (sent_by w node act) w.packets is_in) [
   | inl new ↦ inl (telling w node act teller name told (sent_is w node act _ new))
   | inr old ↦ inr old
 ]
 
-asked_after : (w : World) → Names w → (node : ℕ) (act : Act) → May w node act → (sender id : ℕ) (name : Name) → In (Ask sender id name) (after w node act).packets → WasNamed ((after w node act).actors name.node) name
+asked_after : (w : World) → Names w → (node : ℕ) (act : Act) → May w node act → (sender id : ℕ) (name : Name) →
+    In (Ask sender id name) (after w node act).packets →
+    WasNamed ((after w node act).actors name.node) name
 asked_after w names node act may sender id name is_in = named_after w node act name (elim (ask_cases w node act sender id name is_in) [
   | inl new ↦
       let m : IsWaiting (w.actors node) id name.ticket = (subst (May w node) new.by may).needs in
@@ -108,7 +121,9 @@ asked_after w names node act may sender id name is_in = named_after w node act n
   | inr old ↦ names.asked sender id name old
 ])
 
-told_after : (w : World) → Keeps w → Names w → (node : ℕ) (act : Act) → May w node act → (teller : ℕ) (name : Name) (told : Option TopVote) → In (Tell teller name told) (after w node act).packets → WasAsked (after w node act) name
+told_after : (w : World) → Keeps w → Names w → (node : ℕ) (act : Act) → May w node act →
+    (teller : ℕ) (name : Name) (told : Option TopVote) → In (Tell teller name told) (after w node act).packets →
+    WasAsked (after w node act) name
 told_after w keeps names node act may teller name told is_in =
     let grown = grows w node act may in
     elim (tell_cases w node act teller name told is_in) [
@@ -170,7 +185,9 @@ IsAbout name id a = a.incarnation ≡ name.incarnation → (waiting : Waiting) �
 pub record Fresh (before : World) (name : Name) (id : ℕ) (w : World) : Type 0 where
   pub votes : (c : Cast) → In c before.votes → In c w.votes
   pub asks : (sender other : ℕ) → In (Ask sender other name) w.packets → other ≡ id
-  pub tells : (node : ℕ) (told : Option TopVote) → In (Tell node name told) w.packets → (place : ℕ) (vote : Vote) → In (cast node (slot_at id place) vote) before.votes → HasReached told place
+  pub tells : (node : ℕ) (told : Option TopVote) → In (Tell node name told) w.packets → (place : ℕ) (vote : Vote) →
+      In (cast node (slot_at id place) vote) before.votes →
+      HasReached told place
   pub about : IsAbout name id (w.actors name.node)
   pub named : WasNamed (w.actors name.node) name
 
@@ -190,13 +207,18 @@ about_by node a (Replies ticket other answer) name id named about same waiting i
 about_by node a (Restarts lost serial) name id named about same waiting is_in is = absurd is_in
 about_by node a act name id named about same waiting is_in is = about same waiting is_in is
 
-about_after : (before w : World) (name : Name) (id : ℕ) → Fresh before name id w → (node : ℕ) (act : Act) → IsAbout name id ((after w node act).actors name.node)
+about_after : (before w : World) (name : Name) (id : ℕ) → Fresh before name id w → (node : ℕ) (act : Act) →
+    IsAbout name id ((after w node act).actors name.node)
 about_after before w name id fresh node act = elim (actors_after w node act name.node) [
-  | inl here ↦ subst (IsAbout name id) (sym here.actor_is) (about_by node (w.actors node) act name id (subst (λ (n : ℕ). WasNamed (w.actors n) name) here.node_is fresh.named) (subst (λ (n : ℕ). IsAbout name id (w.actors n)) here.node_is fresh.about))
+  | inl here ↦ subst (IsAbout name id) (sym here.actor_is)
+      (about_by node (w.actors node) act name id (subst (λ (n : ℕ). WasNamed (w.actors n) name) here.node_is fresh.named)
+      (subst (λ (n : ℕ). IsAbout name id (w.actors n)) here.node_is fresh.about))
   | inr elsewhere ↦ subst (IsAbout name id) (sym elsewhere) fresh.about
 ]
 
-asks_after : (before w : World) (name : Name) (id : ℕ) → Fresh before name id w → (node : ℕ) (act : Act) → May w node act → (sender other : ℕ) → In (Ask sender other name) (after w node act).packets → other ≡ id
+asks_after : (before w : World) (name : Name) (id : ℕ) → Fresh before name id w → (node : ℕ) (act : Act) → May w node act →
+    (sender other : ℕ) → In (Ask sender other name) (after w node act).packets →
+    other ≡ id
 asks_after before w name id fresh node act may sender other is_in = elim (ask_cases w node act sender other name is_in) [
   | inl new ↦
       let m : IsWaiting (w.actors node) other name.ticket = (subst (May w node) new.by may).needs in
@@ -208,11 +230,16 @@ asks_after before w name id fresh node act may sender other is_in = elim (ask_ca
 ]
 
 -- a teller that voted at a place tells of that place or of a higher one
-reaches_vote : (records : Records) (id place : ℕ) (vote held : Vote) (told : Option TopVote) → (records (slot_at id place)).vote ≡ Some held → IsTold records id told → HasReached told place
+reaches_vote : (records : Records) (id place : ℕ) (vote held : Vote) (told : Option TopVote) →
+    (records (slot_at id place)).vote ≡ Some held → IsTold records id told →
+    HasReached told place
 reaches_vote records id place vote held None holds is = let none = is place in cc
 reaches_vote records id place vote held (Some told) holds is = is.highest place held holds
 
-tells_after : (before w : World) → Keeps w → (name : Name) (id : ℕ) → Fresh before name id w → (node : ℕ) (act : Act) → May w node act → (teller : ℕ) (told : Option TopVote) → In (Tell teller name told) (after w node act).packets → (place : ℕ) (vote : Vote) → In (cast teller (slot_at id place) vote) before.votes → HasReached told place
+tells_after : (before w : World) → Keeps w → (name : Name) (id : ℕ) → Fresh before name id w → (node : ℕ) (act : Act) → May w node act →
+    (teller : ℕ) (told : Option TopVote) → In (Tell teller name told) (after w node act).packets → (place : ℕ) (vote : Vote) →
+    In (cast teller (slot_at id place) vote) before.votes →
+    HasReached told place
 tells_after before w keeps name id fresh node act may teller told is_in place vote voted = elim (tell_cases w node act teller name told is_in) [
   | inl new ↦
       let m : MayTell (w.actors node) (w.records node) new.id name told = (subst (May w node) new.by may).needs in
@@ -223,7 +250,8 @@ tells_after before w keeps name id fresh node act may teller told is_in place vo
   | inr old ↦ fresh.tells teller told old place vote voted
 ]
 
-pub fresh_after : (before w : World) → Keeps w → (name : Name) (id : ℕ) → Fresh before name id w → (node : ℕ) (act : Act) → May w node act → Fresh before name id (after w node act)
+pub fresh_after : (before w : World) → Keeps w → (name : Name) (id : ℕ) → Fresh before name id w → (node : ℕ) (act : Act) → May w node act →
+    Fresh before name id (after w node act)
 fresh_after before w keeps name id fresh node act may = record {
   votes = λ c is_in. (grows w node act may).votes c (fresh.votes c is_in);
   asks = asks_after before w name id fresh node act may;
@@ -233,7 +261,8 @@ fresh_after before w keeps name id fresh node act may = record {
 }
 
 -- the step in which it comes
-pub fresh_begun : (w : World) → Names w → (node ticket : ℕ) (request : Request) → May w node (Begins ticket request) → Fresh w (record { node = node; incarnation = (w.actors node).incarnation; ticket = ticket }) (id_in request) (after w node (Begins ticket request))
+pub fresh_begun : (w : World) → Names w → (node ticket : ℕ) (request : Request) → May w node (Begins ticket request) →
+    Fresh w (record { node = node; incarnation = (w.actors node).incarnation; ticket = ticket }) (id_in request) (after w node (Begins ticket request))
 fresh_begun w names node ticket request may =
     let name : Name = record { node = node; incarnation = (w.actors node).incarnation; ticket = ticket } in
     let here = actor_here w node (Begins ticket request) in
@@ -241,7 +270,8 @@ fresh_begun w names node ticket request may =
     record {
       votes = λ c is_in. is_in;
       asks = λ sender other is_in. absurd (not_given (w.actors node) ticket (names.asked sender other name is_in) is_next);
-      tells = λ teller told is_in place vote voted. let a = names.told teller name told is_in in absurd (not_given (w.actors node) ticket (names.asked a.sender a.id name a.sent) is_next);
+      tells = λ teller told is_in place vote voted. let a = names.told teller name told is_in in absurd
+          (not_given (w.actors node) ticket (names.asked a.sender a.id name a.sent) is_next);
       about = subst (IsAbout name (id_in request)) (sym here) (λ same waiting is_in is. elim (in_either waiting (w.actors node).waiting _ is_in) [
         | inl old ↦ absurd (let below = names.tickets node waiting old in omega (arith, below, is, is_next))
         | inr new ↦ of_only (λ (x : Waiting). id_in x.request ≡ id_in request) _ waiting refl new

@@ -33,11 +33,14 @@ recalls_by w links grantings node act slot (inr old) =
     let lived = links.lived _ old in
     let more = later node (w.actors node) act in
     let same : (actor_by node (w.actors node) act).incarnation ≡ (w.actors node).incarnation = omega (arith, lived, more) in
-    (same_life node (w.actors node) act same).granted slot (grantings.recalls node slot (subst (λ (i : ℕ). In (deed_by (record { node = node; incarnation = i }) (Grants slot)) w.past) same old))
+    (same_life node (w.actors node) act same).granted slot
+    (grantings.recalls node slot (subst (λ (i : ℕ). In (deed_by (record { node = node; incarnation = i }) (Grants slot)) w.past) same old))
 
-recalls_after : (w : World) → Links w → Grantings w → (node : ℕ) (act : Act) (other : ℕ) → RecallsGrants (after w node act).past other ((after w node act).actors other)
+recalls_after : (w : World) → Links w → Grantings w → (node : ℕ) (act : Act) (other : ℕ) →
+    RecallsGrants (after w node act).past other ((after w node act).actors other)
 recalls_after w links grantings node act other = elim (cases_eq other node) [
-  | inl here ↦ subst (λ (n : ℕ). RecallsGrants (after w node act).past n ((after w node act).actors n)) (sym here) (subst (RecallsGrants (after w node act).past node) (sym (actor_here w node act)) (recalls_by w links grantings node act))
+  | inl here ↦ subst (λ (n : ℕ). RecallsGrants (after w node act).past n ((after w node act).actors n)) (sym here)
+      (subst (RecallsGrants (after w node act).past node) (sym (actor_here w node act)) (recalls_by w links grantings node act))
   | inr apart ↦ subst (RecallsGrants (after w node act).past other) (sym (actor_apart w node act other apart)) (λ slot is_in. elim is_in [
     | inl new ↦ absurd (apart (ap (λ (d : Deed). d.node) new))
     | inr old ↦ grantings.recalls other slot old
@@ -48,28 +51,41 @@ recalls_after w links grantings node act other = elim (cases_eq other node) [
 act_of : (author : Author) (act : Act) (deed : Deed) → deed_by author act ≡ deed → act ≡ deed.act
 act_of author act deed is = ap (λ (d : Deed). d.act) is
 
-at_author : (w : World) (node : ℕ) (act : Act) (author : Author) (did : Act) → deed_by author did ≡ record { node = node; incarnation = (w.actors node).incarnation; act = act } → lived_by node (w.actors node) ≡ author
+at_author : (w : World) (node : ℕ) (act : Act) (author : Author) (did : Act) →
+    deed_by author did ≡ record { node = node; incarnation = (w.actors node).incarnation; act = act } →
+    lived_by node (w.actors node) ≡ author
 at_author w node act author did is = λ i. record { node = (sym is i).node; incarnation = (sym is i).incarnation }
 
 -- what is given up was not granted, and what is granted was not given up
-given_up : (w : World) → Grantings w → (node : ℕ) (act : Act) → May w node act → (author : Author) (slot : Slot) → Abandons slot ≡ act → lived_by node (w.actors node) ≡ author → In (deed_by author (Grants slot)) w.past → ⊥
+given_up : (w : World) → Grantings w → (node : ℕ) (act : Act) → May w node act → (author : Author) (slot : Slot) → Abandons slot ≡ act →
+    lived_by node (w.actors node) ≡ author → In (deed_by author (Grants slot)) w.past →
+    ⊥
 given_up w grantings node act may author slot is mine granted =
     let m : May w node (Abandons slot) = subst (May w node) (sym is) may in
     m.needs.granted (grantings.recalls node slot (subst (λ (a : Author). In (deed_by a (Grants slot)) w.past) (sym mine) granted))
 
-granted_open : (w : World) → Links w → (node : ℕ) (act : Act) → May w node act → (author : Author) (slot : Slot) → Grants slot ≡ act → lived_by node (w.actors node) ≡ author → In (deed_by author (Abandons slot)) w.past → ⊥
+granted_open : (w : World) → Links w → (node : ℕ) (act : Act) → May w node act → (author : Author) (slot : Slot) → Grants slot ≡ act →
+    lived_by node (w.actors node) ≡ author → In (deed_by author (Abandons slot)) w.past →
+    ⊥
 granted_open w links node act may author slot is mine abandoned =
     let m : May w node (Grants slot) = subst (May w node) (sym is) may in
-    m.needs.closed (Unanswered no_session_error) (links.recalls node slot (Unanswered no_session_error) (inr (refl, subst (λ (a : Author). In (deed_by a (Abandons slot)) w.past) (sym mine) abandoned)))
+    m.needs.closed (Unanswered no_session_error) (links.recalls node slot (Unanswered no_session_error)
+    (inr (refl, subst (λ (a : Author). In (deed_by a (Abandons slot)) w.past) (sym mine) abandoned)))
 
-apart_after : (w : World) → Links w → Grantings w → (node : ℕ) (act : Act) → May w node act → (author : Author) (slot : Slot) → In (deed_by author (Abandons slot)) (after w node act).past → In (deed_by author (Grants slot)) (after w node act).past → ⊥
-apart_after w links grantings node act may author slot (inl a) (inl b) = let both : Abandons slot ≡ Grants slot = act_of author (Abandons slot) _ a ∙ sym (act_of author (Grants slot) _ b) in cc
-apart_after w links grantings node act may author slot (inl a) (inr granted) = given_up w grantings node act may author slot (act_of author (Abandons slot) _ a) (at_author w node act author (Abandons slot) a) granted
-apart_after w links grantings node act may author slot (inr abandoned) (inl b) = granted_open w links node act may author slot (act_of author (Grants slot) _ b) (at_author w node act author (Grants slot) b) abandoned
+apart_after : (w : World) → Links w → Grantings w → (node : ℕ) (act : Act) → May w node act → (author : Author) (slot : Slot) →
+    In (deed_by author (Abandons slot)) (after w node act).past → In (deed_by author (Grants slot)) (after w node act).past →
+    ⊥
+apart_after w links grantings node act may author slot (inl a) (inl b) =
+    let both : Abandons slot ≡ Grants slot = act_of author (Abandons slot) _ a ∙ sym (act_of author (Grants slot) _ b) in cc
+apart_after w links grantings node act may author slot (inl a) (inr granted) =
+    given_up w grantings node act may author slot (act_of author (Abandons slot) _ a) (at_author w node act author (Abandons slot) a) granted
+apart_after w links grantings node act may author slot (inr abandoned) (inl b) =
+    granted_open w links node act may author slot (act_of author (Grants slot) _ b) (at_author w node act author (Grants slot) b) abandoned
 apart_after w links grantings node act may author slot (inr abandoned) (inr granted) = grantings.apart author slot abandoned granted
 
 pub grantings_after : (w : World) → Links w → Grantings w → (node : ℕ) (act : Act) → May w node act → Grantings (after w node act)
-grantings_after w links grantings node act may = record { recalls = recalls_after w links grantings node act; apart = apart_after w links grantings node act may }
+grantings_after w links grantings node act may =
+    record { recalls = recalls_after w links grantings node act; apart = apart_after w links grantings node act may }
 
 pub grantings_start : (nodes : ℕ) (serials : ℕ → ℕ) → Grantings (start nodes serials)
 grantings_start nodes serials = record { recalls = λ node slot is_in. absurd is_in; apart = λ author slot abandoned granted. absurd abandoned }

@@ -21,17 +21,20 @@ IsNew records (Promises slot ballot sent) other new = (other ≡ slot) × (new �
 IsNew records (Votes slot vote sent) other new = (other ≡ slot) × (new ≡ after_vote vote)
 IsNew records act other new = ⊥
 
-with_cases : (records : Records) (slot : Slot) (new : SlotRecord) (other : Slot) (test : Bool) → same_slot other slot ≡ test → (with_record records slot new other ≡ records other) ⊎ ((other ≡ slot) × (with_record records slot new other ≡ new))
+with_cases : (records : Records) (slot : Slot) (new : SlotRecord) (other : Slot) (test : Bool) → same_slot other slot ≡ test →
+    (with_record records slot new other ≡ records other) ⊎ ((other ≡ slot) × (with_record records slot new other ≡ new))
 with_cases records slot new other true same = inr (slots_same other slot same, ap (λ (test : Bool). if test then new else records other) same)
 with_cases records slot new other false same = inl (ap (λ (test : Bool). if test then new else records other) same)
 
-pub record_cases : (records : Records) (act : Act) (slot : Slot) → (records_by records act slot ≡ records slot) ⊎ IsNew records act slot (records_by records act slot)
+pub record_cases : (records : Records) (act : Act) (slot : Slot) →
+    (records_by records act slot ≡ records slot) ⊎ IsNew records act slot (records_by records act slot)
 record_cases records (Promises slot ballot sent) other = with_cases records slot (after_promise (records slot) ballot) other (same_slot other slot) refl
 record_cases records (Votes slot vote sent) other = with_cases records slot (after_vote vote) other (same_slot other slot) refl
 record_cases records act other = inl refl
 
 -- what a node has after an act of some node: the same, or it is that node and has what is new
-pub changed_cases : {A : Type 0} (things : ℕ → A) (node : ℕ) (new : A) (other : ℕ) → ((other ≡ node) × (changed things node new other ≡ new)) ⊎ (changed things node new other ≡ things other)
+pub changed_cases : {A : Type 0} (things : ℕ → A) (node : ℕ) (new : A) (other : ℕ) →
+    ((other ≡ node) × (changed things node new other ≡ new)) ⊎ (changed things node new other ≡ things other)
 changed_cases things node new other = by_test (other == node) refl
   where
     by_test : (test : Bool) → (other == node) ≡ test → ((other ≡ node) × (changed things node new other ≡ new)) ⊎ (changed things node new other ≡ things other)
@@ -42,7 +45,8 @@ pub record NewRecord (w : World) (node : ℕ) (act : Act) (other : ℕ) (slot : 
   pub node_is : other ≡ node
   pub is_new : IsNew (w.records node) act slot ((after w node act).records other slot)
 
-pub records_after : (w : World) (node : ℕ) (act : Act) (other : ℕ) (slot : Slot) → ((after w node act).records other slot ≡ w.records other slot) ⊎ NewRecord w node act other slot
+pub records_after : (w : World) (node : ℕ) (act : Act) (other : ℕ) (slot : Slot) →
+    ((after w node act).records other slot ≡ w.records other slot) ⊎ NewRecord w node act other slot
 records_after w node act other slot =
     elim (changed_cases w.records node (records_by (w.records node) act) other) [
       | inl here ↦ elim (record_cases (w.records node) act slot) [
@@ -64,20 +68,26 @@ pub record Grows (w v : World) : Type 0 where
   pub incarnations : (node : ℕ) → (w.actors node).incarnation ≤ (v.actors node).incarnation
   pub past : (deed : Deed) → In deed w.past → In deed v.past
 
-new_promised : (w : World) (node : ℕ) (act : Act) → May w node act → (slot : Slot) (new : SlotRecord) → IsNew (w.records node) act slot new → (w.records node slot).promised ≤ new.promised
+new_promised : (w : World) (node : ℕ) (act : Act) → May w node act → (slot : Slot) (new : SlotRecord) →
+    IsNew (w.records node) act slot new →
+    (w.records node slot).promised ≤ new.promised
 new_promised w node (Promises slot ballot sent) may other new is =
     let below : (w.records node slot).promised < ballot = may.needs.may in
-    subst (λ (s : Slot). (w.records node s).promised ≤ new.promised) (sym is.0) (subst (λ (r : SlotRecord). (w.records node slot).promised ≤ r.promised) (sym is.1) (omega (arith, below)))
+    subst (λ (s : Slot). (w.records node s).promised ≤ new.promised) (sym is.0)
+    (subst (λ (r : SlotRecord). (w.records node slot).promised ≤ r.promised) (sym is.1) (omega (arith, below)))
 new_promised w node (Votes slot vote sent) may other new is =
     let below : (w.records node slot).promised ≤ vote.ballot = may.needs.may in
-    subst (λ (s : Slot). (w.records node s).promised ≤ new.promised) (sym is.0) (subst (λ (r : SlotRecord). (w.records node slot).promised ≤ r.promised) (sym is.1) below)
+    subst (λ (s : Slot). (w.records node s).promised ≤ new.promised) (sym is.0)
+    (subst (λ (r : SlotRecord). (w.records node slot).promised ≤ r.promised) (sym is.1) below)
 new_promised w node act may other new is = absurd is
 
-promised_after : (w : World) (node : ℕ) (act : Act) → May w node act → (other : ℕ) (slot : Slot) → (w.records other slot).promised ≤ ((after w node act).records other slot).promised
+promised_after : (w : World) (node : ℕ) (act : Act) → May w node act → (other : ℕ) (slot : Slot) →
+    (w.records other slot).promised ≤ ((after w node act).records other slot).promised
 promised_after w node act may other slot =
     elim (records_after w node act other slot) [
       | inl same ↦ subst (λ (r : SlotRecord). (w.records other slot).promised ≤ r.promised) (sym same) (omega arith)
-      | inr new ↦ subst (λ (n : ℕ). (w.records n slot).promised ≤ ((after w node act).records other slot).promised) (sym new.node_is) (new_promised w node act may slot ((after w node act).records other slot) new.is_new)
+      | inr new ↦ subst (λ (n : ℕ). (w.records n slot).promised ≤ ((after w node act).records other slot).promised) (sym new.node_is)
+          (new_promised w node act may slot ((after w node act).records other slot) new.is_new)
     ]
 
 -- the actor of the node that did the act
@@ -110,7 +120,9 @@ pub record Remembers (a b : Actor) : Type 0 where
   pub granted : (slot : Slot) → In slot a.granted → In slot b.granted
   pub closed : (attempt : Slot × Outcome) → In attempt a.closed → In attempt b.closed
 
-remembers_all : (a b : Actor) → b.incarnation ≡ a.incarnation → b.ticket ≡ a.ticket → b.serial ≡ a.serial → b.received ≡ a.received → b.sent ≡ a.sent → b.granted ≡ a.granted → b.closed ≡ a.closed → Remembers a b
+remembers_all : (a b : Actor) → b.incarnation ≡ a.incarnation → b.ticket ≡ a.ticket → b.serial ≡ a.serial → b.received ≡ a.received →
+    b.sent ≡ a.sent → b.granted ≡ a.granted → b.closed ≡ a.closed →
+    Remembers a b
 remembers_all a b incarnation ticket serial received sent granted closed = record {
   incarnation = incarnation;
   ticket = omega (arith, ticket);
@@ -126,13 +138,83 @@ StartsAnew act = (lost : ℕ) × (serial : ℕ) × (act ≡ Restarts lost serial
 
 pub remembers : (node : ℕ) (a : Actor) (act : Act) → StartsAnew act ⊎ Remembers a (actor_by node a act)
 remembers node a (Restarts lost serial) = inl (lost, serial, refl)
-remembers node a (Receives packet) = inr (record { incarnation = refl; ticket = omega arith; serial = omega arith; received = λ other is_in. inr is_in; sent = λ other is_in. is_in; granted = λ slot is_in. is_in; closed = λ attempt is_in. is_in })
-remembers node a (Prepares slot ballot chain) = inr (record { incarnation = refl; ticket = omega arith; serial = omega arith; received = λ packet is_in. is_in; sent = λ packet is_in. inr is_in; granted = λ other is_in. is_in; closed = λ attempt is_in. is_in })
-remembers node a (Proposes slot vote) = inr (record { incarnation = refl; ticket = omega arith; serial = omega arith; received = λ packet is_in. is_in; sent = λ packet is_in. inr is_in; granted = λ other is_in. is_in; closed = λ attempt is_in. is_in })
-remembers node a (Begins ticket request) = inr (record { incarnation = refl; ticket = omega arith; serial = serials request a.serial; received = λ packet is_in. is_in; sent = λ packet is_in. is_in; granted = λ slot is_in. is_in; closed = λ attempt is_in. is_in })
-remembers node a (Grants slot) = inr (record { incarnation = refl; ticket = omega arith; serial = omega arith; received = λ packet is_in. is_in; sent = λ packet is_in. is_in; granted = λ other is_in. inr is_in; closed = λ attempt is_in. is_in })
-remembers node a (Concludes slot outcome) = inr (record { incarnation = refl; ticket = omega arith; serial = omega arith; received = λ packet is_in. is_in; sent = λ packet is_in. is_in; granted = λ other is_in. is_in; closed = λ attempt is_in. inr is_in })
-remembers node a (Abandons slot) = inr (record { incarnation = refl; ticket = omega arith; serial = omega arith; received = λ packet is_in. is_in; sent = λ packet is_in. is_in; granted = λ other is_in. is_in; closed = λ attempt is_in. inr is_in })
+remembers node a (Receives packet) =
+    inr (record {
+      incarnation = refl;
+      ticket = omega arith;
+      serial = omega arith;
+      received = λ other is_in. inr is_in;
+      sent =
+          λ other is_in. is_in;
+      granted = λ slot is_in. is_in;
+      closed = λ attempt is_in. is_in;
+    })
+remembers node a (Prepares slot ballot chain) =
+    inr (record {
+      incarnation = refl;
+      ticket = omega arith;
+      serial = omega arith;
+      received = λ packet is_in. is_in;
+      sent =
+          λ packet is_in. inr is_in;
+      granted = λ other is_in. is_in;
+      closed = λ attempt is_in. is_in;
+    })
+remembers node a (Proposes slot vote) =
+    inr (record {
+      incarnation = refl;
+      ticket = omega arith;
+      serial = omega arith;
+      received = λ packet is_in. is_in;
+      sent =
+          λ packet is_in. inr is_in;
+      granted = λ other is_in. is_in;
+      closed = λ attempt is_in. is_in;
+    })
+remembers node a (Begins ticket request) =
+    inr (record {
+      incarnation = refl;
+      ticket = omega arith;
+      serial = serials request a.serial;
+      received = λ packet is_in. is_in;
+      sent =
+          λ packet is_in. is_in;
+      granted = λ slot is_in. is_in;
+      closed = λ attempt is_in. is_in;
+    })
+remembers node a (Grants slot) =
+    inr (record {
+      incarnation = refl;
+      ticket = omega arith;
+      serial = omega arith;
+      received = λ packet is_in. is_in;
+      sent =
+          λ packet is_in. is_in;
+      granted = λ other is_in. inr is_in;
+      closed = λ attempt is_in. is_in;
+    })
+remembers node a (Concludes slot outcome) =
+    inr (record {
+      incarnation = refl;
+      ticket = omega arith;
+      serial = omega arith;
+      received = λ packet is_in. is_in;
+      sent =
+          λ packet is_in. is_in;
+      granted = λ other is_in. is_in;
+      closed = λ attempt is_in. inr is_in;
+    })
+remembers node a (Abandons slot) =
+    inr (record {
+      incarnation = refl;
+      ticket = omega arith;
+      serial = omega arith;
+      received = λ packet is_in. is_in;
+      sent =
+          λ packet is_in. is_in;
+      granted = λ other is_in. is_in;
+      closed = λ attempt is_in. inr is_in;
+    })
 remembers node a act = inr (remembers_all a (actor_by node a act) refl refl refl refl refl refl refl)
 
 pub later : (node : ℕ) (a : Actor) (act : Act) → a.incarnation ≤ (actor_by node a act).incarnation
@@ -144,14 +226,17 @@ later node a act = elim (remembers node a act) [
 -- an actor that is in the same incarnation remembers
 pub same_life : (node : ℕ) (a : Actor) (act : Act) → (actor_by node a act).incarnation ≡ a.incarnation → Remembers a (actor_by node a act)
 same_life node a act same = elim (remembers node a act) [
-  | inl anew ↦ absurd (let next : (actor_by node a act).incarnation ≡ suc (a.incarnation + anew.0) = ap (λ (x : Act). (actor_by node a x).incarnation) anew.2 in omega (arith, same, next))
+  | inl anew ↦ absurd (let next : (actor_by node a act).incarnation ≡ suc (a.incarnation + anew.0) = ap
+      (λ (x : Act). (actor_by node a x).incarnation) anew.2 in omega (arith, same, next))
   | inr r ↦ r
 ]
 
 later_after : (w : World) (node : ℕ) (act : Act) (other : ℕ) → (w.actors other).incarnation ≤ ((after w node act).actors other).incarnation
 later_after w node act other =
     elim (changed_cases w.actors node (actor_by node (w.actors node) act) other) [
-      | inl here ↦ subst (λ (a : Actor). (w.actors other).incarnation ≤ a.incarnation) (sym here.1) (subst (λ (n : ℕ). (w.actors n).incarnation ≤ (actor_by node (w.actors node) act).incarnation) (sym here.0) (later node (w.actors node) act))
+      | inl here ↦ subst (λ (a : Actor). (w.actors other).incarnation ≤ a.incarnation) (sym here.1)
+          (subst (λ (n : ℕ). (w.actors n).incarnation ≤ (actor_by node (w.actors node) act).incarnation) (sym here.0)
+          (later node (w.actors node) act))
       | inr elsewhere ↦ subst (λ (a : Actor). (w.actors other).incarnation ≤ a.incarnation) (sym elsewhere) (omega arith)
     ]
 

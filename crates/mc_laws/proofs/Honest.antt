@@ -64,8 +64,11 @@ GivenIn w id chain = WasGiven (w.actors (node_of id)) id
 pub record Honest (w : World) : Type 0 where
   pub members : (packet : Packet) → In packet w.packets → IsMember w.nodes (sender_of packet)
   pub prepares : (sender : ℕ) (slot : Slot) (ballot : ℕ) → In (Prepare sender slot ballot) w.packets → PrepareFits w sender ballot
-  pub prepared : (node : ℕ) (slot : Slot) (ballot : ℕ) → In (Prepare node slot ballot) w.packets → incarnation_in ballot ≡ (w.actors node).incarnation → In (Prepare node slot ballot) (w.actors node).sent
-  pub promised : (acceptor : ℕ) (slot : Slot) (ballot : ℕ) (report : Option Vote) → In (Promise acceptor slot ballot report) w.packets → IsPreparedBy w slot ballot
+  pub prepared : (node : ℕ) (slot : Slot) (ballot : ℕ) → In (Prepare node slot ballot) w.packets →
+      incarnation_in ballot ≡ (w.actors node).incarnation →
+      In (Prepare node slot ballot) (w.actors node).sent
+  pub promised : (acceptor : ℕ) (slot : Slot) (ballot : ℕ) (report : Option Vote) → In (Promise acceptor slot ballot report) w.packets →
+      IsPreparedBy w slot ballot
   pub lives : (node : ℕ) → (w.actors node).incarnation ≤ 9999
   pub distinct : (node : ℕ) → AreDistinct (w.actors node)
   pub numbered : (node : ℕ) → AreNumbered node (w.actors node)
@@ -75,7 +78,9 @@ pub record Honest (w : World) : Type 0 where
 
 -- ---- every packet concerns every node
 
-expected : (w : World) → Names w → Honest w → (node teller : ℕ) (name : Name) (told : Option TopVote) → In (Tell teller name told) w.packets → name.node ≡ node → name.incarnation ≡ (w.actors node).incarnation → IsExpected (w.actors node) name.ticket told
+expected : (w : World) → Names w → Honest w → (node teller : ℕ) (name : Name) (told : Option TopVote) →
+    In (Tell teller name told) w.packets → name.node ≡ node → name.incarnation ≡ (w.actors node).incarnation →
+    IsExpected (w.actors node) name.ticket told
 expected w names honest node teller name told is_in nodes incarnations = record {
   given = below;
   about = λ waiting waits is. of_told told is_in waiting waits is;
@@ -87,14 +92,17 @@ expected w names honest node teller name told is_in nodes incarnations = record 
         let named : WasNamed (w.actors node) name = subst (λ (n : ℕ). WasNamed (w.actors n) name) nodes (names.asked asked.sender asked.id name asked.sent) in
         elim named [ inl before ↦ absurd (omega (arith, before, incarnations)) | inr now ↦ now.1 ]
 
-    of_told : (told : Option TopVote) → In (Tell teller name told) w.packets → (waiting : Waiting) → In waiting (w.actors node).waiting → waiting.ticket ≡ name.ticket → TellsAbout told (id_in waiting.request)
+    of_told : (told : Option TopVote) → In (Tell teller name told) w.packets → (waiting : Waiting) → In waiting (w.actors node).waiting →
+        waiting.ticket ≡ name.ticket →
+        TellsAbout told (id_in waiting.request)
     of_told None is_in waiting waits is = tt
     of_told (Some top) is_in waiting waits is =
         let asked = honest.tells teller name top is_in in
         let about = subst (λ (n : ℕ). IsAbout name top.id (w.actors n)) nodes (honest.about asked.asker top.id name asked.sent) in
         sym (about (sym incarnations) waiting waits is)
 
-pub all_concern : (w : World) → Keeps w → Links w → Names w → Honest w → (node : ℕ) (packet : Packet) → In packet w.packets → Concerns w.nodes node (w.actors node) packet
+pub all_concern : (w : World) → Keeps w → Links w → Names w → Honest w → (node : ℕ) (packet : Packet) → In packet w.packets →
+    Concerns w.nodes node (w.actors node) packet
 all_concern w keeps links names honest node (Prepare sender slot ballot) is_in = honest.members _ is_in
 all_concern w keeps links names honest node (Promise sender slot ballot report) is_in = (
   honest.members _ is_in,
@@ -105,8 +113,12 @@ all_concern w keeps links names honest node (Promise sender slot ballot report) 
 )
 all_concern w keeps links names honest node (Propose sender slot vote) is_in = honest.members _ is_in
 all_concern w keeps links names honest node (Voted sender slot vote) is_in =
-    let proposed = keeps.proposed (cast sender slot vote) (keeps.fits (Voted sender slot vote) is_in) in
-    (honest.members _ is_in, (links.standing slot vote proposed).place, λ mine. subst (λ (n : ℕ). WasGiven (w.actors n) slot.id) mine (honest.given slot vote proposed))
+    let proposed = keeps.proposed (cast sender slot vote) (keeps.fits (Voted sender slot vote) is_in) in (
+      honest.members _ is_in,
+      (links.standing slot vote proposed).place,
+      λ mine. subst (λ (n : ℕ). WasGiven (w.actors n) slot.id) mine
+          (honest.given slot vote proposed),
+    )
 all_concern w keeps links names honest node (Refused sender slot ballot promised) is_in = honest.members _ is_in
 all_concern w keeps links names honest node (Ask sender id name) is_in = honest.members _ is_in
 all_concern w keeps links names honest node (Tell sender name told) is_in = (honest.members _ is_in, expected w names honest node sender name told is_in)
@@ -124,7 +136,9 @@ new_sender w node (Proposes slot vote) packet is = ap sender_of is
 new_sender w node (Asks id ticket) packet is = ap sender_of is
 new_sender w node act packet is = absurd is
 
-members_after : (w : World) → Honest w → (node : ℕ) (act : Act) → May w node act → (packet : Packet) → In packet (after w node act).packets → IsMember w.nodes (sender_of packet)
+members_after : (w : World) → Honest w → (node : ℕ) (act : Act) → May w node act → (packet : Packet) →
+    In packet (after w node act).packets →
+    IsMember w.nodes (sender_of packet)
 members_after w honest node act may packet is_in = elim (in_either packet (sent_by w node act) w.packets is_in) [
   | inl new ↦ subst (IsMember w.nodes) (sym (new_sender w node act packet (sent_is w node act packet new))) (record { least = may.least; most = may.most })
   | inr old ↦ honest.members packet old
@@ -136,7 +150,8 @@ record Preparing (node : ℕ) (act : Act) (sender : ℕ) (slot : Slot) (ballot :
   by : act ≡ Prepares slot ballot chain
   sender_is : sender ≡ node
 
-preparing : (w : World) (node : ℕ) (act : Act) (sender : ℕ) (slot : Slot) (ballot : ℕ) → IsSent w node act (Prepare sender slot ballot) → Preparing node act sender slot ballot
+preparing : (w : World) (node : ℕ) (act : Act) (sender : ℕ) (slot : Slot) (ballot : ℕ) → IsSent w node act (Prepare sender slot ballot) →
+    Preparing node act sender slot ballot
 preparing w node (Prepares other at chain) sender slot ballot is = record { chain = chain; by = cc; sender_is = cc }
 preparing w node (Promises other at sent) sender slot ballot is = cc
 preparing w node (Votes other voted sent) sender slot ballot is = cc
@@ -146,13 +161,17 @@ preparing w node (Proposes other vote) sender slot ballot is = cc
 preparing w node (Asks id ticket) sender slot ballot is = cc
 preparing w node act sender slot ballot is = absurd is
 
-prepare_cases : (w : World) (node : ℕ) (act : Act) (sender : ℕ) (slot : Slot) (ballot : ℕ) → In (Prepare sender slot ballot) (after w node act).packets → Preparing node act sender slot ballot ⊎ In (Prepare sender slot ballot) w.packets
+prepare_cases : (w : World) (node : ℕ) (act : Act) (sender : ℕ) (slot : Slot) (ballot : ℕ) →
+    In (Prepare sender slot ballot) (after w node act).packets →
+    Preparing node act sender slot ballot ⊎ In (Prepare sender slot ballot) w.packets
 prepare_cases w node act sender slot ballot is_in = elim (in_either (Prepare sender slot ballot) (sent_by w node act) w.packets is_in) [
   | inl new ↦ inl (preparing w node act sender slot ballot (sent_is w node act _ new))
   | inr old ↦ inr old
 ]
 
-prepares_after : (w : World) → Honest w → (node : ℕ) (act : Act) → May w node act → (sender : ℕ) (slot : Slot) (ballot : ℕ) → In (Prepare sender slot ballot) (after w node act).packets → PrepareFits (after w node act) sender ballot
+prepares_after : (w : World) → Honest w → (node : ℕ) (act : Act) → May w node act → (sender : ℕ) (slot : Slot) (ballot : ℕ) →
+    In (Prepare sender slot ballot) (after w node act).packets →
+    PrepareFits (after w node act) sender ballot
 prepares_after w honest node act may sender slot ballot is_in = elim (prepare_cases w node act sender slot ballot is_in) [
   | inl new ↦
       let m : May w node (Prepares slot ballot new.chain) = subst (May w node) new.by may in
@@ -167,7 +186,9 @@ prepares_after w honest node act may sender slot ballot is_in = elim (prepare_ca
 ]
 
 -- of this incarnation the actor has it
-prepared_here : (w : World) → Honest w → (node : ℕ) (act : Act) (slot : Slot) (ballot : ℕ) → In (Prepare node slot ballot) w.packets → incarnation_in ballot ≡ (actor_by node (w.actors node) act).incarnation → In (Prepare node slot ballot) (actor_by node (w.actors node) act).sent
+prepared_here : (w : World) → Honest w → (node : ℕ) (act : Act) (slot : Slot) (ballot : ℕ) → In (Prepare node slot ballot) w.packets →
+    incarnation_in ballot ≡ (actor_by node (w.actors node) act).incarnation →
+    In (Prepare node slot ballot) (actor_by node (w.actors node) act).sent
 prepared_here w honest node act slot ballot is_in same =
     let fits = honest.prepares node slot ballot is_in in
     let lived : incarnation_in ballot ≤ (w.actors node).incarnation = fits.lived in
@@ -175,23 +196,30 @@ prepared_here w honest node act slot ballot is_in same =
     let now : incarnation_in ballot ≡ (w.actors node).incarnation = omega (arith, lived, same, more) in
     (same_life node (w.actors node) act (sym same ∙ now)).sent _ (honest.prepared node slot ballot is_in now)
 
-prepared_new : (node : ℕ) (a : Actor) (act : Act) (slot : Slot) (ballot : ℕ) (chain : List Decree) → act ≡ Prepares slot ballot chain → In (Prepare node slot ballot) (actor_by node a act).sent
+prepared_new : (node : ℕ) (a : Actor) (act : Act) (slot : Slot) (ballot : ℕ) (chain : List Decree) → act ≡ Prepares slot ballot chain →
+    In (Prepare node slot ballot) (actor_by node a act).sent
 prepared_new node a act slot ballot chain is = subst (λ (x : Act). In (Prepare node slot ballot) (actor_by node a x).sent) (sym is) (inl refl)
 
-prepared_at : (w : World) → Honest w → (node : ℕ) (act : Act) (slot : Slot) (ballot : ℕ) → Preparing node act node slot ballot ⊎ In (Prepare node slot ballot) w.packets → incarnation_in ballot ≡ (actor_by node (w.actors node) act).incarnation → In (Prepare node slot ballot) (actor_by node (w.actors node) act).sent
+prepared_at : (w : World) → Honest w → (node : ℕ) (act : Act) (slot : Slot) (ballot : ℕ) →
+    Preparing node act node slot ballot ⊎ In (Prepare node slot ballot) w.packets →
+    incarnation_in ballot ≡ (actor_by node (w.actors node) act).incarnation →
+    In (Prepare node slot ballot) (actor_by node (w.actors node) act).sent
 prepared_at w honest node act slot ballot (inl new) same = prepared_new node (w.actors node) act slot ballot new.chain new.by
 prepared_at w honest node act slot ballot (inr old) same = prepared_here w honest node act slot ballot old same
 
 abbrev HasPrepared : World → Slot → ℕ → ℕ → Actor → Type 0
 HasPrepared v slot ballot node a = In (Prepare node slot ballot) v.packets → incarnation_in ballot ≡ a.incarnation → In (Prepare node slot ballot) a.sent
 
-prepared_after : (w : World) → Honest w → (node : ℕ) (act : Act) (other : ℕ) (slot : Slot) (ballot : ℕ) → HasPrepared (after w node act) slot ballot other ((after w node act).actors other)
+prepared_after : (w : World) → Honest w → (node : ℕ) (act : Act) (other : ℕ) (slot : Slot) (ballot : ℕ) →
+    HasPrepared (after w node act) slot ballot other ((after w node act).actors other)
 prepared_after w honest node act other slot ballot = elim (cases_eq other node) [
   | inl here ↦
       subst (λ (n : ℕ). HasPrepared (after w node act) slot ballot n ((after w node act).actors n)) (sym here) (
-      subst (HasPrepared (after w node act) slot ballot node) (sym (actor_here w node act)) (λ is_in. prepared_at w honest node act slot ballot (prepare_cases w node act node slot ballot is_in)))
+      subst (HasPrepared (after w node act) slot ballot node) (sym (actor_here w node act))
+      (λ is_in. prepared_at w honest node act slot ballot (prepare_cases w node act node slot ballot is_in)))
   | inr apart ↦
-      subst (HasPrepared (after w node act) slot ballot other) (sym (actor_apart w node act other apart)) (λ is_in. honest.prepared other slot ballot (elim (prepare_cases w node act other slot ballot is_in) [
+      subst (HasPrepared (after w node act) slot ballot other) (sym (actor_apart w node act other apart))
+      (λ is_in. honest.prepared other slot ballot (elim (prepare_cases w node act other slot ballot is_in) [
         | inl new ↦ absurd (apart new.sender_is)
         | inr old ↦ old
       ]))
@@ -202,7 +230,9 @@ record Promising (node : ℕ) (act : Act) (slot : Slot) (ballot : ℕ) : Type 0 
   sent : Bool
   by : act ≡ Promises slot ballot sent
 
-promising : (w : World) (node : ℕ) (act : Act) (acceptor : ℕ) (slot : Slot) (ballot : ℕ) (report : Option Vote) → IsSent w node act (Promise acceptor slot ballot report) → Promising node act slot ballot
+promising : (w : World) (node : ℕ) (act : Act) (acceptor : ℕ) (slot : Slot) (ballot : ℕ) (report : Option Vote) →
+    IsSent w node act (Promise acceptor slot ballot report) →
+    Promising node act slot ballot
 promising w node (Promises other at sent) acceptor slot ballot report is = record { sent = sent; by = cc }
 promising w node (Prepares other at chain) acceptor slot ballot report is = cc
 promising w node (Votes other voted sent) acceptor slot ballot report is = cc
@@ -212,7 +242,9 @@ promising w node (Proposes other vote) acceptor slot ballot report is = cc
 promising w node (Asks id ticket) acceptor slot ballot report is = cc
 promising w node act acceptor slot ballot report is = absurd is
 
-promised_after : (w : World) → Keeps w → Honest w → (node : ℕ) (act : Act) → May w node act → (acceptor : ℕ) (slot : Slot) (ballot : ℕ) (report : Option Vote) → In (Promise acceptor slot ballot report) (after w node act).packets → IsPreparedBy (after w node act) slot ballot
+promised_after : (w : World) → Keeps w → Honest w → (node : ℕ) (act : Act) → May w node act →
+    (acceptor : ℕ) (slot : Slot) (ballot : ℕ) (report : Option Vote) → In (Promise acceptor slot ballot report) (after w node act).packets →
+    IsPreparedBy (after w node act) slot ballot
 promised_after w keeps honest node act may acceptor slot ballot report is_in =
     let grown = grows w node act may in
     elim (in_either (Promise acceptor slot ballot report) (sent_by w node act) w.packets is_in) [
@@ -226,7 +258,9 @@ promised_after w keeps honest node act may acceptor slot ballot report is_in =
 -- ---- actors
 
 -- what holds of each actor goes on to hold, where the act of a node keeps it there
-at_each : (P : ℕ → Actor → Type 0) (w : World) (node : ℕ) (act : Act) → ((other : ℕ) → P other (w.actors other)) → P node (actor_by node (w.actors node) act) → (other : ℕ) → P other ((after w node act).actors other)
+at_each : (P : ℕ → Actor → Type 0) (w : World) (node : ℕ) (act : Act) → ((other : ℕ) → P other (w.actors other)) →
+    P node (actor_by node (w.actors node) act) → (other : ℕ) →
+    P other ((after w node act).actors other)
 at_each P w node act each new other = elim (actors_after w node act other) [
   | inl here ↦ subst (P other) (sym here.actor_is) (subst (λ (n : ℕ). P n (actor_by node (w.actors node) act)) (sym here.node_is) new)
   | inr elsewhere ↦ subst (P other) (sym elsewhere) (each other)
@@ -245,10 +279,12 @@ distinct_by : (node : ℕ) (a : Actor) (act : Act) → HaveTickets a → AreDist
 distinct_by node a (Begins ticket request) have distinct x y in_x in_y same = elim (in_either x a.waiting _ in_x) [
   | inl old_x ↦ elim (in_either y a.waiting _ in_y) [
     | inl old_y ↦ distinct x y old_x old_y same
-    | inr new_y ↦ of_only (λ (z : Waiting). x.ticket ≡ z.ticket → id_in x.request ≡ id_in z.request) _ y (λ is. absurd (let below = have x old_x in omega (arith, below, is))) new_y same
+    | inr new_y ↦ of_only (λ (z : Waiting). x.ticket ≡ z.ticket → id_in x.request ≡ id_in z.request) _ y
+        (λ is. absurd (let below = have x old_x in omega (arith, below, is))) new_y same
   ]
   | inr new_x ↦ elim (in_either y a.waiting _ in_y) [
-    | inl old_y ↦ of_only (λ (z : Waiting). z.ticket ≡ y.ticket → id_in z.request ≡ id_in y.request) _ x (λ is. absurd (let below = have y old_y in omega (arith, below, is))) new_x same
+    | inl old_y ↦ of_only (λ (z : Waiting). z.ticket ≡ y.ticket → id_in z.request ≡ id_in y.request) _ x
+        (λ is. absurd (let below = have y old_y in omega (arith, below, is))) new_x same
     | inr new_y ↦ ap (λ (z : Waiting). id_in z.request) (same_only x y _ new_x new_y)
   ]
 ]
@@ -266,7 +302,8 @@ distinct_by node a act have distinct x y in_x in_y same = distinct x y in_x in_y
 -- a serial that was given stays so
 given_by : (node : ℕ) (a : Actor) (act : Act) (id : ℕ) → WasGiven a id → WasGiven (actor_by node a act) id
 given_by node a act id given = elim (remembers node a act) [
-  | inl anew ↦ subst (λ (x : Act). WasGiven (actor_by node a x) id) (sym anew.2) (elim given [ inl before ↦ inl (omega (arith, before)) | inr now ↦ inl (let same = now.0 in omega (arith, same)) ])
+  | inl anew ↦ subst (λ (x : Act). WasGiven (actor_by node a x) id) (sym anew.2)
+      (elim given [ inl before ↦ inl (omega (arith, before)) | inr now ↦ inl (let same = now.0 in omega (arith, same)) ])
   | inr r ↦ elim given [
     | inl before ↦ inl (let same = r.incarnation in omega (arith, before, same))
     | inr now ↦ inr (now.0 ∙ sym r.incarnation, let more = r.serial in let below = now.1 in omega (arith, below, more))
@@ -275,18 +312,22 @@ given_by node a act id given = elim (remembers node a act) [
 
 given_after : (w : World) (node : ℕ) (act : Act) (other id : ℕ) → WasGiven (w.actors other) id → WasGiven ((after w node act).actors other) id
 given_after w node act other id given = elim (actors_after w node act other) [
-  | inl here ↦ subst (λ (a : Actor). WasGiven a id) (sym here.actor_is) (given_by node (w.actors node) act id (subst (λ (n : ℕ). WasGiven (w.actors n) id) here.node_is given))
+  | inl here ↦ subst (λ (a : Actor). WasGiven a id) (sym here.actor_is)
+      (given_by node (w.actors node) act id (subst (λ (n : ℕ). WasGiven (w.actors n) id) here.node_is given))
   | inr elsewhere ↦ subst (λ (a : Actor). WasGiven a id) (sym elsewhere) given
 ]
 
 -- the parts of an id that is given
-own_id : (node : ℕ) (a : Actor) (id : ℕ) (message : Submission) → a.incarnation ≤ 9999 → IsNumbered node a id message → (node_of id ≡ node) × (incarnation_of id ≡ a.incarnation) × (serial_of id ≡ a.serial)
+own_id : (node : ℕ) (a : Actor) (id : ℕ) (message : Submission) → a.incarnation ≤ 9999 → IsNumbered node a id message →
+    (node_of id ≡ node) × (incarnation_of id ≡ a.incarnation) × (serial_of id ≡ a.serial)
 own_id node a id message most n =
     let is = n.id_is in
     let serial = n.serial.most in
     (omega (arith, is, serial, most), omega (arith, is, serial, most), omega (arith, is, serial, most))
 
-begun_numbered : (node : ℕ) (a : Actor) (ticket : ℕ) (request : Request) → a.incarnation ≤ 9999 → IsFitToWait node a request → AreNumbered node a → AreNumbered node (actor_by node a (Begins ticket request))
+begun_numbered : (node : ℕ) (a : Actor) (ticket : ℕ) (request : Request) → a.incarnation ≤ 9999 → IsFitToWait node a request →
+    AreNumbered node a →
+    AreNumbered node (actor_by node a (Begins ticket request))
 begun_numbered node a ticket request most fit numbered waiting id message is_in submits = elim (in_either waiting a.waiting _ is_in) [
   | inl old ↦
       let n = numbered waiting id message old submits in
@@ -303,37 +344,51 @@ own_still : (node : ℕ) (a : Actor) (act : Act) (id : ℕ) → IsOwnId node a i
 own_still node a act id n = record { node_is = n.node_is; given = given_by node a act id n.given }
 
 numbered_by : (w : World) → Honest w → (node : ℕ) (act : Act) → May w node act → AreNumbered node (actor_by node (w.actors node) act)
-numbered_by w honest node (Begins ticket request) may waiting id message is_in submits = begun_numbered node (w.actors node) ticket request (honest.lives node) may.needs.fit (honest.numbered node) waiting id message is_in submits
+numbered_by w honest node (Begins ticket request) may waiting id message is_in submits =
+    begun_numbered node (w.actors node) ticket request (honest.lives node) may.needs.fit (honest.numbered node) waiting id message is_in submits
 numbered_by w honest node (Settles ticket) may waiting id message is_in submits =
     let m = in_map (settle ticket) (w.actors node).waiting waiting is_in in
-    own_still node (w.actors node) (Settles ticket) id (honest.numbered node m.from id message m.member (ap (λ (x : Waiting). x.request) (sym m.made) ∙ submits))
+    own_still node (w.actors node) (Settles ticket) id
+    (honest.numbered node m.from id message m.member (ap (λ (x : Waiting). x.request) (sym m.made) ∙ submits))
 numbered_by w honest node (Replies ticket other answer) may waiting id message is_in submits =
-    own_still node (w.actors node) (Replies ticket other answer) id (honest.numbered node waiting id message (in_filter _ (w.actors node).waiting waiting is_in) submits)
+    own_still node (w.actors node) (Replies ticket other answer) id
+    (honest.numbered node waiting id message (in_filter _ (w.actors node).waiting waiting is_in) submits)
 numbered_by w honest node (Restarts lost serial) may waiting id message is_in submits = absurd is_in
-numbered_by w honest node act may waiting id message is_in submits = own_still node (w.actors node) act id (honest.numbered node waiting id message is_in submits)
+numbered_by w honest node act may waiting id message is_in submits =
+    own_still node (w.actors node) act id (honest.numbered node waiting id message is_in submits)
 
 -- the message of a chain of a node's own has a serial that was given
 own_given : (w : World) → Keeps w → Honest w → (node id : ℕ) (chain : List Decree) → IsOwn (IsChosenIn w) node (w.actors node) id chain → GivenIn w id chain
 own_given w keeps honest node id chain (inl first) =
     let n = honest.numbered node first.waiting id first.message first.waits first.submits in
     subst (λ (m : ℕ). WasGiven (w.actors m) id) (sym n.node_is) n.given
-own_given w keeps honest node id chain (inr next) = chosen_good GivenIn w keeps honest.given (slot_of id (next.newest ∷ next.older)) (vote_at next.ballot (next.newest ∷ next.older)) next.chosen
+own_given w keeps honest node id chain (inr next) =
+    chosen_good GivenIn w keeps honest.given (slot_of id (next.newest ∷ next.older)) (vote_at next.ballot (next.newest ∷ next.older)) next.chosen
 
 -- ---- questions
 
-about_at : (w : World) → Names w → Honest w → (node : ℕ) (act : Act) (asker id : ℕ) (name : Name) → In (Ask asker id name) w.packets → IsAbout name id ((after w node act).actors name.node)
+about_at : (w : World) → Names w → Honest w → (node : ℕ) (act : Act) (asker id : ℕ) (name : Name) → In (Ask asker id name) w.packets →
+    IsAbout name id ((after w node act).actors name.node)
 about_at w names honest node act asker id name old = elim (actors_after w node act name.node) [
-  | inl here ↦ subst (IsAbout name id) (sym here.actor_is) (about_by node (w.actors node) act name id (subst (λ (n : ℕ). WasNamed (w.actors n) name) here.node_is (names.asked asker id name old)) (subst (λ (n : ℕ). IsAbout name id (w.actors n)) here.node_is (honest.about asker id name old)))
+  | inl here ↦ subst (IsAbout name id) (sym here.actor_is)
+      (about_by node (w.actors node) act name id (subst (λ (n : ℕ). WasNamed (w.actors n) name) here.node_is
+      (names.asked asker id name old)) (subst (λ (n : ℕ). IsAbout name id (w.actors n)) here.node_is (honest.about asker id name old)))
   | inr elsewhere ↦ subst (IsAbout name id) (sym elsewhere) (honest.about asker id name old)
 ]
 
-about_asked : (w : World) → Honest w → (node id : ℕ) (name : Name) → name ≡ record { node = node; incarnation = (w.actors node).incarnation; ticket = name.ticket } → IsWaiting (w.actors node) id name.ticket → IsAbout name id ((after w node (Asks id name.ticket)).actors name.node)
+about_asked : (w : World) → Honest w → (node id : ℕ) (name : Name) →
+    name ≡ record { node = node; incarnation = (w.actors node).incarnation; ticket = name.ticket } →
+    IsWaiting (w.actors node) id name.ticket →
+    IsAbout name id ((after w node (Asks id name.ticket)).actors name.node)
 about_asked w honest node id name is asks =
     let nodes : name.node ≡ node = ap (λ (n : Name). n.node) is in
     subst (λ (n : ℕ). IsAbout name id ((after w node (Asks id name.ticket)).actors n)) (sym nodes) (
-    subst (IsAbout name id) (sym (actor_here w node (Asks id name.ticket))) (λ same waiting waits ticket. honest.distinct node waiting asks.waiting waits asks.waits (ticket ∙ sym asks.ticket_is) ∙ asks.about))
+    subst (IsAbout name id) (sym (actor_here w node (Asks id name.ticket)))
+    (λ same waiting waits ticket. honest.distinct node waiting asks.waiting waits asks.waits (ticket ∙ sym asks.ticket_is) ∙ asks.about))
 
-about_after : (w : World) → Names w → Honest w → (node : ℕ) (act : Act) → May w node act → (asker id : ℕ) (name : Name) → In (Ask asker id name) (after w node act).packets → IsAbout name id ((after w node act).actors name.node)
+about_after : (w : World) → Names w → Honest w → (node : ℕ) (act : Act) → May w node act → (asker id : ℕ) (name : Name) →
+    In (Ask asker id name) (after w node act).packets →
+    IsAbout name id ((after w node act).actors name.node)
 about_after w names honest node act may asker id name is_in = elim (ask_cases w node act asker id name is_in) [
   | inl new ↦
       let m : May w node (Asks id name.ticket) = subst (May w node) new.by may in
@@ -341,13 +396,19 @@ about_after w names honest node act may asker id name is_in = elim (ask_cases w 
   | inr old ↦ about_at w names honest node act asker id name old
 ]
 
-tells_after : (w : World) → Keeps w → Honest w → (node : ℕ) (act : Act) → May w node act → (teller : ℕ) (name : Name) (told : TopVote) → In (Tell teller name (Some told)) (after w node act).packets → IsAsked (after w node act) told.id name
+tells_after : (w : World) → Keeps w → Honest w → (node : ℕ) (act : Act) → May w node act → (teller : ℕ) (name : Name) (told : TopVote) →
+    In (Tell teller name (Some told)) (after w node act).packets →
+    IsAsked (after w node act) told.id name
 tells_after w keeps honest node act may teller name told is_in =
     let grown = grows w node act may in
     elim (tell_cases w node act teller name (Some told) is_in) [
       | inl new ↦
           let m : MayTell (w.actors node) (w.records node) new.id name (Some told) = (subst (May w node) new.by may).needs in
-          record { asker = m.asker; sent = grown.packets _ (keeps.received node _ (subst (λ (i : ℕ). In (Ask m.asker i name) (w.actors node).received) (sym m.told_is.about) m.asked)) }
+          record {
+            asker = m.asker;
+            sent = grown.packets _
+                (keeps.received node _ (subst (λ (i : ℕ). In (Ask m.asker i name) (w.actors node).received) (sym m.told_is.about) m.asked));
+          }
       | inr old ↦ let a = honest.tells teller name told old in record { asker = a.asker; sent = grown.packets _ a.sent }
     ]
 

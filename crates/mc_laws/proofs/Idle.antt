@@ -103,7 +103,9 @@ module _ (setup : Setup) (a : Actor) (records : Records) (input : Input) (core :
   replies_none act due = due
 
   -- no round is started but by an outcome
-  pub cause_none : ((id place : ℕ) (chain : List Decree) → CausesClose setup.nodes setup.node b input id place chain → ⊥) → (act : Act) → DueToPrepare setup.nodes setup.node a b (saved records core) input act → ⊥
+  pub cause_none : ((id place : ℕ) (chain : List Decree) → CausesClose setup.nodes setup.node b input id place chain → ⊥) → (act : Act) →
+      DueToPrepare setup.nodes setup.node a b (saved records core) input act →
+      ⊥
   cause_none no_close (Prepares slot ballot chain) due = by_input input plain due.0 no_close
     where
       followed : (packet : Packet) → CausesFollow setup.nodes setup.node a b (Delivery packet) slot.id slot.place chain → ⊥
@@ -125,7 +127,10 @@ module _ (setup : Setup) (a : Actor) (records : Records) (input : Input) (core :
       no_follow (Response other outcome) follow = follow
       no_follow (Restart lost) follow = follow
 
-      by_input : (input : Input) → IsPlain input → IsStarted setup.nodes setup.node a b (saved records core) input slot.id slot.place chain → ((id place : ℕ) (chain : List Decree) → CausesClose setup.nodes setup.node b input id place chain → ⊥) → ⊥
+      by_input : (input : Input) → IsPlain input →
+          IsStarted setup.nodes setup.node a b (saved records core) input slot.id slot.place chain →
+          ((id place : ℕ) (chain : List Decree) → CausesClose setup.nodes setup.node b input id place chain → ⊥) →
+          ⊥
       by_input (Delivery packet) is (inl take) none = take
       by_input (Delivery packet) is (inr (inl close)) none = none slot.id slot.place chain close
       by_input (Delivery packet) is (inr (inr (inl follow))) none = no_follow (Delivery packet) follow
@@ -154,7 +159,10 @@ module _ (setup : Setup) (a : Actor) (records : Records) (input : Input) (core :
       by_input (Tick moment up) is due none = absurd is
   cause_none no_close act due = due
 
-  pub idle_exact : IsCore setup a records input core → ((act : Act) → DueToReport setup.nodes setup.node a b act → ⊥) → (prepares : List Act) → AreDueOnce (DueToPrepare setup.nodes setup.node a b (saved records core) input) prepares → (acts : List Act) → acts ≡ (prepares ++ [] ++ [] ++ [] ++ []) ++ core → IsExact setup a records input acts
+  pub idle_exact : IsCore setup a records input core → ((act : Act) → DueToReport setup.nodes setup.node a b act → ⊥) →
+      (prepares : List Act) → AreDueOnce (DueToPrepare setup.nodes setup.node a b (saved records core) input) prepares → (acts : List Act) →
+      acts ≡ (prepares ++ [] ++ [] ++ [] ++ []) ++ core →
+      IsExact setup a records input acts
   idle_exact core_is unreported prepares prepared acts is = record {
     core = core;
     settles = [];
@@ -186,35 +194,47 @@ no_vote_yet : NoVotes (Prepare 2 (slot_at first_id 0) first_ballot ∷ [])
 no_vote_yet acceptor slot vote (inl same) = cc
 no_vote_yet acceptor slot vote (inr none) = none
 
-no_report_yet : (before : Actor) (act : Act) → DueToReport 3 1 before (record (opened 1 1) { received = Prepare 2 (slot_at first_id 0) first_ballot ∷ [] }) act → ⊥
+no_report_yet : (before : Actor) (act : Act) →
+    DueToReport 3 1 before (record (opened 1 1) { received = Prepare 2 (slot_at first_id 0) first_ballot ∷ [] }) act →
+    ⊥
 no_report_yet before (Reports id chain) due = none_known 3 _ no_vote_yet id chain due.known
 no_report_yet before act due = due
 
 -- it promises
-pub promises : IsStepAlone among_three (opened_new 1) (Delivery (Prepare 2 (slot_at first_id 0) first_ballot)) (Promises (slot_at first_id 0) first_ballot true ∷ Receives (Prepare 2 (slot_at first_id 0) first_ballot) ∷ [])
+pub promises : IsStepAlone among_three (opened_new 1) (Delivery (Prepare 2 (slot_at first_id 0) first_ballot))
+    (Promises (slot_at first_id 0) first_ballot true ∷ Receives (Prepare 2 (slot_at first_id 0) first_ballot) ∷ [])
 promises = record {
   run = (
     record { least = omega arith; most = omega arith; up = refl; needs = record { sender = 2; prepared = inl refl; may = omega arith } },
     (record { least = omega arith; most = omega arith; up = refl; needs = tt }, tt),
   );
   exact = idle_exact among_three (opened 1 1) no_records (Delivery (Prepare 2 (slot_at first_id 0) first_ballot)) _ tt promise_idle
-      (inl (record { least = omega arith; most = omega arith }, record { answer = Promises (slot_at first_id 0) first_ballot true ∷ []; answered = inl (omega arith, refl); acts_are = refl }))
+      (inl (
+        record { least = omega arith; most = omega arith },
+        record
+            { answer = Promises (slot_at first_id 0) first_ballot true ∷ []; answered = inl (omega arith, refl); acts_are = refl },
+      ))
       (no_report_yet (opened 1 1)) []
-      (none_due_once _ (cause_none among_three (opened 1 1) no_records (Delivery (Prepare 2 (slot_at first_id 0) first_ballot)) (Promises (slot_at first_id 0) first_ballot true ∷ Receives (Prepare 2 (slot_at first_id 0) first_ballot) ∷ []) tt promise_idle (λ id place chain none. none))) _ refl;
+      (none_due_once _ (cause_none among_three (opened 1 1) no_records (Delivery (Prepare 2 (slot_at first_id 0) first_ballot))
+      (Promises (slot_at first_id 0) first_ballot true ∷ Receives (Prepare 2 (slot_at first_id 0) first_ballot) ∷ []) tt promise_idle
+      (λ id place chain none. none))) _ refl;
 }
 
 -- and where it stops after the save, nothing is answered
 stop_idle : IsIdle (record (opened 1 1) { up = false; received = Prepare 2 (slot_at first_id 0) first_ballot ∷ [] })
 stop_idle = record { waits = λ waiting none. none; runs = never_empty }
 
-no_report_stopped : (before : Actor) (act : Act) → DueToReport 3 1 before (record (opened 1 1) { up = false; received = Prepare 2 (slot_at first_id 0) first_ballot ∷ [] }) act → ⊥
+no_report_stopped : (before : Actor) (act : Act) →
+    DueToReport 3 1 before (record (opened 1 1) { up = false; received = Prepare 2 (slot_at first_id 0) first_ballot ∷ [] }) act →
+    ⊥
 no_report_stopped before (Reports id chain) due = none_known 3 _ no_vote_yet id chain due.known
 no_report_stopped before act due = due
 
 abbrev stopping : List Act
 stopping = Stops ∷ Promises (slot_at first_id 0) first_ballot false ∷ Receives (Prepare 2 (slot_at first_id 0) first_ballot) ∷ []
 
-pub stops : IsStepAlone among_three (opened_new 1) (Crash (Prepare 2 (slot_at first_id 0) first_ballot) true) (Stops ∷ Promises (slot_at first_id 0) first_ballot false ∷ Receives (Prepare 2 (slot_at first_id 0) first_ballot) ∷ [])
+pub stops : IsStepAlone among_three (opened_new 1) (Crash (Prepare 2 (slot_at first_id 0) first_ballot) true)
+    (Stops ∷ Promises (slot_at first_id 0) first_ballot false ∷ Receives (Prepare 2 (slot_at first_id 0) first_ballot) ∷ [])
 stops = record {
   run = (
     record { least = omega arith; most = omega arith; up = refl; needs = tt },
@@ -224,9 +244,14 @@ stops = record {
     ),
   );
   exact = idle_exact among_three (opened 1 1) no_records (Crash (Prepare 2 (slot_at first_id 0) first_ballot) true) stopping tt stop_idle
-      (record { before = Promises (slot_at first_id 0) first_ballot false ∷ Receives (Prepare 2 (slot_at first_id 0) first_ballot) ∷ []; handled = inl (record { least = omega arith; most = omega arith }, inl (omega arith, refl)); acts_are = refl })
+      (record {
+        before = Promises (slot_at first_id 0) first_ballot false ∷ Receives (Prepare 2 (slot_at first_id 0) first_ballot) ∷ [];
+        handled = inl (record { least = omega arith; most = omega arith }, inl (omega arith, refl));
+        acts_are = refl;
+      })
       (no_report_stopped (opened 1 1)) []
-      (none_due_once _ (cause_none among_three (opened 1 1) no_records (Crash (Prepare 2 (slot_at first_id 0) first_ballot) true) stopping tt stop_idle (λ id place chain none. none))) stopping refl;
+      (none_due_once _ (cause_none among_three (opened 1 1) no_records
+      (Crash (Prepare 2 (slot_at first_id 0) first_ballot) true) stopping tt stop_idle (λ id place chain none. none))) stopping refl;
 }
 
 -- ---- a node that has received nothing
@@ -245,16 +270,20 @@ no_report_new before incarnation serial act due = due
 pub restarts : (s : Node) → s.actor.incarnation + 2 < 9999 → IsStepAlone among_three s (Restart 2) (Restarts 2 1 ∷ [])
 restarts s below = record {
   run = (record { least = omega arith; most = omega arith; up = tt; needs = below }, tt);
-  exact = idle_exact among_three s.actor s.records (Restart 2) (Restarts 2 1 ∷ []) tt (new_idle (suc (s.actor.incarnation + 2)) 1) refl (no_report_new s.actor (suc (s.actor.incarnation + 2)) 1) []
-      (none_due_once _ (cause_none among_three s.actor s.records (Restart 2) (Restarts 2 1 ∷ []) tt (new_idle (suc (s.actor.incarnation + 2)) 1) (λ id place chain none. none))) (Restarts 2 1 ∷ []) refl;
+  exact = idle_exact among_three s.actor s.records (Restart 2) (Restarts 2 1 ∷ []) tt (new_idle (suc (s.actor.incarnation + 2)) 1) refl
+      (no_report_new s.actor (suc (s.actor.incarnation + 2)) 1) []
+      (none_due_once _ (cause_none among_three s.actor s.records (Restart 2) (Restarts 2 1 ∷ []) tt
+      (new_idle (suc (s.actor.incarnation + 2)) 1) (λ id place chain none. none))) (Restarts 2 1 ∷ []) refl;
 }
 
 -- a submit_sm finds no serial, and is answered at once
 pub refuses : IsStepAlone among_three (node_of_actor used_up) (Refusal queue_full) []
 refuses = record {
   run = tt;
-  exact = idle_exact among_three used_up no_records (Refusal queue_full) [] tt (record { waits = λ waiting none. none; runs = never_empty }) (record { throttled = λ is. absurd (omega (arith, is)); queue_full = λ is. omega arith }, refl) unreported []
-      (none_due_once _ (cause_none among_three used_up no_records (Refusal queue_full) [] tt (record { waits = λ waiting none. none; runs = never_empty }) (λ id place chain none. none))) [] refl;
+  exact = idle_exact among_three used_up no_records (Refusal queue_full) [] tt (record { waits = λ waiting none. none; runs = never_empty })
+      (record { throttled = λ is. absurd (omega (arith, is)); queue_full = λ is. omega arith }, refl) unreported []
+      (none_due_once _ (cause_none among_three used_up no_records (Refusal queue_full) [] tt
+      (record { waits = λ waiting none. none; runs = never_empty }) (λ id place chain none. none))) [] refl;
 }
   where
     unreported : (act : Act) → DueToReport 3 1 used_up used_up act → ⊥
@@ -272,7 +301,8 @@ module _ (message : Submission) where
 
   -- what is known was known before, and has no final state
   no_report_of : (before after : Actor) → before.received ≡ after.received → (act : Act) → DueToReport 1 1 before after act → ⊥
-  no_report_of before after same (Reports id chain) due = due.new chain due.final (subst (λ (ps : List Packet). Knows 1 ps id chain) (sym same) due.known) due.ends
+  no_report_of before after same (Reports id chain) due = due.new chain due.final
+      (subst (λ (ps : List Packet). Knows 1 ps id chain) (sym same) due.known) due.ends
   no_report_of before after same act due = due
 
   pub grants : IsStepAlone first_setup (node_of_actor (attempting [] [])) (Grant (first_attempt message)) (Grants (first_attempt message) ∷ [])
@@ -283,15 +313,27 @@ module _ (message : Submission) where
         most = omega arith;
         up = refl;
         needs = record {
-          attempting = record { newest = decreed (Attempt 1); older = taken_chain message; number = 1; known = known_here (attempted_chain message); place = refl; attempt = refl; author = refl };
+          attempting = record {
+            newest = decreed (Attempt 1);
+            older = taken_chain message;
+            number = 1;
+            known = known_here
+                (attempted_chain message);
+            place = refl;
+            attempt = refl;
+            author = refl;
+          };
           granted = λ none. none;
           closed = λ outcome none. none;
         };
       },
       tt,
     );
-    exact = idle_exact first_setup (attempting [] []) no_records (Grant (first_attempt message)) (Grants (first_attempt message) ∷ []) tt (attempt_idle (first_attempt message ∷ []) []) refl (no_report_of (attempting [] []) (attempting (first_attempt message ∷ []) []) refl) []
-        (none_due_once _ (cause_none first_setup (attempting [] []) no_records (Grant (first_attempt message)) (Grants (first_attempt message) ∷ []) tt (attempt_idle (first_attempt message ∷ []) []) (λ id place chain none. none))) (Grants (first_attempt message) ∷ []) refl;
+    exact = idle_exact first_setup (attempting [] []) no_records (Grant (first_attempt message)) (Grants (first_attempt message) ∷ []) tt
+        (attempt_idle (first_attempt message ∷ []) []) refl (no_report_of (attempting [] []) (attempting (first_attempt message ∷ []) []) refl) []
+        (none_due_once _ (cause_none first_setup (attempting [] []) no_records (Grant (first_attempt message))
+        (Grants (first_attempt message) ∷ []) tt (attempt_idle (first_attempt message ∷ []) []) (λ id place chain none. none)))
+        (Grants (first_attempt message) ∷ []) refl;
   }
 
   -- the outcome comes, and its decree is to be agreed on
@@ -328,7 +370,16 @@ module _ (message : Submission) where
       only act (inl same) = subst Due (sym same) (
         inr (inl (record {
           about = refl;
-          further = record { newest = decreed (Attempt 1); older = taken_chain message; taken = message; known = known_here (attempted_chain message); behind = refl; message = refl; chain_is = refl };
+          further = record {
+            newest = decreed (Attempt 1);
+            older = taken_chain message;
+            taken = message;
+            known = known_here
+                (attempted_chain message);
+            behind = refl;
+            message = refl;
+            chain_is = refl;
+          };
           newest = refl;
         })),
         prepares_so,
@@ -338,18 +389,35 @@ module _ (message : Submission) where
       all : (act : Act) → Due act → In (key_of act) (first_id ∷ [])
       all (Prepares slot ballot chain) due = inl (by_cause due.0)
         where
-          by_cause : Causes 1 1 (attempting (first_attempt message ∷ []) []) concluded (Response (first_attempt message) (Concluded Delivered 0)) slot.id slot.place chain → slot.id ≡ first_id
+          by_cause : Causes 1 1 (attempting (first_attempt message ∷ []) []) concluded
+              (Response (first_attempt message) (Concluded Delivered 0)) slot.id slot.place chain →
+              slot.id ≡ first_id
           by_cause (inl take) = absurd take
           by_cause (inr (inl close)) = sym close.about
           by_cause (inr (inr (inl follow))) = absurd follow
           by_cause (inr (inr (inr delete))) = absurd delete.deletes.cancelled.waits
       all act due = absurd due
 
-  pub concludes : IsStepAlone first_setup (node_of_actor (attempting (first_attempt message ∷ []) [])) (Response (first_attempt message) (Concluded Delivered 0)) (Prepares (slot_of first_id (delivered_chain message)) first_ballot (delivered_chain message) ∷ Concludes (first_attempt message) (Concluded Delivered 0) ∷ [])
+  pub concludes : IsStepAlone first_setup (node_of_actor (attempting (first_attempt message ∷ []) []))
+      (Response (first_attempt message) (Concluded Delivered 0))
+      (Prepares (slot_of first_id (delivered_chain message)) first_ballot (delivered_chain message) ∷ Concludes (first_attempt message)
+      (Concluded Delivered 0) ∷ [])
   concludes = record {
     run = (
       record { least = omega arith; most = omega arith; up = refl; needs = (refl, refl) },
-      (record { least = omega arith; most = omega arith; up = refl; needs = record { granted = inl refl; closed = λ outcome none. none; possible = refl } }, tt),
+      (
+        record {
+          least = omega arith;
+          most = omega arith;
+          up = refl;
+          needs = record
+              { granted = inl refl; closed = λ outcome none. none; possible = refl };
+        },
+        tt,
+      ),
     );
-    exact = idle_exact first_setup (attempting (first_attempt message ∷ []) []) no_records (Response (first_attempt message) (Concluded Delivered 0)) (Concludes (first_attempt message) (Concluded Delivered 0) ∷ []) tt (attempt_idle (first_attempt message ∷ []) ((first_attempt message, Concluded Delivered 0) ∷ [])) refl (no_report_of (attempting (first_attempt message ∷ []) []) concluded refl) delivering one_round _ refl;
+    exact = idle_exact first_setup (attempting (first_attempt message ∷ []) []) no_records
+        (Response (first_attempt message) (Concluded Delivered 0)) (Concludes (first_attempt message) (Concluded Delivered 0) ∷ []) tt
+        (attempt_idle (first_attempt message ∷ []) ((first_attempt message, Concluded Delivered 0) ∷ [])) refl
+        (no_report_of (attempting (first_attempt message ∷ []) []) concluded refl) delivering one_round _ refl;
   }

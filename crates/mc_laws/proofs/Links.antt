@@ -61,15 +61,19 @@ pub record Standing (w : World) (slot : Slot) (chain : List Decree) : Type 0 whe
 
 -- a request that waits is of a message that may be taken
 abbrev pub MayTake : ℕ → Actor → Type 0
-MayTake node a = (waiting : Waiting) (id : ℕ) (message : Submission) → In waiting a.waiting → waiting.request ≡ Submit id message → IsTaken id (record { node = node; incarnation = a.incarnation }) waiting.since message
+MayTake node a =
+    (waiting : Waiting) (id : ℕ) (message : Submission) → In waiting a.waiting → waiting.request ≡ Submit id message → IsTaken id
+    (record { node = node; incarnation = a.incarnation }) waiting.since message
 
 -- what an actor closed in its incarnation it has closed
 abbrev pub Recalls : List Deed → ℕ → Actor → Type 0
-Recalls past node a = (slot : Slot) (outcome : Outcome) → ClosedIn past (record { node = node; incarnation = a.incarnation }) slot outcome → In (slot, outcome) a.closed
+Recalls past node a =
+    (slot : Slot) (outcome : Outcome) → ClosedIn past (record { node = node; incarnation = a.incarnation }) slot outcome → In (slot, outcome) a.closed
 
 pub record Links (w : World) : Type 0 where
   pub standing : (slot : Slot) (vote : Vote) → WasProposed w slot vote → Standing w slot vote.chain
-  pub closed : (node : ℕ) (slot : Slot) (outcome : Outcome) → In (slot, outcome) (w.actors node).closed → ClosedIn w.past (record { node = node; incarnation = (w.actors node).incarnation }) slot outcome
+  pub closed : (node : ℕ) (slot : Slot) (outcome : Outcome) → In (slot, outcome) (w.actors node).closed →
+      ClosedIn w.past (record { node = node; incarnation = (w.actors node).incarnation }) slot outcome
   pub lived : (deed : Deed) → In deed w.past → deed.incarnation ≤ (w.actors deed.node).incarnation
   pub takes : (node : ℕ) → MayTake node (w.actors node)
   pub recalls : (node : ℕ) → Recalls w.past node (w.actors node)
@@ -84,14 +88,18 @@ chosen_still w v grown slot vote chosen =
       each = λ node least most passes. grown.votes (cast node slot vote) (chosen.each node least most passes);
     })
 
-closed_still : (w v : World) → Grows w v → (author : Author) (slot : Slot) (outcome : Outcome) → ClosedIn w.past author slot outcome → ClosedIn v.past author slot outcome
+closed_still : (w v : World) → Grows w v → (author : Author) (slot : Slot) (outcome : Outcome) → ClosedIn w.past author slot outcome →
+    ClosedIn v.past author slot outcome
 closed_still w v grown author slot outcome (inl answered) = inl (grown.past _ answered)
 closed_still w v grown author slot outcome (inr abandoned) = inr (abandoned.0, grown.past _ abandoned.1)
 
-passed_still : (w v : World) → Grows w v → (attempted : Author) (slot : Slot) (before next : Kind) → Passed w attempted slot before next → Passed v attempted slot before next
+passed_still : (w v : World) → Grows w v → (attempted : Author) (slot : Slot) (before next : Kind) → Passed w attempted slot before next →
+    Passed v attempted slot before next
 passed_still w v grown attempted slot (Taken message) next passed = tt
-passed_still w v grown attempted slot (Attempt number) next (inl closed) = inl (record { outcome = closed.outcome; closed = closed_still w v grown attempted slot closed.outcome closed.closed; kind = closed.kind })
-passed_still w v grown attempted slot (Attempt number) next (inr lost) = inr (record { later = let more = grown.incarnations attempted.node in omega (arith, more, lost.later); kind = lost.kind })
+passed_still w v grown attempted slot (Attempt number) next (inl closed) =
+    inl (record { outcome = closed.outcome; closed = closed_still w v grown attempted slot closed.outcome closed.closed; kind = closed.kind })
+passed_still w v grown attempted slot (Attempt number) next (inr lost) =
+    inr (record { later = let more = grown.incarnations attempted.node in omega (arith, more, lost.later); kind = lost.kind })
 passed_still w v grown attempted slot (Failed error) next passed = tt
 passed_still w v grown attempted slot (Fate final error) next passed = tt
 
@@ -115,7 +123,9 @@ chosen_standing w keeps links slot vote chosen =
     links.standing slot vote (keeps.proposed (cast voter.node slot vote) voter.one)
 
 -- an attempt's outcome is decided by its node
-attempt_node : (message : Submission) (attempts : ℕ) (old : Author) (before number : ℕ) (author : Author) (moment : ℕ) (next : Kind) → MayFollow message attempts old before (Attempt number) author moment next → old.node ≡ author.node
+attempt_node : (message : Submission) (attempts : ℕ) (old : Author) (before number : ℕ) (author : Author) (moment : ℕ) (next : Kind) →
+    MayFollow message attempts old before (Attempt number) author moment next →
+    old.node ≡ author.node
 attempt_node message attempts old before number author moment (Failed error) may = sym may.node
 attempt_node message attempts old before number author moment (Fate Delivered error) may = ap (λ (a : Author). a.node) (sym may)
 attempt_node message attempts old before number author moment (Fate Undeliverable error) may = ap (λ (a : Author). a.node) (sym may)
@@ -125,25 +135,41 @@ attempt_node message attempts old before number author moment (Fate Deleted erro
 attempt_node message attempts old before number author moment (Taken other) may = absurd may
 attempt_node message attempts old before number author moment (Attempt other) may = absurd may
 
-passed_attempt : (w : World) → Links w → (node : ℕ) (slot : Slot) (attempted : Author) (next : Kind) → attempted.node ≡ node → IsClosed (w.actors node) slot attempted next ⊎ IsLost (w.actors node) attempted next → PassedClosed w attempted slot next ⊎ PassedLost w attempted next
+passed_attempt : (w : World) → Links w → (node : ℕ) (slot : Slot) (attempted : Author) (next : Kind) → attempted.node ≡ node →
+    IsClosed (w.actors node) slot attempted next ⊎ IsLost (w.actors node) attempted next →
+    PassedClosed w attempted slot next ⊎ PassedLost w attempted next
 passed_attempt w links node slot attempted next is (inl closed) =
-    let author : record { node = node; incarnation = (w.actors node).incarnation } ≡ attempted = λ i. record { node = sym is i; incarnation = sym closed.incarnation i } in
-    inl (record { outcome = closed.outcome; closed = subst (λ (a : Author). ClosedIn w.past a slot closed.outcome) author (links.closed node slot closed.outcome closed.closed); kind = closed.kind })
+    let author : record { node = node; incarnation = (w.actors node).incarnation } ≡ attempted = λ i. record
+    { node = sym is i; incarnation = sym closed.incarnation i } in
+    inl (record {
+      outcome = closed.outcome;
+      closed = subst (λ (a : Author). ClosedIn w.past a slot closed.outcome) author
+          (links.closed node slot closed.outcome closed.closed);
+      kind = closed.kind;
+    })
 passed_attempt w links node slot attempted next is (inr lost) =
     inr (record { later = subst (λ (n : ℕ). attempted.incarnation < (w.actors n).incarnation) (sym is) lost.incarnation; kind = lost.kind })
 
-own_passed : (w : World) → Links w → (node : ℕ) (slot : Slot) (taken : Submission) (attempts : ℕ) (attempted author : Author) (before moment : ℕ) (kind next : Kind) → author.node ≡ node → MayFollow taken attempts attempted before kind author moment next → Allows (w.actors node) slot taken attempted kind next → Passed w attempted slot kind next
+own_passed : (w : World) → Links w →
+    (node : ℕ) (slot : Slot) (taken : Submission) (attempts : ℕ) (attempted author : Author) (before moment : ℕ) (kind next : Kind) →
+    author.node ≡ node → MayFollow taken attempts attempted before kind author moment next →
+    Allows (w.actors node) slot taken attempted kind next →
+    Passed w attempted slot kind next
 own_passed w links node slot taken attempts attempted author before moment (Taken message) next is may allowed = tt
 own_passed w links node slot taken attempts attempted author before moment (Attempt number) next is may allowed =
     passed_attempt w links node slot attempted next (attempt_node taken attempts attempted before number author moment next may ∙ is) allowed
 own_passed w links node slot taken attempts attempted author before moment (Failed error) next is may allowed = tt
 own_passed w links node slot taken attempts attempted author before moment (Fate final error) next is may allowed = tt
 
-first_standing : (w : World) → Links w → (node id : ℕ) (chain : List Decree) → IsFirst node (w.actors node) id chain → IsPermitted id chain × ChainFits w id chain
+first_standing : (w : World) → Links w → (node id : ℕ) (chain : List Decree) → IsFirst node (w.actors node) id chain →
+    IsPermitted id chain × ChainFits w id chain
 first_standing w links node id chain first =
-    subst (λ (c : List Decree). IsPermitted id c × ChainFits w id c) (sym first.chain_is) (links.takes node first.waiting id first.message first.waits first.submits, tt)
+    subst (λ (c : List Decree). IsPermitted id c × ChainFits w id c) (sym first.chain_is)
+    (links.takes node first.waiting id first.message first.waits first.submits, tt)
 
-next_standing : (w : World) → Keeps w → Links w → (node id : ℕ) (chain : List Decree) → IsNext (IsChosenIn w) node (w.actors node) id chain → IsPermitted id chain × ChainFits w id chain
+next_standing : (w : World) → Keeps w → Links w → (node id : ℕ) (chain : List Decree) →
+    IsNext (IsChosenIn w) node (w.actors node) id chain →
+    IsPermitted id chain × ChainFits w id chain
 next_standing w keeps links node id chain n =
     let before = chosen_standing w keeps links (slot_of id (n.newest ∷ n.older)) (vote_at n.ballot (n.newest ∷ n.older)) n.chosen in
     let may = subst (λ (t : Option Submission). MayExtend t (n.newest ∷ n.older) n.next) (sym n.message) n.may in
@@ -152,29 +178,41 @@ next_standing w keeps links node id chain n =
       record {
         ballot = n.ballot;
         chosen = n.chosen;
-        passed = own_passed w links node (slot_of id (n.newest ∷ n.older)) n.taken _ n.newest.author n.next.author n.newest.moment n.next.moment n.newest.kind n.next.kind (ap (λ (a : Author). a.node) n.author) n.may.1 n.allowed;
+        passed = own_passed w links node (slot_of id
+            (n.newest ∷ n.older)) n.taken _ n.newest.author n.next.author n.newest.moment n.next.moment n.newest.kind n.next.kind
+            (ap (λ (a : Author). a.node) n.author) n.may.1 n.allowed;
       },
     )
 
-own_standing : (w : World) → Keeps w → Links w → (node id : ℕ) (chain : List Decree) → IsOwn (IsChosenIn w) node (w.actors node) id chain → IsPermitted id chain × ChainFits w id chain
+own_standing : (w : World) → Keeps w → Links w → (node id : ℕ) (chain : List Decree) → IsOwn (IsChosenIn w) node (w.actors node) id chain →
+    IsPermitted id chain × ChainFits w id chain
 own_standing w keeps links node id chain (inl first) = first_standing w links node id chain first
 own_standing w keeps links node id chain (inr next) = next_standing w keeps links node id chain next
 
-free_standing : (w : World) → Keeps w → Links w → (node : ℕ) (slot : Slot) (chain : List Decree) → StandsIn w slot chain ⊎ ((slot ≡ slot_of slot.id chain) × IsOwn (IsChosenIn w) node (w.actors node) slot.id chain) → Standing w slot chain
+free_standing : (w : World) → Keeps w → Links w → (node : ℕ) (slot : Slot) (chain : List Decree) →
+    StandsIn w slot chain ⊎ ((slot ≡ slot_of slot.id chain) × IsOwn (IsChosenIn w) node (w.actors node) slot.id chain) →
+    Standing w slot chain
 free_standing w keeps links node slot chain (inl (inl sent)) = links.standing slot (vote_at sent.1 chain) (record { sender = sent.0; sent = sent.2 })
-free_standing w keeps links node slot chain (inl (inr voted)) = links.standing slot (vote_at voted.1 chain) (keeps.proposed (cast voted.0 slot (vote_at voted.1 chain)) voted.2)
+free_standing w keeps links node slot chain (inl (inr voted)) =
+    links.standing slot (vote_at voted.1 chain) (keeps.proposed (cast voted.0 slot (vote_at voted.1 chain)) voted.2)
 free_standing w keeps links node slot chain (inr own) =
     let s = own_standing w keeps links node slot.id chain own.1 in record { place = own.0; permitted = s.0; fits = s.1 }
 
 -- by the highest vote that was reported
-highest_standing : (w : World) → Keeps w → Links w → (node : ℕ) (slot : Slot) (vote : Vote) (highest : Option Vote) → IsOfHighest (λ acceptor report. In (Promise acceptor slot vote.ballot report) w.packets) vote.chain highest → IsFree highest (StandsIn w slot vote.chain) ((slot ≡ slot_of slot.id vote.chain) × IsOwn (IsChosenIn w) node (w.actors node) slot.id vote.chain) → Standing w slot vote.chain
+highest_standing : (w : World) → Keeps w → Links w → (node : ℕ) (slot : Slot) (vote : Vote) (highest : Option Vote) →
+    IsOfHighest (λ acceptor report. In (Promise acceptor slot vote.ballot report) w.packets) vote.chain highest →
+    IsFree highest (StandsIn w slot vote.chain)
+    ((slot ≡ slot_of slot.id vote.chain) × IsOwn (IsChosenIn w) node (w.actors node) slot.id vote.chain) →
+    Standing w slot vote.chain
 highest_standing w keeps links node slot vote None carried free = free_standing w keeps links node slot vote.chain free
 highest_standing w keeps links node slot vote (Some top) carried free =
     let fits : PromiseFits w carried.1.0 slot vote.ballot (Some top) = keeps.fits (Promise carried.1.0 slot vote.ballot (Some top)) carried.1.1 in
     let honest = fits.honest top refl in
     subst (Standing w slot) (sym carried.0) (links.standing slot top (keeps.proposed (cast carried.1.0 slot top) honest.0))
 
-standing_after : (w : World) → Keeps w → Links w → (node : ℕ) (act : Act) → May w node act → (slot : Slot) (vote : Vote) → WasProposed (after w node act) slot vote → Standing (after w node act) slot vote.chain
+standing_after : (w : World) → Keeps w → Links w → (node : ℕ) (act : Act) → May w node act → (slot : Slot) (vote : Vote) →
+    WasProposed (after w node act) slot vote →
+    Standing (after w node act) slot vote.chain
 standing_after w keeps links node act may slot vote proposed =
     standing_still w (after w node act) (grows w node act may) slot vote.chain (elim (proposal_cases w node act proposed.sender slot vote proposed.sent) [
       | inl new ↦
@@ -185,31 +223,41 @@ standing_after w keeps links node act may slot vote proposed =
 
 -- ---- what the actors remember
 
-closed_more : (w : World) (node : ℕ) (act : Act) (author : Author) (slot : Slot) (outcome : Outcome) → ClosedIn w.past author slot outcome → ClosedIn (after w node act).past author slot outcome
+closed_more : (w : World) (node : ℕ) (act : Act) (author : Author) (slot : Slot) (outcome : Outcome) → ClosedIn w.past author slot outcome →
+    ClosedIn (after w node act).past author slot outcome
 closed_more w node act author slot outcome (inl answered) = inl (inr answered)
 closed_more w node act author slot outcome (inr abandoned) = inr (abandoned.0, inr abandoned.1)
 
 -- what an act leaves that an actor has closed
-closed_by : (w : World) → Links w → (node : ℕ) (act : Act) (slot : Slot) (outcome : Outcome) → In (slot, outcome) (actor_by node (w.actors node) act).closed → ClosedIn (after w node act).past (record { node = node; incarnation = (actor_by node (w.actors node) act).incarnation }) slot outcome
-closed_by w links node (Concludes other came) slot outcome (inl new) = inl (inl (λ i. record { node = node; incarnation = (w.actors node).incarnation; act = Concludes (new i).0 (new i).1 }))
-closed_by w links node (Concludes other came) slot outcome (inr old) = closed_more w node (Concludes other came) _ slot outcome (links.closed node slot outcome old)
-closed_by w links node (Abandons other) slot outcome (inl new) = inr (ap (λ (x : Slot × Outcome). x.1) new, inl (λ i. record { node = node; incarnation = (w.actors node).incarnation; act = Abandons (new i).0 }))
+closed_by : (w : World) → Links w → (node : ℕ) (act : Act) (slot : Slot) (outcome : Outcome) →
+    In (slot, outcome) (actor_by node (w.actors node) act).closed →
+    ClosedIn (after w node act).past (record { node = node; incarnation = (actor_by node (w.actors node) act).incarnation }) slot outcome
+closed_by w links node (Concludes other came) slot outcome (inl new) =
+    inl (inl (λ i. record { node = node; incarnation = (w.actors node).incarnation; act = Concludes (new i).0 (new i).1 }))
+closed_by w links node (Concludes other came) slot outcome (inr old) =
+    closed_more w node (Concludes other came) _ slot outcome (links.closed node slot outcome old)
+closed_by w links node (Abandons other) slot outcome (inl new) =
+    inr (ap (λ (x : Slot × Outcome). x.1) new, inl (λ i. record { node = node; incarnation = (w.actors node).incarnation; act = Abandons (new i).0 }))
 closed_by w links node (Abandons other) slot outcome (inr old) = closed_more w node (Abandons other) _ slot outcome (links.closed node slot outcome old)
 closed_by w links node (Restarts lost serial) slot outcome is_in = absurd is_in
 closed_by w links node act slot outcome is_in = closed_more w node act _ slot outcome (links.closed node slot outcome is_in)
 
-closed_after : (w : World) → Links w → (node : ℕ) (act : Act) (other : ℕ) (slot : Slot) (outcome : Outcome) → In (slot, outcome) ((after w node act).actors other).closed → ClosedIn (after w node act).past (record { node = other; incarnation = ((after w node act).actors other).incarnation }) slot outcome
+closed_after : (w : World) → Links w → (node : ℕ) (act : Act) (other : ℕ) (slot : Slot) (outcome : Outcome) →
+    In (slot, outcome) ((after w node act).actors other).closed →
+    ClosedIn (after w node act).past (record { node = other; incarnation = ((after w node act).actors other).incarnation }) slot outcome
 closed_after w links node act other slot outcome is_in = elim (changed_cases w.actors node (actor_by node (w.actors node) act) other) [
   | inl here ↦
       subst (λ (a : Actor). ClosedIn (after w node act).past (record { node = other; incarnation = a.incarnation }) slot outcome) (sym here.1) (
-      subst (λ (n : ℕ). ClosedIn (after w node act).past (record { node = n; incarnation = (actor_by node (w.actors node) act).incarnation }) slot outcome) (sym here.0) (
+      subst (λ (n : ℕ). ClosedIn (after w node act).past
+      (record { node = n; incarnation = (actor_by node (w.actors node) act).incarnation }) slot outcome) (sym here.0) (
       closed_by w links node act slot outcome (subst (λ (a : Actor). In (slot, outcome) a.closed) here.1 is_in)))
   | inr elsewhere ↦
       subst (λ (a : Actor). ClosedIn (after w node act).past (record { node = other; incarnation = a.incarnation }) slot outcome) (sym elsewhere) (
       closed_more w node act _ slot outcome (links.closed other slot outcome (subst (λ (a : Actor). In (slot, outcome) a.closed) elsewhere is_in)))
 ]
 
-lived_after : (w : World) → Links w → (node : ℕ) (act : Act) → May w node act → (deed : Deed) → In deed (after w node act).past → deed.incarnation ≤ ((after w node act).actors deed.node).incarnation
+lived_after : (w : World) → Links w → (node : ℕ) (act : Act) → May w node act → (deed : Deed) → In deed (after w node act).past →
+    deed.incarnation ≤ ((after w node act).actors deed.node).incarnation
 lived_after w links node act may deed (inl new) =
     let grown = (grows w node act may).incarnations node in
     subst (λ (d : Deed). d.incarnation ≤ ((after w node act).actors d.node).incarnation) (sym new) grown
@@ -219,42 +267,55 @@ lived_after w links node act may deed (inr old) =
 
 -- ---- the messages that wait to be taken
 
-begun_takes : (node : ℕ) (a : Actor) (ticket : ℕ) (request : Request) → IsFitToWait node a request → MayTake node a → MayTake node (actor_by node a (Begins ticket request))
+begun_takes : (node : ℕ) (a : Actor) (ticket : ℕ) (request : Request) → IsFitToWait node a request → MayTake node a →
+    MayTake node (actor_by node a (Begins ticket request))
 begun_takes node a ticket request may takes waiting id message is_in submits = elim (in_either waiting a.waiting _ is_in) [
   | inl old ↦ takes waiting id message old submits
-  | inr new ↦ of_only (λ (x : Waiting). x.request ≡ Submit id message → IsTaken id (record { node = node; incarnation = a.incarnation }) x.since message) _ waiting (λ is. let m : IsNumbered node a id message = subst (IsFitToWait node a) is may in m.takes) new submits
+  | inr new ↦ of_only (λ (x : Waiting). x.request ≡ Submit id message → IsTaken id
+      (record { node = node; incarnation = a.incarnation }) x.since message) _ waiting
+      (λ is. let m : IsNumbered node a id message = subst (IsFitToWait node a) is may in m.takes) new submits
 ]
 
 takes_by : (w : World) (node : ℕ) (act : Act) → May w node act → MayTake node (w.actors node) → MayTake node (actor_by node (w.actors node) act)
-takes_by w node (Begins ticket request) may takes waiting id message is_in submits = begun_takes node (w.actors node) ticket request may.needs.fit takes waiting id message is_in submits
+takes_by w node (Begins ticket request) may takes waiting id message is_in submits =
+    begun_takes node (w.actors node) ticket request may.needs.fit takes waiting id message is_in submits
 takes_by w node (Settles ticket) may takes waiting id message is_in submits =
     let m = in_map (settle ticket) (w.actors node).waiting waiting is_in in
-    subst (λ (x : Waiting). IsTaken id (record { node = node; incarnation = (w.actors node).incarnation }) x.since message) (sym m.made) (takes m.from id message m.member (ap (λ (x : Waiting). x.request) (sym m.made) ∙ submits))
-takes_by w node (Replies ticket other answer) may takes waiting id message is_in submits = takes waiting id message (in_filter _ (w.actors node).waiting waiting is_in) submits
+    subst (λ (x : Waiting). IsTaken id (record { node = node; incarnation = (w.actors node).incarnation }) x.since message) (sym m.made)
+    (takes m.from id message m.member (ap (λ (x : Waiting). x.request) (sym m.made) ∙ submits))
+takes_by w node (Replies ticket other answer) may takes waiting id message is_in submits =
+    takes waiting id message (in_filter _ (w.actors node).waiting waiting is_in) submits
 takes_by w node (Restarts lost serial) may takes waiting id message is_in submits = absurd is_in
 takes_by w node act may takes waiting id message is_in submits = takes waiting id message is_in submits
 
 takes_after : (w : World) → Links w → (node : ℕ) (act : Act) → May w node act → (other : ℕ) → MayTake other ((after w node act).actors other)
 takes_after w links node act may other = elim (actors_after w node act other) [
-  | inl here ↦ subst (λ (a : Actor). MayTake other a) (sym here.actor_is) (subst (λ (n : ℕ). MayTake n (actor_by node (w.actors node) act)) (sym here.node_is) (takes_by w node act may (links.takes node)))
+  | inl here ↦ subst (λ (a : Actor). MayTake other a) (sym here.actor_is)
+      (subst (λ (n : ℕ). MayTake n (actor_by node (w.actors node) act)) (sym here.node_is) (takes_by w node act may (links.takes node)))
   | inr elsewhere ↦ subst (λ (a : Actor). MayTake other a) (sym elsewhere) (links.takes other)
 ]
 
 -- ---- what an actor closed in this incarnation it remembers
 
-closed_new : (w : World) (node : ℕ) (act : Act) (slot : Slot) (outcome : Outcome) → act ≡ Concludes slot outcome → In (slot, outcome) (actor_by node (w.actors node) act).closed
+closed_new : (w : World) (node : ℕ) (act : Act) (slot : Slot) (outcome : Outcome) → act ≡ Concludes slot outcome →
+    In (slot, outcome) (actor_by node (w.actors node) act).closed
 closed_new w node act slot outcome is = subst (λ (x : Act). In (slot, outcome) (actor_by node (w.actors node) x).closed) (sym is) (inl refl)
 
 abandoned_new : (w : World) (node : ℕ) (act : Act) (slot : Slot) → act ≡ Abandons slot → In (slot, Unanswered 998) (actor_by node (w.actors node) act).closed
 abandoned_new w node act slot is = subst (λ (x : Act). In (slot, Unanswered 998) (actor_by node (w.actors node) x).closed) (sym is) (inl refl)
 
 -- an old closing is remembered where the incarnation is the same
-recalls_old : (w : World) → Links w → (node : ℕ) (act : Act) (slot : Slot) (outcome : Outcome) → ClosedIn w.past (record { node = node; incarnation = (actor_by node (w.actors node) act).incarnation }) slot outcome → (actor_by node (w.actors node) act).incarnation ≡ (w.actors node).incarnation → In (slot, outcome) (actor_by node (w.actors node) act).closed
+recalls_old : (w : World) → Links w → (node : ℕ) (act : Act) (slot : Slot) (outcome : Outcome) →
+    ClosedIn w.past (record { node = node; incarnation = (actor_by node (w.actors node) act).incarnation }) slot outcome →
+    (actor_by node (w.actors node) act).incarnation ≡ (w.actors node).incarnation →
+    In (slot, outcome) (actor_by node (w.actors node) act).closed
 recalls_old w links node act slot outcome closed same =
-    (same_life node (w.actors node) act same).closed (slot, outcome) (links.recalls node slot outcome (subst (λ (i : ℕ). ClosedIn w.past (record { node = node; incarnation = i }) slot outcome) same closed))
+    (same_life node (w.actors node) act same).closed (slot, outcome)
+    (links.recalls node slot outcome (subst (λ (i : ℕ). ClosedIn w.past (record { node = node; incarnation = i }) slot outcome) same closed))
 
 -- nothing was closed in an incarnation that is still to come
-closed_lived : (w : World) → Links w → (author : Author) (slot : Slot) (outcome : Outcome) → ClosedIn w.past author slot outcome → author.incarnation ≤ (w.actors author.node).incarnation
+closed_lived : (w : World) → Links w → (author : Author) (slot : Slot) (outcome : Outcome) → ClosedIn w.past author slot outcome →
+    author.incarnation ≤ (w.actors author.node).incarnation
 closed_lived w links author slot outcome (inl answered) = links.lived _ answered
 closed_lived w links author slot outcome (inr abandoned) = links.lived _ abandoned.1
 
@@ -262,13 +323,16 @@ recalls_by : (w : World) → Links w → (node : ℕ) (act : Act) → Recalls (a
 recalls_by w links node act slot outcome (inl (inl new)) = closed_new w node act slot outcome (ap (λ (d : Deed). d.act) (sym new))
 recalls_by w links node act slot outcome (inl (inr old)) = recalls_past w links node act slot outcome (inl old)
   where
-    recalls_past : (w : World) → Links w → (node : ℕ) (act : Act) (slot : Slot) (outcome : Outcome) → ClosedIn w.past (record { node = node; incarnation = (actor_by node (w.actors node) act).incarnation }) slot outcome → In (slot, outcome) (actor_by node (w.actors node) act).closed
+    recalls_past : (w : World) → Links w → (node : ℕ) (act : Act) (slot : Slot) (outcome : Outcome) →
+        ClosedIn w.past (record { node = node; incarnation = (actor_by node (w.actors node) act).incarnation }) slot outcome →
+        In (slot, outcome) (actor_by node (w.actors node) act).closed
     recalls_past w links node act slot outcome closed =
         let lived = closed_lived w links _ slot outcome closed in
         let more = later node (w.actors node) act in
         recalls_old w links node act slot outcome closed (omega (arith, lived, more))
 recalls_by w links node act slot outcome (inr (is, inl new)) =
-    subst (λ (o : Outcome). In (slot, o) (actor_by node (w.actors node) act).closed) (sym is) (abandoned_new w node act slot (ap (λ (d : Deed). d.act) (sym new)))
+    subst (λ (o : Outcome). In (slot, o) (actor_by node (w.actors node) act).closed) (sym is)
+    (abandoned_new w node act slot (ap (λ (d : Deed). d.act) (sym new)))
 recalls_by w links node act slot outcome (inr (is, inr old)) =
     let lived = links.lived _ old in
     let more = later node (w.actors node) act in
@@ -283,8 +347,10 @@ recalls_other w links node act other apart slot outcome (inr (is, inr old)) = li
 
 recalls_after : (w : World) → Links w → (node : ℕ) (act : Act) (other : ℕ) → Recalls (after w node act).past other ((after w node act).actors other)
 recalls_after w links node act other = elim (cases_eq other node) [
-  | inl here ↦ subst (λ (n : ℕ). Recalls (after w node act).past n ((after w node act).actors n)) (sym here) (subst (λ (a : Actor). Recalls (after w node act).past node a) (sym (actor_here w node act)) (recalls_by w links node act))
-  | inr apart ↦ subst (λ (a : Actor). Recalls (after w node act).past other a) (sym (actor_apart w node act other apart)) (recalls_other w links node act other apart)
+  | inl here ↦ subst (λ (n : ℕ). Recalls (after w node act).past n ((after w node act).actors n)) (sym here)
+      (subst (λ (a : Actor). Recalls (after w node act).past node a) (sym (actor_here w node act)) (recalls_by w links node act))
+  | inr apart ↦ subst (λ (a : Actor). Recalls (after w node act).past other a) (sym (actor_apart w node act other apart))
+      (recalls_other w links node act other apart)
 ]
 
 -- ---- every world that is reached

@@ -44,14 +44,22 @@ on_clock_still past deed author moment (inr ticked) = inr (inr ticked)
 ticked : (a b : ℕ) → (max a b ≡ a) ⊎ (max a b ≡ b)
 ticked a b = elim (cases_lt a b) [ inl below ↦ inr (omega (arith, below)) | inr above ↦ inl (omega (arith, above)) ]
 
-clock_at : (past : List Deed) (node : ℕ) (a : Actor) (moment : ℕ) → WasOnClock past (lived_by node a) a.clock → WasOnClock (deed_by (lived_by node a) (Ticks moment) ∷ past) (lived_by node a) (max a.clock moment)
+clock_at : (past : List Deed) (node : ℕ) (a : Actor) (moment : ℕ) → WasOnClock past (lived_by node a) a.clock →
+    WasOnClock (deed_by (lived_by node a) (Ticks moment) ∷ past) (lived_by node a) (max a.clock moment)
 clock_at past node a moment clock = elim (ticked a.clock moment) [
-  | inl old ↦ subst (WasOnClock (deed_by (lived_by node a) (Ticks moment) ∷ past) (lived_by node a)) (sym old) (on_clock_still past _ (lived_by node a) a.clock clock)
+  | inl old ↦ subst (WasOnClock (deed_by (lived_by node a) (Ticks moment) ∷ past) (lived_by node a)) (sym old)
+      (on_clock_still past _ (lived_by node a) a.clock clock)
   | inr new ↦ subst (WasOnClock (deed_by (lived_by node a) (Ticks moment) ∷ past) (lived_by node a)) (sym new) (inr (inl refl))
 ]
 
-time_by : (w : World) (node : ℕ) (act : Act) → KeepsTime w.past node (w.actors node) → KeepsTime (after w node act).past node (actor_by node (w.actors node) act)
-time_by w node (Ticks moment) t = record { clock = clock_at w.past node (w.actors node) moment t.clock; since = λ waiting is_in. on_clock_still w.past _ _ waiting.since (t.since waiting is_in) }
+time_by : (w : World) (node : ℕ) (act : Act) → KeepsTime w.past node (w.actors node) →
+    KeepsTime (after w node act).past node (actor_by node (w.actors node) act)
+time_by w node (Ticks moment) t =
+    record {
+      clock = clock_at w.past node (w.actors node) moment t.clock;
+      since = λ waiting is_in. on_clock_still w.past _ _ waiting.since
+          (t.since waiting is_in);
+    }
 time_by w node (Restarts lost serial) t = record { clock = inl refl; since = λ waiting is_in. absurd is_in }
 time_by w node (Begins ticket request) t = record {
   clock = on_clock_still w.past _ _ (w.actors node).clock t.clock;
@@ -63,7 +71,8 @@ time_by w node (Begins ticket request) t = record {
 time_by w node (Settles ticket) t = record {
   clock = on_clock_still w.past _ _ (w.actors node).clock t.clock;
   since = λ waiting is_in. let m = in_map (settle ticket) (w.actors node).waiting waiting is_in in
-      on_clock_still w.past _ _ waiting.since (subst (λ (x : Waiting). WasOnClock w.past (lived_by node (w.actors node)) x.since) (sym m.made) (t.since m.from m.member));
+      on_clock_still w.past _ _ waiting.since (subst (λ (x : Waiting). WasOnClock w.past (lived_by node (w.actors node)) x.since)
+      (sym m.made) (t.since m.from m.member));
 }
 time_by w node (Replies ticket id answer) t = record {
   clock = on_clock_still w.past _ _ (w.actors node).clock t.clock;
@@ -82,7 +91,9 @@ time_still past deed node a t = record {
 
 times_after : (w : World) → OwnDecrees w → (node : ℕ) (act : Act) (other : ℕ) → KeepsTime (after w node act).past other ((after w node act).actors other)
 times_after w own node act other = elim (actors_after w node act other) [
-  | inl here ↦ subst (KeepsTime (after w node act).past other) (sym here.actor_is) (subst (λ (n : ℕ). KeepsTime (after w node act).past n (actor_by node (w.actors node) act)) (sym here.node_is) (time_by w node act (own.times node)))
+  | inl here ↦ subst (KeepsTime (after w node act).past other) (sym here.actor_is)
+      (subst (λ (n : ℕ). KeepsTime (after w node act).past n (actor_by node (w.actors node) act)) (sym here.node_is)
+      (time_by w node act (own.times node)))
   | inr elsewhere ↦ subst (KeepsTime (after w node act).past other) (sym elsewhere) (time_still w.past _ other (w.actors other) (own.times other))
 ]
 
@@ -94,15 +105,19 @@ timely_still past deed (first ∷ []) timely = on_clock_still past deed first.au
 timely_still past deed (next ∷ newest ∷ older) (inl same) = inl same
 timely_still past deed (next ∷ newest ∷ older) (inr clock) = inr (on_clock_still past deed next.author next.moment clock)
 
-next_timely : (past : List Deed) (node : ℕ) (a : Actor) (next newest : Decree) → KeepsTime past node a → next.author ≡ lived_by node a → next.moment ≡ max a.clock newest.moment → (next.moment ≡ newest.moment) ⊎ WasOnClock past next.author next.moment
+next_timely : (past : List Deed) (node : ℕ) (a : Actor) (next newest : Decree) → KeepsTime past node a → next.author ≡ lived_by node a →
+    next.moment ≡ max a.clock newest.moment →
+    (next.moment ≡ newest.moment) ⊎ WasOnClock past next.author next.moment
 next_timely past node a next newest t author moment = elim (ticked a.clock newest.moment) [
-  | inl clock ↦ inr (subst (λ (x : Author). WasOnClock past x next.moment) (sym author) (subst (WasOnClock past (lived_by node a)) (sym (moment ∙ clock)) t.clock))
+  | inl clock ↦ inr (subst (λ (x : Author). WasOnClock past x next.moment) (sym author)
+      (subst (WasOnClock past (lived_by node a)) (sym (moment ∙ clock)) t.clock))
   | inr same ↦ inl (moment ∙ same)
 ]
 
 own_timely : (w : World) → OwnDecrees w → (node id : ℕ) (chain : List Decree) → IsOwn (IsChosenIn w) node (w.actors node) id chain → IsTimely w.past chain
 own_timely w own node id chain (inl first) = subst (IsTimely w.past) (sym first.chain_is) ((own.times node).since first.waiting first.waits)
-own_timely w own node id chain (inr n) = subst (IsTimely w.past) (sym n.chain_is) (next_timely w.past node (w.actors node) n.next n.newest (own.times node) n.author n.moment)
+own_timely w own node id chain (inr n) =
+    subst (IsTimely w.past) (sym n.chain_is) (next_timely w.past node (w.actors node) n.next n.newest (own.times node) n.author n.moment)
 
 own_error : (w : World) (node id : ℕ) (chain : List Decree) → IsOwn (IsChosenIn w) node (w.actors node) id chain → HasItsError chain
 own_error w node id chain (inl first) = subst HasItsError (sym first.chain_is) tt

@@ -48,7 +48,21 @@ promised_run message tried = (
                   least = omega arith;
                   most = omega arith;
                   up = refl;
-                  needs = record { next = refl; room = refl; fit = record { serial = record { least = omega arith; most = omega arith }; id_is = refl; takes = record { node = refl; incarnation = refl; expiry = tried.valid; schedule = let s = tried.scheduled in let v = tried.valid in omega (arith, s, v) } } };
+                  needs = record {
+                    next = refl;
+                    room = refl;
+                    fit = record {
+                      serial = record { least = omega arith; most = omega arith };
+                      id_is = refl;
+                      takes = record {
+                        node = refl;
+                        incarnation = refl;
+                        expiry = tried.valid;
+                        schedule = let s = tried.scheduled in let v = tried.valid in
+                            omega (arith, s, v);
+                      };
+                    };
+                  };
                 },
                 tt,
               ),
@@ -81,7 +95,18 @@ stopped_run message tried = (
               majority = two_of_three _ (record { report = None; made = inr (inl refl); within = tt }) (record { report = None; made = inl refl; within = tt });
               carried = tt;
             };
-            free = inr (refl, inl (record { waiting = record { ticket = 1; since = opening_clock; request = Submit first_id message; settled = false }; message = message; waits = inl refl; submits = refl; chain_is = refl }));
+            free = inr (
+              refl,
+              inl (record {
+                waiting = record
+                    { ticket = 1; since = opening_clock; request = Submit first_id message; settled = false };
+                message = message;
+                waits =
+                    inl refl;
+                submits = refl;
+                chain_is = refl;
+              }),
+            );
           };
         },
         promised_run message tried,
@@ -112,7 +137,8 @@ abbrev heard : Submission → List Packet
 heard message = (Voted 2 taken_slot (taken_vote message)) ∷ ((reached three_nodes (until_anew message)).actors 1).received
 
 -- every vote that it was told of is the one
-told_one : (message : Submission) (acceptor : ℕ) (slot : Slot) (vote : Vote) → In (Voted acceptor slot vote) (heard message) → (slot ≡ taken_slot) × (vote ≡ taken_vote message)
+told_one : (message : Submission) (acceptor : ℕ) (slot : Slot) (vote : Vote) → In (Voted acceptor slot vote) (heard message) →
+    (slot ≡ taken_slot) × (vote ≡ taken_vote message)
 told_one message acceptor slot vote is_in = elim is_in [
   | inl second ↦ (cc, cc)
   | inr earlier ↦ elim earlier [
@@ -131,7 +157,9 @@ told_one message acceptor slot vote is_in = elim is_in [
 ]
 
 -- so it is of whatever a majority told
-learned_one : (message : Submission) (newer older : List Packet) (slot : Slot) (vote : Vote) → heard message ≡ newer ++ older → IsLearned 3 older slot vote → (slot ≡ taken_slot) × (vote ≡ taken_vote message)
+learned_one : (message : Submission) (newer older : List Packet) (slot : Slot) (vote : Vote) → heard message ≡ newer ++ older →
+    IsLearned 3 older slot vote →
+    (slot ≡ taken_slot) × (vote ≡ taken_vote message)
 learned_one message newer older slot vote is learned =
     let told = both 3 _ _ learned learned in
     told_one message told.node slot vote (subst (λ (packets : List Packet). In (Voted told.node slot vote) packets) (sym is) (in_right _ newer older told.one))
@@ -141,7 +169,11 @@ knows_taken message = record {
   ballot = first_ballot;
   learned = two_of_three _ (inr (inl refl)) (inl refl);
   longest = λ place vote learned. let same = ap (λ (s : Slot). s.place) (learned_one message [] (heard message) _ vote refl learned).0 in omega (arith, same);
-  first = λ newer older vote is learned. (first_ballot, subst (λ (v : Vote). IsLearned 3 older taken_slot v) (learned_one message newer older taken_slot vote is learned).1 learned);
+  first = λ newer older vote is learned. (
+    first_ballot,
+    subst (λ (v : Vote). IsLearned 3 older taken_slot v)
+        (learned_one message newer older taken_slot vote is learned).1 learned,
+  );
 }
 
 -- ---- all of it
@@ -153,7 +185,13 @@ restart_run message tried = (
     most = omega arith;
     up = refl;
     needs = record {
-      asked = record { waiting = record { ticket = 1; since = opening_clock; request = Submit first_id message; settled = false }; waits = inl refl; ticket_is = refl; about = refl };
+      asked = record {
+        waiting = record { ticket = 1; since = opening_clock; request = Submit first_id message; settled = false };
+        waits =
+            inl refl;
+        ticket_is = refl;
+        about = refl;
+      };
       fits = record { chain = taken_chain message; known = knows_taken message };
     };
   },
@@ -169,7 +207,9 @@ restart_run message tried = (
 others : Majority 3 (λ node. (node == 1) ≡ false)
 others = record { test = λ node. not (node == 1); most = omega arith; each = λ node least most passes. not-true (node == 1) passes }
 
-only_own : (message : Submission) (acceptor : ℕ) (slot : Slot) (vote : Vote) → In (Voted acceptor slot vote) ((reached three_nodes (until_anew message)).actors 1).received → acceptor ≡ 1
+only_own : (message : Submission) (acceptor : ℕ) (slot : Slot) (vote : Vote) →
+    In (Voted acceptor slot vote) ((reached three_nodes (until_anew message)).actors 1).received →
+    acceptor ≡ 1
 only_own message acceptor slot vote is_in = elim is_in [
   | inl first ↦ cc
   | inr others ↦ elim others [

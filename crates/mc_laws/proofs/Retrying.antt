@@ -49,28 +49,46 @@ module _ (setup : Setup) (a : Actor) (records : Records) (slot : Slot) (ballot :
   abbrev Due : Act → Type 0
   Due act = DueToPrepare setup.nodes setup.node a now records (Tick opening_clock all_up) act
 
-  prepares_only : (rule : Rule) → IsFirstRule setup.nodes setup.node now records all_up slot.id slot.place chain rule → MayPrepare setup.nodes setup.node now records slot ballot → (act : Act) → In act (Prepares slot ballot chain ∷ []) → Due act
+  prepares_only : (rule : Rule) → IsFirstRule setup.nodes setup.node now records all_up slot.id slot.place chain rule →
+      MayPrepare setup.nodes setup.node now records slot ballot → (act : Act) → In act (Prepares slot ballot chain ∷ []) →
+      Due act
   prepares_only rule first may act (inl same) = subst Due (sym same) ((rule, first), may)
   prepares_only rule first may act (inr none) = absurd none
 
-  prepares_all : ((id place : ℕ) (other : List Decree) (rule : Rule) → FitsRule setup.nodes setup.node now records all_up id place other rule → id ≡ slot.id) → (act : Act) → Due act → In (key_of act) (slot.id ∷ [])
+  prepares_all : ((id place : ℕ) (other : List Decree) (rule : Rule) → FitsRule setup.nodes setup.node now records all_up id place other rule → id ≡ slot.id) →
+      (act : Act) → Due act →
+      In (key_of act) (slot.id ∷ [])
   prepares_all one (Prepares other at of) due = inl (one other.id other.place of due.0.0 due.0.1.fits)
   prepares_all one act due = absurd due
 
-  pub one_round : (rule : Rule) → IsFirstRule setup.nodes setup.node now records all_up slot.id slot.place chain rule → MayPrepare setup.nodes setup.node now records slot ballot → ((id place : ℕ) (other : List Decree) (rule : Rule) → FitsRule setup.nodes setup.node now records all_up id place other rule → id ≡ slot.id) → AreDueOnce Due (Prepares slot ballot chain ∷ [])
+  pub one_round : (rule : Rule) → IsFirstRule setup.nodes setup.node now records all_up slot.id slot.place chain rule →
+      MayPrepare setup.nodes setup.node now records slot ballot →
+      ((id place : ℕ) (other : List Decree) (rule : Rule) → FitsRule setup.nodes setup.node now records all_up id place other rule → id ≡ slot.id) →
+      AreDueOnce Due (Prepares slot ballot chain ∷ [])
   one_round rule first may one = record { only = prepares_only rule first may; all = prepares_all one; order = tt }
 
   -- nothing is given up where no attempt is known
-  abandons_none : ((other : Slot) (of : List Decree) → FitsRule setup.nodes setup.node now records all_up other.id (suc other.place) of GiveUp → ⊥) → (act : Act) → DueToAbandon setup.nodes setup.node now records (Tick opening_clock all_up) act → ⊥
+  abandons_none : ((other : Slot) (of : List Decree) → FitsRule setup.nodes setup.node now records all_up other.id (suc other.place) of GiveUp → ⊥) →
+      (act : Act) → DueToAbandon setup.nodes setup.node now records (Tick opening_clock all_up) act →
+      ⊥
   abandons_none none (Abandons other) due = none other due.0 due.1.fits
   abandons_none none act due = due
 
   -- no wait is too long at the opening clock
-  proposes_none : (before_tick : (newer older : List Packet) (packet : Packet) → [] ≡ newer ++ packet ∷ older → ⊥) → ((newer older : List Packet) (packet : Packet) → sent_since_tick now ≡ newer ++ packet ∷ older → ⊥) → (act : Act) → DueToPropose setup.nodes setup.node a now act → ⊥
+  proposes_none : (before_tick : (newer older : List Packet) (packet : Packet) → [] ≡ newer ++ packet ∷ older → ⊥) →
+      ((newer older : List Packet) (packet : Packet) → sent_since_tick now ≡ newer ++ packet ∷ older → ⊥) → (act : Act) →
+      DueToPropose setup.nodes setup.node a now act →
+      ⊥
   proposes_none before_tick runs (Proposes other vote) due = runs due.0.running.round.newer due.0.running.round.older _ due.0.running.round.split
   proposes_none before_tick runs act due = due
 
-  pub retry_exact : AreDueOnce Due (Prepares slot ballot chain ∷ []) → ((act : Act) → DueToSettle setup.nodes setup.node now act → ⊥) → ((act : Act) → DueToEnd (Tick opening_clock all_up) now act → ⊥) → ((act : Act) → DueToAsk setup.nodes setup.node a now (Tick opening_clock all_up) act → ⊥) → ((other : Slot) (of : List Decree) → FitsRule setup.nodes setup.node now records all_up other.id (suc other.place) of GiveUp → ⊥) → ((newer older : List Packet) (packet : Packet) → sent_since_tick now ≡ newer ++ packet ∷ older → ⊥) → ((act : Act) → DueToReply setup.nodes setup.node now act → ⊥) → IsExact setup a records (Tick opening_clock all_up) (Prepares slot ballot chain ∷ Ticks opening_clock ∷ [])
+  pub retry_exact : AreDueOnce Due (Prepares slot ballot chain ∷ []) → ((act : Act) → DueToSettle setup.nodes setup.node now act → ⊥) →
+      ((act : Act) → DueToEnd (Tick opening_clock all_up) now act → ⊥) →
+      ((act : Act) → DueToAsk setup.nodes setup.node a now (Tick opening_clock all_up) act → ⊥) →
+      ((other : Slot) (of : List Decree) → FitsRule setup.nodes setup.node now records all_up other.id (suc other.place) of GiveUp → ⊥) →
+      ((newer older : List Packet) (packet : Packet) → sent_since_tick now ≡ newer ++ packet ∷ older → ⊥) →
+      ((act : Act) → DueToReply setup.nodes setup.node now act → ⊥) →
+      IsExact setup a records (Tick opening_clock all_up) (Prepares slot ballot chain ∷ Ticks opening_clock ∷ [])
   retry_exact prepared settles ends asks gives_up runs replies = record {
     core = Ticks opening_clock ∷ [];
     settles = [];
@@ -106,16 +124,19 @@ module _ (chain : List Decree) where
   abbrev anew : Actor
   anew = did 1 (opened 2 1) (Ticks opening_clock ∷ [])
 
-  own_only : (id place : ℕ) (vote : Vote) → (records_of (slot_at id place)).vote ≡ Some vote → (slot_at id place ≡ second_slot) × (vote ≡ vote_at first_ballot chain)
+  own_only : (id place : ℕ) (vote : Vote) → (records_of (slot_at id place)).vote ≡ Some vote →
+      (slot_at id place ≡ second_slot) × (vote ≡ vote_at first_ballot chain)
   own_only id place vote is = by_test (same_slot (slot_at id place) second_slot) refl
     where
       by_test : (test : Bool) → same_slot (slot_at id place) second_slot ≡ test → (slot_at id place ≡ second_slot) × (vote ≡ vote_at first_ballot chain)
       by_test true same =
-          let held : Some (vote_at first_ballot chain) ≡ Some vote = sym (ap (λ (b : Bool). (if b then after_vote (vote_at first_ballot chain) else no_records (slot_at id place)).vote) same) ∙ is in
+          let held : Some (vote_at first_ballot chain) ≡ Some vote = sym
+          (ap (λ (b : Bool). (if b then after_vote (vote_at first_ballot chain) else no_records (slot_at id place)).vote) same) ∙ is in
           let votes : vote ≡ vote_at first_ballot chain = cc in
           (slots_same (slot_at id place) second_slot same, votes)
       by_test false other =
-          let none : None ≡ Some vote = sym (ap (λ (b : Bool). (if b then after_vote (vote_at first_ballot chain) else no_records (slot_at id place)).vote) other) ∙ is in
+          let none : None ≡ Some vote = sym (ap (λ (b : Bool).
+          (if b then after_vote (vote_at first_ballot chain) else no_records (slot_at id place)).vote) other) ∙ is in
           cc
 
   shown_only : (id place : ℕ) (vote : Vote) → IsShownAt 1 anew records_of id place vote → (slot_at id place ≡ second_slot) × (vote ≡ vote_at first_ballot chain)
@@ -186,9 +207,13 @@ module _ (chain : List Decree) where
   replies_none (Replies ticket id answer) due = due.asked.waits
   replies_none act due = due
 
-  pub follow_step : IsStepAlone among_three (voted_before chain) (Tick opening_clock all_up) (Prepares second_slot second_ballot chain ∷ Ticks opening_clock ∷ [])
+  pub follow_step : IsStepAlone among_three (voted_before chain) (Tick opening_clock all_up)
+      (Prepares second_slot second_ballot chain ∷ Ticks opening_clock ∷ [])
   follow_step = record {
-    run = (record { least = omega arith; most = omega arith; up = refl; needs = (refl, refl) }, (record { least = omega arith; most = omega arith; up = refl; needs = tt }, tt));
+    run = (
+      record { least = omega arith; most = omega arith; up = refl; needs = (refl, refl) },
+      (record { least = omega arith; most = omega arith; up = refl; needs = tt }, tt),
+    );
     exact = retry_exact among_three (opened 2 1) records_of second_slot second_ballot chain
         (one_round among_three (opened 2 1) records_of second_slot second_ballot chain Follow follow_first may_follow rule_id)
         settles_none ends_none asks_none (λ other of fits. none_known 3 [] no_vote_at_all _ _ fits.further.known) never_empty replies_none;
@@ -208,7 +233,8 @@ module _ (message : Submission) where
   only_submit P holds waiting (inr none) = absurd none
 
   take_id : (id place : ℕ) (other : List Decree) (rule : Rule) → FitsRule 1 1 retaken no_records all_up id place other rule → id ≡ first_id
-  take_id id place other Take fits = only_submit (λ w. w.request ≡ Submit id fits.1.message → id ≡ first_id) (λ same. cc) fits.1.waiting fits.1.waits fits.1.submits
+  take_id id place other Take fits = only_submit (λ w. w.request ≡ Submit id fits.1.message → id ≡ first_id)
+      (λ same. cc) fits.1.waiting fits.1.waits fits.1.submits
   take_id id place other Follow fits = elim fits.highest.shown [ inl told ↦ absurd told.told.heard | inr own ↦ cc ]
   take_id id place other Close fits = absurd (none_known 1 [] no_vote_at_all _ _ fits.further.known)
   take_id id place other Lose fits = absurd (none_known 1 [] no_vote_at_all _ _ fits.further.known)
@@ -260,11 +286,13 @@ module _ (message : Submission) where
   no_settling act due = due
 
   not_late : (act : Act) → DueToEnd (Tick opening_clock all_up) retaken act → ⊥
-  not_late (Replies ticket id TooLate) due = only_submit (λ w. w.since + longest_wait ≤ opening_clock → ⊥) (λ late. omega (arith, late)) due.asked.waiting due.asked.waits due.late
+  not_late (Replies ticket id TooLate) due = only_submit (λ w. w.since + longest_wait ≤ opening_clock → ⊥)
+      (λ late. omega (arith, late)) due.asked.waiting due.asked.waits due.late
   not_late act due = due
 
   no_questions : (act : Act) → DueToAsk 1 1 (taking_again message) retaken (Tick opening_clock all_up) act → ⊥
-  no_questions (Asks id ticket) due = only_submit (λ w. ((other : Submission) → w.request ≡ Submit id other → ⊥) → id_in w.request ≡ id → ⊥) (λ asks about. asks message (ap (λ (i : ℕ). Submit i message) about)) due.waiting due.waits due.asks due.about
+  no_questions (Asks id ticket) due = only_submit (λ w. ((other : Submission) → w.request ≡ Submit id other → ⊥) → id_in w.request ≡ id → ⊥)
+      (λ asks about. asks message (ap (λ (i : ℕ). Submit i message) about)) due.waiting due.waits due.asks due.about
   no_questions act due = due
 
   no_acceptance : (waiting : Waiting) (answer : Answer) → FitsRequest 1 1 retaken waiting (Submit first_id message) answer → ⊥
@@ -272,12 +300,17 @@ module _ (message : Submission) where
   no_acceptance waiting answer fits = fits
 
   not_answered : (act : Act) → DueToReply 1 1 retaken act → ⊥
-  not_answered (Replies ticket id answer) due = only_submit (λ w. (other : Waiting) → FitsRequest 1 1 retaken other w.request answer → ⊥) (λ other. no_acceptance other answer) due.asked.waiting due.asked.waits due.asked.waiting due.fits
+  not_answered (Replies ticket id answer) due = only_submit (λ w. (other : Waiting) → FitsRequest 1 1 retaken other w.request answer → ⊥)
+      (λ other. no_acceptance other answer) due.asked.waiting due.asked.waits due.asked.waiting due.fits
   not_answered act due = due
 
-  pub take_step : IsStepAlone first_setup (node_of_actor (taking_again message)) (Tick opening_clock all_up) (Prepares taken_slot again_ballot (taken_chain message) ∷ Ticks opening_clock ∷ [])
+  pub take_step : IsStepAlone first_setup (node_of_actor (taking_again message)) (Tick opening_clock all_up)
+      (Prepares taken_slot again_ballot (taken_chain message) ∷ Ticks opening_clock ∷ [])
   take_step = record {
-    run = (record { least = omega arith; most = omega arith; up = refl; needs = (refl, refl) }, (record { least = omega arith; most = omega arith; up = refl; needs = tt }, tt));
+    run = (
+      record { least = omega arith; most = omega arith; up = refl; needs = (refl, refl) },
+      (record { least = omega arith; most = omega arith; up = refl; needs = tt }, tt),
+    );
     exact = retry_exact first_setup (taking_again message) no_records taken_slot again_ballot (taken_chain message)
         (one_round first_setup (taking_again message) no_records taken_slot again_ballot (taken_chain message) Take take_first may_retake take_id)
         no_settling not_late no_questions (λ other of fits. none_known 1 [] no_vote_at_all _ _ fits.further.known) never_empty not_answered;
@@ -299,13 +332,15 @@ module _ (message : Submission) where
   taken_known = knows recalled.received (taken_chain message) (tt, ((omega arith, λ same. refl), tt)) (inr (inl refl))
 
   known_id : (id : ℕ) (chain : List Decree) → Knows 1 recalled.received id chain → id ≡ first_id
-  known_id id chain known = elim (one_of_one (λ acceptor. In (Voted acceptor (slot_of id chain) (vote_at known.ballot chain)) recalled.received) known.learned) [
-    | inl same ↦ cc
-    | inr first ↦ elim first [ inl same ↦ let slots : slot_of id chain ≡ taken_slot = cc in ap (λ (s : Slot). s.id) slots | inr none ↦ absurd none ]
-  ]
+  known_id id chain known = elim (one_of_one (λ acceptor. In
+      (Voted acceptor (slot_of id chain) (vote_at known.ballot chain)) recalled.received) known.learned) [
+        | inl same ↦ cc
+        | inr first ↦ elim first [ inl same ↦ let slots : slot_of id chain ≡ taken_slot = cc in ap (λ (s : Slot). s.id) slots | inr none ↦ absurd none ]
+      ]
 
   known_is : (id : ℕ) (chain : List Decree) → Knows 1 recalled.received id chain → chain ≡ taken_chain message
-  known_is id chain known = knows_one 1 recalled.received first_id chain (taken_chain message) (subst (λ (i : ℕ). Knows 1 recalled.received i chain) (known_id id chain known) known) taken_known
+  known_is id chain known = knows_one 1 recalled.received first_id chain (taken_chain message)
+      (subst (λ (i : ℕ). Knows 1 recalled.received i chain) (known_id id chain known) known) taken_known
 
   told_top : (id place : ℕ) (vote : Vote) → IsShownAt 1 recalled no_records id place vote → slot_at id place ≡ taken_slot
   told_top id place vote (inl told) = elim told.told.heard [
@@ -317,7 +352,8 @@ module _ (message : Submission) where
   told_top id place vote (inr own) = cc
 
   delete_id : (id place : ℕ) (other : List Decree) (rule : Rule) → FitsRule 1 1 recalled no_records all_up id place other rule → id ≡ first_id
-  delete_id id place other Take fits = only_cancel (λ w. w.request ≡ Submit id fits.1.message → id ≡ first_id) (λ same. cc) fits.1.waiting fits.1.waits fits.1.submits
+  delete_id id place other Take fits = only_cancel (λ w. w.request ≡ Submit id fits.1.message → id ≡ first_id)
+      (λ same. cc) fits.1.waiting fits.1.waits fits.1.submits
   delete_id id place other Follow fits = ap (λ (s : Slot). s.id) (told_top id place fits.vote fits.highest.shown)
   delete_id id place other Close fits = known_id id _ fits.further.known
   delete_id id place other Lose fits = known_id id _ fits.further.known
@@ -348,7 +384,8 @@ module _ (message : Submission) where
   }
     where
       earlier : (rule : Rule) (place : ℕ) (other : List Decree) → order_of rule < 6 → FitsRule 1 1 recalled no_records all_up first_id place other rule → ⊥
-      earlier Take place other below fits = only_cancel (λ w. w.request ≡ Submit first_id fits.1.message → ⊥) (λ same. cc) fits.1.waiting fits.1.waits fits.1.submits
+      earlier Take place other below fits = only_cancel (λ w. w.request ≡ Submit first_id fits.1.message → ⊥)
+          (λ same. cc) fits.1.waiting fits.1.waits fits.1.submits
       earlier Follow place other below fits =
           let at = ap (λ (s : Slot). s.place) (told_top first_id place fits.vote fits.highest.shown) in
           let ahead = fits.ahead (taken_chain message) taken_known in
@@ -383,15 +420,21 @@ module _ (message : Submission) where
   settled_before act due = due
 
   in_time : (act : Act) → DueToEnd (Tick opening_clock all_up) recalled act → ⊥
-  in_time (Replies ticket id TooLate) due = only_cancel (λ w. w.since + longest_wait ≤ opening_clock → ⊥) (λ late. omega (arith, late)) due.asked.waiting due.asked.waits due.late
+  in_time (Replies ticket id TooLate) due = only_cancel (λ w. w.since + longest_wait ≤ opening_clock → ⊥)
+      (λ late. omega (arith, late)) due.asked.waiting due.asked.waits due.late
   in_time act due = due
 
   told_already : (act : Act) → DueToAsk 1 1 (cancelled_once message) recalled (Tick opening_clock all_up) act → ⊥
-  told_already (Asks id ticket) due = only_cancel (λ w. (Majority 1 (HasTold recalled.received (name_of 1 recalled w)) → ⊥) → ⊥) (λ lacking. lacking (all_of_one 1 (HasTold recalled.received first_question) refl (record { told = Some (top_at taken_slot (taken_vote message)); heard = inl refl }))) due.waiting due.waits due.lacking
+  told_already (Asks id ticket) due = only_cancel (λ w. (Majority 1 (HasTold recalled.received (name_of 1 recalled w)) → ⊥) → ⊥)
+      (λ lacking. lacking (all_of_one 1 (HasTold recalled.received first_question) refl
+      (record { told = Some (top_at taken_slot (taken_vote message)); heard = inl refl }))) due.waiting due.waits due.lacking
   told_already act due = due
 
-  no_answer : (waiting : Waiting) (answer : Answer) → FitsCancel 1 1 recalled waiting message.submitter message.source.digits [] answer → id_in waiting.request ≡ first_id → ⊥
-  no_answer waiting (Removed chain) fits about = let same = known_is (id_in waiting.request) chain fits.known in let none : Some Deleted ≡ None = sym fits.deleted ∙ ap final_in same in cc
+  no_answer : (waiting : Waiting) (answer : Answer) → FitsCancel 1 1 recalled waiting message.submitter message.source.digits [] answer →
+      id_in waiting.request ≡ first_id →
+      ⊥
+  no_answer waiting (Removed chain) fits about = let same = known_is (id_in waiting.request) chain fits.known in
+      let none : Some Deleted ≡ None = sym fits.deleted ∙ ap final_in same in cc
   no_answer waiting (Kept chain) fits about =
       let same : (fits.newest ∷ fits.older) ≡ taken_chain message = sym fits.chain_is ∙ known_is (id_in waiting.request) chain fits.known in
       let heads : fits.newest ≡ decreed (Taken message) = cc in
@@ -401,7 +444,8 @@ module _ (message : Submission) where
       let takens : Some fits.taken ≡ Some message = sym fits.message ∙ ap taken_in same in
       let is : fits.taken ≡ message = cc in
       fits.other (subst (λ (m : Submission). IsMatch m message.submitter message.source.digits []) (sym is) matches)
-  no_answer waiting Unknown fits about = fits.nothing 0 (taken_vote message) (subst (λ (i : ℕ). IsLearned 1 recalled.received (slot_at i 0) (taken_vote message)) (sym about) (all_of_one 1 _ refl (inr (inl refl))))
+  no_answer waiting Unknown fits about = fits.nothing 0 (taken_vote message)
+      (subst (λ (i : ℕ). IsLearned 1 recalled.received (slot_at i 0) (taken_vote message)) (sym about) (all_of_one 1 _ refl (inr (inl refl))))
   no_answer waiting answer fits about = fits
 
   unanswered : (act : Act) → DueToReply 1 1 recalled act → ⊥
@@ -410,9 +454,13 @@ module _ (message : Submission) where
       no_answer due.asked.waiting answer (subst (λ (r : Request). FitsRequest 1 1 recalled due.asked.waiting r answer) request due.fits) (ap id_in request)
   unanswered act due = due
 
-  pub delete_step : IsStepAlone first_setup (node_of_actor (cancelled_once message)) (Tick opening_clock all_up) (Prepares behind_slot first_ballot (deleted_chain message) ∷ Ticks opening_clock ∷ [])
+  pub delete_step : IsStepAlone first_setup (node_of_actor (cancelled_once message)) (Tick opening_clock all_up)
+      (Prepares behind_slot first_ballot (deleted_chain message) ∷ Ticks opening_clock ∷ [])
   delete_step = record {
-    run = (record { least = omega arith; most = omega arith; up = refl; needs = (refl, refl) }, (record { least = omega arith; most = omega arith; up = refl; needs = tt }, tt));
+    run = (
+      record { least = omega arith; most = omega arith; up = refl; needs = (refl, refl) },
+      (record { least = omega arith; most = omega arith; up = refl; needs = tt }, tt),
+    );
     exact = retry_exact first_setup (cancelled_once message) no_records behind_slot first_ballot (deleted_chain message)
         (one_round first_setup (cancelled_once message) no_records behind_slot first_ballot (deleted_chain message) Delete delete_first may_delete delete_id)
         settled_before in_time told_already

@@ -31,13 +31,20 @@ no_more test (x ∷ xs) = by_test (test x) (no_more test xs)
 room_by : (w : World) (node : ℕ) (act : Act) → May w node act → HasRoom (w.actors node) → HasRoom (actor_by node (w.actors node) act)
 room_by w node (Begins ticket request) may room =
     let below = not_busy (length (w.actors node).waiting) (w.actors node).ticket may.needs.room in
-    omega (arith, below, one_more (w.actors node).waiting (record { ticket = (w.actors node).ticket; since = (w.actors node).clock; request = request; settled = false }))
+    omega (
+      arith,
+      below,
+      one_more (w.actors node).waiting
+          (record { ticket = (w.actors node).ticket; since = (w.actors node).clock; request = request; settled = false }),
+    )
 room_by w node (Settles ticket) may room = omega (arith, room, as_many (settle ticket) (w.actors node).waiting)
-room_by w node (Replies ticket id answer) may room = let most = no_more (λ (x : Waiting). not (x.ticket == ticket)) (w.actors node).waiting in omega (arith, room, most)
+room_by w node (Replies ticket id answer) may room =
+    let most = no_more (λ (x : Waiting). not (x.ticket == ticket)) (w.actors node).waiting in omega (arith, room, most)
 room_by w node (Restarts lost serial) may room = omega arith
 room_by w node act may room = room
 
-pub room_after : (w : World) (node : ℕ) (act : Act) → May w node act → ((other : ℕ) → HasRoom (w.actors other)) → (other : ℕ) → HasRoom ((after w node act).actors other)
+pub room_after : (w : World) (node : ℕ) (act : Act) → May w node act → ((other : ℕ) → HasRoom (w.actors other)) → (other : ℕ) →
+    HasRoom ((after w node act).actors other)
 room_after w node act may rooms other = elim (actors_after w node act other) [
   | inl here ↦ subst HasRoom (sym here.actor_is) (room_by w node act may (rooms node))
   | inr elsewhere ↦ subst HasRoom (sym elsewhere) (rooms other)

@@ -50,7 +50,8 @@ module _ (message : Submission) where
   one_vote acceptor slot vote (inr (inr (inr (inl same)))) = (cc, cc)
   one_vote acceptor slot vote (inr (inr (inr (inr none)))) = absurd none
 
-  learned_one : (newer older : List Packet) (slot : Slot) (vote : Vote) → now.received ≡ newer ++ older → IsLearned 3 older slot vote → (slot ≡ second_slot) × (vote ≡ second_vote message)
+  learned_one : (newer older : List Packet) (slot : Slot) (vote : Vote) → now.received ≡ newer ++ older → IsLearned 3 older slot vote →
+      (slot ≡ second_slot) × (vote ≡ second_vote message)
   learned_one newer older slot vote is learned =
       let told = both 3 _ _ learned learned in
       one_vote told.node slot vote (subst (λ (packets : List Packet). In (Voted told.node slot vote) packets) (sym is) (in_right _ newer older told.one))
@@ -60,14 +61,19 @@ module _ (message : Submission) where
     ballot = (second_vote message).ballot;
     learned = two_and_three _ (inr (inr (inr (inl refl)))) (inr (inr (inl refl)));
     longest = λ place vote learned. let same = ap (λ (s : Slot). s.place) (learned_one [] now.received _ vote refl learned).0 in omega (arith, same);
-    first = λ newer older vote is learned. ((second_vote message).ballot, subst (λ (v : Vote). IsLearned 3 older second_slot v) (learned_one newer older second_slot vote is learned).1 learned);
+    first = λ newer older vote is learned. (
+      (second_vote message).ballot,
+      subst (λ (v : Vote). IsLearned 3 older second_slot v)
+          (learned_one newer older second_slot vote is learned).1 learned,
+    );
   }
 
   known_id : (id : ℕ) (chain : List Decree) → Knows 3 now.received id chain → id ≡ second_id
   known_id id chain knows = ap (λ (s : Slot). s.id) (learned_one [] now.received (slot_of id chain) (vote_at knows.ballot chain) refl knows.learned).0
 
   known_is : (id : ℕ) (chain : List Decree) → Knows 3 now.received id chain → chain ≡ second_chain message
-  known_is id chain knows = knows_one 3 now.received second_id chain (second_chain message) (subst (λ (i : ℕ). Knows 3 now.received i chain) (known_id id chain knows) knows) known
+  known_is id chain knows = knows_one 3 now.received second_id chain (second_chain message)
+      (subst (λ (i : ℕ). Knows 3 now.received i chain) (known_id id chain knows) knows) known
 
   -- ---- it is settled
 
@@ -80,7 +86,9 @@ module _ (message : Submission) where
 
   settled : IsSettled 3 now.received question (Some (second_chain message))
   settled = record {
-    majority = two_and_three (HasTold now.received question) (record { told = Some (top_at second_slot (second_vote message)); heard = inr (inl refl) }) (record { told = Some (top_at second_slot (second_vote message)); heard = inl refl });
+    majority = two_and_three (HasTold now.received question)
+        (record { told = Some (top_at second_slot (second_vote message)); heard = inr (inl refl) })
+        (record { told = Some (top_at second_slot (second_vote message)); heard = inl refl });
     reached = λ node told is_in. subst (IsReached (Some (second_chain message))) (sym (one_top node told is_in)) (omega arith);
   }
 
@@ -110,7 +118,8 @@ module _ (message : Submission) where
           let place : slot.place ≡ 0 = ap (λ (t : TopVote). t.place) same in
           let ahead = follow.1.ahead (second_chain message) (subst (λ (i : ℕ). Knows 3 now.received i (second_chain message)) (sym about) known) in
           omega (arith, place, ahead)
-      by_cause (inr (inr (inr delete))) = only_asked (λ w. Cancels w.request slot.id delete.deletes.further.taken → ⊥) (λ none. none) delete.deletes.cancelled.waiting delete.deletes.cancelled.waits delete.deletes.cancelled.cancels
+      by_cause (inr (inr (inr delete))) = only_asked (λ w. Cancels w.request slot.id delete.deletes.further.taken → ⊥)
+          (λ none. none) delete.deletes.cancelled.waiting delete.deletes.cancelled.waits delete.deletes.cancelled.cancels
   prepares_none act due = due
 
   proposes_none : (act : Act) → DueToPropose 3 1 before now act → ⊥
@@ -125,7 +134,8 @@ module _ (message : Submission) where
   replies_one = record { each = λ act. (there act, back act); order = tt }
     where
       there : (act : Act) → In act (Replies 1 second_id (Shown (second_chain message)) ∷ []) → DueToReply 3 1 now act
-      there act (inl same) = subst (DueToReply 3 1 now) (sym same) (record { asked = record { waiting = asked; waits = inl refl; ticket_is = refl; about = refl }; fits = shown })
+      there act (inl same) = subst (DueToReply 3 1 now) (sym same)
+          (record { asked = record { waiting = asked; waits = inl refl; ticket_is = refl; about = refl }; fits = shown })
       there act (inr none) = absurd none
 
       back : (act : Act) → DueToReply 3 1 now act → In act (Replies 1 second_id (Shown (second_chain message)) ∷ [])
@@ -133,14 +143,21 @@ module _ (message : Submission) where
           let is = only_asked (λ w. w ≡ asked) refl due.asked.waiting due.asked.waits in
           let tickets : ticket ≡ 1 = sym due.asked.ticket_is ∙ ap (λ (w : Waiting). w.ticket) is in
           let ids : id ≡ second_id = sym due.asked.about ∙ ap (λ (w : Waiting). id_in w.request) is in
-          let answers = one_answer 3 1 now asked asked.request answer (Shown (second_chain message)) (subst (λ (w : Waiting). FitsRequest 3 1 now w w.request answer) is due.fits) shown in
+          let answers = one_answer 3 1 now asked asked.request answer (Shown (second_chain message))
+          (subst (λ (w : Waiting). FitsRequest 3 1 now w w.request answer) is due.fits) shown in
           inl (λ i. Replies (tickets i) (ids i) (answers i))
       back act due = absurd due
 
   pub shows : IsStepAlone among_three (node_of_actor before) (Delivery (told_by_3 (second_vote message))) (showing message)
   shows = record {
     run = (
-      record { least = omega arith; most = omega arith; up = refl; needs = record { asked = record { waiting = asked; waits = inl refl; ticket_is = refl; about = refl }; fits = shown } },
+      record {
+        least = omega arith;
+        most = omega arith;
+        up = refl;
+        needs = record
+            { asked = record { waiting = asked; waits = inl refl; ticket_is = refl; about = refl }; fits = shown };
+      },
       (record { least = omega arith; most = omega arith; up = refl; needs = tt }, tt),
     );
     exact = record {
@@ -154,7 +171,15 @@ module _ (message : Submission) where
       replies = Replies 1 second_id (Shown (second_chain message)) ∷ [];
       reports = [];
       acts_are = refl;
-      core_is = inl ((record { least = omega arith; most = omega arith }, λ mine same. record { given = omega arith; about = λ waiting waits is. only_asked (λ w. second_id ≡ id_in w.request) refl waiting waits }), record { answer = []; answered = refl; acts_are = refl });
+      core_is = inl (
+        (
+          record { least = omega arith; most = omega arith },
+          λ mine same. record
+              { given = omega arith; about = λ waiting waits is. only_asked (λ w. second_id ≡ id_in w.request) refl waiting waits },
+        ),
+        record
+            { answer = []; answered = refl; acts_are = refl },
+      );
       settled = none_due (DueToSettle 3 1 now) settles_none;
       ended = none_due (DueToEnd (Delivery (told_by_3 (second_vote message))) now) (λ act due. due);
       asked = none_due (DueToAsk 3 1 before now (Delivery (told_by_3 (second_vote message)))) asks_none;

@@ -26,7 +26,8 @@ pub only_anew : (a : Actor) (act : Act) → IsUpFor a act → a.up ≡ false →
 only_anew a (Restarts lost serial) may down = (lost, serial, refl)
 only_anew a act may down = absurd (true≢false (sym may ∙ down))
 
-down_by : (w : World) → Links w → (node : ℕ) → StaysDown w.past node (w.actors node) → (act : Act) → May w node act → StaysDown (after w node act).past node (actor_by node (w.actors node) act)
+down_by : (w : World) → Links w → (node : ℕ) → StaysDown w.past node (w.actors node) → (act : Act) → May w node act →
+    StaysDown (after w node act).past node (actor_by node (w.actors node) act)
 down_by w links node stays act may (inl new) = stopped_new node (w.actors node) act (ap (λ (d : Deed). d.act) (sym new))
 down_by w links node stays act may (inr old) =
     let lived = links.lived _ old in
@@ -35,9 +36,12 @@ down_by w links node stays act may (inr old) =
     let down = stays (subst (λ (i : ℕ). In (deed_by (record { node = node; incarnation = i }) Stops) w.past) same old) in
     absurd (not_done node (w.actors node) act may.up down same)
 
-pub down_after : (w : World) → Links w → ((node : ℕ) → StaysDown w.past node (w.actors node)) → (node : ℕ) (act : Act) → May w node act → (other : ℕ) → StaysDown (after w node act).past other ((after w node act).actors other)
+pub down_after : (w : World) → Links w → ((node : ℕ) → StaysDown w.past node (w.actors node)) → (node : ℕ) (act : Act) → May w node act →
+    (other : ℕ) →
+    StaysDown (after w node act).past other ((after w node act).actors other)
 down_after w links stays node act may other = elim (cases_eq other node) [
-  | inl here ↦ subst (λ (n : ℕ). StaysDown (after w node act).past n ((after w node act).actors n)) (sym here) (subst (StaysDown (after w node act).past node) (sym (actor_here w node act)) (down_by w links node (stays node) act may))
+  | inl here ↦ subst (λ (n : ℕ). StaysDown (after w node act).past n ((after w node act).actors n)) (sym here)
+      (subst (StaysDown (after w node act).past node) (sym (actor_here w node act)) (down_by w links node (stays node) act may))
   | inr apart ↦ subst (StaysDown (after w node act).past other) (sym (actor_apart w node act other apart)) (λ is_in. elim is_in [
     | inl new ↦ absurd (apart (ap (λ (d : Deed). d.node) new))
     | inr old ↦ stays other old

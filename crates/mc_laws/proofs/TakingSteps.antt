@@ -65,22 +65,30 @@ module _ (message : Submission) where
   asks_none before a packet (Asks id ticket) due = due
   asks_none before a packet act due = due
 
-  prepares_none : (before : Actor) (packet : Packet) (received sent : List Packet) (records : Records) → ((id place : ℕ) (chain : List Decree) (a : Actor) → CausesFollow 1 1 before a (Delivery packet) id place chain → ⊥) → (act : Act) → DueToPrepare 1 1 before (taking received sent) records (Delivery packet) act → ⊥
+  prepares_none : (before : Actor) (packet : Packet) (received sent : List Packet) (records : Records) →
+      ((id place : ℕ) (chain : List Decree) (a : Actor) → CausesFollow 1 1 before a (Delivery packet) id place chain → ⊥) → (act : Act) →
+      DueToPrepare 1 1 before (taking received sent) records (Delivery packet) act →
+      ⊥
   prepares_none before packet received sent records no_follow (Prepares slot ballot chain) due = by_cause due.0
     where
       by_cause : Causes 1 1 before (taking received sent) (Delivery packet) slot.id slot.place chain → ⊥
       by_cause (inl take) = take
       by_cause (inr (inl close)) = close
       by_cause (inr (inr (inl follow))) = no_follow slot.id slot.place chain (taking received sent) follow
-      by_cause (inr (inr (inr delete))) = only (λ w. Cancels w.request slot.id delete.deletes.further.taken → ⊥) (λ none. none) delete.deletes.cancelled.waiting delete.deletes.cancelled.waits delete.deletes.cancelled.cancels
+      by_cause (inr (inr (inr delete))) = only (λ w. Cancels w.request slot.id delete.deletes.further.taken → ⊥)
+          (λ none. none) delete.deletes.cancelled.waiting delete.deletes.cancelled.waits delete.deletes.cancelled.cancels
   prepares_none before packet received sent records no_follow act due = due
 
-  no_answer : (received sent : List Packet) → NoVotes received → (waiting : Waiting) (answer : Answer) → FitsRequest 1 1 (taking received sent) waiting (Submit first_id message) answer → ⊥
+  no_answer : (received sent : List Packet) → NoVotes received → (waiting : Waiting) (answer : Answer) →
+      FitsRequest 1 1 (taking received sent) waiting (Submit first_id message) answer →
+      ⊥
   no_answer received sent none waiting Accepted fits = none_known 1 received none _ _ fits.known
   no_answer received sent none waiting answer fits = fits
 
   replies_none : (received sent : List Packet) → NoVotes received → (act : Act) → DueToReply 1 1 (taking received sent) act → ⊥
-  replies_none received sent none (Replies ticket id answer) due = only (λ w. (other : Waiting) → FitsRequest 1 1 (taking received sent) other w.request answer → ⊥) (λ other. no_answer received sent none other answer) due.asked.waiting due.asked.waits due.asked.waiting due.fits
+  replies_none received sent none (Replies ticket id answer) due = only
+      (λ w. (other : Waiting) → FitsRequest 1 1 (taking received sent) other w.request answer → ⊥)
+      (λ other. no_answer received sent none other answer) due.asked.waiting due.asked.waits due.asked.waiting due.fits
   replies_none received sent none act due = due
 
   reports_none : (before : Actor) (received sent : List Packet) → NoVotes received → (act : Act) → DueToReport 1 1 before (taking received sent) act → ⊥
@@ -137,7 +145,8 @@ module _ (message : Submission) where
   proposes_none_2 before (Proposes slot vote) due = unpromised slot vote.ballot due.0.promised
   proposes_none_2 before act due = due
 
-  prepare_exact : IsExact first_setup (taking [] one_sent) no_records (Delivery (Prepare 1 taken_slot first_ballot)) (Promises taken_slot first_ballot true ∷ Receives (Prepare 1 taken_slot first_ballot) ∷ [])
+  prepare_exact : IsExact first_setup (taking [] one_sent) no_records (Delivery (Prepare 1 taken_slot first_ballot))
+      (Promises taken_slot first_ballot true ∷ Receives (Prepare 1 taken_slot first_ballot) ∷ [])
   prepare_exact = record {
     core = Promises taken_slot first_ballot true ∷ Receives (Prepare 1 taken_slot first_ballot) ∷ [];
     settles = [];
@@ -149,12 +158,19 @@ module _ (message : Submission) where
     replies = [];
     reports = [];
     acts_are = refl;
-    core_is = inl (record { least = omega arith; most = omega arith }, record { answer = Promises taken_slot first_ballot true ∷ []; answered = inl (omega arith, refl); acts_are = refl });
+    core_is = inl (
+      record { least = omega arith; most = omega arith },
+      record
+          { answer = Promises taken_slot first_ballot true ∷ []; answered = inl (omega arith, refl); acts_are = refl },
+    );
     settled = none_due (DueToSettle 1 1 (taking heard_2 one_sent)) (settles_none heard_2 one_sent);
     ended = none_due (DueToEnd (Delivery (Prepare 1 taken_slot first_ballot)) (taking heard_2 one_sent)) (λ act due. due);
-    asked = none_due (DueToAsk 1 1 (taking [] one_sent) (taking heard_2 one_sent) (Delivery (Prepare 1 taken_slot first_ballot))) (asks_none (taking [] one_sent) (taking heard_2 one_sent) (Prepare 1 taken_slot first_ballot));
+    asked = none_due (DueToAsk 1 1 (taking [] one_sent) (taking heard_2 one_sent) (Delivery (Prepare 1 taken_slot first_ballot)))
+        (asks_none (taking [] one_sent) (taking heard_2 one_sent) (Prepare 1 taken_slot first_ballot));
     abandoned = none_due (DueToAbandon 1 1 (taking heard_2 one_sent) records_2 (Delivery (Prepare 1 taken_slot first_ballot))) (λ act due. due);
-    prepared = none_due_once (DueToPrepare 1 1 (taking [] one_sent) (taking heard_2 one_sent) records_2 (Delivery (Prepare 1 taken_slot first_ballot))) (prepares_none (taking [] one_sent) (Prepare 1 taken_slot first_ballot) heard_2 one_sent records_2 (λ id place chain a none. none));
+    prepared = none_due_once (DueToPrepare 1 1 (taking [] one_sent) (taking heard_2 one_sent) records_2
+        (Delivery (Prepare 1 taken_slot first_ballot)))
+        (prepares_none (taking [] one_sent) (Prepare 1 taken_slot first_ballot) heard_2 one_sent records_2 (λ id place chain a none. none));
     proposed = none_due_once (DueToPropose 1 1 (taking [] one_sent) (taking heard_2 one_sent)) (proposes_none_2 (taking [] one_sent));
     replied = none_due (DueToReply 1 1 (taking heard_2 one_sent)) (replies_none heard_2 one_sent votes_2);
     reported = none_due (DueToReport 1 1 (taking [] one_sent) (taking heard_2 one_sent)) (reports_none (taking [] one_sent) heard_2 one_sent votes_2);
@@ -186,14 +202,17 @@ module _ (message : Submission) where
   one_proposal = record { only = there; all = back; order = tt }
     where
       there : (act : Act) → In act (Proposes taken_slot (taken_vote message) ∷ []) → DueToPropose 1 1 (taking heard_2 one_sent) (taking heard_3 one_sent) act
-      there act (inl same) = subst (DueToPropose 1 1 (taking heard_2 one_sent) (taking heard_3 one_sent)) (sym same) (complete, inl (record { offered = inl refl; unreported = unreported }))
+      there act (inl same) = subst (DueToPropose 1 1 (taking heard_2 one_sent) (taking heard_3 one_sent)) (sym same)
+          (complete, inl (record { offered = inl refl; unreported = unreported }))
       there act (inr none) = absurd none
 
       back : (act : Act) → DueToPropose 1 1 (taking heard_2 one_sent) (taking heard_3 one_sent) act → In (key_of act) (first_id ∷ [])
-      back (Proposes slot vote) due = inl (ap (λ (s : Slot). s.id) (round_slot slot vote.ballot due.0.running.round.newer due.0.running.round.older due.0.running.round.split))
+      back (Proposes slot vote) due = inl (ap (λ (s : Slot). s.id)
+          (round_slot slot vote.ballot due.0.running.round.newer due.0.running.round.older due.0.running.round.split))
       back act due = absurd due
 
-  promise_exact : IsExact first_setup (taking heard_2 one_sent) records_2 (Delivery (Promise 1 taken_slot first_ballot None)) (Proposes taken_slot (taken_vote message) ∷ Receives (Promise 1 taken_slot first_ballot None) ∷ [])
+  promise_exact : IsExact first_setup (taking heard_2 one_sent) records_2 (Delivery (Promise 1 taken_slot first_ballot None))
+      (Proposes taken_slot (taken_vote message) ∷ Receives (Promise 1 taken_slot first_ballot None) ∷ [])
   promise_exact = record {
     core = Receives (Promise 1 taken_slot first_ballot None) ∷ [];
     settles = [];
@@ -208,9 +227,12 @@ module _ (message : Submission) where
     core_is = inl ((record { least = omega arith; most = omega arith }, λ mine. inl refl), record { answer = []; answered = refl; acts_are = refl });
     settled = none_due (DueToSettle 1 1 (taking heard_3 one_sent)) (settles_none heard_3 one_sent);
     ended = none_due (DueToEnd (Delivery (Promise 1 taken_slot first_ballot None)) (taking heard_3 one_sent)) (λ act due. due);
-    asked = none_due (DueToAsk 1 1 (taking heard_2 one_sent) (taking heard_3 one_sent) (Delivery (Promise 1 taken_slot first_ballot None))) (asks_none (taking heard_2 one_sent) (taking heard_3 one_sent) (Promise 1 taken_slot first_ballot None));
+    asked = none_due (DueToAsk 1 1 (taking heard_2 one_sent) (taking heard_3 one_sent) (Delivery (Promise 1 taken_slot first_ballot None)))
+        (asks_none (taking heard_2 one_sent) (taking heard_3 one_sent) (Promise 1 taken_slot first_ballot None));
     abandoned = none_due (DueToAbandon 1 1 (taking heard_3 one_sent) records_2 (Delivery (Promise 1 taken_slot first_ballot None))) (λ act due. due);
-    prepared = none_due_once (DueToPrepare 1 1 (taking heard_2 one_sent) (taking heard_3 one_sent) records_2 (Delivery (Promise 1 taken_slot first_ballot None))) (prepares_none (taking heard_2 one_sent) (Promise 1 taken_slot first_ballot None) heard_3 one_sent records_2 (λ id place chain a none. none));
+    prepared = none_due_once (DueToPrepare 1 1 (taking heard_2 one_sent) (taking heard_3 one_sent) records_2
+        (Delivery (Promise 1 taken_slot first_ballot None)))
+        (prepares_none (taking heard_2 one_sent) (Promise 1 taken_slot first_ballot None) heard_3 one_sent records_2 (λ id place chain a none. none));
     proposed = one_proposal;
     replied = none_due (DueToReply 1 1 (taking heard_3 one_sent)) (replies_none heard_3 one_sent votes_3);
     reported = none_due (DueToReport 1 1 (taking heard_2 one_sent) (taking heard_3 one_sent)) (reports_none (taking heard_2 one_sent) heard_3 one_sent votes_3);
@@ -219,7 +241,8 @@ module _ (message : Submission) where
   -- ---- the Propose comes, and it votes
 
   -- the promises were a majority's before
-  round_of_two : (slot : Slot) (ballot : ℕ) (newer older : List Packet) → two_sent ≡ newer ++ Prepare 1 slot ballot ∷ older → (slot ≡ taken_slot) × (ballot ≡ first_ballot)
+  round_of_two : (slot : Slot) (ballot : ℕ) (newer older : List Packet) → two_sent ≡ newer ++ Prepare 1 slot ballot ∷ older →
+      (slot ≡ taken_slot) × (ballot ≡ first_ballot)
   round_of_two slot ballot [] older is = absurd (apart_heads is)
     where
       apart_heads : two_sent ≡ Prepare 1 slot ballot ∷ older → ⊥
@@ -227,13 +250,17 @@ module _ (message : Submission) where
   round_of_two slot ballot (first ∷ []) older is = let heads : Prepare 1 taken_slot first_ballot ≡ Prepare 1 slot ballot = cc in (cc, cc)
   round_of_two slot ballot (first ∷ next ∷ newer) older is = absurd (never_empty newer older (Prepare 1 slot ballot) cc)
 
-  proposes_none : (before after : List Packet) → IsPromised 1 (taking before two_sent) taken_slot first_ballot → (act : Act) → DueToPropose 1 1 (taking before two_sent) (taking after two_sent) act → ⊥
+  proposes_none : (before after : List Packet) → IsPromised 1 (taking before two_sent) taken_slot first_ballot → (act : Act) →
+      DueToPropose 1 1 (taking before two_sent) (taking after two_sent) act →
+      ⊥
   proposes_none before after promised (Proposes slot vote) due =
       let is = round_of_two slot vote.ballot due.0.running.round.newer due.0.running.round.older due.0.running.round.split in
-      due.0.new (subst (λ (s : Slot). IsPromised 1 (taking before two_sent) s vote.ballot) (sym is.0) (subst (λ (n : ℕ). IsPromised 1 (taking before two_sent) taken_slot n) (sym is.1) promised))
+      due.0.new (subst (λ (s : Slot). IsPromised 1 (taking before two_sent) s vote.ballot) (sym is.0)
+      (subst (λ (n : ℕ). IsPromised 1 (taking before two_sent) taken_slot n) (sym is.1) promised))
   proposes_none before after promised act due = due
 
-  propose_exact : IsExact first_setup (taking heard_3 two_sent) records_2 (Delivery (Propose 1 taken_slot (taken_vote message))) (Votes taken_slot (taken_vote message) true ∷ Receives (Propose 1 taken_slot (taken_vote message)) ∷ [])
+  propose_exact : IsExact first_setup (taking heard_3 two_sent) records_2 (Delivery (Propose 1 taken_slot (taken_vote message)))
+      (Votes taken_slot (taken_vote message) true ∷ Receives (Propose 1 taken_slot (taken_vote message)) ∷ [])
   propose_exact = record {
     core = Votes taken_slot (taken_vote message) true ∷ Receives (Propose 1 taken_slot (taken_vote message)) ∷ [];
     settles = [];
@@ -245,13 +272,23 @@ module _ (message : Submission) where
     replies = [];
     reports = [];
     acts_are = refl;
-    core_is = inl (record { least = omega arith; most = omega arith }, record { answer = Votes taken_slot (taken_vote message) true ∷ []; answered = inl (omega arith, refl); acts_are = refl });
+    core_is = inl (
+      record { least = omega arith; most = omega arith },
+      record
+          { answer = Votes taken_slot (taken_vote message) true ∷ []; answered = inl (omega arith, refl); acts_are = refl },
+    );
     settled = none_due (DueToSettle 1 1 (taking heard_4 two_sent)) (settles_none heard_4 two_sent);
     ended = none_due (DueToEnd (Delivery (Propose 1 taken_slot (taken_vote message))) (taking heard_4 two_sent)) (λ act due. due);
-    asked = none_due (DueToAsk 1 1 (taking heard_3 two_sent) (taking heard_4 two_sent) (Delivery (Propose 1 taken_slot (taken_vote message)))) (asks_none (taking heard_3 two_sent) (taking heard_4 two_sent) (Propose 1 taken_slot (taken_vote message)));
+    asked = none_due (DueToAsk 1 1 (taking heard_3 two_sent) (taking heard_4 two_sent)
+        (Delivery (Propose 1 taken_slot (taken_vote message))))
+        (asks_none (taking heard_3 two_sent) (taking heard_4 two_sent) (Propose 1 taken_slot (taken_vote message)));
     abandoned = none_due (DueToAbandon 1 1 (taking heard_4 two_sent) records_4 (Delivery (Propose 1 taken_slot (taken_vote message)))) (λ act due. due);
-    prepared = none_due_once (DueToPrepare 1 1 (taking heard_3 two_sent) (taking heard_4 two_sent) records_4 (Delivery (Propose 1 taken_slot (taken_vote message)))) (prepares_none (taking heard_3 two_sent) (Propose 1 taken_slot (taken_vote message)) heard_4 two_sent records_4 (λ id place chain a none. none));
-    proposed = none_due_once (DueToPropose 1 1 (taking heard_3 two_sent) (taking heard_4 two_sent)) (proposes_none heard_3 heard_4 (all_of_one 1 _ refl (None, inl refl)));
+    prepared = none_due_once (DueToPrepare 1 1 (taking heard_3 two_sent) (taking heard_4 two_sent) records_4
+        (Delivery (Propose 1 taken_slot (taken_vote message))))
+        (prepares_none (taking heard_3 two_sent) (Propose 1 taken_slot (taken_vote message)) heard_4 two_sent records_4
+        (λ id place chain a none. none));
+    proposed = none_due_once (DueToPropose 1 1 (taking heard_3 two_sent) (taking heard_4 two_sent))
+        (proposes_none heard_3 heard_4 (all_of_one 1 _ refl (None, inl refl)));
     replied = none_due (DueToReply 1 1 (taking heard_4 two_sent)) (replies_none heard_4 two_sent votes_4);
     reported = none_due (DueToReport 1 1 (taking heard_3 two_sent) (taking heard_4 two_sent)) (reports_none (taking heard_3 two_sent) heard_4 two_sent votes_4);
   }
@@ -268,7 +305,8 @@ module _ (message : Submission) where
   ]
 
   known_is : (id : ℕ) (chain : List Decree) → Knows 1 heard_5 id chain → chain ≡ taken_chain message
-  known_is id chain known = knows_one 1 heard_5 first_id chain (taken_chain message) (subst (λ (i : ℕ). Knows 1 heard_5 i chain) (known_id id chain known) known) taken_known
+  known_is id chain known = knows_one 1 heard_5 first_id chain (taken_chain message)
+      (subst (λ (i : ℕ). Knows 1 heard_5 i chain) (known_id id chain known) known) taken_known
 
   unreported_5 : (before : Actor) (act : Act) → DueToReport 1 1 before (taking heard_5 two_sent) act → ⊥
   unreported_5 before (Reports id chain) due = let none : Some due.final ≡ None = sym due.ends ∙ ap final_in (known_is id chain due.known) in cc
@@ -282,7 +320,12 @@ module _ (message : Submission) where
   replies_one = record { each = λ act. (there act, back act); order = tt }
     where
       there : (act : Act) → In act (Replies 1 first_id Accepted ∷ []) → DueToReply 1 1 (taking heard_5 two_sent) act
-      there act (inl same) = subst (DueToReply 1 1 (taking heard_5 two_sent)) (sym same) (record { asked = record { waiting = submitted; waits = inl refl; ticket_is = refl; about = refl }; fits = record { chain = taken_chain message; known = taken_known } })
+      there act (inl same) = subst (DueToReply 1 1 (taking heard_5 two_sent)) (sym same)
+          (record {
+            asked = record { waiting = submitted; waits = inl refl; ticket_is = refl; about = refl };
+            fits = record
+                { chain = taken_chain message; known = taken_known };
+          })
       there act (inr none) = absurd none
 
       back : (act : Act) → DueToReply 1 1 (taking heard_5 two_sent) act → In act (Replies 1 first_id Accepted ∷ [])
@@ -294,7 +337,8 @@ module _ (message : Submission) where
           inl (λ i. Replies (tickets i) (ids i) (answers i))
       back act due = absurd due
 
-  voted_exact : IsExact first_setup (taking heard_4 two_sent) records_4 (Delivery (Voted 1 taken_slot (taken_vote message))) (Replies 1 first_id Accepted ∷ Receives (Voted 1 taken_slot (taken_vote message)) ∷ [])
+  voted_exact : IsExact first_setup (taking heard_4 two_sent) records_4 (Delivery (Voted 1 taken_slot (taken_vote message)))
+      (Replies 1 first_id Accepted ∷ Receives (Voted 1 taken_slot (taken_vote message)) ∷ [])
   voted_exact = record {
     core = Receives (Voted 1 taken_slot (taken_vote message)) ∷ [];
     settles = [];
@@ -306,13 +350,22 @@ module _ (message : Submission) where
     replies = Replies 1 first_id Accepted ∷ [];
     reports = [];
     acts_are = refl;
-    core_is = inl ((record { least = omega arith; most = omega arith }, refl, λ mine. inr (refl, omega arith)), record { answer = []; answered = refl; acts_are = refl });
+    core_is = inl (
+      (record { least = omega arith; most = omega arith }, refl, λ mine. inr (refl, omega arith)),
+      record
+          { answer = []; answered = refl; acts_are = refl },
+    );
     settled = none_due (DueToSettle 1 1 (taking heard_5 two_sent)) (settles_none heard_5 two_sent);
     ended = none_due (DueToEnd (Delivery (Voted 1 taken_slot (taken_vote message))) (taking heard_5 two_sent)) (λ act due. due);
-    asked = none_due (DueToAsk 1 1 (taking heard_4 two_sent) (taking heard_5 two_sent) (Delivery (Voted 1 taken_slot (taken_vote message)))) (asks_none (taking heard_4 two_sent) (taking heard_5 two_sent) (Voted 1 taken_slot (taken_vote message)));
+    asked = none_due (DueToAsk 1 1 (taking heard_4 two_sent) (taking heard_5 two_sent) (Delivery (Voted 1 taken_slot (taken_vote message))))
+        (asks_none (taking heard_4 two_sent) (taking heard_5 two_sent) (Voted 1 taken_slot (taken_vote message)));
     abandoned = none_due (DueToAbandon 1 1 (taking heard_5 two_sent) records_4 (Delivery (Voted 1 taken_slot (taken_vote message)))) (λ act due. due);
-    prepared = none_due_once (DueToPrepare 1 1 (taking heard_4 two_sent) (taking heard_5 two_sent) records_4 (Delivery (Voted 1 taken_slot (taken_vote message)))) (prepares_none (taking heard_4 two_sent) (Voted 1 taken_slot (taken_vote message)) heard_5 two_sent records_4 (λ id place chain a none. none));
-    proposed = none_due_once (DueToPropose 1 1 (taking heard_4 two_sent) (taking heard_5 two_sent)) (proposes_none heard_4 heard_5 (all_of_one 1 _ refl (None, inr (inl refl))));
+    prepared = none_due_once (DueToPrepare 1 1 (taking heard_4 two_sent) (taking heard_5 two_sent) records_4
+        (Delivery (Voted 1 taken_slot (taken_vote message))))
+        (prepares_none (taking heard_4 two_sent) (Voted 1 taken_slot (taken_vote message)) heard_5 two_sent records_4
+        (λ id place chain a none. none));
+    proposed = none_due_once (DueToPropose 1 1 (taking heard_4 two_sent) (taking heard_5 two_sent))
+        (proposes_none heard_4 heard_5 (all_of_one 1 _ refl (None, inr (inl refl))));
     replied = replies_one;
     reported = none_due (DueToReport 1 1 (taking heard_4 two_sent) (taking heard_5 two_sent)) (unreported_5 (taking heard_4 two_sent));
   }
@@ -335,7 +388,13 @@ module _ (message : Submission) where
               fit = record {
                 serial = record { least = omega arith; most = omega arith };
                 id_is = refl;
-                takes = record { node = refl; incarnation = refl; expiry = tried.valid; schedule = let s = tried.scheduled in let v = tried.valid in omega (arith, s, v) };
+                takes = record {
+                  node = refl;
+                  incarnation = refl;
+                  expiry = tried.valid;
+                  schedule = let s = tried.scheduled in let v =
+                      tried.valid in omega (arith, s, v);
+                };
               };
             };
           },

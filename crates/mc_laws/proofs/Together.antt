@@ -30,18 +30,24 @@ here w node began = record { actor = w.actors node; records = w.records node; be
 abbrev BeganSo : World → ℕ → Records → Type 0
 BeganSo w node began = (slot : Slot) (vote : Vote) → (began slot).vote ≡ Some vote → In (cast node slot vote) w.votes
 
-stands : (w : World) → Keeps w → (node : ℕ) (began : Records) → BeganSo w node began → (slot : Slot) (chain : List Decree) → StandsAt (here w node began) slot chain → StandsIn w slot chain
+stands : (w : World) → Keeps w → (node : ℕ) (began : Records) → BeganSo w node began → (slot : Slot) (chain : List Decree) →
+    StandsAt (here w node began) slot chain →
+    StandsIn w slot chain
 stands w keeps node began so slot chain (inl proposed) = inl (proposed.0, proposed.1, keeps.received node _ proposed.2)
-stands w keeps node began so slot chain (inr (inl voted)) = inr (voted.0, voted.1, keeps.fits (Voted voted.0 slot (vote_at voted.1 chain)) (keeps.received node _ voted.2))
+stands w keeps node began so slot chain (inr (inl voted)) =
+    inr (voted.0, voted.1, keeps.fits (Voted voted.0 slot (vote_at voted.1 chain)) (keeps.received node _ voted.2))
 stands w keeps node began so slot chain (inr (inr (inl promised))) =
-    let fits : PromiseFits w promised.0 slot promised.1 (Some (vote_at promised.2 chain)) = keeps.fits (Promise promised.0 slot promised.1 (Some (vote_at promised.2 chain))) (keeps.received node _ promised.3) in
+    let fits : PromiseFits w promised.0 slot promised.1 (Some (vote_at promised.2 chain)) = keeps.fits
+    (Promise promised.0 slot promised.1 (Some (vote_at promised.2 chain))) (keeps.received node _ promised.3) in
     let voted = fits.honest (vote_at promised.2 chain) refl in
     inr (promised.0, promised.2, voted.0)
 stands w keeps node began so slot chain (inr (inr (inr (inl told)))) =
     inr (told.0, told.2, keeps.fits (Tell told.0 told.1 (Some (top_at slot (vote_at told.2 chain)))) (keeps.received node _ told.3))
 stands w keeps node began so slot chain (inr (inr (inr (inr held)))) = inr (node, held.0, so slot (vote_at held.0 chain) held.1)
 
-own : (w : World) → Keeps w → (node id : ℕ) (chain : List Decree) → IsOwn (IsLearned w.nodes (w.actors node).received) node (w.actors node) id chain → IsOwn (IsChosenIn w) node (w.actors node) id chain
+own : (w : World) → Keeps w → (node id : ℕ) (chain : List Decree) →
+    IsOwn (IsLearned w.nodes (w.actors node).received) node (w.actors node) id chain →
+    IsOwn (IsChosenIn w) node (w.actors node) id chain
 own w keeps node id chain (inl first) = inl first
 own w keeps node id chain (inr n) = inr (record {
   next = n.next;
@@ -59,27 +65,40 @@ own w keeps node id chain (inr n) = inr (record {
   error = n.error;
 })
 
-free : (w : World) → Keeps w → (node : ℕ) (began : Records) → BeganSo w node began → (slot : Slot) (chain : List Decree) (highest : Option Vote) → IsFree highest (StandsAt (here w node began) slot chain) ((slot ≡ slot_of slot.id chain) × IsOwn (IsLearned w.nodes (w.actors node).received) node (w.actors node) slot.id chain) → IsFree highest (StandsIn w slot chain) ((slot ≡ slot_of slot.id chain) × IsOwn (IsChosenIn w) node (w.actors node) slot.id chain)
+free : (w : World) → Keeps w → (node : ℕ) (began : Records) → BeganSo w node began →
+    (slot : Slot) (chain : List Decree) (highest : Option Vote) → IsFree highest (StandsAt (here w node began) slot chain)
+    ((slot ≡ slot_of slot.id chain) × IsOwn (IsLearned w.nodes (w.actors node).received) node (w.actors node) slot.id chain) →
+    IsFree highest (StandsIn w slot chain) ((slot ≡ slot_of slot.id chain) × IsOwn (IsChosenIn w) node (w.actors node) slot.id chain)
 free w keeps node began so slot chain (Some top) is = tt
 free w keeps node began so slot chain None (inl standing) = inl (stands w keeps node began so slot chain standing)
 free w keeps node began so slot chain None (inr mine) = inr (mine.0, own w keeps node slot.id chain mine.1)
 
-proposes : (w : World) → Keeps w → (node : ℕ) (began : Records) → BeganSo w node began → (slot : Slot) (vote : Vote) → MayPropose w.nodes (λ packet. In packet (w.actors node).received) (StandsAt (here w node began)) (IsLearned w.nodes (w.actors node).received) node (w.actors node) slot vote → MayPropose w.nodes (λ packet. In packet w.packets) (StandsIn w) (IsChosenIn w) node (w.actors node) slot vote
+proposes : (w : World) → Keeps w → (node : ℕ) (began : Records) → BeganSo w node began → (slot : Slot) (vote : Vote) →
+    MayPropose w.nodes (λ packet. In packet (w.actors node).received) (StandsAt (here w node began))
+    (IsLearned w.nodes (w.actors node).received) node (w.actors node) slot vote →
+    MayPropose w.nodes (λ packet. In packet w.packets) (StandsIn w) (IsChosenIn w) node (w.actors node) slot vote
 proposes w keeps node began so slot vote may = record {
   proposer = may.proposer;
   incarnation = may.incarnation;
   once = may.once;
-  justified = justified_more w.nodes (λ acceptor report. In (Promise acceptor slot vote.ballot report) (w.actors node).received) (λ acceptor report. In (Promise acceptor slot vote.ballot report) w.packets) vote.chain (λ acceptor report. keeps.received node (Promise acceptor slot vote.ballot report)) may.justified;
+  justified = justified_more w.nodes (λ acceptor report. In (Promise acceptor slot vote.ballot report) (w.actors node).received)
+      (λ acceptor report. In (Promise acceptor slot vote.ballot report) w.packets) vote.chain
+      (λ acceptor report. keeps.received node (Promise acceptor slot vote.ballot report)) may.justified;
   free = free w keeps node began so slot vote.chain may.justified.highest may.free;
 }
 
 -- so what a node may do alone it may do in the cluster, once its packet was sent
-needs : (w : World) → Keeps w → (node : ℕ) (began : Records) → BeganSo w node began → (act : Act) → WasSent w act → Needs w.nodes (λ packet. Unit {0}) (λ packet. In packet (w.actors node).received) (StandsAt (here w node began)) (IsLearned w.nodes (w.actors node).received) node (w.actors node) (w.records node) act → Needs w.nodes (λ packet. In packet w.packets) (λ packet. In packet w.packets) (StandsIn w) (IsChosenIn w) node (w.actors node) (w.records node) act
+needs : (w : World) → Keeps w → (node : ℕ) (began : Records) → BeganSo w node began → (act : Act) → WasSent w act →
+    Needs w.nodes (λ packet. Unit {0}) (λ packet. In packet (w.actors node).received) (StandsAt (here w node began))
+    (IsLearned w.nodes (w.actors node).received) node (w.actors node) (w.records node) act →
+    Needs w.nodes (λ packet. In packet w.packets) (λ packet. In packet w.packets) (StandsIn w) (IsChosenIn w) node (w.actors node) (w.records node) act
 needs w keeps node began so (Receives packet) sent needed = sent
 needs w keeps node began so (Proposes slot vote) sent needed = proposes w keeps node began so slot vote needed
 needs w keeps node began so act was needed = needed
 
-may_here : (w : World) → Keeps w → (node : ℕ) (began : Records) → BeganSo w node began → (act : Act) → WasSent w act → MayAlone w.nodes node (here w node began) act → May w node act
+may_here : (w : World) → Keeps w → (node : ℕ) (began : Records) → BeganSo w node began → (act : Act) → WasSent w act →
+    MayAlone w.nodes node (here w node began) act →
+    May w node act
 may_here w keeps node began so act sent may = record { least = may.least; most = may.most; up = may.up; needs = needs w keeps node began so act sent may.needs }
 
 -- ---- a node in the cluster is the node alone
@@ -96,9 +115,11 @@ pub record IsAlone (w : World) (node : ℕ) (s : Node) : Type 0 where
   pub records : w.records node ≡ s.records
   pub began : BeganSo w node s.began
 
-may_alone : (w : World) (nodes node : ℕ) (s : Node) (act : Act) → w.nodes ≡ nodes → IsAlone w node s → MayAlone nodes node s act → MayAlone w.nodes node (here w node s.began) act
+may_alone : (w : World) (nodes node : ℕ) (s : Node) (act : Act) → w.nodes ≡ nodes → IsAlone w node s → MayAlone nodes node s act →
+    MayAlone w.nodes node (here w node s.began) act
 may_alone w nodes node s act same is may =
-    subst (λ (n : ℕ). MayAlone n node (here w node s.began) act) (sym same) (subst (λ (x : Node). MayAlone nodes node x act) (λ i. record { actor = sym is.actor i; records = sym is.records i; began = s.began }) may)
+    subst (λ (n : ℕ). MayAlone n node (here w node s.began) act) (sym same)
+    (subst (λ (x : Node). MayAlone nodes node x act) (λ i. record { actor = sym is.actor i; records = sym is.records i; began = s.began }) may)
 
 -- the node that does an act
 began_after : (w : World) → Keeps w → (node : ℕ) (act : Act) (s : Node) → IsAlone w node s → BeganSo (after w node act) node (began_by s act)
@@ -128,36 +149,51 @@ alone_apart w node act other s apart is = record {
 pub flipped : (a b : ℕ) → (a == b) ≡ false → (b == a) ≡ false
 flipped a b apart = ne_eqb b a (λ same. let together : (a == b) ≡ true = eq-eqb a b (sym same) in true≢false (sym together ∙ apart))
 
-alone_by : (w : World) → Keeps w → (newest : ℕ × Act) (older : List (ℕ × Act)) (node : ℕ) (first : Node) (test : Bool) → (newest.0 == node) ≡ test → IsAlone w node (reached_alone node first (acts_of node older)) → IsAlone (after w newest.0 newest.1) node (reached_alone node first (acts_of node (newest ∷ older)))
+alone_by : (w : World) → Keeps w → (newest : ℕ × Act) (older : List (ℕ × Act)) (node : ℕ) (first : Node) (test : Bool) →
+    (newest.0 == node) ≡ test → IsAlone w node (reached_alone node first (acts_of node older)) →
+    IsAlone (after w newest.0 newest.1) node (reached_alone node first (acts_of node (newest ∷ older)))
 alone_by w keeps newest older node first true same is =
     let is_node : newest.0 ≡ node = eqb-true newest.0 node same in
     subst (λ (acts : List Act). IsAlone (after w newest.0 newest.1) node (reached_alone node first acts)) (sym (acts_here node newest older is_node)) (
-    subst (λ (n : ℕ). IsAlone (after w n newest.1) node (after_alone node (reached_alone node first (acts_of node older)) newest.1)) (sym is_node) (alone_here w keeps node newest.1 (reached_alone node first (acts_of node older)) is))
+    subst (λ (n : ℕ). IsAlone (after w n newest.1) node (after_alone node (reached_alone node first (acts_of node older)) newest.1))
+    (sym is_node) (alone_here w keeps node newest.1 (reached_alone node first (acts_of node older)) is))
 alone_by w keeps newest older node first false same is =
-    subst (λ (acts : List Act). IsAlone (after w newest.0 newest.1) node (reached_alone node first acts)) (sym (acts_apart node newest older same)) (alone_apart w newest.0 newest.1 node _ (flipped newest.0 node same) is)
+    subst (λ (acts : List Act). IsAlone (after w newest.0 newest.1) node (reached_alone node first acts))
+    (sym (acts_apart node newest older same)) (alone_apart w newest.0 newest.1 node _ (flipped newest.0 node same) is)
 
-pub alone : (nodes : ℕ) (serials : ℕ → ℕ) (acts : List (ℕ × Act)) (node : ℕ) → IsRun (start nodes serials) acts → IsAlone (reached (start nodes serials) acts) node (reached_alone node (opened_new (serials node)) (acts_of node acts))
+pub alone : (nodes : ℕ) (serials : ℕ → ℕ) (acts : List (ℕ × Act)) (node : ℕ) → IsRun (start nodes serials) acts →
+    IsAlone (reached (start nodes serials) acts) node (reached_alone node (opened_new (serials node)) (acts_of node acts))
 alone nodes serials [] node run = record { actor = refl; records = refl; began = λ slot vote held. absurd cc }
 alone nodes serials (newest ∷ older) node run =
-    alone_by (reached (start nodes serials) older) (holds nodes serials older run.1).keeps newest older node (opened_new (serials node)) (newest.0 == node) refl (alone nodes serials older node run.1)
+    alone_by (reached (start nodes serials) older) (holds nodes serials older run.1).keeps newest older node (opened_new (serials node))
+    (newest.0 == node) refl (alone nodes serials older node run.1)
 
 -- ---- all together
 
-older_alone : (nodes : ℕ) (first : Node) (newest : ℕ × Act) (older : List (ℕ × Act)) (node : ℕ) (test : Bool) → (newest.0 == node) ≡ test → IsRunAlone nodes node first (acts_of node (newest ∷ older)) → IsRunAlone nodes node first (acts_of node older)
-older_alone nodes first newest older node true same run = (subst (IsRunAlone nodes node first) (acts_here node newest older (eqb-true newest.0 node same)) run).1
+older_alone : (nodes : ℕ) (first : Node) (newest : ℕ × Act) (older : List (ℕ × Act)) (node : ℕ) (test : Bool) → (newest.0 == node) ≡ test →
+    IsRunAlone nodes node first (acts_of node (newest ∷ older)) →
+    IsRunAlone nodes node first (acts_of node older)
+older_alone nodes first newest older node true same run =
+    (subst (IsRunAlone nodes node first) (acts_here node newest older (eqb-true newest.0 node same)) run).1
 older_alone nodes first newest older node false same run = subst (IsRunAlone nodes node first) (acts_apart node newest older same) run
 
 -- what a node may do alone, where its acts have led it, it may do in the cluster
-pub may_together : (nodes : ℕ) (serials : ℕ → ℕ) (acts : List (ℕ × Act)) (node : ℕ) (act : Act) → IsRun (start nodes serials) acts → WasSent (reached (start nodes serials) acts) act → MayAlone nodes node (reached_alone node (opened_new (serials node)) (acts_of node acts)) act → May (reached (start nodes serials) acts) node act
+pub may_together : (nodes : ℕ) (serials : ℕ → ℕ) (acts : List (ℕ × Act)) (node : ℕ) (act : Act) → IsRun (start nodes serials) acts →
+    WasSent (reached (start nodes serials) acts) act →
+    MayAlone nodes node (reached_alone node (opened_new (serials node)) (acts_of node acts)) act →
+    May (reached (start nodes serials) acts) node act
 may_together nodes serials acts node act run sent may =
     let w = reached (start nodes serials) acts in
     let s = reached_alone node (opened_new (serials node)) (acts_of node acts) in
     let is = alone nodes serials acts node run in
     may_here w (holds nodes serials acts run).keeps node s.began is.began act sent (may_alone w nodes node s act (nodes_same (start nodes serials) acts) is may)
 
-pub put_together : (nodes : ℕ) (serials : ℕ → ℕ) (acts : List (ℕ × Act)) → ((node : ℕ) → IsRunAlone nodes node (opened_new (serials node)) (acts_of node acts)) → EachWasSent (start nodes serials) acts → IsRun (start nodes serials) acts
+pub put_together : (nodes : ℕ) (serials : ℕ → ℕ) (acts : List (ℕ × Act)) →
+    ((node : ℕ) → IsRunAlone nodes node (opened_new (serials node)) (acts_of node acts)) → EachWasSent (start nodes serials) acts →
+    IsRun (start nodes serials) acts
 put_together nodes serials [] runs sent = tt
 put_together nodes serials (newest ∷ older) runs sent =
-    let before = put_together nodes serials older (λ node. older_alone nodes (opened_new (serials node)) newest older node (newest.0 == node) refl (runs node)) sent.1 in
+    let before = put_together nodes serials older (λ node. older_alone nodes (opened_new (serials node)) newest older node
+    (newest.0 == node) refl (runs node)) sent.1 in
     let mine = subst (IsRunAlone nodes newest.0 (opened_new (serials newest.0))) (acts_here newest.0 newest older refl) (runs newest.0) in
     (may_together nodes serials older newest.0 newest.1 before sent.0 mine.0, before)

@@ -5,7 +5,9 @@ use Rattle.mc_model.specs.message.Decree.{Decree, Author, Kind, Final, Taken, At
 use Rattle.mc_model.specs.message.Neighbours.{MayFollow}
 use Rattle.mc_model.specs.message.Chain.{IsPermitted, MayExtend, final_in, final_by}
 
-ends : (message : Submission) (attempt : ℕ) (old : Author) (before : ℕ) (kind : Kind) (author : Author) (moment : ℕ) (next : Kind) (final : Final) → final_by kind ≡ Some final → MayFollow message attempt old before kind author moment next → ⊥
+ends : (message : Submission) (attempt : ℕ) (old : Author) (before : ℕ) (kind : Kind) (author : Author) (moment : ℕ) (next : Kind)
+    (final : Final) → final_by kind ≡ Some final → MayFollow message attempt old before kind author moment next →
+    ⊥
 ends message attempt old before (Taken taken) author moment next final is may = cc
 ends message attempt old before (Attempt number) author moment next final is may = cc
 ends message attempt old before (Failed error) author moment next final is may = cc
@@ -14,7 +16,9 @@ ends message attempt old before (Fate last error) author moment (Attempt number)
 ends message attempt old before (Fate last error) author moment (Failed cause) final is may = may
 ends message attempt old before (Fate last error) author moment (Fate next cause) final is may = may
 
-pub fate_ends : (taken : Option Submission) (decrees : List Decree) (next : Decree) (final : Final) → final_in decrees ≡ Some final → MayExtend taken decrees next → ⊥
+pub fate_ends : (taken : Option Submission) (decrees : List Decree) (next : Decree) (final : Final) → final_in decrees ≡ Some final →
+    MayExtend taken decrees next →
+    ⊥
 fate_ends None decrees next final is may = may
 fate_ends (Some message) [] next final is may = may
 fate_ends (Some message) (newest ∷ older) next final is may =

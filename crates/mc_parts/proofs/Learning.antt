@@ -10,7 +10,9 @@ use Rattle.mc_parts.proofs.Known.{ToldNow, learned_before}
 
 -- ---- a majority stays one
 
-pub learned_still : (nodes : ℕ) (packet : Packet) (received : List Packet) (slot : Slot) (vote : Vote) → IsLearned nodes received slot vote → IsLearned nodes (packet ∷ received) slot vote
+pub learned_still : (nodes : ℕ) (packet : Packet) (received : List Packet) (slot : Slot) (vote : Vote) →
+    IsLearned nodes received slot vote →
+    IsLearned nodes (packet ∷ received) slot vote
 learned_still nodes packet received slot vote learned = record {
   test = learned.test;
   most = learned.most;
@@ -21,7 +23,9 @@ pub none_learned : (nodes : ℕ) (slot : Slot) (vote : Vote) → IsLearned nodes
 none_learned nodes slot vote learned = (both nodes _ _ learned learned).one
 
 -- a packet that came before makes no new one
-pub learned_again : (nodes : ℕ) (packet : Packet) (received : List Packet) (slot : Slot) (vote : Vote) → In packet received → IsLearned nodes (packet ∷ received) slot vote → IsLearned nodes received slot vote
+pub learned_again : (nodes : ℕ) (packet : Packet) (received : List Packet) (slot : Slot) (vote : Vote) → In packet received →
+    IsLearned nodes (packet ∷ received) slot vote →
+    IsLearned nodes received slot vote
 learned_again nodes packet received slot vote before learned = record {
   test = learned.test;
   most = learned.most;
@@ -34,16 +38,22 @@ learned_again nodes packet received slot vote before learned = record {
 -- ---- the first that was learned in a slot
 
 abbrev IsFirst : ℕ → List Packet → Slot → List Decree → Type 0
-IsFirst nodes received slot chain = (newer older : List Packet) (vote : Vote) → received ≡ newer ++ older → IsLearned nodes older slot vote → (earlier : ℕ) × IsLearned nodes older slot (vote_at earlier chain)
+IsFirst nodes received slot chain =
+    (newer older : List Packet) (vote : Vote) → received ≡ newer ++ older → IsLearned nodes older slot vote →
+    (earlier : ℕ) × IsLearned nodes older slot (vote_at earlier chain)
 
-still_first : (nodes ballot : ℕ) (packet : Packet) (received : List Packet) (slot : Slot) (chain : List Decree) → IsLearned nodes (packet ∷ received) slot (vote_at ballot chain) → IsFirst nodes received slot chain → IsFirst nodes (packet ∷ received) slot chain
+still_first : (nodes ballot : ℕ) (packet : Packet) (received : List Packet) (slot : Slot) (chain : List Decree) →
+    IsLearned nodes (packet ∷ received) slot (vote_at ballot chain) → IsFirst nodes received slot chain →
+    IsFirst nodes (packet ∷ received) slot chain
 still_first nodes ballot packet received slot chain learned first [] older vote split before =
     (ballot, subst (λ (ps : List Packet). IsLearned nodes ps slot (vote_at ballot chain)) split learned)
 still_first nodes ballot packet received slot chain learned first (newest ∷ newer) older vote split before =
     let behind : received ≡ newer ++ older = cc in first newer older vote behind before
 
 -- nothing was learned in the slot before
-now_first : (nodes ballot : ℕ) (packet : Packet) (received : List Packet) (slot : Slot) (chain : List Decree) → IsLearned nodes (packet ∷ received) slot (vote_at ballot chain) → ((vote : Vote) → IsLearned nodes received slot vote → ⊥) → IsFirst nodes (packet ∷ received) slot chain
+now_first : (nodes ballot : ℕ) (packet : Packet) (received : List Packet) (slot : Slot) (chain : List Decree) →
+    IsLearned nodes (packet ∷ received) slot (vote_at ballot chain) → ((vote : Vote) → IsLearned nodes received slot vote → ⊥) →
+    IsFirst nodes (packet ∷ received) slot chain
 now_first nodes ballot packet received slot chain learned none [] older vote split before =
     (ballot, subst (λ (ps : List Packet). IsLearned nodes ps slot (vote_at ballot chain)) split learned)
 now_first nodes ballot packet received slot chain learned none (newest ∷ newer) older vote split before =
@@ -60,11 +70,16 @@ abbrev pub IsReached : Option (List Decree) → ℕ → Type 0
 IsReached None place = ⊥
 IsReached (Some chain) place = place ≤ pred (length chain)
 
-pub known_reaches : (nodes : ℕ) (received : List Packet) (slot : Slot) (vote : Vote) (known : Option (List Decree)) → IsKnown nodes received slot.id known → IsLearned nodes received slot vote → IsReached known slot.place
+pub known_reaches : (nodes : ℕ) (received : List Packet) (slot : Slot) (vote : Vote) (known : Option (List Decree)) →
+    IsKnown nodes received slot.id known → IsLearned nodes received slot vote →
+    IsReached known slot.place
 known_reaches nodes received slot vote None is learned = is slot.place vote learned
 known_reaches nodes received slot vote (Some chain) is learned = is.longest slot.place vote learned
 
-pub known_stays : (nodes : ℕ) (packet : Packet) (received : List Packet) (id : ℕ) (known : Option (List Decree)) → IsKnown nodes received id known → ((place : ℕ) (vote : Vote) → ToldNow packet (slot_at id place) vote → IsLearned nodes (packet ∷ received) (slot_at id place) vote → IsReached known place) → IsKnown nodes (packet ∷ received) id known
+pub known_stays : (nodes : ℕ) (packet : Packet) (received : List Packet) (id : ℕ) (known : Option (List Decree)) →
+    IsKnown nodes received id known →
+    ((place : ℕ) (vote : Vote) → ToldNow packet (slot_at id place) vote → IsLearned nodes (packet ∷ received) (slot_at id place) vote → IsReached known place) →
+    IsKnown nodes (packet ∷ received) id known
 known_stays nodes packet received id None is reached = λ place vote learned. elim (learned_before nodes packet received (slot_at id place) vote learned) [
   | inl now ↦ reached place vote now learned
   | inr before ↦ is place vote before
@@ -88,11 +103,16 @@ abbrev pub IsShorter : Option (List Decree) → List Decree → Type 0
 IsShorter None chain = Unit {0}
 IsShorter (Some old) chain = pred (length old) < pred (length chain)
 
-beyond : (nodes : ℕ) (received : List Packet) (id place : ℕ) (vote : Vote) (known : Option (List Decree)) (chain : List Decree) → IsKnown nodes received id known → IsShorter known chain → IsLearned nodes received (slot_at id place) vote → place < pred (length chain)
+beyond : (nodes : ℕ) (received : List Packet) (id place : ℕ) (vote : Vote) (known : Option (List Decree)) (chain : List Decree) →
+    IsKnown nodes received id known → IsShorter known chain → IsLearned nodes received (slot_at id place) vote →
+    place < pred (length chain)
 beyond nodes received id place vote None chain is shorter learned = absurd (is place vote learned)
 beyond nodes received id place vote (Some old) chain is shorter learned = omega (arith, is.longest place vote learned, shorter)
 
-pub longer_is_known : (nodes voter ballot : ℕ) (received : List Packet) (id : ℕ) (known : Option (List Decree)) (chain : List Decree) → IsKnown nodes received id known → IsShorter known chain → IsLearned nodes (Voted voter (slot_of id chain) (vote_at ballot chain) ∷ received) (slot_of id chain) (vote_at ballot chain) → Knows nodes (Voted voter (slot_of id chain) (vote_at ballot chain) ∷ received) id chain
+pub longer_is_known : (nodes voter ballot : ℕ) (received : List Packet) (id : ℕ) (known : Option (List Decree)) (chain : List Decree) →
+    IsKnown nodes received id known → IsShorter known chain →
+    IsLearned nodes (Voted voter (slot_of id chain) (vote_at ballot chain) ∷ received) (slot_of id chain) (vote_at ballot chain) →
+    Knows nodes (Voted voter (slot_of id chain) (vote_at ballot chain) ∷ received) id chain
 longer_is_known nodes voter ballot received id known chain is shorter learned =
     let packet = Voted voter (slot_of id chain) (vote_at ballot chain) in
     record {
@@ -106,5 +126,6 @@ longer_is_known nodes voter ballot received id known chain is shorter learned =
             omega arith
         | inr before ↦ omega (arith, beyond nodes received id place vote known chain is shorter before)
       ];
-      first = now_first nodes ballot packet received (slot_of id chain) chain learned (λ vote before. omega (arith, beyond nodes received id (pred (length chain)) vote known chain is shorter before));
+      first = now_first nodes ballot packet received (slot_of id chain) chain learned
+          (λ vote before. omega (arith, beyond nodes received id (pred (length chain)) vote known chain is shorter before));
     }

@@ -17,21 +17,30 @@ Counted (Attempt number) attempts count = AreAtMost 8 (2 * attempts) attempts co
 Counted (Failed error) attempts count = AreAtMost 8 (2 * attempts + 1) attempts count
 Counted (Fate final error) attempts count = AreAtMost 8 (2 * attempts + 2) attempts count
 
-follows : (message : Submission) (attempts : ℕ) (old : Author) (before : ℕ) (kind : Kind) (author : Author) (moment : ℕ) (next : Kind) (count : ℕ) → MayFollow message attempts old before kind author moment next → Counted kind attempts count → Counted next (attempts_of next + attempts) (suc count)
-follows message attempts old before (Taken taken) author moment (Attempt number) count may so_far = record { tried = omega (arith, so_far.tried); long = omega (arith, so_far.long) }
-follows message attempts old before (Taken taken) author moment (Fate Expired error) count may so_far = record { tried = omega (arith, so_far.tried); long = omega (arith, so_far.long) }
-follows message attempts old before (Taken taken) author moment (Fate Deleted error) count may so_far = record { tried = omega (arith, so_far.tried); long = omega (arith, so_far.long) }
+follows : (message : Submission) (attempts : ℕ) (old : Author) (before : ℕ) (kind : Kind) (author : Author) (moment : ℕ) (next : Kind)
+    (count : ℕ) → MayFollow message attempts old before kind author moment next → Counted kind attempts count →
+    Counted next (attempts_of next + attempts) (suc count)
+follows message attempts old before (Taken taken) author moment (Attempt number) count may so_far =
+    record { tried = omega (arith, so_far.tried); long = omega (arith, so_far.long) }
+follows message attempts old before (Taken taken) author moment (Fate Expired error) count may so_far =
+    record { tried = omega (arith, so_far.tried); long = omega (arith, so_far.long) }
+follows message attempts old before (Taken taken) author moment (Fate Deleted error) count may so_far =
+    record { tried = omega (arith, so_far.tried); long = omega (arith, so_far.long) }
 follows message attempts old before (Taken taken) author moment (Fate Delivered error) count may so_far = absurd may
 follows message attempts old before (Taken taken) author moment (Fate Undeliverable error) count may so_far = absurd may
 follows message attempts old before (Taken taken) author moment (Fate Rejected error) count may so_far = absurd may
 follows message attempts old before (Taken taken) author moment (Taken again) count may so_far = absurd may
 follows message attempts old before (Taken taken) author moment (Failed error) count may so_far = absurd may
-follows message attempts old before (Attempt tried) author moment (Failed error) count may so_far = record { tried = omega (arith, so_far.tried); long = omega (arith, so_far.long) }
-follows message attempts old before (Attempt tried) author moment (Fate final error) count may so_far = record { tried = omega (arith, so_far.tried); long = omega (arith, so_far.long) }
+follows message attempts old before (Attempt tried) author moment (Failed error) count may so_far =
+    record { tried = omega (arith, so_far.tried); long = omega (arith, so_far.long) }
+follows message attempts old before (Attempt tried) author moment (Fate final error) count may so_far =
+    record { tried = omega (arith, so_far.tried); long = omega (arith, so_far.long) }
 follows message attempts old before (Attempt tried) author moment (Taken again) count may so_far = absurd may
 follows message attempts old before (Attempt tried) author moment (Attempt number) count may so_far = absurd may
-follows message attempts old before (Failed cause) author moment (Attempt number) count may so_far = record { tried = omega (arith, may.most); long = omega (arith, so_far.long) }
-follows message attempts old before (Failed cause) author moment (Fate final error) count may so_far = record { tried = omega (arith, so_far.tried); long = omega (arith, so_far.long) }
+follows message attempts old before (Failed cause) author moment (Attempt number) count may so_far =
+    record { tried = omega (arith, may.most); long = omega (arith, so_far.long) }
+follows message attempts old before (Failed cause) author moment (Fate final error) count may so_far =
+    record { tried = omega (arith, so_far.tried); long = omega (arith, so_far.long) }
 follows message attempts old before (Failed cause) author moment (Taken again) count may so_far = absurd may
 follows message attempts old before (Failed cause) author moment (Failed error) count may so_far = absurd may
 follows message attempts old before (Fate final cause) author moment (Taken again) count may so_far = absurd may
@@ -39,7 +48,9 @@ follows message attempts old before (Fate final cause) author moment (Attempt nu
 follows message attempts old before (Fate final cause) author moment (Failed error) count may so_far = absurd may
 follows message attempts old before (Fate final cause) author moment (Fate next error) count may so_far = absurd may
 
-extends : (message : Option Submission) (older : Decree) (oldest : List Decree) (newest : Decree) → MayExtend message (older ∷ oldest) newest → Counted older.kind (attempts_in (older ∷ oldest)) (length (older ∷ oldest)) → Counted newest.kind (attempts_in (newest ∷ older ∷ oldest)) (length (newest ∷ older ∷ oldest))
+extends : (message : Option Submission) (older : Decree) (oldest : List Decree) (newest : Decree) →
+    MayExtend message (older ∷ oldest) newest → Counted older.kind (attempts_in (older ∷ oldest)) (length (older ∷ oldest)) →
+    Counted newest.kind (attempts_in (newest ∷ older ∷ oldest)) (length (newest ∷ older ∷ oldest))
 extends None older oldest newest may so_far = absurd may
 extends (Some message) older oldest newest may so_far =
     follows message _ older.author older.moment older.kind newest.author newest.moment newest.kind _ may.1 so_far
@@ -50,7 +61,8 @@ begins id author moment (Attempt number) may = absurd may
 begins id author moment (Failed error) may = absurd may
 begins id author moment (Fate final error) may = absurd may
 
-counted : (id : ℕ) (newest : Decree) (older : List Decree) → IsPermitted id (newest ∷ older) → Counted newest.kind (attempts_in (newest ∷ older)) (length (newest ∷ older))
+counted : (id : ℕ) (newest : Decree) (older : List Decree) → IsPermitted id (newest ∷ older) →
+    Counted newest.kind (attempts_in (newest ∷ older)) (length (newest ∷ older))
 counted id newest [] permitted = begins id newest.author newest.moment newest.kind permitted
 counted id newest (older ∷ oldest) permitted = extends _ older oldest newest permitted.1 (counted id older oldest permitted.0)
 

@@ -52,19 +52,23 @@ both nodes P Q m n =
 -- ---- a majority is a count
 
 -- where more nodes pass a test, more are counted
-more_pass : (nodes : ℕ) (one other : ℕ → Bool) → ((node : ℕ) → 1 ≤ node → node ≤ nodes → one node ≡ true → other node ≡ true) → count one nodes ≤ count other nodes
+more_pass : (nodes : ℕ) (one other : ℕ → Bool) → ((node : ℕ) → 1 ≤ node → node ≤ nodes → one node ≡ true → other node ≡ true) →
+    count one nodes ≤ count other nodes
 more_pass zero one other each = omega arith
 more_pass (suc nodes) one other each =
     by_last (one (suc nodes)) (other (suc nodes)) refl refl (more_pass nodes one other (λ node least most. each node least (omega (arith, most))))
   where
-    by_last : (a b : Bool) → one (suc nodes) ≡ a → other (suc nodes) ≡ b → count one nodes ≤ count other nodes → (if a then suc (count one nodes) else count one nodes) ≤ (if b then suc (count other nodes) else count other nodes)
+    by_last : (a b : Bool) → one (suc nodes) ≡ a → other (suc nodes) ≡ b → count one nodes ≤ count other nodes →
+        (if a then suc (count one nodes) else count one nodes) ≤ (if b then suc (count other nodes) else count other nodes)
     by_last true true is also before = omega arith
     by_last true false is also before = let passes = each (suc nodes) (omega arith) (omega arith) is in absurd (cc)
     by_last false true is also before = omega arith
     by_last false false is also before = before
 
 -- What holds of a majority, and only of nodes that pass a test, is decided by the test's count.
-pub counted : (nodes : ℕ) (P : ℕ → Type 0) (test : ℕ → Bool) → ((node : ℕ) → 1 ≤ node → node ≤ nodes → P node → test node ≡ true) → Majority nodes P → IsMajority nodes test
+pub counted : (nodes : ℕ) (P : ℕ → Type 0) (test : ℕ → Bool) → ((node : ℕ) → 1 ≤ node → node ≤ nodes → P node → test node ≡ true) →
+    Majority nodes P →
+    IsMajority nodes test
 counted nodes P test only m =
     let more = more_pass nodes m.test test (λ node least most passes. only node least most (m.each node least most passes)) in
     omega (arith, more, m.most)

@@ -21,6 +21,7 @@ in_either x [] back is_in = inr is_in
 in_either x (y ∷ front) back (inl same) = inl (inl same)
 in_either x (y ∷ front) back (inr later) = elim (in_either x front back later) [ inl a ↦ inl (inr a) | inr b ↦ inr b ]
 
+-- a member of a list with one more at its end is in the list, or is that one
 pub in_two : {A : Type 0} (x : A) (front : List A) (last : A) → In x (front ++ last ∷ []) → In x front ⊎ (x ≡ last)
 in_two x front last is_in = elim (in_either x front (last ∷ []) is_in) [
   | inl before ↦ inl before

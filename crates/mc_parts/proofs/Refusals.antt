@@ -7,7 +7,8 @@ use Rattle.mc_model.specs.synod.Packet.{Slot, slot_of, same_slot}
 use Rattle.mc_model.specs.node.Outcome.{Outcome}
 use Rattle.mc_model.specs.node.Actor.{Actor}
 use Rattle.mc_model.specs.node.Knowledge.{Knows, IsKnown}
-use Rattle.mc_model.specs.node.Grant.{MayGrant, EndsInAttempt, GrantRefusal, NotChosen, NotMine, OlderIncarnation, AlreadyGranted, Closed, IsRefusedFor, IsGiven}
+use Rattle.mc_model.specs.node.Grant.{MayGrant, EndsInAttempt, GrantRefusal, NotChosen, NotMine, OlderIncarnation, AlreadyGranted, Closed}
+use Rattle.mc_model.specs.node.Grant.{IsRefusedFor, IsGiven}
 use Rattle.mc_parts.proofs.Membership.{slot_self, slots_same}
 use Rattle.mc_parts.proofs.Known.{knows_one}
 
@@ -21,7 +22,9 @@ IsBarred node a id newest older NotChosen = ⊥
 IsBarred node a id newest older NotMine = newest.author.node ≡ node → ⊥
 IsBarred node a id newest older OlderIncarnation = (newest.author.node ≡ node) × (newest.author.incarnation ≡ a.incarnation → ⊥)
 IsBarred node a id newest older AlreadyGranted = (newest.author ≡ author_at node a) × In (slot_of id (newest ∷ older)) a.granted
-IsBarred node a id newest older Closed = (newest.author ≡ author_at node a) × (In (slot_of id (newest ∷ older)) a.granted → ⊥) × ((outcome : Outcome) × In (slot_of id (newest ∷ older), outcome) a.closed)
+IsBarred node a id newest older Closed =
+    (newest.author ≡ author_at node a) × (In (slot_of id (newest ∷ older)) a.granted → ⊥) ×
+    ((outcome : Outcome) × In (slot_of id (newest ∷ older), outcome) a.closed)
 
 -- of an attempt that is known
 record Barred (nodes node : ℕ) (a : Actor) (id : ℕ) (refusal : GrantRefusal) : Type 0 where
@@ -33,15 +36,19 @@ record Barred (nodes node : ℕ) (a : Actor) (id : ℕ) (refusal : GrantRefusal)
 abbrev NoAttempt : ℕ → Actor → ℕ → Type 0
 NoAttempt nodes a id = (newest : Decree) (older : List Decree) → EndsInAttempt nodes a id newest older → ⊥
 
-refused_so : (nodes node : ℕ) (a : Actor) (id : ℕ) (refusal : GrantRefusal) → IsRefusedFor nodes node a id refusal → ((refusal ≡ NotChosen) × NoAttempt nodes a id) ⊎ Barred nodes node a id refusal
+refused_so : (nodes node : ℕ) (a : Actor) (id : ℕ) (refusal : GrantRefusal) → IsRefusedFor nodes node a id refusal →
+    ((refusal ≡ NotChosen) × NoAttempt nodes a id) ⊎ Barred nodes node a id refusal
 refused_so nodes node a id NotChosen none = inl (refl, none)
 refused_so nodes node a id NotMine r = inr (record { newest = r.newest; older = r.older; ends = r.ends; barred = r.other })
 refused_so nodes node a id OlderIncarnation r = inr (record { newest = r.newest; older = r.older; ends = r.ends; barred = (r.mine, r.other) })
 refused_so nodes node a id AlreadyGranted r = inr (record { newest = r.newest; older = r.older; ends = r.own.ends; barred = (r.own.mine, r.granted) })
-refused_so nodes node a id Closed r = inr (record { newest = r.newest; older = r.older; ends = r.own.ends; barred = (r.own.mine, r.granted, (r.outcome, r.closed)) })
+refused_so nodes node a id Closed r =
+    inr (record { newest = r.newest; older = r.older; ends = r.own.ends; barred = (r.own.mine, r.granted, (r.outcome, r.closed)) })
 
 -- one attempt is known
-here : (nodes node : ℕ) (a : Actor) (id : ℕ) (refusal : GrantRefusal) (newest : Decree) (older : List Decree) → Knows nodes a.received id (newest ∷ older) → Barred nodes node a id refusal → IsBarred node a id newest older refusal
+here : (nodes node : ℕ) (a : Actor) (id : ℕ) (refusal : GrantRefusal) (newest : Decree) (older : List Decree) →
+    Knows nodes a.received id (newest ∷ older) → Barred nodes node a id refusal →
+    IsBarred node a id newest older refusal
 here nodes node a id refusal newest older known b =
     let same = knows_one nodes a.received id (b.newest ∷ b.older) (newest ∷ older) b.ends.known known in
     let heads : b.newest ≡ newest = cc in
@@ -54,7 +61,9 @@ node_at newest node a is = ap (λ (x : Author). x.node) is
 incarnation_at : (newest : Decree) (node : ℕ) (a : Actor) → newest.author ≡ author_at node a → newest.author.incarnation ≡ a.incarnation
 incarnation_at newest node a is = ap (λ (x : Author). x.incarnation) is
 
-one_bar : (node : ℕ) (a : Actor) (id : ℕ) (newest : Decree) (older : List Decree) (one other : GrantRefusal) → IsBarred node a id newest older one → IsBarred node a id newest older other → one ≡ other
+one_bar : (node : ℕ) (a : Actor) (id : ℕ) (newest : Decree) (older : List Decree) (one other : GrantRefusal) →
+    IsBarred node a id newest older one → IsBarred node a id newest older other →
+    one ≡ other
 one_bar node a id newest older NotChosen other x y = absurd x
 one_bar node a id newest older NotMine NotChosen x y = absurd y
 one_bar node a id newest older NotMine NotMine x y = refl
@@ -79,7 +88,9 @@ one_bar node a id newest older Closed Closed x y = refl
 
 -- ---- by one number
 
-pub one_refusal : (nodes node : ℕ) (a : Actor) (id : ℕ) (one other : GrantRefusal) → IsRefusedFor nodes node a id one → IsRefusedFor nodes node a id other → one ≡ other
+pub one_refusal : (nodes node : ℕ) (a : Actor) (id : ℕ) (one other : GrantRefusal) → IsRefusedFor nodes node a id one →
+    IsRefusedFor nodes node a id other →
+    one ≡ other
 one_refusal nodes node a id one other x y = elim (refused_so nodes node a id one x) [
   | inl none ↦ elim (refused_so nodes node a id other y) [
     | inl also ↦ none.0 ∙ sym also.0
@@ -87,22 +98,29 @@ one_refusal nodes node a id one other x y = elim (refused_so nodes node a id one
   ]
   | inr first ↦ elim (refused_so nodes node a id other y) [
     | inl none ↦ absurd (none.1 first.newest first.older first.ends)
-    | inr second ↦ one_bar node a id second.newest second.older one other (here nodes node a id one second.newest second.older second.ends.known first) second.barred
+    | inr second ↦ one_bar node a id second.newest second.older one other
+        (here nodes node a id one second.newest second.older second.ends.known first) second.barred
   ]
 ]
 
 -- and not where it may be granted
-open_attempt : (nodes node : ℕ) (a : Actor) (slot : Slot) (may : MayGrant nodes node a slot) (refusal : GrantRefusal) → IsBarred node a slot.id may.attempting.newest may.attempting.older refusal → ⊥
+open_attempt : (nodes node : ℕ) (a : Actor) (slot : Slot) (may : MayGrant nodes node a slot) (refusal : GrantRefusal) →
+    IsBarred node a slot.id may.attempting.newest may.attempting.older refusal →
+    ⊥
 open_attempt nodes node a slot may NotChosen b = b
 open_attempt nodes node a slot may NotMine b = b (ap (λ (x : Author). x.node) may.attempting.author)
 open_attempt nodes node a slot may OlderIncarnation b = b.1 (ap (λ (x : Author). x.incarnation) may.attempting.author)
 open_attempt nodes node a slot may AlreadyGranted b = may.granted (subst (λ (s : Slot). In s a.granted) (sym may.attempting.place) b.1)
 open_attempt nodes node a slot may Closed b = may.closed b.2.0 (subst (λ (s : Slot). In (s, b.2.0) a.closed) (sym may.attempting.place) b.2.1)
 
-pub not_refused : (nodes node : ℕ) (a : Actor) (slot : Slot) → MayGrant nodes node a slot → (refusal : GrantRefusal) → IsRefusedFor nodes node a slot.id refusal → ⊥
+pub not_refused : (nodes node : ℕ) (a : Actor) (slot : Slot) → MayGrant nodes node a slot → (refusal : GrantRefusal) →
+    IsRefusedFor nodes node a slot.id refusal →
+    ⊥
 not_refused nodes node a slot may refusal refused = elim (refused_so nodes node a slot.id refusal refused) [
-  | inl none ↦ none.1 may.attempting.newest may.attempting.older (record { number = may.attempting.number; known = may.attempting.known; attempt = may.attempting.attempt })
-  | inr barred ↦ open_attempt nodes node a slot may refusal (here nodes node a slot.id refusal may.attempting.newest may.attempting.older may.attempting.known barred)
+  | inl none ↦ none.1 may.attempting.newest may.attempting.older
+      (record { number = may.attempting.number; known = may.attempting.known; attempt = may.attempting.attempt })
+  | inr barred ↦ open_attempt nodes node a slot may refusal
+      (here nodes node a slot.id refusal may.attempting.newest may.attempting.older may.attempting.known barred)
 ]
 
 -- ---- granted or refused
@@ -120,28 +138,58 @@ was_granted slot (first ∷ granted) = elim (cases_Bool (same_slot slot first)) 
   ]
 ]
 
-was_closed : (slot : Slot) (closed : List (Slot × Outcome)) → ((outcome : Outcome) × In (slot, outcome) closed) ⊎ ((outcome : Outcome) → In (slot, outcome) closed → ⊥)
+was_closed : (slot : Slot) (closed : List (Slot × Outcome)) →
+    ((outcome : Outcome) × In (slot, outcome) closed) ⊎ ((outcome : Outcome) → In (slot, outcome) closed → ⊥)
 was_closed slot [] = inr (λ outcome none. none)
 was_closed slot (first ∷ closed) = elim (cases_Bool (same_slot slot first.0)) [
   | inl same ↦ inl (first.1, inl (λ i. (slots_same slot first.0 same i, first.1)))
   | inr apart ↦ elim (was_closed slot closed) [
     | inl later ↦ inl (later.0, inr later.1)
-    | inr none ↦ inr (λ outcome is_in. elim is_in [ inl same ↦ apart_slots slot first.0 apart (ap (λ (x : Slot × Outcome). x.0) same) | inr later ↦ none outcome later ])
+    | inr none ↦ inr (λ outcome is_in. elim is_in [
+      | inl same ↦ apart_slots slot first.0 apart
+          (ap (λ (x : Slot × Outcome). x.0) same)
+      | inr later ↦ none outcome later
+    ])
   ]
 ]
 
 abbrev Judged : ℕ → ℕ → Actor → ℕ → Type 0
 Judged nodes node a id = IsGiven nodes node a id ⊎ ((refusal : GrantRefusal) × IsRefusedFor nodes node a id refusal)
 
-own_attempt : (nodes node : ℕ) (a : Actor) (id : ℕ) (newest : Decree) (older : List Decree) → EndsInAttempt nodes a id newest older → newest.author ≡ author_at node a → Judged nodes node a id
+own_attempt : (nodes node : ℕ) (a : Actor) (id : ℕ) (newest : Decree) (older : List Decree) → EndsInAttempt nodes a id newest older →
+    newest.author ≡ author_at node a →
+    Judged nodes node a id
 own_attempt nodes node a id newest older ends mine = elim (was_granted (slot_of id (newest ∷ older)) a.granted) [
   | inl granted ↦ inr (AlreadyGranted, record { newest = newest; older = older; own = record { ends = ends; mine = mine }; granted = granted })
   | inr ungranted ↦ elim (was_closed (slot_of id (newest ∷ older)) a.closed) [
-    | inl closed ↦ inr (Closed, record { newest = newest; older = older; outcome = closed.0; own = record { ends = ends; mine = mine }; granted = ungranted; closed = closed.1 })
+    | inl closed ↦ inr (
+      Closed,
+      record {
+        newest = newest;
+        older = older;
+        outcome = closed.0;
+        own = record { ends = ends; mine = mine };
+        granted = ungranted;
+        closed = closed.1;
+      },
+    )
     | inr unclosed ↦ inl (record {
       slot = slot_of id (newest ∷ older);
       about = refl;
-      may = record { attempting = record { newest = newest; older = older; number = ends.number; known = ends.known; place = refl; attempt = ends.attempt; author = mine }; granted = ungranted; closed = unclosed };
+      may = record {
+        attempting = record {
+          newest = newest;
+          older = older;
+          number = ends.number;
+          known = ends.known;
+          place = refl;
+          attempt =
+              ends.attempt;
+          author = mine;
+        };
+        granted = ungranted;
+        closed = unclosed;
+      };
     })
   ]
 ]
@@ -156,19 +204,28 @@ attempt_judged nodes node a id newest older ends = elim (cases_eq newest.author.
 ]
 
 -- what is known ends in no attempt
-no_attempt : (nodes : ℕ) (a : Actor) (id : ℕ) (newest : Decree) (older : List Decree) → Knows nodes a.received id (newest ∷ older) → ((number : ℕ) → newest.kind ≡ Attempt number → ⊥) → NoAttempt nodes a id
+no_attempt : (nodes : ℕ) (a : Actor) (id : ℕ) (newest : Decree) (older : List Decree) → Knows nodes a.received id (newest ∷ older) →
+    ((number : ℕ) → newest.kind ≡ Attempt number → ⊥) →
+    NoAttempt nodes a id
 no_attempt nodes a id newest older known none other rest ends =
     let same = knows_one nodes a.received id (newest ∷ older) (other ∷ rest) known ends.known in
     let heads : newest ≡ other = cc in
     none ends.number (ap (λ (d : Decree). d.kind) heads ∙ ends.attempt)
 
-known_judged : (nodes node : ℕ) (a : Actor) (id : ℕ) (newest : Decree) (older : List Decree) (kind : Kind) → newest.kind ≡ kind → Knows nodes a.received id (newest ∷ older) → Judged nodes node a id
-known_judged nodes node a id newest older (Attempt number) is known = attempt_judged nodes node a id newest older (record { number = number; known = known; attempt = is })
-known_judged nodes node a id newest older (Taken message) is known = inr (NotChosen, no_attempt nodes a id newest older known (λ number attempt. let clash : Taken message ≡ Attempt number = sym is ∙ attempt in cc))
-known_judged nodes node a id newest older (Failed error) is known = inr (NotChosen, no_attempt nodes a id newest older known (λ number attempt. let clash : Failed error ≡ Attempt number = sym is ∙ attempt in cc))
-known_judged nodes node a id newest older (Fate final error) is known = inr (NotChosen, no_attempt nodes a id newest older known (λ number attempt. let clash : Fate final error ≡ Attempt number = sym is ∙ attempt in cc))
+known_judged : (nodes node : ℕ) (a : Actor) (id : ℕ) (newest : Decree) (older : List Decree) (kind : Kind) → newest.kind ≡ kind →
+    Knows nodes a.received id (newest ∷ older) →
+    Judged nodes node a id
+known_judged nodes node a id newest older (Attempt number) is known =
+    attempt_judged nodes node a id newest older (record { number = number; known = known; attempt = is })
+known_judged nodes node a id newest older (Taken message) is known =
+    inr (NotChosen, no_attempt nodes a id newest older known (λ number attempt. let clash : Taken message ≡ Attempt number = sym is ∙ attempt in cc))
+known_judged nodes node a id newest older (Failed error) is known =
+    inr (NotChosen, no_attempt nodes a id newest older known (λ number attempt. let clash : Failed error ≡ Attempt number = sym is ∙ attempt in cc))
+known_judged nodes node a id newest older (Fate final error) is known =
+    inr (NotChosen, no_attempt nodes a id newest older known (λ number attempt. let clash : Fate final error ≡ Attempt number = sym is ∙ attempt in cc))
 
 pub judged : (nodes node : ℕ) (a : Actor) (id : ℕ) (known : Option (List Decree)) → IsKnown nodes a.received id known → Judged nodes node a id
 judged nodes node a id None nothing = inr (NotChosen, λ newest older ends. nothing _ _ ends.known.learned)
-judged nodes node a id (Some []) known = inr (NotChosen, λ newest older ends. let same = knows_one nodes a.received id [] (newest ∷ older) known ends.known in cc)
+judged nodes node a id (Some []) known =
+    inr (NotChosen, λ newest older ends. let same = knows_one nodes a.received id [] (newest ∷ older) known ends.known in cc)
 judged nodes node a id (Some (newest ∷ older)) known = known_judged nodes node a id newest older newest.kind refl known

@@ -1,5 +1,6 @@
 -- Decimal digits, and the number that they write.
-use Rattle.std.proofs.Common.{◌≡◌, ℕ, ◌+◌, ◌-◌, ◌*◌, ◌/◌, ◌%◌, ◌^◌, ◌<◌, ◌≤◌, List, [], ◌∷◌, ◌++◌, length, get_or, take, drop, set, zero, suc, true, ◌∙◌, refl, sym, arith, rules, append_assoc, add-one, pow-suc, lt_of_not-le}
+use Rattle.std.proofs.Common.{◌≡◌, ℕ, ◌+◌, ◌-◌, ◌*◌, ◌/◌, ◌%◌, ◌^◌, ◌<◌, ◌≤◌, List, [], ◌∷◌, ◌++◌, length, get_or, take, drop, set, zero}
+use Rattle.std.proofs.Common.{suc, true, ◌∙◌, refl, sym, arith, rules, append_assoc, add-one, pow-suc, lt_of_not-le}
 use Rattle.std.proofs.Math.Nat.{one-le-pow}
 use Rattle.std.specs.Fmt.{decimal}
 use Rattle.std.specs.List.{list_all}
@@ -58,19 +59,24 @@ unfolding last_digits
 last_digits-none zero number text none = refl
 last_digits-none (suc count) number text none = absurd (omega arith)
 
-last_digits-set : (count number : ℕ) (text : List ℕ) → count < length text → last_digits count (number / 10) ++ drop count (set text count (48 + number % 10)) ≡ last_digits (count + 1) number ++ drop (count + 1) text
+last_digits-set : (count number : ℕ) (text : List ℕ) → count < length text →
+    last_digits count (number / 10) ++ drop count (set text count (48 + number % 10)) ≡ last_digits (count + 1) number ++ drop (count + 1) text
 unfolding last_digits
 last_digits-set count number text below =
-    rw (drop-set text count (48 + number % 10) below, add-one) (sym (append_assoc (last_digits count (number / 10)) ((48 + number % 10) ∷ []) (drop (suc count) text)))
+    rw (drop-set text count (48 + number % 10) below, add-one)
+    (sym (append_assoc (last_digits count (number / 10)) ((48 + number % 10) ∷ []) (drop (suc count) text)))
 
 -- one more of them is written
-pub last_digits-more : (place number : ℕ) (text whole : List ℕ) → 0 < place → place ≤ length text → last_digits place number ++ drop place text ≡ whole → last_digits (place - 1) (number / 10) ++ drop (place - 1) (set text (place - 1) (48 + number % 10)) ≡ whole
+pub last_digits-more : (place number : ℕ) (text whole : List ℕ) → 0 < place → place ≤ length text →
+    last_digits place number ++ drop place text ≡ whole →
+    last_digits (place - 1) (number / 10) ++ drop (place - 1) (set text (place - 1) (48 + number % 10)) ≡ whole
 last_digits-more place number text whole some within before =
     let same : place - 1 + 1 ≡ place = omega arith in
     rw same at (last_digits-set (place - 1) number text (omega arith)) ∙ before
 
 -- of a number of so many digits they are all
-pub last_digits-decimal : (count number : ℕ) → 10 ^ count ≤ number → number < 10 ^ (suc count) → number < 2 ^ 64 → last_digits (suc count) number ≡ decimal number
+pub last_digits-decimal : (count number : ℕ) → 10 ^ count ≤ number → number < 10 ^ (suc count) → number < 2 ^ 64 →
+    last_digits (suc count) number ≡ decimal number
 unfolding last_digits
 last_digits-decimal zero number low high fits =
     let same : number % 10 ≡ number = omega arith in rw same (sym (decimal_digit number (omega arith)))

@@ -40,12 +40,14 @@ use Rattle.node_core.proofs.Entries.{message_looked_up, message_put, own_at, own
 pub taken_there : (k : Holding) (id : ℕ) (m : Filed) → value_at k.messages.entries id ≡ Some m → IsTaken k id m
 taken_there k id m found = record {
   own = λ own. own_at k.setup k.incarnation k.messages.entries id m own.each found;
-  message = sym (ap (λ (o : Option Message). unwrap_or o unseen) (message_looked_up k.messages.entries id ∙ ap (λ (o : Option Filed). option_map (message_of id) o) found));
+  message = sym (ap (λ (o : Option Message). unwrap_or o unseen)
+      (message_looked_up k.messages.entries id ∙ ap (λ (o : Option Filed). option_map (message_of id) o) found));
   records = λ place. ap (λ (o : Option Filed). record_at (acceptor_in o) (slot_at id place)) (sym found);
 }
 
 pub none_kept : (k : Holding) (id : ℕ) → value_at k.messages.entries id ≡ None → message_at (kept_of k) id ≡ unseen
-none_kept k id none = ap (λ (o : Option Message). unwrap_or o unseen) (message_looked_up k.messages.entries id ∙ ap (λ (o : Option Filed). option_map (message_of id) o) none)
+none_kept k id none =
+    ap (λ (o : Option Message). unwrap_or o unseen) (message_looked_up k.messages.entries id ∙ ap (λ (o : Option Filed). option_map (message_of id) o) none)
 
 pub taken_fresh : (k : Holding) (id : ℕ) (m : Filed) → value_at k.messages.entries id ≡ None → message_of id m ≡ unseen →
     ((slot : Slot) → record_at m.acceptor slot ≡ blank) → IsOf k.setup.node k.incarnation k.setup.nodes id m → IsTaken k id m
@@ -92,7 +94,8 @@ alters_so records slot after None same = tt
 alters_so records slot after (Some change) is = λ same. is.2 (sym is.1 ∙ same ∙ ap records is.0)
 
 module _ (k : Holding) (slot : Slot) (taken new : Filed) (judgement : SlotRecord → Judgement) (verdict : Verdict) (step : Step)
-    (is_taken : IsTaken k slot.id taken) (is_judged : IsJudged taken slot (judgement (record_at taken.acceptor slot)) new verdict) (is_answer : IsAnswer k slot.id new verdict step) where
+    (is_taken : IsTaken k slot.id taken) (is_judged : IsJudged taken slot (judgement (record_at taken.acceptor slot)) new verdict)
+    (is_answer : IsAnswer k slot.id new verdict step) where
   abbrev Entries : List (ℕ × Filed)
   Entries = k.messages.entries
 
@@ -146,11 +149,13 @@ module _ (k : Holding) (slot : Slot) (taken new : Filed) (judgement : SlotRecord
   pub answered : IsStep k (judged (kept_of k) slot Judged) step
   answered = record {
     kept = nexts k slot.id new step.next is_answer.next ∙ kept_new;
-    outputs = is_answer.outputs ∙ ap (λ (packet : Packet). record nothing { packets = packet ∷ [] }) (is_judged.answer ∙ ap (λ (j : Judgement). j.answer) judged_here);
+    outputs = is_answer.outputs ∙ ap (λ (packet : Packet). record nothing { packets = packet ∷ [] })
+        (is_judged.answer ∙ ap (λ (j : Judgement). j.answer) judged_here);
     saves = λ other.
         ap (λ (es : List (ℕ × Filed)). records_of es other) (next_entries k slot.id new step.next is_answer.next)
         ∙ records_then other
-        ∙ sym (ap (λ (change : Option Change). changed_by change (records_of Entries) other) is_answer.change ∙ changed_is (records_of Entries) slot Judged.after verdict.change change_is other);
+        ∙ sym (ap (λ (change : Option Change). changed_by change (records_of Entries) other) is_answer.change ∙ changed_is
+        (records_of Entries) slot Judged.after verdict.change change_is other);
     alters = subst (λ (change : Option Change). Alters change (records_of Entries)) (sym is_answer.change)
         (alters_so (records_of Entries) slot Judged.after verdict.change change_is);
     own = λ own. record {

@@ -91,23 +91,35 @@ module _ (k : Holding) (request : Request) (new : Box Waits) (is : held_of (box_
       then_so ((prepared start).packets ++ listed asked) (prepared start) ≡ on_arrival k.setup (kept_of k) request
   arrives_so start starts =
       ap (λ (packets : List Packet). then_so packets (prepared start)) (packets_are start starts)
-      ∙ sym (ap (begun_with k.setup (kept_of k) h) (started_over k.setup (kept_of k) (next_serial request k.serial) (suc (suc k.given)) (held_in k.queue ++ h ∷ []) (id_in request) start))
+      ∙ sym (ap (begun_with k.setup (kept_of k) h)
+      (started_over k.setup (kept_of k) (next_serial request k.serial) (suc (suc k.given)) (held_in k.queue ++ h ∷ []) (id_in request) start))
       ∙ ap (λ (s : Option Start). begun_with k.setup (kept_of k) h (started k.setup (waits_too (kept_of k) request h) (id_in request) s)) starts
 
   pub arrives : (start : Option Start) (step0 : Step) (outputs : Sent) → start ≡ take_for k.setup (kept_of k) h request →
       is_busy (length k.queue) (suc k.given) ≡ false → IsNumberedBy k.setup.node k.incarnation request → IsStep k (started_alone (prepared start)) step0 →
       outputs_of outputs ≡ record (outputs_of step0.outputs) { ticket = Some (suc k.given); packets = (outputs_of step0.outputs).packets ++ listed asked } →
       IsStep k (on_arrival k.setup (kept_of k) request)
-      (record { outputs = outputs; change = step0.change; next = record step0.next { serial = next_serial request k.serial; given = suc k.given; queue = changes.Push new } })
+      (record {
+        outputs = outputs;
+        change = step0.change;
+        next = record step0.next
+            { serial = next_serial request k.serial; given = suc k.given; queue = changes.Push new };
+      })
   arrives start step0 outputs starts free numbered base gives =
-      let after : Step = record { outputs = outputs; change = step0.change; next = record step0.next { serial = next_serial request k.serial; given = suc k.given; queue = changes.Push new } } in
+      let after : Step = record {
+        outputs = outputs;
+        change = step0.change;
+        next = record step0.next
+            { serial = next_serial request k.serial; given = suc k.given; queue = changes.Push new };
+      } in
       let sound : IsSound k.setup.node k.incarnation h = record { numbered = numbered; told = tt } in
       subst (λ (s : Stepped). IsStep k s after)
       ((λ i. record {
         kept = record (prepared start).kept { serial = next_serial request k.serial; ticket = suc (suc k.given); held = held_in k.queue ++ is i ∷ [] };
         outputs = (gives ∙ ap (λ (o : Outputs). record o { ticket = Some (suc k.given); packets = o.packets ++ listed asked }) base.outputs) i;
       }) ∙ arrives_so start starts)
-      (arrived_step k (started_alone (prepared start)) step0 (next_serial request k.serial) new outputs base (ap ticket_of is) (not_busy (length k.queue) (suc k.given) free)
+      (arrived_step k (started_alone (prepared start)) step0 (next_serial request k.serial) new outputs base (ap ticket_of is)
+      (not_busy (length k.queue) (suc k.given) free)
       (subst (IsSound k.setup.node k.incarnation) (sym is) sound) own (omega (arith, own.serial, serials request k.serial)))
 
 -- a packet more is sent

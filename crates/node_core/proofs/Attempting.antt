@@ -29,7 +29,8 @@ use Rattle.rules.specs.declared.attempted.Closing.{Closing}
 use Rattle.node_core.specs.declared.attempts.Attempts.{Attempts}
 use Rattle.node_core.specs.declared.message.Message.{Message as Filed}
 use Rattle.node_core.specs.Attempting.{IsBacked, attempted_in, closed_in, granted_in}
-use Rattle.node_core.specs.Messages.{IsConcluded, IsOf, IsOfSame, IsStarted, IsTriedSo, closed_at, message_of, prepare_for, prepare_from, with_round, with_start}
+use Rattle.node_core.specs.Messages.{IsConcluded, IsOf, IsOfSame, IsStarted, IsTriedSo, closed_at, message_of, prepare_for, prepare_from}
+use Rattle.node_core.specs.Messages.{with_round, with_start}
 
 -- ---- one is closed
 
@@ -75,7 +76,8 @@ next_concludes s slot closing (newest ∷ older) next due place end may behind b
     let closes : due ≡ dues.Close closing = cc in
     let start = start_behind (setup_of s) (kept_of s) newest older (decree_of (closed_as closing)) in
     let decrees : next.decrees ≡ start.chain = behind ∙ ap (λ (d : Due). (start_for s newest older d).chain) closes in
-    let same : same_slot slot (slot_of slot.id (newest ∷ older)) ≡ true = is_same slot (slot_of slot.id (newest ∷ older)) (λ i. slot_at slot.id (sym place i)) in
+    let same : same_slot slot (slot_of slot.id (newest ∷ older)) ≡ true = is_same slot (slot_of slot.id (newest ∷ older))
+    (λ i. slot_at slot.id (sym place i)) in
     (λ i. Some (record { place = pred (length (decrees i)); chain = decrees i }))
     ∙ sym (λ i. if same i && taken_here (taken_in (newest ∷ older)) may i then Some start else None)
   where
@@ -85,7 +87,8 @@ next_concludes s slot closing (newest ∷ older) next due place end may behind b
 
 -- what is done with an attempt leaves whose message it is, if what is granted then is backed by what is known
 pub still_of : (id : ℕ) (old new : Filed) (to : Message → Message) → IsTriedSo old to new →
-    ((me starts nodes place : ℕ) → IsOf me starts nodes id old → (to (message_of id old)).granted place ≡ true → IsBacked me starts place (message_of id old).known) →
+    ((me starts nodes place : ℕ) → IsOf me starts nodes id old → (to (message_of id old)).granted place ≡ true → IsBacked me starts place
+    (message_of id old).known) →
     IsOfSame id old new
 still_of id old new to is backed = record {
   acceptor = is.acceptor;
@@ -132,7 +135,8 @@ module _ (s : Standpoint) (old mid : Filed) (slot : Slot) (closing : Closing)
           of = λ me starts nodes of. is.same.of me starts nodes (same_closed.of me starts nodes of);
         };
         message = is.message
-            ∙ (λ i. with_round (closed.proposer i).node (closed.proposer i).incarnation (record_at (closed.acceptor i)) (closed.message slot.id i) at next.decrees)
+            ∙ (λ i. with_round (closed.proposer i).node (closed.proposer i).incarnation (record_at (closed.acceptor i))
+            (closed.message slot.id i) at next.decrees)
             ∙ ap (with_start old.proposer.node old.proposer.incarnation (record_at old.acceptor) Then slot.id) some;
         prepares = is.prepares
             ∙ (λ i. prepare_for (closed.proposer i).node (closed.proposer i).incarnation (record_at (closed.acceptor i)) (closed.message slot.id i) at)

@@ -21,7 +21,8 @@ installed_so old new next is = λ i. record {
 }
 
 pub taken : {S : Type 0} (old new : Standing S) (was : Holding) (input came : Input) (step : Step) → was ≡ old.kept → came ≡ input → IsStepFor was came step →
-    IsInstalled old.kept step.next new.kept → new.broken ≡ false → new.unfinished ≡ old.unfinished → new.stopped ≡ old.stopped → HasTaken old input new step.outputs
+    IsInstalled old.kept step.next new.kept → new.broken ≡ false → new.unfinished ≡ old.unfinished → new.stopped ≡ old.stopped →
+    HasTaken old input new step.outputs
 taken old new was input came step same_kept same_input prepared installed works unfinished stopped =
     let is : IsStepFor old.kept input step =
     subst (λ (i : Input). IsStepFor old.kept i step) same_input (subst (λ (h : Holding). IsStepFor h came step) same_kept prepared) in

@@ -15,7 +15,8 @@ use Rattle.node_model.specs.Acceptor.{told_of}
 use Rattle.node_model.specs.Answers.{had_fate}
 use Rattle.node_model.specs.Kept.{Held, Kept, message_at}
 use Rattle.node_model.specs.Requests.{id_of}
-use Rattle.node_model.specs.Rules.{attempt_rule, expiring, first_rule, fitting, idle_rule, if_so, is_attempt_by, known_rule, own_rule, shown_to, taken_for, tried, undelivered}
+use Rattle.node_model.specs.Rules.{attempt_rule, expiring, first_rule, fitting, idle_rule, if_so, is_attempt_by, known_rule, own_rule}
+use Rattle.node_model.specs.Rules.{shown_to, taken_for, tried, undelivered}
 use Rattle.node_model.specs.Starts.{delete_of, follow}
 use Rattle.requests.specs.Numbers.{ids_in}
 use Rattle.rules.specs.declared.standpoint.Standpoint.{Standpoint}
@@ -44,7 +45,8 @@ none_shown id (h ∷ others) top unasked = rw (apart id h others unasked) (none_
 
 -- ---- a final state is known
 
-module _ (setup : Setup) (k : Kept) (up : Bool) (id : ℕ) (newest : Decree) (older : List Decree) (final : Final) (error : ℕ) (is : newest.kind ≡ Fate final error) where
+module _ (setup : Setup) (k : Kept) (up : Bool) (id : ℕ) (newest : Decree) (older : List Decree) (final : Final) (error : ℕ)
+    (is : newest.kind ≡ Fate final error) where
   none_deleted : (taken : Option Submission) → delete_of setup k id k.held newest older taken ≡ None
   none_deleted None = refl
   none_deleted (Some taken) = rw is refl
@@ -73,10 +75,12 @@ own_none setup k up id newest older (Fate final error) is fate = by_taken (taken
     by_taken : (taken : Option Submission) → own_rule setup k up id newest older taken ≡ None
     by_taken None = refl
     by_taken (Some taken) =
-        ap (λ (kind : Kind). if is_attempt_by setup.node newest kind then attempt_rule setup k (message_at k id) (up taken.target) newest older else idle_rule setup k id taken (up taken.target) newest older) is
+        ap (λ (kind : Kind). if is_attempt_by setup.node newest kind then attempt_rule setup k (message_at k id)
+        (up taken.target) newest older else idle_rule setup k id taken (up taken.target) newest older) is
         ∙ idle_none setup k (up taken.target) id newest older final error is taken
 
-none_known : (setup : Setup) (k : Kept) (up : List ℕ → Bool) (id : ℕ) (known : Option (List Decree)) → had_fate known ≡ true → known_rule setup k up id known ≡ None
+none_known : (setup : Setup) (k : Kept) (up : List ℕ → Bool) (id : ℕ) (known : Option (List Decree)) → had_fate known ≡ true →
+    known_rule setup k up id known ≡ None
 none_known setup k up id None fate = absurd (true≢false (sym fate))
 none_known setup k up id (Some []) fate = refl
 none_known setup k up id (Some (newest ∷ older)) fate = own_none setup k up id newest older newest.kind refl (not-true (is_none (final_by newest.kind)) fate)

@@ -29,7 +29,8 @@ message_looked_up [] id = refl
 message_looked_up (e ∷ es) id = by_test (is_at (nat_cmp id) e.0) refl (message_looked_up es id)
   where
     by_test : (test : Bool) → is_at (nat_cmp id) e.0 ≡ test → lookup (is_at (nat_cmp id)) (map filed_as es) ≡ option_map (message_of id) (value_at es id) →
-        cond test (Some (message_of e.0 e.1)) (lookup (is_at (nat_cmp id)) (map filed_as es)) ≡ option_map (message_of id) (cond test (Some e.1) (value_at es id))
+        cond test (Some (message_of e.0 e.1)) (lookup (is_at (nat_cmp id)) (map filed_as es)) ≡ option_map (message_of id)
+        (cond test (Some e.1) (value_at es id))
     by_test true is rest = ap (λ (key : ℕ). Some (message_of key e.1)) (sym (same_key id e.0 is))
     by_test false differs rest = rest
 
@@ -42,7 +43,8 @@ message_put (e ∷ es) id m = at_order (nat_cmp id e.0) refl (message_put es id 
   where
     at_order : (o : Ordering) → nat_cmp id e.0 ≡ o → map filed_as (with_value es id m) ≡ insert_entry nat_cmp (map filed_as es) id (message_of id m) →
         map filed_as (match_ordering o ((id, m) ∷ e ∷ es) ((e.0, m) ∷ es) (e ∷ with_value es id m))
-        ≡ match_ordering o ((id, message_of id m) ∷ filed_as e ∷ map filed_as es) ((e.0, message_of id m) ∷ map filed_as es) (filed_as e ∷ insert_entry nat_cmp (map filed_as es) id (message_of id m))
+        ≡ match_ordering o ((id, message_of id m) ∷ filed_as e ∷ map filed_as es) ((e.0, message_of id m) ∷ map filed_as es)
+        (filed_as e ∷ insert_entry nat_cmp (map filed_as es) id (message_of id m))
     at_order Less is rest = refl
     at_order Equal is rest =
         let same : e.0 ≡ id = grind (arith, nat_tests) in
@@ -56,7 +58,8 @@ pub records_put : (entries : List (ℕ × Filed)) (id : ℕ) (m : Filed) (slot :
 records_put entries id m slot after of is other = elim (cases_Bool (other.id == id)) [
   | inl same ↦
       let ids : other.id ≡ id = (Decides-eqb other.id id).0 same in
-      let found : value_at (with_value entries id m) other.id ≡ Some m = subst (λ (key : ℕ). value_at (with_value entries id m) key ≡ Some m) (sym ids) (here id m entries) in
+      let found : value_at (with_value entries id m) other.id ≡ Some m = subst
+      (λ (key : ℕ). value_at (with_value entries id m) key ≡ Some m) (sym ids) (here id m entries) in
       let slots : slot_at id other.place ≡ other = λ i. slot_at (sym ids i) other.place in
       ap (λ (found : Option Filed). record_at (acceptor_in found) other) found
       ∙ subst (λ (s : Slot). record_at m.acceptor s ≡ with_record (records_of entries) slot after s) slots (is other.place)

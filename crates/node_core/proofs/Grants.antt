@@ -119,7 +119,8 @@ module _ (setup : Setup) (k : Kept) (id : ℕ) (m : Message) where
 -- ---- an outcome
 
 pub concluded_for : (s : Standpoint) (setup : Setup) (k : Kept) → s.author.node ≡ setup.node → s.author.incarnation ≡ k.incarnation → s.clock ≡ k.clock →
-    (slot : Slot) (outcome : Outcome) (known : Option (List Decree)) → concluded (setup_of s) (kept_for s) slot outcome known ≡ concluded setup k slot outcome known
+    (slot : Slot) (outcome : Outcome) (known : Option (List Decree)) → concluded (setup_of s)
+    (kept_for s) slot outcome known ≡ concluded setup k slot outcome known
 concluded_for s setup k node incarnation clock slot outcome None = refl
 concluded_for s setup k node incarnation clock slot outcome (Some []) = refl
 concluded_for s setup k node incarnation clock slot outcome (Some (newest ∷ older)) =
@@ -145,7 +146,8 @@ answered_here k s slot outcome taken new packet step own node incarnation clock 
     let m = message_at (kept_of k) slot.id in
     let closed = closed_at m slot.place outcome in
     let start = concluded k.setup (kept_of k) slot outcome m.known in
-    let starts = (λ i. concluded (setup_of s) (kept_for s) slot outcome (is_taken.message i).known) ∙ concluded_for s k.setup (kept_of k) node incarnation clock slot outcome m.known in
+    let starts = (λ i. concluded (setup_of s) (kept_for s) slot outcome (is_taken.message i).known) ∙ concluded_for s k.setup
+    (kept_of k) node incarnation clock slot outcome m.known in
     let to = with_start k.setup.node k.incarnation (kept_of k).records closed slot.id start in
     let sent = prepare_from k.setup.node k.incarnation (kept_of k).records closed slot.id start in
     let message : message_of slot.id new ≡ to =
@@ -170,7 +172,8 @@ grant_backs setup k m (Some []) given = absurd (cc)
 grant_backs setup k m (Some (newest ∷ older)) given = (omega arith, λ same. by_kind newest.kind given)
   where
     by_node : (node : Bool) (incarnation : Bool) →
-        (if not node then Some NotMine else if not incarnation then Some OlderIncarnation else own_refusal m (length older)) ≡ None → (node && incarnation) ≡ true
+        (if not node then Some NotMine else if not incarnation then Some OlderIncarnation else own_refusal m (length older)) ≡ None →
+        (node && incarnation) ≡ true
     by_node true true given = refl
     by_node true false given = absurd (cc)
     by_node false incarnation given = absurd (cc)
@@ -217,7 +220,8 @@ granted_here k id taken new step own given is_taken is is_left =
 pub granted_step : (k : Holding) (id place : ℕ) (chain : Chain) (taken new : Filed) (outputs : Sent-outputs) (next : Next) → AreOwn k →
     grant_refusal k.setup (kept_of k) id ≡ None → (message_at (kept_of k) id).known ≡ Some chain.decrees → chain.id ≡ id →
     place ≡ pred (length chain.decrees) → IsTaken k id taken → IsTriedSo taken (λ m. granted_at m place) new →
-    outputs.ticket ≡ None → outputs.refused ≡ None → outputs.packets.items ≡ [] → outputs.replies.items ≡ [] → outputs.receipts.items ≡ [] → outputs.granted ≡ Some chain →
+    outputs.ticket ≡ None → outputs.refused ≡ None → outputs.packets.items ≡ [] → outputs.replies.items ≡ [] → outputs.receipts.items ≡ [] →
+    outputs.granted ≡ Some chain →
     IsNext k id new next →
     IsStep k (on_grant (kept_of k) (known_slot (kept_of k) id)) (record { outputs = outputs; change = None; next = next })
 granted_step k id place chain taken new outputs next own given known of at is_taken is ticket refused packets replies receipts granted is_next =

@@ -1,5 +1,6 @@
 -- Ids that ascend: where one stands among them, and the list of the messages that are live.
-use Rattle.std.proofs.Common.{◌≡◌, ◌⊎◌, ℕ, zero, suc, ◌<◌, ◌≤◌, Bool, true, false, cond, List, [], ◌∷◌, length, get_or, Option, Some, None, Result, Ok, Err, refl, sym, ap, ◌∙◌, inl, inr, arith}
+use Rattle.std.proofs.Common.{◌≡◌, ◌⊎◌, ℕ, zero, suc, ◌<◌, ◌≤◌, Bool, true, false, cond, List, [], ◌∷◌, length, get_or, Option, Some, None}
+use Rattle.std.proofs.Common.{Result, Ok, Err, refl, sym, ap, ◌∙◌, inl, inr, arith}
 use Rattle.std.specs.Prelude.{filter}
 use Rattle.std.specs.BTreeSet.{insert_key}
 use Rattle.std.specs.List.{AllByRecursion, insert, slice_get}
@@ -55,7 +56,14 @@ least_at (x ∷ xs) id (suc place) rise cut = by_found (slice_get xs place) (lea
 
     by_found : (found : Option ℕ) → IsLeastFrom id (λ other. In other xs) found → IsLeastFrom id (λ other. (other ≡ x) ⊎ In other xs) found
     by_found None least = λ other among. elim among [ inl same ↦ omega (arith, same, below) | inr later ↦ least other later ]
-    by_found (Some found) least = (inr least.0, (least.1.0, λ other among from. elim among [ inl same ↦ absurd (omega (arith, same, below, from)) | inr later ↦ least.1.1 other later from ]))
+    by_found (Some found) least = (
+      inr least.0,
+      (
+        least.1.0,
+        λ other among from. elim among
+            [ inl same ↦ absurd (omega (arith, same, below, from)) | inr later ↦ least.1.1 other later from ],
+      ),
+    )
 
 put_there : (ids : List ℕ) (id place d : ℕ) → AreRising ids → place < length ids → get_or ids place d ≡ id → insert_key nat_cmp ids id ≡ ids
 put_there [] id place d rise within same = absurd (omega (arith, within))
@@ -95,8 +103,10 @@ searched ids id rise (Ok place) within equal =
     )
 searched ids id rise (Err place) within parted =
     let compare : IsNonDecreasingBy (λ (other : ℕ). ordering_index (nat_cmp other id)) ids =
-    (λ one other d from inside. let ids_rise : get_or ids one d ≤ get_or ids other d = never_falls ids one other d rise from inside in grind (arith, nat_tests)) in
-    let above : (other d : ℕ) → place ≤ other → other < length ids → id < get_or ids other d = (λ other d from inside. ranked _ id _ (sym ((parted compare).1 other d from inside))) in
+    (λ one other d from inside. let ids_rise : get_or ids one d ≤ get_or ids other d = never_falls ids one other d rise from inside in grind
+    (arith, nat_tests)) in
+    let above : (other d : ℕ) → place ≤ other → other < length ids → id < get_or ids other d =
+    (λ other d from inside. ranked _ id _ (sym ((parted compare).1 other d from inside))) in
     let cut : IsCut ids id place = record {
       within = omega (arith, within);
       before = λ other d lower. ranked _ id _ (sym ((parted compare).0 other d (omega (arith, lower, within)) lower));
@@ -130,11 +140,13 @@ no_more (x ∷ xs) (y ∷ ys) rise rises within = elim (within x (inl refl)) [
 
 -- ---- those that stay
 
-pub all_stay_above : (low : ℕ) (test : ℕ → Bool) (ids : List ℕ) → AllByRecursion (λ (y : ℕ). low < y) ids → AllByRecursion (λ (y : ℕ). low < y) (filter test ids)
+pub all_stay_above : (low : ℕ) (test : ℕ → Bool) (ids : List ℕ) → AllByRecursion (λ (y : ℕ). low < y) ids →
+    AllByRecursion (λ (y : ℕ). low < y) (filter test ids)
 all_stay_above low test [] all = tt
 all_stay_above low test (x ∷ xs) all = by_test (test x) (all_stay_above low test xs all.1)
   where
-    by_test : (is : Bool) → AllByRecursion (λ (y : ℕ). low < y) (filter test xs) → AllByRecursion (λ (y : ℕ). low < y) (cond is (x ∷ filter test xs) (filter test xs))
+    by_test : (is : Bool) → AllByRecursion (λ (y : ℕ). low < y) (filter test xs) →
+        AllByRecursion (λ (y : ℕ). low < y) (cond is (x ∷ filter test xs) (filter test xs))
     by_test true rest = (all.0, rest)
     by_test false rest = rest
 

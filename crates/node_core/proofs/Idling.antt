@@ -26,7 +26,9 @@ pub timely_in : (clock : ℕ) (held : List Held) (h : Held) → In h (timely clo
 timely_in clock [] h none = absurd none
 timely_in clock (first ∷ others) h among = by_test (not (is_late clock first)) (timely_in clock others h) among
   where
-    by_test : (keeps : Bool) → (In h (timely clock others) → In h others) → In h (cond keeps (first ∷ timely clock others) (timely clock others)) → In h (first ∷ others)
+    by_test : (keeps : Bool) → (In h (timely clock others) → In h others) →
+        In h (cond keeps (first ∷ timely clock others) (timely clock others)) →
+        In h (first ∷ others)
     by_test true rest (inl same) = inl same
     by_test true rest (inr later) = inr (rest later)
     by_test false rest later = inr (rest later)
@@ -73,7 +75,8 @@ quiet_again setup k moment up is =
 pub quiet_then : (setup : Setup) (k : Kept) (moment : ℕ) (up : Vec (List ℕ)) →
     on_tick setup k moment (is_up up.items) ≡ leaves (ticked k (max k.clock moment)) → IsQuiet setup (on_tick setup k moment (is_up up.items)).kept (Some up)
 quiet_then setup k moment up is =
-    subst (λ (to : Kept). on_tick setup to to.clock (is_up up.items) ≡ leaves to) (sym (ap (λ (s : Stepped). s.kept) is)) (quiet_again setup k moment (is_up up.items) is)
+    subst (λ (to : Kept). on_tick setup to to.clock (is_up up.items) ≡ leaves to) (sym (ap (λ (s : Stepped). s.kept) is))
+    (quiet_again setup k moment (is_up up.items) is)
 
 -- ---- accounts
 

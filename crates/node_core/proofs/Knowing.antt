@@ -37,11 +37,13 @@ use Rattle.node_core.proofs.Leaving.{as_changed, left_as}
 use Rattle.node_core.proofs.Queueing.{asked_settled, requeued_step}
 use Rattle.node_core.proofs.Tells.{deleted_for}
 
-receipts_are : (node id : ℕ) (before : Option (List Decree)) (chain : List Decree) → receipt_if (not (had_fate before)) node id chain ≡ receipts_of node id before chain
+receipts_are : (node id : ℕ) (before : Option (List Decree)) (chain : List Decree) →
+    receipt_if (not (had_fate before)) node id chain ≡ receipts_of node id before chain
 receipts_are node id before chain = by_tests (node_of id == node) (had_fate before)
   where
     by_tests : (own fate : Bool) →
-        (if not fate then (if own && not false then receipt_by id chain (final_in chain) (taken_in chain) else []) else []) ≡ (if own && not fate then receipt_by id chain (final_in chain) (taken_in chain) else [])
+        (if not fate then (if own && not false then receipt_by id chain (final_in chain) (taken_in chain) else []) else []) ≡
+        (if own && not fate then receipt_by id chain (final_in chain) (taken_in chain) else [])
     by_tests true true = refl
     by_tests true false = refl
     by_tests false true = refl
@@ -103,7 +105,8 @@ module _ (k : Holding) (message new : Filed) (chain : Chain) (m : Message) (next
   known_so taken cancelled is_taken asked starts =
       let now = with_message kept id to in
       let deletes : next ≡ delete_for k.setup now id settled (Some decrees) =
-      starts ∙ deletion_same k.setup (kept_of k) settled now.messages cancelled decrees ∙ deleted_for k.setup now id settled cancelled decrees taken is_taken asked in
+      starts ∙ deletion_same k.setup (kept_of k) settled now.messages cancelled decrees
+      ∙ deleted_for k.setup now id settled cancelled decrees taken is_taken asked in
       sym (ap (answered_then k.setup now id m.known decrees) (started_with k.setup kept id to next))
       ∙ ap (λ (start : Option Start). answered_then k.setup now id m.known decrees (started k.setup now id start)) deletes
 
@@ -112,7 +115,8 @@ module _ (k : Holding) (message new : Filed) (chain : Chain) (m : Message) (next
       had ≡ had_fate m.known → listed (option_map receipt_of receipt) ≡ receipt_if (not had) k.setup.node id decrees →
       IsLeft k id new (giving (listed (option_map packet_of packet)) (listed (option_map receipt_of receipt))) step0 → copy ≡ chain →
       outputs_of outputs ≡ record (outputs_of step0.outputs) { replies = replies_to k.setup.nodes (Some decrees) id settled } →
-      IsStep k (on_known k.setup (kept_of k) id m decrees) (record { outputs = outputs; change = step0.change; next = record step0.next { queue = changes.Settle copy } })
+      IsStep k (on_known k.setup (kept_of k) id m decrees)
+      (record { outputs = outputs; change = step0.change; next = record step0.next { queue = changes.Settle copy } })
   learned_so taken cancelled had receipt outputs step0 copy is_taken asked starts fate due is_left same gives =
       let base = left_as k id new left (giving (listed (option_map packet_of packet)) (listed (option_map receipt_of receipt))) step0
       (as_changed k id message new to left is is_started.same message_is) is_left in
@@ -125,8 +129,13 @@ module _ (k : Holding) (message new : Filed) (chain : Chain) (m : Message) (next
       ∙ (λ i. record (is_left.gives i) { replies = replies_to k.setup.nodes (Some decrees) id settled })
       ∙ (λ i. record nothing { packets = listed (packet_is i); replies = replies_to k.setup.nodes (Some decrees) id settled; receipts = receipts i }) in
       subst (λ (s : Stepped). IsStep k s (record { outputs = outputs; change = step0.change; next = record step0.next { queue = changes.Settle copy } }))
-      ((λ i. record { kept = record (with_message (kept_of k) id left) { held = requeues i }; outputs = outputs_are i }) ∙ known_so taken cancelled is_taken asked starts)
-      (requeued_step k (record { kept = with_message (kept_of k) id left; outputs = giving (listed (option_map packet_of packet)) (listed (option_map receipt_of receipt)) })
+      ((λ i. record { kept = record (with_message (kept_of k) id left) { held = requeues i }; outputs = outputs_are i })
+      ∙ known_so taken cancelled is_taken asked starts)
+      (requeued_step k (record {
+        kept = with_message (kept_of k) id left;
+        outputs = giving (listed (option_map packet_of packet))
+            (listed (option_map receipt_of receipt));
+      })
       step0 (changes.Settle copy) outputs base is_left.next.given tt
       (λ mine. subst (λ (c : Chain). AreAsked k.setup.node k.incarnation (suc k.given) (requeued k.setup.nodes (held_in k.queue) (changes.Settle c))) (sym same)
       (asked_settled k.setup.node k.incarnation (suc k.given) k.setup.nodes id decrees (held_in k.queue) mine.asked)))

@@ -33,7 +33,9 @@ use Rattle.node_core.proofs.Queueing.{asked_same, place_same}
 use Rattle.node_core.proofs.Entries.{message_put, own_put, records_kept}
 
 -- a message that was taken out and changed
-pub as_changed : (k : Holding) (id : ℕ) (old new : Filed) (was to : Message) → IsAs k id old was → IsOfSame id old new → message_of id new ≡ to → IsAs k id new to
+pub as_changed : (k : Holding) (id : ℕ) (old new : Filed) (was to : Message) → IsAs k id old was → IsOfSame id old new →
+    message_of id new ≡ to →
+    IsAs k id new to
 as_changed k id old new was to is same message = record {
   own = λ own. same.of k.setup.node k.incarnation k.setup.nodes (is.own own);
   message = message;
@@ -87,23 +89,29 @@ refused_own k slot ballot promised taken new step own test is_taken is_refused i
     let of = is_taken.own own in
     let also : is_own taken.proposer ballot ≡ true = (λ i. (proposer_of ballot == of.node i) && (incarnation_in ballot == of.incarnation i)) ∙ test in
     let message = is_refused.message slot.id also ∙ ap (λ (m : Message). refused m slot ballot promised) is_taken.message in
-    subst (λ (s : Stepped). IsStep k s step) (sym (ap (λ (b : Bool). if b then leaves (with_message (kept_of k) slot.id (refused (message_at (kept_of k) slot.id) slot ballot promised)) else leaves (kept_of k)) test))
+    subst (λ (s : Stepped). IsStep k s step) (sym (ap
+    (λ (b : Bool). if b then leaves (with_message (kept_of k) slot.id
+    (refused (message_at (kept_of k) slot.id) slot ballot promised)) else leaves (kept_of k)) test))
     (left k slot.id taken new (refused (message_at (kept_of k) slot.id) slot ballot promised) nothing step is_taken (is_refused.same slot.id) message is_left)
 
 -- ---- a promise
 
 proposal_is : (setup : Setup) (r : Round) (sender : ℕ) (report : Option Vote) (test : Bool) →
-    listed (if test then Some (Propose setup.node r.slot (offered (promised_by r sender report))) else None) ≡ (if test then Propose setup.node r.slot (offered (promised_by r sender report)) ∷ [] else [])
+    listed (if test then Some (Propose setup.node r.slot (offered (promised_by r sender report))) else None) ≡
+    (if test then Propose setup.node r.slot (offered (promised_by r sender report)) ∷ [] else [])
 proposal_is setup r sender report true = refl
 proposal_is setup r sender report false = refl
 
 promise_counted : (setup : Setup) (k : Kept) (m : Message) (round : Option Round) (sender : ℕ) (slot : Slot) (ballot : ℕ) (report : Option Vote) →
     runs_at round slot ballot ≡ true →
-    sends (with_message k slot.id (record m { round = option_map (λ r. promised_by r sender report) round })) (listed (proposed_in setup.node setup.nodes round sender report)) [] [] ≡ promised_in setup k m round sender slot ballot report
+    sends (with_message k slot.id (record m { round = option_map (λ r. promised_by r sender report) round }))
+    (listed (proposed_in setup.node setup.nodes round sender report)) [] [] ≡ promised_in setup k m round sender slot ballot report
 promise_counted setup k m None sender slot ballot report test = absurd (true≢false (sym test))
 promise_counted setup k m (Some r) sender slot ballot report test =
-    ap (λ (packets : List Packet). sends (with_message k slot.id (record m { round = Some (promised_by r sender report) })) packets [] []) (proposal_is setup r sender report (completes setup.nodes r sender))
-    ∙ sym (ap (λ (b : Bool). if b then sends (with_message k slot.id (record m { round = Some (promised_by r sender report) })) (proposals setup r sender report) [] [] else leaves k) test)
+    ap (λ (packets : List Packet). sends (with_message k slot.id (record m { round = Some (promised_by r sender report) })) packets [] [])
+    (proposal_is setup r sender report (completes setup.nodes r sender))
+    ∙ sym (ap (λ (b : Bool). if b then sends (with_message k slot.id (record m { round = Some (promised_by r sender report) }))
+    (proposals setup r sender report) [] [] else leaves k) test)
 
 pub promised_here : (k : Holding) (sender : ℕ) (slot : Slot) (ballot : ℕ) (report : Option Vote) (taken new : Filed) (packet : Option Cast) (step : Step) →
     AreOwn k → runs_at (message_at (kept_of k) slot.id).round slot ballot ≡ true → IsTaken k slot.id taken →
@@ -117,5 +125,6 @@ promised_here k sender slot ballot report taken new packet step own test is_take
     let packets : option_map packet_of packet ≡ proposed_in k.setup.node k.setup.nodes m.round sender report =
     is_promised.proposes slot.id runs ∙ (λ i. proposed_in (of.node i) (of.proposer i) (is_taken.message i).round sender report) in
     subst (λ (s : Stepped). IsStep k s step) (promise_counted k.setup (kept_of k) m m.round sender slot ballot report test)
-    (left k slot.id taken new (counted_in m sender report) (giving (listed (proposed_in k.setup.node k.setup.nodes m.round sender report)) []) step is_taken (is_promised.same slot.id) message
+    (left k slot.id taken new (counted_in m sender report)
+    (giving (listed (proposed_in k.setup.node k.setup.nodes m.round sender report)) []) step is_taken (is_promised.same slot.id) message
     (subst (λ (p : Option Packet). IsLeft k slot.id new (giving (listed p) []) step) packets is_left))

@@ -1,5 +1,6 @@
 -- The list of the messages that are live, as messages are put and rest.
-use Rattle.std.proofs.Common.{◌≡◌, ◌⊎◌, ℕ, suc, ◌+◌, ◌-◌, ◌<◌, ◌≤◌, Bool, true, List, [], ◌∷◌, length, map, Option, Some, None, refl, sym, ap, subst, ◌∙◌, inl, inr, arith}
+use Rattle.std.proofs.Common.{◌≡◌, ◌⊎◌, ℕ, suc, ◌+◌, ◌-◌, ◌<◌, ◌≤◌, Bool, true, List, [], ◌∷◌, length, map, Option, Some, None, refl, sym}
+use Rattle.std.proofs.Common.{ap, subst, ◌∙◌, inl, inr, arith}
 use Rattle.std.specs.Prelude.{filter, not, option_map}
 use Rattle.std.specs.BTreeSet.{insert_key}
 use Rattle.std.specs.List.Sorted.{IsStrictlySortedBy}
@@ -71,7 +72,8 @@ module _ (entries : List (ℕ × Filed)) (live : List ℕ) (room id : ℕ) (m : 
   -- there is room to list it
   pub room_to_list : 0 < room - length entries → IsStrictlySortedBy nat_cmp (keys_of (with_value entries id m)) → length (insert_key nat_cmp live id) ≤ room
   room_to_list more ascends =
-      let fits = no_more (insert_key nat_cmp live id) (keys_of (with_value entries id m)) (rise_put id live listed.rising) (rise_of (keys_of (with_value entries id m)) ascends) live_kept in
+      let fits = no_more (insert_key nat_cmp live id) (keys_of (with_value entries id m)) (rise_put id live listed.rising)
+      (rise_of (keys_of (with_value entries id m)) ascends) live_kept in
       let keys = key_length (with_value entries id m) in
       let longer = one_longer entries id m in
       omega (arith, fits, keys, longer, more)
@@ -106,7 +108,9 @@ module _ (f : Filed → Filed) (entries : List (ℕ × Filed)) where
   visited_length = length-map entries (λ (entry : ℕ × Filed). (entry.0, f entry.1))
 
   -- what is settled stays so
-  pub listed_visited : (live : List ℕ) (room : ℕ) → ((id : ℕ) (m : Filed) → IsSettled id m → IsSettled id (f m)) → AreListed entries live room → AreListed Visited live room
+  pub listed_visited : (live : List ℕ) (room : ℕ) → ((id : ℕ) (m : Filed) → IsSettled id m → IsSettled id (f m)) →
+      AreListed entries live room →
+      AreListed Visited live room
   listed_visited live room settled listed = record {
     rising = listed.rising;
     kept = λ id among. subst (In id) (sym (same_keys f entries)) (listed.kept id among);

@@ -1,5 +1,6 @@
 -- What a node keeps that opens over the records of its store.
-use Rattle.std.proofs.Common.{◌≡◌, ◌≢◌, ◌<◌, ◌≤◌, suc, ℕ, Bool, true, false, cond, List, [], ◌∷◌, ◌++◌, map, Option, Some, None, refl, sym, ap, subst, ◌∙◌, inl, inr, arith}
+use Rattle.std.proofs.Common.{◌≡◌, ◌≢◌, ◌<◌, ◌≤◌, suc, ℕ, Bool, true, false, cond, List, [], ◌∷◌, ◌++◌, map, Option, Some, None, refl, sym}
+use Rattle.std.proofs.Common.{ap, subst, ◌∙◌, inl, inr, arith}
 use Rattle.std.specs.Prelude.{if◌then◌else◌}
 use Rattle.std.specs.Option.{unwrap_or}
 use Rattle.std.proofs.Math.Path.{fun_ext}
@@ -61,40 +62,45 @@ unseen_put (e ∷ es) id m is fresh = at_order (nat_cmp id e.0) refl (unseen_put
 
 -- ---- one record more
 
-pub filed : (old new : Holding) (kept : Record) (id : ℕ) (taken m : Filed) (next : Next) → id ≡ (slot_recorded kept).id → (record_of kept ≢ blank) → (slot_recorded kept).place < named_places →
+pub filed : (old new : Holding) (kept : Record) (id : ℕ) (taken m : Filed) (next : Next) → id ≡ (slot_recorded kept).id →
+    (record_of kept ≢ blank) → (slot_recorded kept).place < named_places →
     IsTaken old id taken →
     ((slot : Slot) → record_at m.acceptor slot ≡ with_record (record_at taken.acceptor) (slot_recorded kept) (record_of kept) slot) →
     ((id : ℕ) → message_of id m ≡ message_of id taken) →
     (IsOf old.setup.node old.incarnation old.setup.nodes id taken → IsOf old.setup.node old.incarnation old.setup.nodes id m) →
     IsNext old id m next → IsInstalled old next new → IsFiled old kept new
-filed old new kept id taken m next about promised within is_taken records same of is_next is = let entries = is.entries ∙ next_entries old id m next is_next in record {
-  setup = is.setup;
-  incarnation = is.incarnation;
-  clock = is.clock ∙ is_next.clock;
-  serial = is.serial ∙ is_next.serial;
-  given = is.given ∙ is_next.given;
-  held = is.queue ∙ held_same old next is_next.queue;
-  records = stored entries;
-  listed = λ listed.
-      subst (λ (es : List (ℕ × Filed)). AreRecorded (records_of new.messages.entries) (keys_of es)) (sym entries)
-      (listed_put (records_of old.messages.entries) (records_of new.messages.entries) old.messages.entries (slot_recorded kept) (record_of kept) id m about promised within (stored entries) listed);
-  own = λ own. record {
-    each = subst (λ (es : List (ℕ × Filed)). AreOf new.setup new.incarnation es) (sym entries)
-        (subst (λ (s : Setup). AreOf s new.incarnation (with_value old.messages.entries id m)) (sym is.setup)
-        (subst (λ (starts : ℕ). AreOf old.setup starts (with_value old.messages.entries id m)) (sym is.incarnation)
-        (own_put old.setup old.incarnation old.messages.entries id m (of (is_taken.own own)) own.each)));
-    asked = asked_still old new is.setup is.incarnation (is.given ∙ is_next.given) (is.queue ∙ held_same old next is_next.queue) own;
-    serial = subst (λ (n : ℕ). 1 ≤ n) (sym (is.serial ∙ is_next.serial)) own.serial;
-  };
-  fresh = λ fresh. subst AreUnseen (sym entries) (unseen_put old.messages.entries id m (same id ∙ is_taken.message ∙ unseen_at old.messages.entries id fresh) fresh);
-}
+filed old new kept id taken m next about promised within is_taken records same of is_next is =
+    let entries = is.entries ∙ next_entries old id m next is_next in record {
+      setup = is.setup;
+      incarnation = is.incarnation;
+      clock = is.clock ∙ is_next.clock;
+      serial = is.serial ∙ is_next.serial;
+      given = is.given ∙ is_next.given;
+      held = is.queue ∙ held_same old next is_next.queue;
+      records = stored entries;
+      listed = λ listed.
+          subst (λ (es : List (ℕ × Filed)). AreRecorded (records_of new.messages.entries) (keys_of es)) (sym entries)
+          (listed_put (records_of old.messages.entries) (records_of new.messages.entries) old.messages.entries (slot_recorded kept)
+          (record_of kept) id m about promised within (stored entries) listed);
+      own = λ own. record {
+        each = subst (λ (es : List (ℕ × Filed)). AreOf new.setup new.incarnation es) (sym entries)
+            (subst (λ (s : Setup). AreOf s new.incarnation (with_value old.messages.entries id m)) (sym is.setup)
+            (subst (λ (starts : ℕ). AreOf old.setup starts (with_value old.messages.entries id m)) (sym is.incarnation)
+            (own_put old.setup old.incarnation old.messages.entries id m (of (is_taken.own own)) own.each)));
+        asked = asked_still old new is.setup is.incarnation (is.given ∙ is_next.given) (is.queue ∙ held_same old next is_next.queue) own;
+        serial = subst (λ (n : ℕ). 1 ≤ n) (sym (is.serial ∙ is_next.serial)) own.serial;
+      };
+      fresh = λ fresh. subst AreUnseen (sym entries) (unseen_put old.messages.entries id m
+          (same id ∙ is_taken.message ∙ unseen_at old.messages.entries id fresh) fresh);
+    }
   where
     stored : new.messages.entries ≡ with_value old.messages.entries id m →
         (slot : Slot) → records_of new.messages.entries slot ≡ with_record (records_of old.messages.entries) (slot_recorded kept) (record_of kept) slot
     stored entries slot =
         ap (λ (es : List (ℕ × Filed)). records_of es slot) entries
         ∙ records_put old.messages.entries id m (slot_recorded kept) (record_of kept) (sym about)
-        (λ place. records (slot_at id place) ∙ ap (λ (r : SlotRecord). if same_slot (slot_at id place) (slot_recorded kept) then record_of kept else r) (is_taken.records place))
+        (λ place. records (slot_at id place) ∙ ap (λ (r : SlotRecord). if same_slot (slot_at id place)
+        (slot_recorded kept) then record_of kept else r) (is_taken.records place))
         slot
 
 -- ---- records over others
@@ -126,7 +132,8 @@ over_last [] last records slot = elim (cases_Bool (same_slot last.0 slot)) [
 over_last (first ∷ others) last records slot = by_test (same_slot first.0 slot) (over_last others last records slot)
   where
     by_test : (test : Bool) → over (others ++ last ∷ []) records slot ≡ over others (with_record records last.0 last.1) slot →
-        unwrap_or (cond test (Some first.1) (held_at (others ++ last ∷ []) slot)) (records slot) ≡ unwrap_or (cond test (Some first.1) (held_at others slot)) (with_record records last.0 last.1 slot)
+        unwrap_or (cond test (Some first.1) (held_at (others ++ last ∷ []) slot)) (records slot) ≡ unwrap_or
+        (cond test (Some first.1) (held_at others slot)) (with_record records last.0 last.1 slot)
     by_test true rest = refl
     by_test false rest = rest
 
@@ -135,7 +142,8 @@ pub over_filed : (records front : List Record) (last : Record) (old new : Holdin
     IsFiled old last new →
     over (entries_of front) (records_of new.messages.entries) slot ≡ over (entries_of records) (records_of old.messages.entries) slot
 over_filed records front last old new slot split is_filed =
-    over_same (entries_of front) (records_of new.messages.entries) (with_record (records_of old.messages.entries) (slot_recorded last) (record_of last)) slot (is_filed.records slot)
+    over_same (entries_of front) (records_of new.messages.entries)
+    (with_record (records_of old.messages.entries) (slot_recorded last) (record_of last)) slot (is_filed.records slot)
     ∙ sym (over_last (entries_of front) (entry_of last) (records_of old.messages.entries) slot)
     ∙ sym (ap (λ (es : List (Slot × SlotRecord)). over es (records_of old.messages.entries) slot) (ap entries_of split ∙ map-append entry_of front (last ∷ [])))
 

@@ -36,7 +36,8 @@ module _ (k : Holding) (clock : ℕ) (up : List ℕ → Bool) (turns : TurnList)
   }
 
   -- those before an id are passed
-  pub passes : (id : ℕ) (left : List ℕ) → IsTurning k clock up left turns → AreRising left → ((other : ℕ) → In other left → other < id → IsPassed k clock other) →
+  pub passes : (id : ℕ) (left : List ℕ) → IsTurning k clock up left turns → AreRising left →
+      ((other : ℕ) → In other left → other < id → IsPassed k clock other) →
       IsTurning k clock up (filter (nat_le id) left) turns
   passes id [] is rise passed = is
   passes id (x ∷ xs) is rise passed = by_test (nat_le id x) refl (λ here. passes id xs here rise.1 (λ other among before. passed other (inr among) before))
@@ -68,7 +69,8 @@ module _ (k : Holding) (clock : ℕ) (up : List ℕ → Bool) (turns : TurnList)
   all_turned walk rise passed is = over (ids_left k clock walk) is (rise_left walk.from All_ids rise)
       (λ other among. let there = in_left walk.from other All_ids among in passed other there.0 there.1)
     where
-      over : (left : List ℕ) → IsTurning k clock up left turns → AreRising left → ((other : ℕ) → In other left → IsPassed k clock other) → IsTurned k clock up All_ids turns
+      over : (left : List ℕ) → IsTurning k clock up left turns → AreRising left → ((other : ℕ) → In other left → IsPassed k clock other) →
+          IsTurned k clock up All_ids turns
       over [] here rises each_passed = turning_ends k clock up [] turns here refl
       over (x ∷ xs) here rises each_passed =
           over xs

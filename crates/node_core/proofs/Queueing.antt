@@ -1,5 +1,6 @@
 -- The requests that wait after a step.
-use Rattle.std.proofs.Common.{◌≡◌, ◌≤◌, ℕ, suc, ◌<◌, ◌++◌, length, Bool, true, false, cond, List, [], ◌∷◌, map, Option, Some, None, refl, sym, ap, subst, ◌∙◌, arith}
+use Rattle.std.proofs.Common.{◌≡◌, ◌≤◌, ℕ, suc, ◌<◌, ◌++◌, length, Bool, true, false, cond, List, [], ◌∷◌, map, Option, Some, None, refl}
+use Rattle.std.proofs.Common.{sym, ap, subst, ◌∙◌, arith}
 use Rattle.std.specs.Prelude.{◌==◌, IfSome, filter, not, if◌then◌else◌}
 use Rattle.std.specs.Box.{box_value}
 use Rattle.std.specs.Global.{Box}
@@ -64,13 +65,16 @@ asked_at node incarnation ticket (first ∷ others) of h asked found =
     by_test (ticket_of first == of) found
     (λ is. asked_at node incarnation ticket others of h (record { above = asked.above.1; numbered = asked.numbered.1; told = asked.told.1 }) is)
   where
-    by_test : (test : Bool) → cond test (Some first) (held_at others of) ≡ Some h → (held_at others of ≡ Some h → IsSound node incarnation h) → IsSound node incarnation h
+    by_test : (test : Bool) → cond test (Some first) (held_at others of) ≡ Some h →
+        (held_at others of ≡ Some h → IsSound node incarnation h) →
+        IsSound node incarnation h
     by_test true is rest =
         let same : first ≡ h = cc in
         subst (λ (one : Held). IsSound node incarnation one) same (record { numbered = asked.numbered.0; told = asked.told.0 })
     by_test false is rest = rest is
 
-pub higher_told : (id : ℕ) (top told : Option TopVote) → IfSome top (λ it. it.id ≡ id) → IfSome told (λ it. it.id ≡ id) → IfSome (higher_top top told) (λ it. it.id ≡ id)
+pub higher_told : (id : ℕ) (top told : Option TopVote) → IfSome top (λ it. it.id ≡ id) → IfSome told (λ it. it.id ≡ id) →
+    IfSome (higher_top top told) (λ it. it.id ≡ id)
 higher_told id top None of told = of
 higher_told id None (Some new) of told = told
 higher_told id (Some old) (Some new) of told = by_test (is_higher new old)
@@ -106,7 +110,8 @@ module _ (node incarnation ticket : ℕ) where
   asked_kept test (h ∷ others) asked =
       at_test (test h) (asked_kept test others (record { above = asked.above.1; numbered = asked.numbered.1; told = asked.told.1 }))
     where
-      at_test : (pass : Bool) → AreAsked node incarnation ticket (filter test others) → AreAsked node incarnation ticket (cond pass (h ∷ filter test others) (filter test others))
+      at_test : (pass : Bool) → AreAsked node incarnation ticket (filter test others) →
+          AreAsked node incarnation ticket (cond pass (h ∷ filter test others) (filter test others))
       at_test true rest = record { above = (asked.above.0, rest.above); numbered = (asked.numbered.0, rest.numbered); told = (asked.told.0, rest.told) }
       at_test false rest = rest
 
@@ -171,14 +176,19 @@ replaced_gone new (h ∷ others) = by_test (ticket_of h == ticket_of new) refl (
   where
     by_test : (test : Bool) → (ticket_of h == ticket_of new) ≡ test →
         filter (λ other. not (ticket_of other == ticket_of new)) (with_held others new) ≡ filter (λ other. not (ticket_of other == ticket_of new)) others →
-        cond (not (ticket_of (if test then new else h) == ticket_of new)) ((if test then new else h) ∷ filter (λ other. not (ticket_of other == ticket_of new)) (with_held others new)) (filter (λ other. not (ticket_of other == ticket_of new)) (with_held others new))
-        ≡ cond (not (ticket_of h == ticket_of new)) (h ∷ filter (λ other. not (ticket_of other == ticket_of new)) others) (filter (λ other. not (ticket_of other == ticket_of new)) others)
+        cond (not (ticket_of (if test then new else h) == ticket_of new))
+        ((if test then new else h) ∷ filter (λ other. not (ticket_of other == ticket_of new)) (with_held others new))
+        (filter (λ other. not (ticket_of other == ticket_of new)) (with_held others new))
+        ≡ cond (not (ticket_of h == ticket_of new)) (h ∷ filter (λ other. not (ticket_of other == ticket_of new)) others)
+        (filter (λ other. not (ticket_of other == ticket_of new)) others)
     by_test true is rest =
         let same = eqb-true (ticket_of h) (ticket_of new) is in
         let own : (ticket_of new == ticket_of new) ≡ true = ap (λ (t : ℕ). t == ticket_of new) (sym same) ∙ is in
-        ap (λ (b : Bool). cond (not b) (new ∷ filter (λ other. not (ticket_of other == ticket_of new)) (with_held others new)) (filter (λ other. not (ticket_of other == ticket_of new)) (with_held others new))) own
+        ap (λ (b : Bool). cond (not b) (new ∷ filter (λ other. not (ticket_of other == ticket_of new)) (with_held others new))
+        (filter (λ other. not (ticket_of other == ticket_of new)) (with_held others new))) own
         ∙ rest
-        ∙ sym (ap (λ (b : Bool). cond (not b) (h ∷ filter (λ other. not (ticket_of other == ticket_of new)) others) (filter (λ other. not (ticket_of other == ticket_of new)) others)) is)
+        ∙ sym (ap (λ (b : Bool). cond (not b) (h ∷ filter (λ other. not (ticket_of other == ticket_of new)) others)
+        (filter (λ other. not (ticket_of other == ticket_of new)) others)) is)
     by_test false is rest =
         ap (λ (hs : List Held). cond (not (ticket_of h == ticket_of new)) (h ∷ hs) hs) rest
 
@@ -220,7 +230,8 @@ asked_more node incarnation ticket (h ∷ others) new is sound asked =
       told = (asked.told.0, rest.told);
     }
 
-pub arrived_step : (k : Holding) (to : Stepped) (step : Step) (serial : ℕ) (new : Box Waits) (outputs : Sent) → IsStep k to step → ticket_of (held_of (box_value new)) ≡ suc k.given →
+pub arrived_step : (k : Holding) (to : Stepped) (step : Step) (serial : ℕ) (new : Box Waits) (outputs : Sent) → IsStep k to step → ticket_of
+    (held_of (box_value new)) ≡ suc k.given →
     length k.queue < most_waiting → IsSound k.setup.node k.incarnation (held_of (box_value new)) → AreOwn k → 1 ≤ serial →
     IsStep k
     (record {

@@ -90,10 +90,12 @@ stop_lists setup k packet true lists = by_member (is_member setup (sender_of pac
     by_member true still = still
     by_member false still = unchanged k lists
 
-pub crash_is : (setup : Setup) (k : Kept) (packet : Packet) (after : Bool) → k.up ≡ true → stopped setup k packet after ≡ (stepped setup k (Crash packet after)).kept
+pub crash_is : (setup : Setup) (k : Kept) (packet : Packet) (after : Bool) → k.up ≡ true →
+    stopped setup k packet after ≡ (stepped setup k (Crash packet after)).kept
 crash_is setup k packet after up = sym (ap (λ (test : Bool). (if◌then◌else◌ {A = Stepped} test (leaves (stopped setup k packet after)) (leaves k)).kept) up)
 
-opens_crashed : {S : Type 0} (k : Holding) (stored : Records) (packet : Packet) (after : Bool) (lost : ℕ) (node : Standing S) (life : Life) → ListsRecorded (kept_of k) →
+opens_crashed : {S : Type 0} (k : Holding) (stored : Records) (packet : Packet) (after : Bool) (lost : ℕ) (node : Standing S)
+    (life : Life) → ListsRecorded (kept_of k) →
     HasOpened k.setup stored (next_life (kept_of k) lost) node life → AreSame stored (stopped k.setup (kept_of k) packet after).records →
     kept_of node.kept ≡ (stepped k.setup (stopped k.setup (kept_of k) packet after) (Restart lost)).kept
 opens_crashed k stored packet after lost node life lists opened same =
@@ -119,22 +121,29 @@ crashed_behind k stored packet lost node life lists opened same =
 pub as_crashed : {S : Type 0} (old mid : Seen) (packet : Sent) (lost : ℕ) (node : Standing S) (life : Life) → ListsRecorded (kept_of old.kept) →
     AreSame old.stored (records_of old.kept.messages.entries) → HasStopped old (given.Packet packet) mid →
     HasOpened old.kept.setup mid.stored (next_life (kept_of old.kept) lost) node life →
-    (after : Bool) × (kept_of node.kept ≡ (stepped old.kept.setup (stepped old.kept.setup (kept_of old.kept) (Crash (packet_of packet) after)).kept (Restart lost)).kept)
+    (after : Bool) × (kept_of node.kept ≡ (stepped old.kept.setup
+    (stepped old.kept.setup (kept_of old.kept) (Crash (packet_of packet) after)).kept (Restart lost)).kept)
 as_crashed old mid packet lost node life lists stored has_stopped opened =
     elim has_stopped.stored [
-      | inl before ↦ (false, crashed_before old.kept mid.stored packet lost node life lists opened (record { each = λ slot. before.each slot ∙ stored.each slot }))
+      | inl before ↦ (
+        false,
+        crashed_before old.kept mid.stored packet lost node life lists opened
+            (record { each = λ slot. before.each slot ∙ stored.each slot }),
+      )
       | inr behind ↦ (true, crashed_behind old.kept mid.stored packet lost node life lists opened behind)
     ]
 
 -- ---- what is told of a stop
 
-told_as : {S : Type 0} (k : Holding) (stored : Records) (packet : Sent) (lost : ℕ) (node : Standing S) (life : Life) (told : Stopped) → ListsRecorded (kept_of k) →
+told_as : {S : Type 0} (k : Holding) (stored : Records) (packet : Sent) (lost : ℕ) (node : Standing S) (life : Life) (told : Stopped) →
+    ListsRecorded (kept_of k) →
     HasOpened k.setup stored (next_life (kept_of k) lost) node life → IsToldOf k stored packet told → (found : Found) → told.found ≡ found →
     kept_of node.kept ≡ (stepped k.setup (stepped k.setup (kept_of k) (Crash (packet_of packet) (is_after found))).kept (Restart lost)).kept
 told_as k stored packet lost node life told lists opened is Before found = crashed_before k stored packet lost node life lists opened (is.before.0 found)
 told_as k stored packet lost node life told lists opened is After found = crashed_behind k stored packet lost node life lists opened (is.after.0 found)
 
-keeps_told : {S : Type 0} (k : Holding) (stored : Records) (input : Input) (packet : Sent) (lost : ℕ) (node : Standing S) (life : Life) (told : Option Stopped) →
+keeps_told : {S : Type 0} (k : Holding) (stored : Records) (input : Input) (packet : Sent) (lost : ℕ) (node : Standing S) (life : Life)
+    (told : Option Stopped) →
     ListsRecorded (kept_of k) → HasOpened k.setup stored (next_life (kept_of k) lost) node life → input ≡ given.Packet packet → node.stopped ≡ told →
     IsTold k stored (Some packet) told → KeepsAsTold k input lost node
 keeps_told k stored input packet lost node life None lists opened came tells is = absurd is
@@ -142,7 +151,8 @@ keeps_told k stored input packet lost node life (Some told) lists opened came te
   told = told;
   tells = tells;
   came = came ∙ ap given.Packet (sym is.is);
-  kept = subst (λ (p : Sent). kept_of node.kept ≡ (stepped k.setup (stepped k.setup (kept_of k) (Crash (packet_of p) (is_after told.found))).kept (Restart lost)).kept)
+  kept = subst (λ (p : Sent). kept_of node.kept ≡ (stepped k.setup
+      (stepped k.setup (kept_of k) (Crash (packet_of p) (is_after told.found))).kept (Restart lost)).kept)
       (sym is.is) (told_as k stored packet lost node life told lists opened is told.found refl);
 }
 

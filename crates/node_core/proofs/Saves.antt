@@ -30,17 +30,23 @@ module _ (setup : Setup) (k : Kept) where
   promise_stays slot ballot false below same = refl
 
   judged_promise : (slot : Slot) (ballot : ℕ) (test : Bool) →
-      (if◌then◌else◌ {A = Judgement} test (record { answer = Promise setup.node slot ballot (k.records slot).vote; after = after_promise (k.records slot) ballot }) (record { answer = Refused setup.node slot ballot (k.records slot).promised; after = k.records slot })).after
+      (if◌then◌else◌ {A = Judgement} test (record {
+        answer = Promise setup.node slot ballot (k.records slot).vote;
+        after = after_promise
+            (k.records slot) ballot;
+      }) (record { answer = Refused setup.node slot ballot (k.records slot).promised; after = k.records slot })).after
       ≡ (if test then after_promise (k.records slot) ballot else k.records slot)
   judged_promise slot ballot true = refl
   judged_promise slot ballot false = refl
 
   promised_is : (slot : Slot) (ballot : ℕ) →
-      (prepare_judged setup.node slot ballot (k.records slot)).after ≡ (if nat_lt (k.records slot).promised ballot then after_promise (k.records slot) ballot else k.records slot)
+      (prepare_judged setup.node slot ballot (k.records slot)).after ≡
+      (if nat_lt (k.records slot).promised ballot then after_promise (k.records slot) ballot else k.records slot)
   promised_is slot ballot = judged_promise slot ballot (nat_lt (k.records slot).promised ballot)
 
   judged_vote : (slot : Slot) (vote : Vote) (test : Bool) →
-      (if◌then◌else◌ {A = Judgement} test (record { answer = Voted setup.node slot vote; after = after_vote vote }) (record { answer = Refused setup.node slot vote.ballot (k.records slot).promised; after = k.records slot })).after
+      (if◌then◌else◌ {A = Judgement} test (record { answer = Voted setup.node slot vote; after = after_vote vote })
+      (record { answer = Refused setup.node slot vote.ballot (k.records slot).promised; after = k.records slot })).after
       ≡ (if test then after_vote vote else k.records slot)
   judged_vote slot vote true = refl
   judged_vote slot vote false = refl
@@ -49,7 +55,8 @@ module _ (setup : Setup) (k : Kept) where
       (propose_judged setup.node slot vote (k.records slot)).after ≡ (if nat_le (k.records slot).promised vote.ballot then after_vote vote else k.records slot)
   voted_is slot vote = judged_vote slot vote (nat_le (k.records slot).promised vote.ballot)
 
-  vote_stays : (slot : Slot) (vote : Vote) (test : Bool) → k.records slot ≡ after_vote vote → (if test then after_vote vote else k.records slot) ≡ k.records slot
+  vote_stays : (slot : Slot) (vote : Vote) (test : Bool) → k.records slot ≡ after_vote vote →
+      (if test then after_vote vote else k.records slot) ≡ k.records slot
   vote_stays slot vote true same = sym same
   vote_stays slot vote false same = refl
 
@@ -75,7 +82,8 @@ module _ (setup : Setup) (k : Kept) where
 
   -- ---- the step changes a record: then what it leaves has it
 
-  promise_there : (slot : Slot) (ballot : ℕ) (test : Bool) (after : SlotRecord) → after ≡ (if test then after_promise (k.records slot) ballot else k.records slot) →
+  promise_there : (slot : Slot) (ballot : ℕ) (test : Bool) (after : SlotRecord) → after ≡
+      (if test then after_promise (k.records slot) ballot else k.records slot) →
       (Stays k (with_record k.records slot after) → ⊥) → (with_record k.records slot after slot).promised ≡ ballot
   promise_there slot ballot true after is differs = ap (λ (r : SlotRecord). r.promised) (with_here k.records slot after ∙ is)
   promise_there slot ballot false after is differs = absurd (differs (put_back k slot after is))
@@ -87,9 +95,11 @@ module _ (setup : Setup) (k : Kept) where
 
   saved_there : (packet : Packet) → (Stays k (saved_by setup k packet).records → ⊥) → HasSaved (saved_by setup k packet).records packet
   saved_there (Prepare sender slot ballot) differs =
-      promise_there slot ballot (nat_lt (k.records slot).promised ballot) (prepare_judged setup.node slot ballot (k.records slot)).after (promised_is slot ballot) differs
+      promise_there slot ballot (nat_lt (k.records slot).promised ballot) (prepare_judged setup.node slot ballot (k.records slot)).after
+      (promised_is slot ballot) differs
   saved_there (Propose sender slot vote) differs =
-      vote_there slot vote (nat_le (k.records slot).promised vote.ballot) (propose_judged setup.node slot vote (k.records slot)).after (voted_is slot vote) differs
+      vote_there slot vote (nat_le (k.records slot).promised vote.ballot) (propose_judged setup.node slot vote (k.records slot)).after
+      (voted_is slot vote) differs
   saved_there (Promise sender slot ballot report) differs = absurd (differs (λ slot. refl))
   saved_there (Voted sender slot vote) differs = absurd (differs (λ slot. refl))
   saved_there (Refused sender slot ballot promised) differs = absurd (differs (λ slot. refl))

@@ -85,7 +85,8 @@ pub cut : (k was : Holding) (input given : Input) (step : Step) (unfinished : Op
     AreSame new stored ⊎ AreSame new (changed_by step.change stored) → IsCut k input unfinished stored new
 cut k was input given step unfinished stored new same_kept same_input prepared same some left =
     cut_with k input step unfinished stored new step.change refl some
-    (subst (λ (i : Input). IsPrepared k i step unfinished) same_input (subst (λ (h : Holding). IsPrepared h given step unfinished) same_kept prepared)) same left
+    (subst (λ (i : Input). IsPrepared k i step unfinished) same_input
+    (subst (λ (h : Holding). IsPrepared h given step unfinished) same_kept prepared)) same left
 
 -- ---- what is told of it
 
@@ -102,7 +103,8 @@ module _ (k : Holding) (stored : Records) (packet : Sent) (halted : IsHalted k s
     | inl before ↦
         let here : HasSaved Now (packet_of packet) = subst (λ (records : Records). HasSaved records (packet_of packet)) (fun_ext before.each) has in
         absurd (halted.changes (record {
-          each = λ slot. ap (λ (records : Records). records slot) (saved_so k.setup (kept_of k) (packet_of packet)) ∙ saved_before k.setup (kept_of k) (packet_of packet) here slot;
+          each = λ slot. ap (λ (records : Records). records slot) (saved_so k.setup (kept_of k) (packet_of packet)) ∙ saved_before k.setup
+              (kept_of k) (packet_of packet) here slot;
         }))
     | inr after ↦ after
   ]
@@ -112,7 +114,8 @@ module _ (k : Holding) (stored : Records) (packet : Sent) (halted : IsHalted k s
       let is : left_by k packet ≡ (stopped k.setup (kept_of k) (packet_of packet) true).records = saved_so k.setup (kept_of k) (packet_of packet) in
       let left : HasSaved (left_by k packet) (packet_of packet) =
       subst (λ (records : Records). HasSaved records (packet_of packet)) (sym is)
-      (saved_after k.setup (kept_of k) (packet_of packet) (λ stays. halted.changes (record { each = λ slot. ap (λ (records : Records). records slot) is ∙ stays slot }))) in
+      (saved_after k.setup (kept_of k) (packet_of packet)
+      (λ stays. halted.changes (record { each = λ slot. ap (λ (records : Records). records slot) is ∙ stays slot }))) in
       subst (λ (records : Records). HasSaved records (packet_of packet)) (sym (fun_ext after.each)) left
 
   not_both : AreSame stored Now → AreSame stored (left_by k packet) → ⊥
@@ -128,7 +131,8 @@ module _ (k : Holding) (stored : Records) (packet : Sent) (halted : IsHalted k s
   )
   found_before After is = (λ same. absurd (apart (sym same)), λ before. absurd (not_both before (has_after (is.0 refl))))
 
-  pub told_so : (told : Stopped) → told.packet ≡ packet → ((told.found ≡ After) ↔ HasSaved stored (packet_of packet)) → IsTold k stored (Some packet) (Some told)
+  pub told_so : (told : Stopped) → told.packet ≡ packet → ((told.found ≡ After) ↔ HasSaved stored (packet_of packet)) →
+      IsTold k stored (Some packet) (Some told)
   told_so told same is = record {
     is = same;
     before = found_before told.found is;

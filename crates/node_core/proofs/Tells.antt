@@ -60,7 +60,12 @@ deletes s setup k cancelled (newest ∷ older) due next node incarnation clock i
     so = start_behind setup k newest older (Fate Deleted 0)
 
     own : (start_for s newest older dues.Delete).chain ≡ so.chain
-    own = λ i. record { author = record { node = node i; incarnation = incarnation i }; moment = max (clock i) newest.moment; kind = Fate Deleted 0 } ∷ newest ∷ older
+    own = λ i. record {
+      author = record { node = node i; incarnation = incarnation i };
+      moment = max (clock i) newest.moment;
+      kind =
+          Fate Deleted 0;
+    } ∷ newest ∷ older
 
     by_test : (test : Bool) → Some due ≡ (if test then Some dues.Delete else None) → Some (start_of next) ≡ (if test then Some so else None)
     by_test true deleted =
@@ -111,7 +116,8 @@ module _ (k : Holding) (id : ℕ) (chain : Chain) (at : chain.id ≡ id) (taken 
 
   abbrev kept_if : Bool → Message
   kept_if test =
-      if test then started_at to slot (next_round (kept_of k).records to slot) (ballot_of (next_round (kept_of k).records to slot) k.incarnation k.setup.node) chain.decrees else to
+      if test then started_at to slot (next_round (kept_of k).records to slot)
+      (ballot_of (next_round (kept_of k).records to slot) k.incarnation k.setup.node) chain.decrees else to
 
   abbrev sent_if : Bool → Option Packet
   sent_if test = if test then Some (Prepare k.setup.node slot (ballot_of (next_round (kept_of k).records to slot) k.incarnation k.setup.node)) else None
@@ -123,10 +129,12 @@ module _ (k : Holding) (id : ℕ) (chain : Chain) (at : chain.id ≡ id) (taken 
       made_if (may_start (kept_of k).records to slot) ≡ started_alone (started k.setup (kept_of k) id (option_map start_of next))
   for_next next is = ap (λ (n : Option Chain). started_alone (started k.setup (kept_of k) id (option_map start_of n))) (sym is)
 
-  pub starts_now : (next : Option Chain) (one : Cast) (step : Step) → next ≡ Some chain → packet ≡ Some one → IsLeft k id new (giving (listed (Some (packet_of one))) []) step →
+  pub starts_now : (next : Option Chain) (one : Cast) (step : Step) → next ≡ Some chain → packet ≡ Some one → IsLeft k id new
+      (giving (listed (Some (packet_of one))) []) step →
       IsStep k (started_alone (started k.setup (kept_of k) id (option_map start_of next))) step
   starts_now next one step is some is_left =
-      let sent : Some (packet_of one) ≡ sent_if (may_start (kept_of k).records to slot) = ap (λ (p : Option Cast). option_map packet_of p) (sym some) ∙ packet_is in
+      let sent : Some (packet_of one) ≡ sent_if (may_start (kept_of k).records to slot) = ap (λ (p : Option Cast). option_map packet_of p)
+      (sym some) ∙ packet_is in
       subst (λ (s : Stepped). IsStep k s step) (by_test (may_start (kept_of k).records to slot) sent ∙ for_next next is)
       (left_as k id new (kept_if (may_start (kept_of k).records to slot)) (giving (listed (Some (packet_of one))) []) step
       (as_changed k id taken new to (kept_if (may_start (kept_of k).records to slot)) is_taken so_started.same message_is) is_left)
@@ -233,12 +241,14 @@ module _ (k : Holding) (known : Option (List Decree)) (told : Held) (next : Opti
 
   -- the code's own words for the round that starts are the model's
   told_is : answer_told
-      (started k.setup (record (kept_of k) { held = with_held (held_in k.queue) new }) (id_of told) (next_told k.setup (kept_of k) (settles k.setup.nodes known told) known new))
+      (started k.setup (record (kept_of k) { held = with_held (held_in k.queue) new }) (id_of told)
+      (next_told k.setup (kept_of k) (settles k.setup.nodes known told) known new))
       new
       (answer_to k.setup.nodes known new)
       ≡ told_to k.setup (kept_of k) known told
   told_is = λ i. answer_told
-      (started k.setup (record (kept_of k) { held = with_held (held_in k.queue) new }) (sym id_same i) (next_told k.setup (kept_of k) (settles k.setup.nodes known told) known new))
+      (started k.setup (record (kept_of k) { held = with_held (held_in k.queue) new }) (sym id_same i)
+      (next_told k.setup (kept_of k) (settles k.setup.nodes known told) known new))
       new
       (answer_to k.setup.nodes known new)
 
@@ -250,8 +260,10 @@ module _ (k : Holding) (known : Option (List Decree)) (told : Held) (next : Opti
         outputs = record nothing { packets = prepared.packets; replies = is.replies i };
       })
       ∙ answered (answer_to k.setup.nodes known new)
-      ∙ sym (ap (λ (p : Prepared). answer_told p new (answer_to k.setup.nodes known new)) (started_held k.setup (kept_of k) (with_held (held_in k.queue) new) (id_of told) next))
-      ∙ ap (λ (start : Option Start). answer_told (started k.setup (record (kept_of k) { held = with_held (held_in k.queue) new }) (id_of told) start) new (answer_to k.setup.nodes known new)) starts
+      ∙ sym (ap (λ (p : Prepared). answer_told p new (answer_to k.setup.nodes known new))
+      (started_held k.setup (kept_of k) (with_held (held_in k.queue) new) (id_of told) next))
+      ∙ ap (λ (start : Option Start). answer_told (started k.setup (record (kept_of k) { held = with_held (held_in k.queue) new })
+      (id_of told) start) new (answer_to k.setup.nodes known new)) starts
       ∙ told_is
 
   pub told_here : (outputs : Sent) → AreOwn k → IsSound k.setup.node k.incarnation told → IsStep k (started_alone prepared) step0 → step0.next.given ≡ k.given →
@@ -267,4 +279,5 @@ module _ (k : Holding) (known : Option (List Decree)) (told : Held) (next : Opti
       }) ∙ made_is starts is)
       (requeued_step k (started_alone prepared) step0 verdict.1 outputs base ticket (is.place k.queue)
       (λ mine. subst (λ (held : List Held). AreAsked k.setup.node k.incarnation (suc k.given) held) (sym (is.leaves k.setup.nodes (held_in k.queue)))
-      (asked_left k.setup.node k.incarnation (suc k.given) (answer_to k.setup.nodes known new) new (sound_settled k.setup.node k.incarnation k.setup.nodes known told sound) (held_in k.queue) mine.asked)))
+      (asked_left k.setup.node k.incarnation (suc k.given) (answer_to k.setup.nodes known new) new
+      (sound_settled k.setup.node k.incarnation k.setup.nodes known told sound) (held_in k.queue) mine.asked)))

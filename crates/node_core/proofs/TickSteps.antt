@@ -100,7 +100,8 @@ module _ (k : Holding) (moment : ℕ) (up : List ℕ → Bool) (turns : TurnList
     own = λ own. record {
       each = subst (AreOf k.setup k.incarnation) (sym entries_then) turned.own;
       asked = subst (λ (held : List Held). AreAsked k.setup.node k.incarnation (suc step.next.given) held) (sym held_is)
-          (subst (λ (ticket : ℕ). AreAsked k.setup.node k.incarnation ticket (timely Clock (held_in k.queue))) (sym (ap suc is.given)) (asked_timely k Clock own));
+          (subst (λ (ticket : ℕ). AreAsked k.setup.node k.incarnation ticket (timely Clock (held_in k.queue))) (sym (ap suc is.given))
+          (asked_timely k Clock own));
       serial = subst (λ (n : ℕ). 1 ≤ n) (sym is.serial) own.serial;
     };
     room = is.room;
@@ -108,7 +109,8 @@ module _ (k : Holding) (moment : ℕ) (up : List ℕ → Bool) (turns : TurnList
   }
 
 -- at the clock of the code
-pub ticked_at : (k : Holding) (moment clock : ℕ) (up : List ℕ → Bool) (turns : TurnList) (step : Step) → clock ≡ max k.clock moment → IsTickStep k clock turns step →
+pub ticked_at : (k : Holding) (moment clock : ℕ) (up : List ℕ → Bool) (turns : TurnList) (step : Step) → clock ≡ max k.clock moment →
+    IsTickStep k clock turns step →
     IsTurned k clock up (ids_of (ticked (kept_of k) clock)) turns → IsStep k (on_tick k.setup (kept_of k) moment up) step
 ticked_at k moment clock up turns step at is turned =
     ticked_step k moment up turns step (subst (λ (c : ℕ). IsTickStep k c turns step) at is)

@@ -1,5 +1,6 @@
 -- What a tick makes of several messages, one after another.
-use Rattle.std.proofs.Common.{◌≡◌, ◌⊎◌, ℕ, suc, ◌<◌, Bool, List, [], ◌∷◌, ◌++◌, map, Option, Some, None, refl, sym, ap, subst, ◌∙◌, inl, inr, append_assoc, arith}
+use Rattle.std.proofs.Common.{◌≡◌, ◌⊎◌, ℕ, suc, ◌<◌, Bool, List, [], ◌∷◌, ◌++◌, map, Option, Some, None, refl, sym, ap, subst, ◌∙◌, inl}
+use Rattle.std.proofs.Common.{inr, append_assoc, arith}
 use Rattle.std.proofs.lemmas.List.{append-nil, map-append}
 use Rattle.std.specs.Prelude.{IfOk, Ok, Err, Result, not, option_map}
 use Rattle.std.specs.Box.{box_value}
@@ -158,7 +159,8 @@ message_ticked k clock id m taken =
     ∙ by_rested id (value_at k.messages.entries id)
     ∙ ap unrounded (sym (ap (λ (found : Option Message). unwrap_or found unseen) (message_looked_up k.messages.entries id)) ∙ sym taken.message)
 
-pub rests_first : (k : Holding) (id : ℕ) (m : Filed) (s : Standpoint) → AreOwn k → s.author.node ≡ k.setup.node → s.author.incarnation ≡ k.incarnation → IsTaken k id m →
+pub rests_first : (k : Holding) (id : ℕ) (m : Filed) (s : Standpoint) → AreOwn k → s.author.node ≡ k.setup.node →
+    s.author.incarnation ≡ k.incarnation → IsTaken k id m →
     IsAtRest k.setup (ticked (kept_of k) s.clock) (timely s.clock (held_in k.queue)) id m s
 rests_first k id m s own node incarnation taken = record {
   node = node;
@@ -255,10 +257,11 @@ module _ (k : Holding) (clock : ℕ) (up : List ℕ → Bool) (ids : List ℕ) (
           ∙ is.saved slot;
       own = subst (AreOf k.setup k.incarnation) (sym entries_then)
           (own_put k.setup k.incarnation Before id turn.message (of.of k.setup.node k.incarnation k.setup.nodes (taken.own own)) is.own);
-      only = λ other among. elim (ids_more turns.messages.items added.put other (subst (λ (puts : List Put). In other (map (λ (put : Put). put.id) puts)) added.messages among)) [
-        | inl before ↦ in_front ids (id ∷ []) other (is.only other before)
-        | inr same ↦ subst (λ (it : ℕ). In it (ids ++ id ∷ [])) (sym (same ∙ added.named)) (in_last ids id)
-      ];
+      only = λ other among. elim (ids_more turns.messages.items added.put other
+          (subst (λ (puts : List Put). In other (map (λ (put : Put). put.id) puts)) added.messages among)) [
+            | inl before ↦ in_front ids (id ∷ []) other (is.only other before)
+            | inr same ↦ subst (λ (it : ℕ). In it (ids ++ id ∷ [])) (sym (same ∙ added.named)) (in_last ids id)
+          ];
     }
 
 -- ---- one after another
@@ -323,12 +326,14 @@ module _ (k : Holding) (clock : ℕ) (up : List ℕ → Bool) (left : List ℕ) 
     rule_is : (turn : Option Turn) (of : IsTurnOf k id at up turn) →
         turned (kept_turned k clock turns) id turn ≡ ruled k.setup (kept_turned k clock turns) id (first_rule k.setup (kept_turned k clock turns) up id)
     rule_is turn of =
-        of.turned_is k.setup (kept_turned k clock turns) (at_rest k clock up is.done turns is.is id of.from of.taken is_next at node incarnation refl own) (of.taken.own own)
+        of.turned_is k.setup (kept_turned k clock turns)
+        (at_rest k clock up is.done turns is.is id of.from of.taken is_next at node incarnation refl own) (of.taken.own own)
 
     pub same_then : IsTurnOf k id at up None → IsTurned k clock up (is.done ++ id ∷ []) turns
     same_then of = turned_same k clock up is.done turns is.is id of.from of.taken is_next (rule_is None of)
 
-    pub more_then : (turn : Turn) → IsTurnOf k id at up (Some turn) → (after : TurnList) → IsAdded turns id turn after → IsTurned k clock up (is.done ++ id ∷ []) after
+    pub more_then : (turn : Turn) → IsTurnOf k id at up (Some turn) → (after : TurnList) → IsAdded turns id turn after →
+        IsTurned k clock up (is.done ++ id ∷ []) after
     more_then turn of after added =
         turned_more k clock up is.done turns is.is id of.from of.taken is_next turn of.same after added own (rule_is (Some turn) of)
 

@@ -35,7 +35,8 @@ use Rattle.node_core.proofs.Queueing.{higher_told}
 
 -- ---- what was voted
 
-told_same : (one other : Records) (id bound : ℕ) → ((place : ℕ) → one (slot_at id place) ≡ other (slot_at id place)) → told_below one id bound ≡ told_below other id bound
+told_same : (one other : Records) (id bound : ℕ) → ((place : ℕ) → one (slot_at id place) ≡ other (slot_at id place)) →
+    told_below one id bound ≡ told_below other id bound
 told_same one other id zero same = refl
 told_same one other id (suc place) same =
     λ i. told_with (slot_at id place) (same place i).vote (told_same one other id place same i)
@@ -44,7 +45,8 @@ told_named : (records : Records) (id bound : ℕ) → IfSome (told_below records
 told_named records id zero = tt
 told_named records id (suc place) = by_vote (records (slot_at id place)).vote (told_below records id place) (told_named records id place)
   where
-    by_vote : (vote : Option Vote) (lower : Option TopVote) → IfSome lower (λ top. top.id ≡ id) → IfSome (told_with (slot_at id place) vote lower) (λ top. top.id ≡ id)
+    by_vote : (vote : Option Vote) (lower : Option TopVote) → IfSome lower (λ top. top.id ≡ id) →
+        IfSome (told_with (slot_at id place) vote lower) (λ top. top.id ≡ id)
     by_vote None lower named = named
     by_vote (Some vote) lower named = refl
 
@@ -52,7 +54,8 @@ pub told_of_named : (records : Records) (id : ℕ) → IfSome (told_of records i
 told_of_named records id = told_named records id most_places
 
 -- what is shown of an id is of it
-pub shown_named : (id : ℕ) (held : List Held) (top : Option TopVote) → AreToldOf held → IfSome top (λ it. it.id ≡ id) → IfSome (shown_to id held top) (λ it. it.id ≡ id)
+pub shown_named : (id : ℕ) (held : List Held) (top : Option TopVote) → AreToldOf held → IfSome top (λ it. it.id ≡ id) →
+    IfSome (shown_to id held top) (λ it. it.id ≡ id)
 shown_named id [] top told named = named
 shown_named id (h ∷ others) top told named = shown_named id others (if id_of h == id then higher_top top h.top else top) told.1 (by_test (id_of h == id) refl)
   where
@@ -88,7 +91,8 @@ module _ (setup : Setup) (k : Kept) (held : List Held) (up : List ℕ → Bool) 
           IsDueBehind s (attempted_in m.attempts (length older)) cancelled up (newest ∷ older) due → IfSome due (MayBeDue s (newest ∷ older)) →
           known_rule setup k up id (Some (newest ∷ older)) ≡ option_map (fitting_for s newest older) due
       by_taken (Some taken) is due behind may =
-          rule_seen setup k up id newest older taken s (attempted_in m.attempts (length older)) cancelled is (seen taken (length older) cancelled (by taken is)) ∙ sym (behind taken is)
+          rule_seen setup k up id newest older taken s (attempted_in m.attempts (length older)) cancelled is
+          (seen taken (length older) cancelled (by taken is)) ∙ sym (behind taken is)
       by_taken None is None behind may = ap (own_rule setup k up id newest older) is
       by_taken None is (Some due) behind may =
           absurd (subst (λ (taken : Option Submission). MayExtend taken (newest ∷ older) (decree_for s newest (error_in (newest ∷ older)) due)) is may)
@@ -102,7 +106,8 @@ module _ (setup : Setup) (k : Kept) (held : List Held) (up : List ℕ → Bool) 
       sym (ap (λ (fit : Option Fitting). option_map ruled_by fit) (due_is newest older cancelled None by here tt))
 
   pub ruled_behind : (chain : List Decree) (place : ℕ) (cancelled : Bool) (due : Due) (next : Chain) (given_up : Option ℕ) → place ≡ pred (length chain) →
-      IsCancelled chain cancelled → IsDueBehind s (attempted_in m.attempts place) cancelled up chain (Some due) → MayBeDue s chain due → IsBehind s chain due next.decrees →
+      IsCancelled chain cancelled → IsDueBehind s (attempted_in m.attempts place) cancelled up chain (Some due) → MayBeDue s chain due →
+      IsBehind s chain due next.decrees →
       given_up ≡ (if gives_up (rule_of due) then Some place else None) →
       Some (ruled_as (record { chain = next; given_up = given_up })) ≡ option_map ruled_by (known_rule setup k up id (Some chain))
   ruled_behind [] place cancelled due next given_up at by behind may is given = absurd behind
@@ -121,9 +126,11 @@ module _ (setup : Setup) (k : Kept) (held : List Held) (up : List ℕ → Bool) 
   abbrev behind_take : Option Start → Option Start → Option Fitting
   behind_take take vote = option_or (fitting Take take) (option_or (fitting Follow vote) (known_rule setup k up id (message_of id m).known))
 
-  first_is : first_rule setup k up id ≡ behind_take (taken_for setup k id held) (follow (message_of id m).known (shown_to id held (told_of (record_at m.acceptor) id)))
+  first_is : first_rule setup k up id ≡ behind_take (taken_for setup k id held)
+      (follow (message_of id m).known (shown_to id held (told_of (record_at m.acceptor) id)))
   first_is =
-      let told : told_of k.records id ≡ told_of (record_at m.acceptor) id = told_same k.records (record_at m.acceptor) id most_places (λ place. sym (rest.records place)) in
+      let told : told_of k.records id ≡ told_of (record_at m.acceptor) id = told_same k.records (record_at m.acceptor) id most_places
+      (λ place. sym (rest.records place)) in
       λ i.
       option_or (fitting Take (taken_for setup k id (rest.waits i)))
       (option_or (fitting Follow (follow (rest.message i).known (shown_to id (rest.waits i) (told i))))
@@ -132,7 +139,8 @@ module _ (setup : Setup) (k : Kept) (held : List Held) (up : List ℕ → Bool) 
   pub takes : (chain : Chain) → Some (start_of chain) ≡ taken_for setup k id held →
       Some (ruled_as (record { chain = chain; given_up = None })) ≡ option_map ruled_by (first_rule setup k up id)
   takes chain is =
-      ap (λ (start : Option Start). option_map ruled_by (behind_take start (follow (message_of id m).known (shown_to id held (told_of (record_at m.acceptor) id))))) is
+      ap (λ (start : Option Start). option_map ruled_by
+      (behind_take start (follow (message_of id m).known (shown_to id held (told_of (record_at m.acceptor) id))))) is
       ∙ sym (ap (λ (fit : Option Fitting). option_map ruled_by fit) first_is)
 
   pub follows : (chain : Chain) → None ≡ taken_for setup k id held →

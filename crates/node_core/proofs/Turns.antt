@@ -41,7 +41,8 @@ ruled_is setup k id None = refl
 ruled_is setup k id (Some fit) = by_rule fit.rule
   where
     by_rule : (rule : Rule) →
-        started setup (given_up rule k id (pred fit.start.place)) id (Some fit.start) ≡ by_given setup k id (if gives_up rule then Some (pred fit.start.place) else None) fit.start
+        started setup (given_up rule k id (pred fit.start.place)) id (Some fit.start) ≡ by_given setup k id
+        (if gives_up rule then Some (pred fit.start.place) else None) fit.start
     by_rule Take = refl
     by_rule Follow = refl
     by_rule Close = refl
@@ -76,7 +77,9 @@ both_same id one mid other first then_so = record {
 started_same : (id : ℕ) (mid new : Filed) (chain : Chain) (packet : Option Sent) → chain.id ≡ id → IsStarted mid chain new packet → IsOfSame id mid new
 started_same id mid new chain packet at is = subst (λ (i : ℕ). IsOfSame i mid new) at is.same
 
-pub turned_same : (id : ℕ) (old mid new : Filed) (chain : Chain) (packet : Option Sent) → mid ≡ rested old → chain.id ≡ id → IsStarted mid chain new packet → IsOfSame id old new
+pub turned_same : (id : ℕ) (old mid new : Filed) (chain : Chain) (packet : Option Sent) → mid ≡ rested old → chain.id ≡ id →
+    IsStarted mid chain new packet →
+    IsOfSame id old new
 turned_same id old mid new chain packet rests at is =
     both_same id old mid new (subst (IsOfSame id old) (sym rests) (rest_same id old)) (started_same id mid new chain packet at is)
 
@@ -90,7 +93,8 @@ given_same id place old mid closed new chain packet rests tried at is =
 
 -- ---- what the model makes of it
 
-module _ (setup : Setup) (k : Kept) (id : ℕ) (old : Filed) (s : Standpoint) (held : List Held) (rest : IsAtRest setup k held id old s) (of : IsOf setup.node k.incarnation setup.nodes id old) where
+module _ (setup : Setup) (k : Kept) (id : ℕ) (old : Filed) (s : Standpoint) (held : List Held) (rest : IsAtRest setup k held id old s)
+    (of : IsOf setup.node k.incarnation setup.nodes id old) where
   module _ (mid new : Filed) (chain : Chain) (packet : Option Sent) (to : Message) (at : chain.id ≡ id) (proposer : mid.proposer ≡ (rested old).proposer)
       (acceptor : mid.acceptor ≡ old.acceptor) (message : message_of id mid ≡ to) (is_started : IsStarted mid chain new packet) where
     so_started : IsStarted mid (record { id = id; decrees = chain.decrees }) new packet
@@ -130,7 +134,8 @@ module _ (setup : Setup) (k : Kept) (id : ℕ) (old : Filed) (s : Standpoint) (h
       tried.message id
       ∙ ap (λ (m : Filed). closed_at (message_of id m) place (Unanswered no_session_error)) rests
       ∙ ap (λ (m : Message). closed_at m place (Unanswered no_session_error)) (sym rest.message) in
-      turned_so closed new chain packet to at (tried.proposer ∙ ap (λ (m : Filed). m.proposer) rests) (tried.acceptor ∙ ap (λ (m : Filed). m.acceptor) rests) message is
+      turned_so closed new chain packet to at (tried.proposer ∙ ap (λ (m : Filed). m.proposer) rests)
+      (tried.acceptor ∙ ap (λ (m : Filed). m.acceptor) rests) message is
       ∙ sym (started_with setup k id to (Some (start_of chain)))
 
   -- none is
@@ -143,13 +148,15 @@ module _ (setup : Setup) (k : Kept) (id : ℕ) (old : Filed) (s : Standpoint) (h
 
     abbrev began : Prepared
     began = record {
-      kept = with_message k id (started_at to slot (next_round k.records to slot) (ballot_of (next_round k.records to slot) k.incarnation setup.node) chain.decrees);
+      kept = with_message k id (started_at to slot (next_round k.records to slot)
+          (ballot_of (next_round k.records to slot) k.incarnation setup.node) chain.decrees);
       packets = Prepare setup.node slot (ballot_of (next_round k.records to slot) k.incarnation setup.node) ∷ [];
     }
 
     abbrev so : Bool → Prepared
     so test = record {
-      kept = with_message k id (if test then started_at to slot (next_round k.records to slot) (ballot_of (next_round k.records to slot) k.incarnation setup.node) chain.decrees else to);
+      kept = with_message k id (if test then started_at to slot (next_round k.records to slot)
+          (ballot_of (next_round k.records to slot) k.incarnation setup.node) chain.decrees else to);
       packets = listed (if test then Some (Prepare setup.node slot (ballot_of (next_round k.records to slot) k.incarnation setup.node)) else None);
     }
 
@@ -163,7 +170,8 @@ module _ (setup : Setup) (k : Kept) (id : ℕ) (old : Filed) (s : Standpoint) (h
         turned k id (Some (record { message = new; packet = Some packet })) ≡ by_given setup k id None (start_of chain)
     turned_begun packet is =
         turned_so mid new chain (Some packet) to at (ap (λ (m : Filed). m.proposer) rests) (ap (λ (m : Filed). m.acceptor) rests) message_is is
-        ∙ by_test (may_start k.records to slot) (then_sent mid new chain (Some packet) to at (ap (λ (m : Filed). m.proposer) rests) (ap (λ (m : Filed). m.acceptor) rests) message_is is)
+        ∙ by_test (may_start k.records to slot) (then_sent mid new chain (Some packet) to at (ap (λ (m : Filed). m.proposer) rests)
+        (ap (λ (m : Filed). m.acceptor) rests) message_is is)
       where
         by_test : (test : Bool) → Some (packet_of packet) ≡ sent_if test → so test ≡ (if test then began else record { kept = k; packets = [] })
         by_test true sent = refl
@@ -171,7 +179,8 @@ module _ (setup : Setup) (k : Kept) (id : ℕ) (old : Filed) (s : Standpoint) (h
 
     pub turned_not : IsStarted mid chain new None → turned k id None ≡ by_given setup k id None (start_of chain)
     turned_not is =
-        by_test (may_start k.records to slot) (then_sent mid new chain None to at (ap (λ (m : Filed). m.proposer) rests) (ap (λ (m : Filed). m.acceptor) rests) message_is is)
+        by_test (may_start k.records to slot) (then_sent mid new chain None to at (ap (λ (m : Filed). m.proposer) rests)
+        (ap (λ (m : Filed). m.acceptor) rests) message_is is)
       where
         by_test : (test : Bool) → None ≡ sent_if test → turned k id None ≡ (if test then began else record { kept = k; packets = [] })
         by_test true sent = absurd cc

@@ -68,13 +68,15 @@ module _ (old : Filed) (sender : ℕ) (vote : Cast) (learner : Learned) (grows :
   heard_longer proposer test round seen same =
       let known : message_in learner vote.chain.id ≡ known_then (heard (message_in old.learner vote.chain.id) sender (vote_of vote)) vote.chain.decrees =
       message ∙ ap (λ (b : Bool). known_if b (heard (message_in old.learner vote.chain.id) sender (vote_of vote)) vote.chain.decrees) test in
-      let later : message_of vote.chain.id (with_parts old learner proposer) ≡ known_then (heard (message_of vote.chain.id old) sender (vote_of vote)) vote.chain.decrees =
+      let later : message_of vote.chain.id (with_parts old learner proposer) ≡ known_then
+      (heard (message_of vote.chain.id old) sender (vote_of vote)) vote.chain.decrees =
       λ i. record (message_of vote.chain.id old) { votes = (known i).votes; known = (known i).known; round = round i; seen = seen i } in
       let longer : is_shorter (message_of vote.chain.id old).known vote.chain.decrees ≡ true =
       (and_parts _ (is_shorter (message_of vote.chain.id old).known vote.chain.decrees) (sym decides ∙ test)).1 in
       record {
         same = still_same old vote.chain.id learner proposer nodes same (λ me starts place is.
-            subst (IsBacked me starts place) (sym (ap (λ (m : Message). m.known) known)) (backed_longer me starts place (message_of vote.chain.id old).known vote.chain.decrees longer is));
+            subst (IsBacked me starts place) (sym (ap (λ (m : Message). m.known) known))
+            (backed_longer me starts place (message_of vote.chain.id old).known vote.chain.decrees longer is));
         decides = decides;
         message = later ∙ sym (ap (λ (b : Bool). known_if b (heard (message_of vote.chain.id old) sender (vote_of vote)) vote.chain.decrees) test);
       }
@@ -99,7 +101,8 @@ concerns : (k : Holding) (vote : Cast) (test : Bool) → id_concerns k.setup (ke
 concerns k vote test is = ap (λ (b : Bool). b && id_concerns k.setup (kept_of k) vote.chain.id) (is_same (slot_in vote) (slot_in vote) refl) ∙ is
 
 module _ (k : Holding) (sender : ℕ) (vote : Cast) (taken new : Filed) (grows : Bool) (step : Step) (own : AreOwn k)
-    (test : id_concerns k.setup (kept_of k) vote.chain.id ≡ true) (is_taken : IsTaken k vote.chain.id taken) (is_heard : IsHeard taken sender vote new grows) where
+    (test : id_concerns k.setup (kept_of k) vote.chain.id ≡ true) (is_taken : IsTaken k vote.chain.id taken)
+    (is_heard : IsHeard taken sender vote new grows) where
   abbrev id : ℕ
   id = vote.chain.id
 

@@ -1,5 +1,6 @@
 -- A tick goes over the messages that are live and those of which requests ask once, by ascending ids.
-use Rattle.std.proofs.Common.{◌≡◌, ◌⊎◌, ℕ, suc, ◌<◌, ◌≤◌, Bool, true, false, cond, List, [], ◌∷◌, length, Option, Some, None, refl, sym, ap, subst, ◌∙◌, inl, inr, arith}
+use Rattle.std.proofs.Common.{◌≡◌, ◌⊎◌, ℕ, suc, ◌<◌, ◌≤◌, Bool, true, false, cond, List, [], ◌∷◌, length, Option, Some, None, refl, sym}
+use Rattle.std.proofs.Common.{ap, subst, ◌∙◌, inl, inr, arith}
 use Rattle.std.specs.Prelude.{◌==◌, ◌≢◌, filter, nat_le, nat_lt, if◌then◌else◌}
 use Rattle.std.specs.BTreeMap.{is_at}
 use Rattle.std.specs.BTreeSet.{insert_key}
@@ -61,7 +62,8 @@ pub rise_put : (x : ℕ) (xs : List ℕ) → AreRising xs → AreRising (insert_
 rise_put x [] rise = (tt, tt)
 rise_put x (y ∷ ys) rise = at_order (nat_cmp x y) refl (rise_put x ys rise.1)
   where
-    at_order : (o : Ordering) → nat_cmp x y ≡ o → AreRising (insert_key nat_cmp ys x) → AreRising (match_ordering o (x ∷ y ∷ ys) (y ∷ ys) (y ∷ insert_key nat_cmp ys x))
+    at_order : (o : Ordering) → nat_cmp x y ≡ o → AreRising (insert_key nat_cmp ys x) →
+        AreRising (match_ordering o (x ∷ y ∷ ys) (y ∷ ys) (y ∷ insert_key nat_cmp ys x))
     at_order Less order rest = let below : x < y = grind (arith, nat_tests) in ((below, above_lower x y ys below rise.0), rise)
     at_order Equal order rest = rise
     at_order Greater order rest = let below : y < x = grind (arith, nat_tests) in (above_put y x ys below rise.0, rest)
@@ -116,7 +118,8 @@ with_in z (h ∷ others) xs (inr (inr later)) = put_in z (id_of h) (ids_with oth
 
 pub all_stay : (from : ℕ) (xs : List ℕ) → AllByRecursion (λ (y : ℕ). from ≤ y) xs → filter (nat_le from) xs ≡ xs
 all_stay from [] all = refl
-all_stay from (x ∷ xs) all = let here : nat_le from x ≡ true = let lower = all.0 in grind (arith, nat_tests) in rw here (ap (λ (ys : List ℕ). x ∷ ys) (all_stay from xs all.1))
+all_stay from (x ∷ xs) all =
+    let here : nat_le from x ≡ true = let lower = all.0 in grind (arith, nat_tests) in rw here (ap (λ (ys : List ℕ). x ∷ ys) (all_stay from xs all.1))
 
 pub from_on : (low from : ℕ) (xs : List ℕ) → from ≤ suc low → AllByRecursion (λ (y : ℕ). low < y) xs → AllByRecursion (λ (y : ℕ). from ≤ y) xs
 from_on low from [] below all = tt
@@ -136,7 +139,8 @@ from_nothing xs = all_stay 0 xs (all_numbers xs)
 least_first : (from id : ℕ) (xs : List ℕ) → AreRising xs → In id xs → from ≤ id → ((x : ℕ) → In x xs → from ≤ x → id ≤ x) →
     filter (nat_le from) xs ≡ id ∷ filter (nat_le (suc id)) xs
 least_first from id [] rise none above least = absurd none
-least_first from id (x ∷ xs) rise among above least = by_test (nat_le from x) refl (λ later. least_first from id xs rise.1 later above (λ y there. least y (inr there)))
+least_first from id (x ∷ xs) rise among above least =
+    by_test (nat_le from x) refl (λ later. least_first from id xs rise.1 later above (λ y there. least y (inr there)))
   where
     by_test : (test : Bool) → nat_le from x ≡ test → (In id xs → filter (nat_le from) xs ≡ id ∷ filter (nat_le (suc id)) xs) →
         cond test (x ∷ filter (nat_le from) xs) (filter (nat_le from) xs) ≡ id ∷ filter (nat_le (suc id)) (x ∷ xs)
@@ -193,7 +197,8 @@ module _ (k : Holding) (clock : ℕ) where
   all_in id either = subst (λ (ids : List ℕ). In id ids) (sym all_is) (with_in id (timely clock (held_in k.queue)) (keys_of k.messages.entries) either)
 
   pub rise_all : IsStrictlySortedBy nat_cmp (keys_of k.messages.entries) → AreRising All_ids
-  rise_all ascends = subst AreRising (sym all_is) (rise_with (timely clock (held_in k.queue)) (keys_of k.messages.entries) (rise_of (keys_of k.messages.entries) ascends))
+  rise_all ascends = subst AreRising (sym all_is) (rise_with (timely clock (held_in k.queue)) (keys_of k.messages.entries)
+      (rise_of (keys_of k.messages.entries) ascends))
 
   pub walk_begins : (walk : Walk) → walk.from ≡ 0 → IsNextLive k.messages.entries 0 walk.live → IsLeastFrom 0 Is_asked walk.asked → IsWalk k clock walk
   walk_begins walk from live asked = record {
@@ -213,14 +218,16 @@ module _ (k : Holding) (clock : ℕ) where
     pub among : In id All_ids
     pub from : walk.from ≤ id
     pub passed : (other : ℕ) → In other All_ids → walk.from ≤ other → other < id → IsPassed other
-    pub on : (new : Walk) → new.from ≡ suc id → (walk.live ≢ Some id → new.live ≡ walk.live) → (walk.live ≡ Some id → IsNextLive k.messages.entries (suc id) new.live) →
+    pub on : (new : Walk) → new.from ≡ suc id → (walk.live ≢ Some id → new.live ≡ walk.live) →
+        (walk.live ≡ Some id → IsNextLive k.messages.entries (suc id) new.live) →
         (walk.asked ≢ Some id → new.asked ≡ walk.asked) → (walk.asked ≡ Some id → IsLeastFrom (suc id) Is_asked new.asked) → IsWalk k clock new
 
   same_or : (id : ℕ) (it : Option ℕ) → (it ≡ Some id) ⊎ (it ≢ Some id)
   same_or id None = inr (λ same. absurd (cc))
   same_or id (Some first) = elim (cases_Bool (first == id)) [
     | inl same ↦ inl (ap (λ (n : ℕ). Some n) ((Decides-eqb first id).0 same))
-    | inr apart ↦ inr (λ same. let equal : first ≡ id = cc in let is_equal : (first == id) ≡ true = grind (arith, nat_tests) in true≢false (sym is_equal ∙ apart))
+    | inr apart ↦ inr (λ same. let equal : first ≡ id = cc in let is_equal : (first == id) ≡ true = grind (arith, nat_tests) in true≢false
+        (sym is_equal ∙ apart))
   ]
 
   -- nothing that is asked of, or live, stands before it
@@ -228,7 +235,8 @@ module _ (k : Holding) (clock : ℕ) where
   Asked_from id None = Unit {0}
   Asked_from id (Some first) = id ≤ first
 
-  module _ (walk : Walk) (is : IsWalk k clock walk) (id : ℕ) (from : walk.from ≤ id) (live_from : Asked_from id walk.live) (asked_from : Asked_from id walk.asked) where
+  module _ (walk : Walk) (is : IsWalk k clock walk) (id : ℕ) (from : walk.from ≤ id) (live_from : Asked_from id walk.live)
+      (asked_from : Asked_from id walk.asked) where
     asked_later : (other : ℕ) → Is_asked other → walk.from ≤ other → id ≤ other
     asked_later other among from_there = by_asked walk.asked is.asked asked_from
       where
@@ -254,7 +262,8 @@ module _ (k : Holding) (clock : ℕ) where
         ]
 
     live_then : (live : Option ℕ) → walk.live ≡ live → live ≢ Some id → IsNextLive k.messages.entries (suc id) live
-    live_then None at differs = let next = subst (IsNextLive k.messages.entries walk.from) at is.live in λ other m found above. next other m found (omega (arith, above, from))
+    live_then None at differs = let next = subst (IsNextLive k.messages.entries walk.from) at is.live in
+        λ other m found above. next other m found (omega (arith, above, from))
     live_then (Some first) at differs =
         let next = subst (IsNextLive k.messages.entries walk.from) at is.live in
         let after : id ≤ first = subst (Asked_from id) at live_from in
@@ -265,7 +274,8 @@ module _ (k : Holding) (clock : ℕ) where
         (next.0, (higher, λ other m found above before. next.1.1 other m found (omega (arith, above, from)) before))
 
     asked_then : (asked : Option ℕ) → walk.asked ≡ asked → asked ≢ Some id → IsLeastFrom (suc id) Is_asked asked
-    asked_then None at differs = let least = subst (IsLeastFrom walk.from Is_asked) at is.asked in λ other among. let below = least other among in omega (arith, below, from)
+    asked_then None at differs = let least = subst (IsLeastFrom walk.from Is_asked) at is.asked in λ other among. let below =
+        least other among in omega (arith, below, from)
     asked_then (Some first) at differs =
         let least = subst (IsLeastFrom walk.from Is_asked) at is.asked in
         let after : id ≤ first = subst (Asked_from id) at asked_from in
@@ -323,7 +333,9 @@ module _ (k : Holding) (clock : ℕ) where
               so first (live_one first live_is (subst (Asked_from first) (sym asked_is) lower)) it
 
   -- all that are left are passed
-  pub all_passed : (walk : Walk) → IsWalk k clock walk → next_of walk.live walk.asked ≡ None → (other : ℕ) → In other All_ids → walk.from ≤ other → IsPassed other
+  pub all_passed : (walk : Walk) → IsWalk k clock walk → next_of walk.live walk.asked ≡ None → (other : ℕ) → In other All_ids →
+      walk.from ≤ other →
+      IsPassed other
   all_passed walk is none other among from_there = by_both walk.live walk.asked refl refl none
     where
       by_both : (live asked : Option ℕ) → walk.live ≡ live → walk.asked ≡ asked → next_of live asked ≡ None → IsPassed other
@@ -348,7 +360,8 @@ left_from from id (x ∷ xs) above = by_test (nat_le from x) refl (nat_le id x) 
         filter (nat_le id) (cond low (x ∷ filter (nat_le from) xs) (filter (nat_le from) xs)) ≡ cond high (x ∷ filter (nat_le id) xs) (filter (nat_le id) xs)
     by_test true lower true higher rest = rw higher (ap (λ (ys : List ℕ). x ∷ ys) rest)
     by_test true lower false higher rest = rw higher rest
-    by_test false lower true higher rest = absurd (let below : x < from = grind (arith, nat_tests) in let over : id ≤ x = grind (arith, nat_tests) in omega (arith, below, over, above))
+    by_test false lower true higher rest = absurd (let below : x < from = grind (arith, nat_tests) in let over : id ≤ x = grind
+        (arith, nat_tests) in omega (arith, below, over, above))
     by_test false lower false higher rest = rest
 
 -- those from a number on are among them, and are not below it
@@ -383,9 +396,11 @@ rise_left from (x ∷ xs) rise = by_test (nat_le from x) (rise_left from xs rise
 pub first_left : (id : ℕ) (ids : List ℕ) → AreRising ids → In id ids → filter (nat_le id) ids ≡ id ∷ filter (nat_le (suc id)) ids
 first_left id ids rise among = least_first id id ids rise among (omega arith) (λ other there from. from)
 
-pub fewer_left : (from id : ℕ) (ids : List ℕ) → AreRising ids → In id ids → from ≤ id → length (filter (nat_le (suc id)) ids) < length (filter (nat_le from) ids)
+pub fewer_left : (from id : ℕ) (ids : List ℕ) → AreRising ids → In id ids → from ≤ id →
+    length (filter (nat_le (suc id)) ids) < length (filter (nat_le from) ids)
 fewer_left from id ids rise among above =
-    let first : length (filter (nat_le id) ids) ≡ suc (length (filter (nat_le (suc id)) ids)) = ap (λ (xs : List ℕ). length xs) (first_left id ids rise among) in
+    let first : length (filter (nat_le id) ids) ≡ suc (length (filter (nat_le (suc id)) ids)) = ap (λ (xs : List ℕ). length xs)
+    (first_left id ids rise among) in
     let less : length (filter (nat_le id) ids) ≤ length (filter (nat_le from) ids) =
     subst (λ (xs : List ℕ). length xs ≤ length (filter (nat_le from) ids)) (left_from from id ids above) (no_more (nat_le id) (filter (nat_le from) ids)) in
     omega (arith, first, less)

@@ -65,7 +65,8 @@ pub record IsUnmoved (old new : Seen) : Type 0 where
 pub record HasStopped (old : Seen) (input : Input) (new : Seen) : Type 0 where
   pub kept : new.kept ≡ old.kept
   pub broken : new.broken ≡ true
-  pub stored : AreSame new.stored old.stored ⊎ AreSame new.stored (stepped old.kept.setup (kept_of old.kept) (input_of old.kept.setup (kept_of old.kept) input)).kept.records
+  pub stored : AreSame new.stored old.stored ⊎ AreSame new.stored
+      (stepped old.kept.setup (kept_of old.kept) (input_of old.kept.setup (kept_of old.kept) input)).kept.records
   pub started : new.started ≡ old.started
   pub packet : Packet
   pub came : input ≡ given.Packet packet

@@ -26,7 +26,8 @@ ghost use Rattle.node_model.specs.Granted.{is_open_in};
 ghost use Rattle.rules.specs.Dues.{rule_of};
 ghost use Rattle.delivery.specs.Targets.{is_up};
 ghost use Rattle.node_core.specs.Ticking.{IsAtRest, IsOfTurn, gives_up, ruled_as, ruled_by, turned};
-ghost use Rattle.node_core.specs.Messages.{IsConcluded, IsHeard, IsJudged, IsOf, IsPromised, IsRefused, IsStarted, IsStartedFor, IsTriedSo, changed_by, closed_at, granted_at, message_of, rested};
+ghost use Rattle.node_core.specs.Messages.{IsConcluded, IsHeard, IsJudged, IsOf, IsPromised, IsRefused, IsStarted, IsStartedFor};
+ghost use Rattle.node_core.specs.Messages.{IsTriedSo, changed_by, closed_at, granted_at, message_of, rested};
 ghost use Rattle.node_core.specs.Living.{is_decided};
 ghost use Rattle.node_core.specs.Renewal.{renewed};
 ghost use Rattle.requests.specs.Queues.{timely};
@@ -365,7 +366,8 @@ impl Message {
         queue: &Queue,
         up: &[Text<16>],
     ) -> Result<Option<Ruling>, AllocError>
-        ensures rule { IfOk result (λ ruling. (setup : Setup) (k : KeptValue) → IsAtRest setup k (timely at.now.clock (held_in queue.now)) chain.now.id self.now at.now →
+        ensures rule { IfOk result (λ ruling. (setup : Setup) (k : KeptValue) → IsAtRest setup k
+            (timely at.now.clock (held_in queue.now)) chain.now.id self.now at.now →
             option_map ruled_as ruling ≡ option_map ruled_by (known_rule setup k (is_up up.now) chain.now.id (Some chain.now.decrees))) }
         ensures idle { (setup : Setup) (k : KeptValue) → IsAtRest setup k (timely at.now.clock (held_in queue.now)) chain.now.id self.now at.now →
             known_rule setup k (is_up up.now) chain.now.id (Some chain.now.decrees) ≡ None → result ≡ Ok None }

@@ -186,7 +186,8 @@ impl<S: StableStore> Node<S> {
         ensures finished { OnOk result (self.new.unfinished ≡ None) }
         ensures err { IfErr result (λ failed. IsLeft (seen S.records S.started self.old) failed.0 (seen S.records S.started self.new)) }
         ensures life { IfErr result (λ failed. failed.1 ≡ life) }
-        ensures cause { IfErr result (λ failed. IsCaused failed.0 (S.failed self.old.store) (S.failed self.new.store) (S.is_damaged self.old.store) (S.started self.old.store)) }
+        ensures cause { IfErr result (λ failed. IsCaused failed.0 (S.failed self.old.store) (S.failed self.new.store)
+            (S.is_damaged self.old.store) (S.started self.old.store)) }
     {
         let setup = self.kept.setup();
         match begin(self.kept.alloc(), &mut self.store, setup) {

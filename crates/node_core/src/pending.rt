@@ -39,7 +39,8 @@ impl Model for Pending {
 impl Pending {
     /// What `commit` will give.
     pub fn outputs(&self) -> &Outputs
-        ensures { outputs_of result.now ≡ (stepped self.now.was.setup (kept_of self.now.was) (input_of self.now.was.setup (kept_of self.now.was) self.now.input)).outputs }
+        ensures { outputs_of result.now ≡ (stepped self.now.was.setup (kept_of self.now.was)
+            (input_of self.now.was.setup (kept_of self.now.was) self.now.input)).outputs }
     {
         &self.foreseen.step.outputs
     }

@@ -26,7 +26,8 @@ impl Kept {
     /// What it does with a request of an account: it refuses it at once, or lets it wait.
     pub(crate) fn on_request(&self, account: &Text<16>, request: Asked) -> Result<Step, AllocError>
         requires { AreOwn self.now }
-        ensures { IfOk result (IsStep self.now (stepped_up self.now.setup (kept_of self.now) (requested self.now.setup (kept_of self.now) account.now request))) }
+        ensures { IfOk result (IsStep self.now (stepped_up self.now.setup (kept_of self.now)
+            (requested self.now.setup (kept_of self.now) account.now request))) }
     {
         match self.door().admit(account, request)? {
             Err(status) => Ok(self.refusing(status)),

@@ -61,7 +61,8 @@ impl Kept {
     fn told_to(&self, mut held: Held) -> Result<Step, AllocError>
         requires own { AreOwn self.now }
         requires sound { IsSound self.now.setup.node self.now.incarnation (held_of held) }
-        ensures { IfOk result (IsStep self.now (told_to self.now.setup (kept_of self.now) (message_at (kept_of self.now) (id_of (held_of held))).known (held_of held))) }
+        ensures { IfOk result (IsStep self.now (told_to self.now.setup (kept_of self.now)
+            (message_at (kept_of self.now) (id_of (held_of held))).known (held_of held))) }
     {
         let id = held.id();
         let known = self.known(id);

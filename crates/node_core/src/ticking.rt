@@ -1,6 +1,7 @@
 //! What a node does at a tick.
 
-ghost use Rattle.std.specs.Prelude.{◌≡◌, ◌↔◌, ◌≢◌, IsTrue, ◌<◌, ◌++◌, suc, [], Some, None, Ok, length, max, map, true, false, IfOk, IsOk, IsOkAnd, IsSomeAnd, if◌then◌else◌};
+ghost use Rattle.std.specs.Prelude.{◌≡◌, ◌↔◌, ◌≢◌, IsTrue, ◌<◌, ◌++◌, suc, [], Some, None, Ok, length, max, map, true, false, IfOk, IsOk};
+ghost use Rattle.std.specs.Prelude.{IsOkAnd, IsSomeAnd, if◌then◌else◌};
 ghost use Rattle.std.specs.List.{list_any};
 ghost use Rattle.std.specs.List.Sorted.{IsStrictlySortedBy};
 ghost use Rattle.std.specs.Map.{keys_of};

@@ -35,7 +35,8 @@ module _ (cluster : Cluster) where
   came w packets same (Restart lost) sent = tt
 
   module _ (inputs : List NodeInput) (before : RunsTogether cluster inputs) (next : NodeInput)
-      (step : StepsAs (setup_of cluster next.node) (alone_at next.node (acts_in before.steps)) next.input (step_at cluster (kept_reached cluster inputs) next)) where
+      (step : StepsAs (setup_of cluster next.node) (alone_at next.node (acts_in before.steps)) next.input
+      (step_at cluster (kept_reached cluster inputs) next)) where
     abbrev taken : Step
     taken = record { node = next.node; input = next.input; acts = step.acts }
 
@@ -46,20 +47,24 @@ module _ (cluster : Cluster) where
     Own = alone_at next.node (acts_in before.steps)
 
     actor_is : w.actors next.node ≡ Own.actor
-    actor_is = (alone cluster.nodes cluster.serials (acts_in before.steps) next.node (steps_run cluster (start cluster.nodes cluster.serials) before.steps before.are)).actor
+    actor_is = (alone cluster.nodes cluster.serials (acts_in before.steps) next.node
+        (steps_run cluster (start cluster.nodes cluster.serials) before.steps before.are)).actor
 
     records_are : w.records next.node ≡ Own.records
-    records_are = (alone cluster.nodes cluster.serials (acts_in before.steps) next.node (steps_run cluster (start cluster.nodes cluster.serials) before.steps before.are)).records
+    records_are = (alone cluster.nodes cluster.serials (acts_in before.steps) next.node
+        (steps_run cluster (start cluster.nodes cluster.serials) before.steps before.are)).records
 
     -- ---- what each node keeps stands for its actor
 
-    stands_here : Stands (setup_of cluster next.node) (step_at cluster (kept_reached cluster inputs) next).kept (alone_at next.node (by_node next.node step.acts ++ acts_in before.steps))
+    stands_here : Stands (setup_of cluster next.node) (step_at cluster (kept_reached cluster inputs) next).kept
+        (alone_at next.node (by_node next.node step.acts ++ acts_in before.steps))
     stands_here = subst (Stands (setup_of cluster next.node) (step_at cluster (kept_reached cluster inputs) next).kept)
         (sym (alone_on next.node (node_new (cluster.serials next.node)) step.acts (acts_of next.node (acts_in before.steps)))
         ∙ ap (reached_alone next.node (node_new (cluster.serials next.node))) (sym (acts_on next.node step.acts (acts_in before.steps))))
         step.stands
 
-    stands_then : (node : ℕ) → Stands (setup_of cluster node) ((kept_reached cluster (next ∷ inputs)).kept node) (alone_at node (by_node next.node step.acts ++ acts_in before.steps))
+    stands_then : (node : ℕ) →
+        Stands (setup_of cluster node) ((kept_reached cluster (next ∷ inputs)).kept node) (alone_at node (by_node next.node step.acts ++ acts_in before.steps))
     stands_then node = by_node_test (node == next.node) refl
       where
         apart : (node == next.node) ≡ false → (next.node == node) ≡ false
@@ -69,20 +74,24 @@ module _ (cluster : Cluster) where
             Stands (setup_of cluster node) (if test then (step_at cluster (kept_reached cluster inputs) next).kept else (kept_reached cluster inputs).kept node)
             (alone_at node (by_node next.node step.acts ++ acts_in before.steps))
         by_node_test true same =
-            subst (λ (n : ℕ). Stands (setup_of cluster n) (step_at cluster (kept_reached cluster inputs) next).kept (alone_at n (by_node next.node step.acts ++ acts_in before.steps)))
+            subst (λ (n : ℕ). Stands (setup_of cluster n) (step_at cluster (kept_reached cluster inputs) next).kept
+            (alone_at n (by_node next.node step.acts ++ acts_in before.steps)))
             (sym (eqb-true node next.node same))
             stands_here
         by_node_test false differs =
-            subst (λ (acts : List Act). Stands (setup_of cluster node) ((kept_reached cluster inputs).kept node) (reached_alone node (node_new (cluster.serials node)) acts))
+            subst (λ (acts : List Act). Stands (setup_of cluster node) ((kept_reached cluster inputs).kept node)
+            (reached_alone node (node_new (cluster.serials node)) acts))
             (sym (passed_by next.node node step.acts (acts_in before.steps) (apart differs)))
             (before.stands node)
 
     -- ---- what is sent
 
-    outputs_are : (step_at cluster (kept_reached cluster inputs) next).outputs ≡ outputs_of next.node (w.actors next.node) (w.records next.node) next.input step.acts
+    outputs_are : (step_at cluster (kept_reached cluster inputs) next).outputs ≡ outputs_of next.node (w.actors next.node)
+        (w.records next.node) next.input step.acts
     outputs_are = step.outputs ∙ (λ i. outputs_of next.node (sym actor_is i) (sym records_are i) next.input step.acts)
 
-    packets_then : (kept_reached cluster (next ∷ inputs)).packets ≡ (reached (start cluster.nodes cluster.serials) (by_node next.node step.acts ++ acts_in before.steps)).packets
+    packets_then : (kept_reached cluster (next ∷ inputs)).packets ≡
+        (reached (start cluster.nodes cluster.serials) (by_node next.node step.acts ++ acts_in before.steps)).packets
     packets_then =
         (λ i. reverse (ap (λ (o : Outputs). o.packets) outputs_are i) ++ before.packets i)
         ∙ ap (λ (ps : List Packet). ps ++ w.packets) (reverse-reverse (packets_in next.node (w.actors next.node) (w.records next.node) step.acts))
@@ -94,7 +103,9 @@ module _ (cluster : Cluster) where
       steps = taken ∷ before.steps;
       inputs_are = λ i. next ∷ before.inputs_are i;
       are = (
-        step_together cluster (acts_in before.steps) next.node next.input step.acts (steps_run cluster (start cluster.nodes cluster.serials) before.steps before.are) step.taken (came w (kept_reached cluster inputs).packets before.packets next.input sent),
+        step_together cluster (acts_in before.steps) next.node next.input step.acts
+            (steps_run cluster (start cluster.nodes cluster.serials) before.steps before.are) step.taken
+            (came w (kept_reached cluster inputs).packets before.packets next.input sent),
         before.are,
       );
       packets = packets_then;
@@ -113,7 +124,8 @@ module _ (cluster : Cluster) where
   }
   clustered (next ∷ inputs) may =
       let before = clustered inputs may.4 in
-      let step = whole_steps (setup_of cluster next.node) may.0 ((kept_reached cluster inputs).kept next.node) (alone_at next.node (acts_in before.steps)) (before.stands next.node) next.input may.1 may.2 in
+      let step = whole_steps (setup_of cluster next.node) may.0 ((kept_reached cluster inputs).kept next.node)
+      (alone_at next.node (acts_in before.steps)) (before.stands next.node) next.input may.1 may.2 in
       goes_on inputs before next step may.3
 
   -- with one input more it takes one step more
@@ -125,5 +137,6 @@ module _ (cluster : Cluster) where
   unfolding clustered goes_on
   one_more next inputs may =
       let before = clustered inputs may.4 in
-      let step = whole_steps (setup_of cluster next.node) may.0 ((kept_reached cluster inputs).kept next.node) (alone_at next.node (acts_in before.steps)) (before.stands next.node) next.input may.1 may.2 in
+      let step = whole_steps (setup_of cluster next.node) may.0 ((kept_reached cluster inputs).kept next.node)
+      (alone_at next.node (acts_in before.steps)) (before.stands next.node) next.input may.1 may.2 in
       record { acts = step.acts; steps = refl }

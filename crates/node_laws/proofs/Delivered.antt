@@ -19,7 +19,8 @@ use Rattle.mc_laws.proofs.Behind.{run_by}
 use Rattle.mc_laws.proofs.Reached.{holds, stands_on_delivery}
 use Rattle.node_model.specs.Kept.{Kept}
 use Rattle.node_model.specs.Stepped.{stepped, stepped_down, stepped_up}
-use Rattle.node_laws.specs.Clusters.{CameInOneLife, IsDeliveredBy, KeptCluster, LivesOn, MayHappen, NodeInput, StatesFinal, comes_to, kept_reached, step_at, world_at}
+use Rattle.node_laws.specs.Clusters.{CameInOneLife, IsDeliveredBy, KeptCluster, LivesOn, MayHappen, NodeInput, StatesFinal, comes_to}
+use Rattle.node_laws.specs.Clusters.{kept_reached, step_at, world_at}
 use Rattle.node_laws.proofs.Clustered.{clustered}
 use Rattle.node_laws.proofs.Lives.{life_in, life_within, lives_on}
 use Rattle.node_laws.proofs.NoGrant.{deed_at}

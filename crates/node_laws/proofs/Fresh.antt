@@ -21,7 +21,8 @@ use Rattle.mc_laws.proofs.Answers.{Answered, answered, fresh_query, never_unknow
 use Rattle.mc_laws.proofs.Behind.{reached_on, steps_run}
 use Rattle.node_model.specs.Kept.{Kept}
 use Rattle.node_model.specs.Stepped.{stepped, stepped_down, stepped_up}
-use Rattle.node_laws.specs.Clusters.{KeptCluster, LivesOn, MayHappen, NodeInput, StatesFinal, cluster_outputs, comes_to, kept_reached, outputs_at, step_at, step_outputs, world_at}
+use Rattle.node_laws.specs.Clusters.{KeptCluster, LivesOn, MayHappen, NodeInput, StatesFinal, cluster_outputs, comes_to, kept_reached}
+use Rattle.node_laws.specs.Clusters.{outputs_at, step_at, step_outputs, world_at}
 use Rattle.node_laws.proofs.Clustered.{clustered}
 use Rattle.node_laws.proofs.Lives.{life_along, life_in, life_within}
 use Rattle.node_laws.proofs.NoGrant.{deed_at, past_grows}

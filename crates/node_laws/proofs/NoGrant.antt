@@ -56,7 +56,9 @@ module _ (cluster : Cluster) where
     split : (world_at cluster steps).past ≡ newer ++ deed ∷ (world_at cluster older).past
     act_is : deed.act ≡ Grants slot
 
-  granted_now : (step : Step) (older : List Step) → IsStep (world_at cluster older) (setup_of cluster step.node) step.input step.acts → (slot : Slot) → granted_by step.input ≡ Some slot → IsGranted (step ∷ older) older slot
+  granted_now : (step : Step) (older : List Step) → IsStep (world_at cluster older) (setup_of cluster step.node) step.input step.acts →
+      (slot : Slot) → granted_by step.input ≡ Some slot →
+      IsGranted (step ∷ older) older slot
   granted_now step older is slot granted =
       let grant : step.input ≡ Grant slot = grant_only step.input slot granted in
       let core : is.exact.core ≡ Grants slot ∷ [] = core_of step.input grant is.exact.core is.exact.core_is in
@@ -73,10 +75,14 @@ module _ (cluster : Cluster) where
       }
     where
       front : List Act
-      front = is.exact.reports ++ is.exact.replies ++ is.exact.proposes ++ is.exact.prepares ++ is.exact.abandons ++ is.exact.asks ++ is.exact.late ++ is.exact.settles
+      front = is.exact.reports ++ is.exact.replies ++ is.exact.proposes ++ is.exact.prepares ++ is.exact.abandons ++ is.exact.asks ++
+          is.exact.late ++ is.exact.settles
 
-      core_of : (input : Input) → input ≡ Grant slot → (core : List Act) → IsCore (setup_of cluster step.node) ((world_at cluster older).actors step.node) ((world_at cluster older).records step.node) input core → core ≡ Grants slot ∷ []
-      core_of input same core done = subst (λ (i : Input). IsCore (setup_of cluster step.node) ((world_at cluster older).actors step.node) ((world_at cluster older).records step.node) i core) same done
+      core_of : (input : Input) → input ≡ Grant slot → (core : List Act) → IsCore (setup_of cluster step.node)
+          ((world_at cluster older).actors step.node) ((world_at cluster older).records step.node) input core →
+          core ≡ Grants slot ∷ []
+      core_of input same core done = subst (λ (i : Input). IsCore (setup_of cluster step.node) ((world_at cluster older).actors step.node)
+          ((world_at cluster older).records step.node) i core) same done
 
   -- the steps that were taken before one gave this out
   record IsCut (steps : List Step) (second : Outputs) (older : List Outputs) : Type 0 where
@@ -89,7 +95,9 @@ module _ (cluster : Cluster) where
     newer : List Deed
     past : (world_at cluster steps).past ≡ newer ++ (world_at cluster (step ∷ before)).past
 
-  cut : (steps : List Step) → AreSteps cluster first steps → (newer older : List Outputs) (second : Outputs) → step_outputs cluster steps ≡ newer ++ second ∷ older → IsCut steps second older
+  cut : (steps : List Step) → AreSteps cluster first steps → (newer older : List Outputs) (second : Outputs) →
+      step_outputs cluster steps ≡ newer ++ second ∷ older →
+      IsCut steps second older
   cut [] are [] older second split = absurd (cc)
   cut [] are (one ∷ newer) older second split = absurd (cc)
   cut (step ∷ before) are [] older second split = record {
@@ -135,7 +143,8 @@ module _ (cluster : Cluster) where
       (record {
         newer = it.newer ++ grant.newer;
         older = (world_at cluster it.before).past;
-        split = it.past ∙ ap (λ (ds : List Deed). it.newer ++ ds) grant.split ∙ sym (append_assoc it.newer grant.newer (grant.deed ∷ (world_at cluster it.before).past));
+        split = it.past ∙ ap (λ (ds : List Deed). it.newer ++ ds) grant.split ∙ sym
+            (append_assoc it.newer grant.newer (grant.deed ∷ (world_at cluster it.before).past));
         before = said.past;
       })
       said.states

@@ -101,7 +101,8 @@ vote_listed : (k : Kept) (slot : Slot) (vote : Vote) → (k.records slot).vote �
 vote_listed k slot vote voted within some =
     entry_listed (recorded_in k.records (keys_of k.messages)) slot.id
     (filter_in (λ id. has_record k.records id named_places) (keys_of k.messages) slot.id (listed_in slot.id k.messages some)
-    (below_found k.records slot.id named_places slot.place (omega (arith, within)) (λ none. absurd (let no_vote = sym voted ∙ ap (λ (r : SlotRecord). r.vote) none in cc))))
+    (below_found k.records slot.id named_places slot.place (omega (arith, within))
+    (λ none. absurd (let no_vote = sym voted ∙ ap (λ (r : SlotRecord). r.vote) none in cc))))
 
 keys_are : (ids : List ℕ) → keys_of (map entry ids) ≡ ids
 keys_are [] = refl

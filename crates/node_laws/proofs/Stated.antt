@@ -64,7 +64,8 @@ module _ (cluster : Cluster) where
     receipts_are = ap (λ (o : Outputs). o.receipts) same;
     done = λ act among.
         subst (λ (w : World). IsDone w act) (sym (reached_on first (by_node newest.node newest.acts) (acts_in older)))
-        (done_in (reached first (acts_in older)) (by_node newest.node newest.acts) newest.node act (mapped_in (λ (a : Act). (newest.node, a)) newest.acts act among));
+        (done_in (reached first (acts_in older)) (by_node newest.node newest.acts) newest.node act
+        (mapped_in (λ (a : Act). (newest.node, a)) newest.acts act among));
   }
   given_by (newest ∷ older) outputs (inr before) =
       let it = given_by older outputs before in
@@ -89,14 +90,19 @@ module _ (cluster : Cluster) where
     pub past : In deed w.past
     pub states : States deed id final
 
-  pub stated : (steps : List Step) (outputs : Outputs) → In outputs (step_outputs cluster steps) → (id : ℕ) (final : Final) → StatesFinal outputs id final → IsStatedIn (world_at cluster steps) id final
+  pub stated : (steps : List Step) (outputs : Outputs) → In outputs (step_outputs cluster steps) → (id : ℕ) (final : Final) →
+      StatesFinal outputs id final →
+      IsStatedIn (world_at cluster steps) id final
   stated steps outputs among id final says = elim says.tells [
     | inl replies ↦
         let act = Replies replies.reply.ticket replies.reply.id replies.reply.answer in
-        let done = it.done act (reply_act it.acts replies.reply (in_reverse replies.reply (replies_in it.acts) (subst (In replies.reply) it.replies_are replies.among))) in
+        let done = it.done act (reply_act it.acts replies.reply
+        (in_reverse replies.reply (replies_in it.acts) (subst (In replies.reply) it.replies_are replies.among))) in
         by_act act done (replies.about, replies.shown)
     | inr receipt ↦
-        let done = it.done (Reports id says.chain) (receipt_act it.acts (record { id = id; chain = says.chain }) (in_reverse _ (receipts_in it.acts) (subst (In (record { id = id; chain = says.chain })) it.receipts_are receipt))) in
+        let done = it.done (Reports id says.chain)
+        (receipt_act it.acts (record { id = id; chain = says.chain })
+        (in_reverse _ (receipts_in it.acts) (subst (In (record { id = id; chain = says.chain })) it.receipts_are receipt))) in
         by_act (Reports id says.chain) done (refl, refl)
   ]
     where
@@ -111,11 +117,13 @@ module _ (cluster : Cluster) where
       }
 
   pub one_final : (inputs : List NodeInput) → MayHappen cluster inputs → (one other : Outputs) (id : ℕ) (final second : Final) →
-      In one (cluster_outputs cluster inputs) → In other (cluster_outputs cluster inputs) → StatesFinal one id final → StatesFinal other id second → final ≡ second
+      In one (cluster_outputs cluster inputs) → In other (cluster_outputs cluster inputs) → StatesFinal one id final →
+      StatesFinal other id second → final ≡ second
   one_final inputs may one other id final second given also says tells =
       let run = clustered cluster inputs may in
       let steps : StepRun = record { cluster = cluster; steps = run.steps; are = run.are } in
       let acts = run_by steps in
       let here = stated run.steps one (subst (In one) run.outputs given) id final says in
       let there = stated run.steps other (subst (In other) run.outputs also) id second tells in
-      one_fate (world_after steps) (holds acts.nodes acts.serials acts.acts acts.may) here.deed there.deed id final second here.past there.past here.states there.states
+      one_fate (world_after steps) (holds acts.nodes acts.serials acts.acts acts.may) here.deed there.deed id final second here.past
+      there.past here.states there.states

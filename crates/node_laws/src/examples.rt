@@ -115,7 +115,8 @@ pub fn a_refused_round_is_followed_by_a_greater_one()
         ∷ Prepare 1 first_slot third_ballot
         ∷ Promise 1 first_slot third_ballot None
         ∷ [] }
-    ensures below { (played_of_three (submits ++ Delivery (Prepare 3 first_slot other_ballot) ∷ Delivery (Propose 1 first_slot (vote_at first_ballot taken)) ∷ [])).packets ≡
+    ensures below { (played_of_three (submits ++ Delivery (Prepare 3 first_slot other_ballot)
+        ∷ Delivery (Propose 1 first_slot (vote_at first_ballot taken)) ∷ [])).packets ≡
         Prepare 1 first_slot first_ballot
         ∷ Promise 1 first_slot first_ballot None
         ∷ Promise 1 first_slot other_ballot None

@@ -11,10 +11,12 @@ use Rattle.node_model.specs.Learner.{heard}
 use Rattle.node_model.specs.Same.{same_vote}
 use Rattle.node_model.proofs.Same.{vote_decides}
 
-pub with_voter : (m : Message) (voter : ℕ) (vote : Vote) (node : ℕ) (other : Vote) → Decides ((heard m voter vote).votes other node) ((m.votes other node ≡ true) ⊎ ((vote ≡ other) × (node ≡ voter)))
+pub with_voter : (m : Message) (voter : ℕ) (vote : Vote) (node : ℕ) (other : Vote) →
+    Decides ((heard m voter vote).votes other node) ((m.votes other node ≡ true) ⊎ ((vote ≡ other) × (node ≡ voter)))
 with_voter m voter vote node other = by_test (same_vote vote other) refl
   where
-    by_test : (test : Bool) → same_vote vote other ≡ test → Decides ((if test then with_node (m.votes other) voter else m.votes other) node) ((m.votes other node ≡ true) ⊎ ((vote ≡ other) × (node ≡ voter)))
+    by_test : (test : Bool) → same_vote vote other ≡ test →
+        Decides ((if test then with_node (m.votes other) voter else m.votes other) node) ((m.votes other node ≡ true) ⊎ ((vote ≡ other) × (node ≡ voter)))
     by_test true same =
         Decides-like (with_node (m.votes other) voter node)
         (λ p. elim p [ inl before ↦ inl before | inr now ↦ inr ((vote_decides vote other).0 same, now) ])

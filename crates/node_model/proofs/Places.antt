@@ -37,7 +37,8 @@ module _ {V : Type 0} (key : ℕ) (value : V) where
   elsewhere other apart (e ∷ es) = at_order (nat_cmp key e.0) refl (elsewhere other apart es)
     where
       at_order : (o : Ordering) → nat_cmp key e.0 ≡ o → lookup (is_at (nat_cmp other)) (insert_entry nat_cmp es key value) ≡ lookup (is_at (nat_cmp other)) es →
-          lookup (is_at (nat_cmp other)) (match_ordering o ((key, value) ∷ e ∷ es) ((e.0, value) ∷ es) (e ∷ insert_entry nat_cmp es key value)) ≡ lookup (is_at (nat_cmp other)) (e ∷ es)
+          lookup (is_at (nat_cmp other)) (match_ordering o ((key, value) ∷ e ∷ es) ((e.0, value) ∷ es)
+          (e ∷ insert_entry nat_cmp es key value)) ≡ lookup (is_at (nat_cmp other)) (e ∷ es)
       at_order Less is rest = rw (skips other apart) refl
       at_order Equal is rest =
           let same : e.0 ≡ key = grind (arith, nat_tests) in

@@ -12,7 +12,9 @@ use Rattle.node_model.specs.Kept.{Held, Kept, message_at, with_message}
 use Rattle.node_model.specs.Learner.{heard, makes_known}
 use Rattle.node_model.specs.Outputs.{Stepped, leaves}
 use Rattle.node_model.specs.Answers.{answer_to}
-use Rattle.node_model.specs.Packets.{answer_told, heard_in, is_member, is_own_name, known_then, on_ask, on_known, on_packet, on_prepare, on_promise, on_propose, on_refused, on_tell, on_voted, promised_in, settled_for, settled_told, start_told, tell_held, tells_about, told_to, vote_concerns}
+use Rattle.node_model.specs.Packets.{answer_told, heard_in, is_member, is_own_name, known_then, on_ask, on_known, on_packet, on_prepare}
+use Rattle.node_model.specs.Packets.{on_promise, on_propose, on_refused, on_tell, on_voted, promised_in, settled_for, settled_told}
+use Rattle.node_model.specs.Packets.{start_told, tell_held, tells_about, told_to, vote_concerns}
 use Rattle.node_model.specs.Proposer.{Prepared, Start, is_free, is_own_ballot, refused, runs_at, started}
 use Rattle.node_model.specs.Requests.{held_at, id_of, settled_by, told_by, with_held}
 use Rattle.node_model.specs.Starts.{delete_for}
@@ -31,7 +33,8 @@ pub started_leaves : (setup : Setup) (k : Kept) (id : ℕ) (start : Option Start
 started_leaves setup k id None = refl
 started_leaves setup k id (Some start) = by_test (is_free k (slot_at id start.place)) _ refl
   where
-    by_test : (test : Bool) (prepared : Prepared) → prepared.kept.records ≡ k.records → (if test then prepared else record { kept = k; packets = [] }).kept.records ≡ k.records
+    by_test : (test : Bool) (prepared : Prepared) → prepared.kept.records ≡ k.records →
+        (if test then prepared else record { kept = k; packets = [] }).kept.records ≡ k.records
     by_test true prepared same = same
     by_test false prepared same = refl
 
@@ -72,8 +75,10 @@ heeded false step k after same = refl
 
 -- what is recorded after a packet is recorded after a stop behind its save
 pub saved_so : (setup : Setup) (k : Kept) (packet : Packet) → (on_packet setup k packet).kept.records ≡ (stopped setup k packet true).records
-saved_so setup k (Prepare sender slot ballot) = heeded (is_member setup sender) (on_prepare setup k slot ballot) k (saved_by setup k (Prepare sender slot ballot)) refl
-saved_so setup k (Propose sender slot vote) = heeded (is_member setup sender) (on_propose setup k slot vote) k (saved_by setup k (Propose sender slot vote)) refl
+saved_so setup k (Prepare sender slot ballot) =
+    heeded (is_member setup sender) (on_prepare setup k slot ballot) k (saved_by setup k (Prepare sender slot ballot)) refl
+saved_so setup k (Propose sender slot vote) =
+    heeded (is_member setup sender) (on_propose setup k slot vote) k (saved_by setup k (Propose sender slot vote)) refl
 saved_so setup k (Promise sender slot ballot report) =
     let m = message_at k slot.id in
     heeded (is_member setup sender) (on_promise setup k sender slot ballot report) k k (promised_leaves setup k m m.round sender slot ballot report)
@@ -83,7 +88,8 @@ saved_so setup k (Voted sender slot vote) =
     (voted_leaves setup k slot.id (heard (message_at k slot.id) sender vote) vote) refl)
 saved_so setup k (Refused sender slot ballot promised) =
     heeded (is_member setup sender) (on_refused setup k slot ballot promised) k k
-    (either (is_own_ballot setup k ballot) (leaves (with_message k slot.id (refused (message_at k slot.id) slot ballot promised))) (leaves k) k.records refl refl)
+    (either (is_own_ballot setup k ballot) (leaves (with_message k slot.id (refused (message_at k slot.id) slot ballot promised)))
+    (leaves k) k.records refl refl)
 saved_so setup k (Ask sender id name) = heeded (is_member setup sender) (on_ask setup k id name) k k refl
 saved_so setup k (Tell sender name told) =
     heeded (is_member setup sender) (on_tell setup k sender name told) k k

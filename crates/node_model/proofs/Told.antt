@@ -68,9 +68,11 @@ placed_with old new slot r placed within is other vote voted = by_test (same_slo
   where
     by_test : (test : Bool) → same_slot other slot ≡ test → other.place < most_places
     by_test false differs =
-        placed other vote (ap (λ (b : Bool). (if b then r else old other).vote) (sym differs) ∙ (ap (λ (found : SlotRecord). found.vote) (sym (is other)) ∙ voted))
+        placed other vote (ap (λ (b : Bool). (if b then r else old other).vote) (sym differs) ∙
+        (ap (λ (found : SlotRecord). found.vote) (sym (is other)) ∙ voted))
     by_test true same =
-        let found : r.vote ≡ Some vote = ap (λ (b : Bool). (if b then r else old other).vote) (sym same) ∙ (ap (λ (kept : SlotRecord). kept.vote) (sym (is other)) ∙ voted) in
+        let found : r.vote ≡ Some vote = ap (λ (b : Bool). (if b then r else old other).vote) (sym same) ∙
+        (ap (λ (kept : SlotRecord). kept.vote) (sym (is other)) ∙ voted) in
         let places : other.place ≡ slot.place = (Decides-eqb other.place slot.place).0 (and_parts (other.id == slot.id) (other.place == slot.place) same).1 in
         elim within [
           | inl none ↦ let both : Some vote ≡ None = sym found ∙ none in absurd (cc)

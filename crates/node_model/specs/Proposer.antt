@@ -1,5 +1,6 @@
 -- The rounds of a message (Paxos Made Simple, 2.2 and 2.5).
-use Rattle.std.specs.Prelude.{ℕ, suc, pred, max, Bool, false, ◌==◌, ◌&&◌, not, is_some, nat_le, nat_lt, List, [], ◌∷◌, length, get_or, set, Option, Some, None, if◌then◌else◌}
+use Rattle.std.specs.Prelude.{ℕ, suc, pred, max, Bool, false, ◌==◌, ◌&&◌, not, is_some, nat_le, nat_lt, List, [], ◌∷◌, length, get_or, set}
+use Rattle.std.specs.Prelude.{Option, Some, None, if◌then◌else◌}
 use Rattle.mc_model.specs.message.Decree.{Decree}
 use Rattle.mc_model.specs.synod.Ballot.{ballot_of, incarnation_in, proposer_of, round_in}
 use Rattle.mc_model.specs.synod.OneSlot.{Vote, vote_at}

@@ -1,5 +1,6 @@
 -- What comes to a node of the code may come to it.
-use Rattle.std.proofs.Common.{◌≡◌, ◌↔◌, ◌⊎◌, ℕ, ◌<◌, ◌≤◌, pred, Bool, true, false, List, length, Option, Some, None, Result, Ok, Err, refl, sym, subst, inl, inr, arith}
+use Rattle.std.proofs.Common.{◌≡◌, ◌↔◌, ◌⊎◌, ℕ, ◌<◌, ◌≤◌, pred, Bool, true, false, List, length, Option, Some, None, Result, Ok, Err, refl}
+use Rattle.std.proofs.Common.{sym, subst, inl, inr, arith}
 use Rattle.std.specs.Prelude.{IfErr, IsErrOf, option_map, if◌then◌else◌}
 use Rattle.mc_model.specs.message.Chain.{IsPermitted}
 use Rattle.mc_model.specs.message.Decree.{Decree}
@@ -39,7 +40,9 @@ module _ (setup : Setup) (k : Kept) (id : ℕ) where
   grantable : option_map (λ (one : GrantRefusal). faults.Grant (reason_of one)) (grant_refusal setup k id) ≡ None → IsGrantable setup k (known_slot k id)
   grantable none = grant_comes setup k id (allowed (grant_refusal setup k id) none)
 
-open_so : (k : Kept) (slot : Slot) (outcome : Outcome) → IsOutcome outcome → (if is_open k slot then None else Some faults.NotGranted) ≡ None → IsOpen k slot outcome
+open_so : (k : Kept) (slot : Slot) (outcome : Outcome) → IsOutcome outcome →
+    (if is_open k slot then None else Some faults.NotGranted) ≡ None →
+    IsOpen k slot outcome
 open_so k slot outcome possible none = outcome_comes k slot outcome possible (by_test (is_open k slot) none)
   where
     by_test : (test : Bool) → (if test then None else Some faults.NotGranted) ≡ None → test ≡ true

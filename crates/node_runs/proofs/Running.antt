@@ -26,7 +26,8 @@ use Rattle.node_core.specs.Nodes.{HasOpened, Standing}
 use Rattle.node_core.specs.Restarts.{next_life}
 use Rattle.node_core.specs.Steps.{input_of}
 use Rattle.node_core.proofs.Restarts.{as_restarted, crash_is, stop_lists}
-use Rattle.node_runs.specs.Runs.{Event, Happens, IsRun, IsRunOfOne, OpensNew, Starts, Stops, Takes, given_by, given_in, inputs_by, inputs_in, last_in, last_incarnation, stored_after}
+use Rattle.node_runs.specs.Runs.{Event, Happens, IsRun, IsRunOfOne, OpensNew, Starts, Stops, Takes, given_by, given_in, inputs_by}
+use Rattle.node_runs.specs.Runs.{inputs_in, last_in, last_incarnation, stored_after}
 
 -- ---- a node that opens with a new store
 
@@ -148,7 +149,8 @@ module _ {S : Type 0} (setup : Setup) (records : S → Records) (old new : Stand
       record {
         setup_is = started.opened.setup ∙ at.setup_is;
         kept = restarted_so ∙ (λ i. (stepped (at.setup_is i) (crashed i) (Restart lost)).kept);
-        given = λ i. sym (starts_still setup (stepped setup kept_now (Crash (packet_of packet) behind)).kept lost) i ∷ sym (crash_still (packet_of packet) behind) i ∷ at.given i;
+        given = λ i. sym (starts_still setup (stepped setup kept_now (Crash (packet_of packet) behind)).kept lost) i ∷ sym
+            (crash_still (packet_of packet) behind) i ∷ at.given i;
         may = (
           tt,
           subst (λ (n : ℕ). n + lost < 9999) (sym still.life ∙ ap (λ (kept : Kept). kept.incarnation) crashed) started.within,

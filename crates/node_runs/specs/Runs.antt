@@ -73,7 +73,8 @@ abbrev pub Happens : {S : Type 0} → (S → Records) → Standing S → Event �
 Happens records old (Takes input outputs) new = may_come_to old input × HasTaken old input new outputs
 Happens records old (Starts lost) new = IsWorking records old × HasStarted (records old.store) old lost new
 Happens records old (Stops packet behind lost) new =
-    IsWorking records old × IsWellMade (packet_of packet) × ((stored : Records) × AreSame stored (stored_after records old packet behind) × HasStarted stored old lost new)
+    IsWorking records old × IsWellMade (packet_of packet) ×
+    ((stored : Records) × AreSame stored (stored_after records old packet behind) × HasStarted stored old lost new)
 
 -- the node did not take a step: its store failed in the save, or nothing changed
 abbrev pub IsLeftBy : StepFault → Seen → Given → Seen → Type 0

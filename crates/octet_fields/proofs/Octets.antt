@@ -1,5 +1,6 @@
 -- Lists of octets, and results.
-use Rattle.std.proofs.Common.{◌≡◌, ℕ, zero, suc, ◌+◌, ◌≤◌, Bool, true, false, cond, List, [], ◌∷◌, ◌++◌, length, get_or, take, drop, Result, Ok, Err, refl, arith}
+use Rattle.std.proofs.Common.{◌≡◌, ℕ, zero, suc, ◌+◌, ◌≤◌, Bool, true, false, cond, List, [], ◌∷◌, ◌++◌, length, get_or, take, drop}
+use Rattle.std.proofs.Common.{Result, Ok, Err, refl, arith}
 use Rattle.std.proofs.lemmas.List.{get_or-drop}
 use Rattle.std.specs.Int.{w32, from_be_bytes}
 use Rattle.octet_fields.specs.Texts.{IsOctets}
@@ -40,7 +41,9 @@ guard_ok true fault r x e = absurd cc
 guard_ok false fault r x e = (refl, e)
 
 -- four octets at the front, as a number
-pub four_at : (octets : List ℕ) (n : ℕ) → 4 ≤ length octets → n ≡ from_be_bytes w32 (get_or octets 0 0 ∷ get_or octets 1 0 ∷ get_or octets 2 0 ∷ get_or octets 3 0 ∷ []) → number_at Four octets ≡ Ok (n, drop 4 octets)
+pub four_at : (octets : List ℕ) (n : ℕ) → 4 ≤ length octets →
+    n ≡ from_be_bytes w32 (get_or octets 0 0 ∷ get_or octets 1 0 ∷ get_or octets 2 0 ∷ get_or octets 3 0 ∷ []) →
+    number_at Four octets ≡ Ok (n, drop 4 octets)
 unfolding number_at
 four_at (a ∷ b ∷ c ∷ d ∷ rest) n long e = rw e refl
 four_at other n long e = absurd (omega arith)

@@ -1,5 +1,7 @@
 -- Optional parameters, read one after the other.
-use Rattle.std.proofs.Common.{◌≡◌, ℕ, zero, suc, ◌+◌, ◌^◌, ◌<◌, ◌≤◌, Bool, true, false, cond, ltb, List, [], ◌∷◌, ◌++◌, length, take, drop, Option, Some, None, IsSome, is_some, option_map, option_and_then, Ok, Err, eqb, inl, inr, refl, sym, ap, subst, ◌∙◌, arith, length-append, length-take, length-drop}
+use Rattle.std.proofs.Common.{◌≡◌, ℕ, zero, suc, ◌+◌, ◌^◌, ◌<◌, ◌≤◌, Bool, true, false, cond, ltb, List, [], ◌∷◌, ◌++◌, length, take, drop}
+use Rattle.std.proofs.Common.{Option, Some, None, IsSome, is_some, option_map, option_and_then, Ok, Err, eqb, inl, inr, refl, sym, ap}
+use Rattle.std.proofs.Common.{subst, ◌∙◌, arith, length-append, length-take, length-drop}
 use Rattle.std.proofs.lemmas.Bool.{ltb-false, le-ltb, eqb-true, false≢true, cases_Bool}
 use Rattle.std.proofs.lemmas.List.{append-nil, nil_from_length, take_at, drop_at, take-append-drop}
 use Rattle.std.proofs.lemmas.Nat.{be_bytes_2, from_be_bytes-to_be_bytes_2}
@@ -26,7 +28,8 @@ tlv-length (a ∷ b ∷ c ∷ d ∷ octets) x e =
     let made : (ℕ × List ℕ) × List ℕ = ((from_be_bytes w16 (a ∷ b ∷ []), take count octets), drop count octets) in
     let g = guard_some (ltb (length octets) count) made x e in
     let long : count ≤ length octets = ltb-false _ _ g.0 in
-    subst (λ (y : (ℕ × List ℕ) × List ℕ). length (a ∷ b ∷ c ∷ d ∷ octets) ≡ 4 + length y.0.1 + length y.1) g.1 (omega (arith, length-take count octets, length-drop count octets))
+    subst (λ (y : (ℕ × List ℕ) × List ℕ). length (a ∷ b ∷ c ∷ d ∷ octets) ≡ 4 + length y.0.1 + length y.1) g.1
+    (omega (arith, length-take count octets, length-drop count octets))
 
 then-same : {A B : Type 0} (f g : A → Option B) (o : Option A) → ((x : A) → o ≡ Some x → f x ≡ g x) → option_and_then f o ≡ option_and_then g o
 then-same f g None same = refl
@@ -71,7 +74,9 @@ pub is_some-next : (octets : List ℕ) (x : (ℕ × List ℕ) × List ℕ) → t
 is_some-next octets x e =
     sym (ap is_some (tlvs_in-next octets x e) ∙ is_some-map (λ (tlvs : List (ℕ × List ℕ)). x.0 ∷ tlvs) (tlvs_in x.1))
 
-pub parameters-cut : (most : ℕ) (octets rest : List ℕ) → length octets ≤ most → tlv_at rest ≡ None → is_some (tlvs_in rest) ≡ is_some (tlvs_in octets) → eqb (length rest) 0 ≡ false → parameters_at most octets ≡ Err Cut
+pub parameters-cut : (most : ℕ) (octets rest : List ℕ) → length octets ≤ most → tlv_at rest ≡ None →
+    is_some (tlvs_in rest) ≡ is_some (tlvs_in octets) → eqb (length rest) 0 ≡ false →
+    parameters_at most octets ≡ Err Cut
 unfolding parameters_at
 parameters-cut most octets rest few end same more =
     let none : is_some (tlvs_in octets) ≡ false = elim (cases_Bool (is_some (tlvs_in octets))) [
@@ -84,7 +89,9 @@ parameters-cut most octets rest few end same more =
     none-cut None e = refl
     none-cut (Some tlvs) e = absurd cc
 
-pub parameters-whole : (most : ℕ) (octets rest : List ℕ) → length octets ≤ most → is_some (tlvs_in rest) ≡ is_some (tlvs_in octets) → eqb (length rest) 0 ≡ true → (tlvs : List (ℕ × List ℕ)) × (parameters_at most octets ≡ Ok (tlvs, []))
+pub parameters-whole : (most : ℕ) (octets rest : List ℕ) → length octets ≤ most → is_some (tlvs_in rest) ≡ is_some (tlvs_in octets) →
+    eqb (length rest) 0 ≡ true →
+    (tlvs : List (ℕ × List ℕ)) × (parameters_at most octets ≡ Ok (tlvs, []))
 unfolding parameters_at tlvs_from
 parameters-whole most octets rest few same empty =
     let some : is_some (tlvs_in octets) ≡ true = sym same ∙ ap (λ (r : List ℕ). is_some (tlvs_in r)) (nil_from_length rest (eqb-true _ _ empty)) in
@@ -126,9 +133,11 @@ tlv_takes (a ∷ b ∷ c ∷ d ∷ octets) x are e =
     let count_is : to_be_bytes w16 (length (take count octets)) ≡ c ∷ d ∷ [] = ap (to_be_bytes w16) size ∙ two_again c d (are 2) (are 3) in
     let whole : a ∷ b ∷ c ∷ d ∷ octets ≡ tlv_octets made.0 ++ made.1 =
     ap (λ (rest : List ℕ). a ∷ b ∷ c ∷ d ∷ rest) (sym (take-append-drop count octets))
-    ∙ ap (λ (front : List ℕ). (front ++ take count octets) ++ drop count octets) (sym (ap (λ (t : List ℕ). t ++ to_be_bytes w16 (length (take count octets))) tag_is ∙ ap (λ (n : List ℕ). (a ∷ b ∷ []) ++ n) count_is)) in
+    ∙ ap (λ (front : List ℕ). (front ++ take count octets) ++ drop count octets)
+    (sym (ap (λ (t : List ℕ). t ++ to_be_bytes w16 (length (take count octets))) tag_is ∙ ap (λ (n : List ℕ). (a ∷ b ∷ []) ++ n) count_is)) in
     let tagged : tag < 2 ^ 16 = omega (arith, two_octets a b (are 0) (are 1) 0, two_octets a b (are 0) (are 1) 1) in
-    subst (λ (y : (ℕ × List ℕ) × List ℕ). TakesTlv (a ∷ b ∷ c ∷ d ∷ octets) y) g.1 (record { parts = whole; rest = IsOctets-drop count octets (λ i. are (suc (suc (suc (suc i))))); tag = tagged })
+    subst (λ (y : (ℕ × List ℕ) × List ℕ). TakesTlv (a ∷ b ∷ c ∷ d ∷ octets) y) g.1
+    (record { parts = whole; rest = IsOctets-drop count octets (λ i. are (suc (suc (suc (suc i))))); tag = tagged })
 
 pub tlv_again : (tlv : ℕ × List ℕ) (rest : List ℕ) → IsTagged tlv → length tlv.1 < 2 ^ 16 → tlv_at (tlv_octets tlv ++ rest) ≡ Some (tlv, rest)
 unfolding tlv_at
@@ -136,10 +145,15 @@ tlv_again tlv rest tagged short =
     let value = tlv.1 in
     let count : from_be_bytes w16 (to_be_bytes w16 (length value)) ≡ length value = from_be_bytes-to_be_bytes_2 (length value) short in
     let tag : from_be_bytes w16 (to_be_bytes w16 tlv.0) ≡ tlv.0 = from_be_bytes-to_be_bytes_2 tlv.0 tagged in
-    let read : ℕ → ℕ → Option ((ℕ × List ℕ) × List ℕ) = λ t n. cond (ltb (length (value ++ rest)) n) None (Some ((t, take n (value ++ rest)), drop n (value ++ rest))) in
+    let read : ℕ → ℕ → Option ((ℕ × List ℕ) × List ℕ) = λ t n. cond (ltb (length (value ++ rest)) n) None
+    (Some ((t, take n (value ++ rest)), drop n (value ++ rest))) in
     ap (read (from_be_bytes w16 (to_be_bytes w16 tlv.0))) count
     ∙ ap (λ (t : ℕ). read t (length value)) tag
-    ∙ rw (le-ltb (length (value ++ rest)) (length value) (omega (arith, length-append value rest)), take_at value rest (length value) refl, drop_at value rest (length value) refl) refl
+    ∙ rw (
+      le-ltb (length (value ++ rest)) (length value) (omega (arith, length-append value rest)),
+      take_at value rest (length value) refl,
+      drop_at value rest (length value) refl,
+    ) refl
 
 pub record TakesTlvs (octets : List ℕ) (tlvs : List (ℕ × List ℕ)) : Type 0 where
   pub parts : octets ≡ optional_octets tlvs
@@ -160,14 +174,20 @@ tlvs_take (suc most) [] tlvs are e = none tlvs e
 tlvs_take zero (octet ∷ octets) tlvs are e = absurd cc
 tlvs_take (suc most) (octet ∷ octets) tlvs are e = first (λ rest others fits rest_is. tlvs_take most rest others fits rest_is) (tlv_at (octet ∷ octets)) refl e
   where
-    others_of : (x : (ℕ × List ℕ) × List ℕ) (others : Option (List (ℕ × List ℕ))) → TakesTlv (octet ∷ octets) x → ((ys : List (ℕ × List ℕ)) → others ≡ Some ys → TakesTlvs x.1 ys) → tlv_before x.0 others ≡ Some tlvs → TakesTlvs (octet ∷ octets) tlvs
+    others_of : (x : (ℕ × List ℕ) × List ℕ) (others : Option (List (ℕ × List ℕ))) → TakesTlv (octet ∷ octets) x →
+        ((ys : List (ℕ × List ℕ)) → others ≡ Some ys → TakesTlvs x.1 ys) → tlv_before x.0 others ≡ Some tlvs →
+        TakesTlvs (octet ∷ octets) tlvs
     others_of x None taken rest e = absurd cc
     others_of x (Some ys) taken rest e =
         let both : x.0 ∷ ys ≡ tlvs = cc in
         let behind = rest ys refl in
-        subst (λ (zs : List (ℕ × List ℕ)). TakesTlvs (octet ∷ octets) zs) both (record { parts = taken.parts ∙ ap (λ (r : List ℕ). tlv_octets x.0 ++ r) behind.parts; tags = (taken.tag, behind.tags) })
+        subst (λ (zs : List (ℕ × List ℕ)). TakesTlvs (octet ∷ octets) zs) both
+        (record { parts = taken.parts ∙ ap (λ (r : List ℕ). tlv_octets x.0 ++ r) behind.parts; tags = (taken.tag, behind.tags) })
 
-    first : ((rest : List ℕ) (others : List (ℕ × List ℕ)) → IsOctets rest → tlvs_from most rest ≡ Some others → TakesTlvs rest others) → (o : Option ((ℕ × List ℕ) × List ℕ)) → tlv_at (octet ∷ octets) ≡ o → option_and_then (λ x. tlv_before x.0 (tlvs_from most x.1)) o ≡ Some tlvs → TakesTlvs (octet ∷ octets) tlvs
+    first : ((rest : List ℕ) (others : List (ℕ × List ℕ)) → IsOctets rest → tlvs_from most rest ≡ Some others → TakesTlvs rest others) →
+        (o : Option ((ℕ × List ℕ) × List ℕ)) → tlv_at (octet ∷ octets) ≡ o →
+        option_and_then (λ x. tlv_before x.0 (tlvs_from most x.1)) o ≡ Some tlvs →
+        TakesTlvs (octet ∷ octets) tlvs
     first rests None is e = absurd cc
     first rests (Some x) is e =
         let taken = tlv_takes (octet ∷ octets) x are is in
@@ -178,7 +198,8 @@ unfolding tlvs_from
 tlvs_again [] tags most = refl
 tlvs_again (tlv ∷ tlvs) tags most =
     let behind : List ℕ = optional_octets tlvs in
-    let size : length (optional_octets (tlv ∷ tlvs)) ≡ 4 + length tlv.1 + length behind = omega (arith, length-append (tlv_octets tlv) behind, length-append (to_be_bytes w16 tlv.0 ++ to_be_bytes w16 (length tlv.1)) tlv.1) in
+    let size : length (optional_octets (tlv ∷ tlvs)) ≡ 4 + length tlv.1 + length behind =
+    omega (arith, length-append (tlv_octets tlv) behind, length-append (to_be_bytes w16 tlv.0 ++ to_be_bytes w16 (length tlv.1)) tlv.1) in
     let others = tlvs_again tlvs tags.1 (omega (arith, size, most)) in
     tlvs_in-next (tlv_octets tlv ++ behind) (tlv, behind) (tlv_again tlv behind tags.0 (omega (arith, size, most))) ∙ ap (tlv_before tlv) others
 
@@ -187,7 +208,8 @@ pub record TakesParameters (most : ℕ) (octets : List ℕ) (x : List (ℕ × Li
   pub rest : x.1 ≡ []
   pub within : AreParameters most x.0
 
-pub parameters_take : (most : ℕ) (octets : List ℕ) (x : List (ℕ × List ℕ) × List ℕ) → IsOctets octets → parameters_at most octets ≡ Ok x → TakesParameters most octets x
+pub parameters_take : (most : ℕ) (octets : List ℕ) (x : List (ℕ × List ℕ) × List ℕ) → IsOctets octets → parameters_at most octets ≡ Ok x →
+    TakesParameters most octets x
 unfolding parameters_at
 parameters_take most octets x are e =
     let few = guard_ok (ltb most (length octets)) Long (tlvs_or_defect (tlvs_in octets)) x e in
@@ -204,7 +226,8 @@ parameters_take most octets x are e =
           within = record { tags = taken.tags; most = omega (arith, few, ap length taken.parts) };
         })
 
-pub parameters_again : (most : ℕ) (tlvs : List (ℕ × List ℕ)) → most ≤ 65535 → AreParameters most tlvs → parameters_at most (optional_octets tlvs) ≡ Ok (tlvs, [])
+pub parameters_again : (most : ℕ) (tlvs : List (ℕ × List ℕ)) → most ≤ 65535 → AreParameters most tlvs →
+    parameters_at most (optional_octets tlvs) ≡ Ok (tlvs, [])
 unfolding parameters_at
 parameters_again most tlvs small are =
     rw (le-ltb most (length (optional_octets tlvs)) are.most, tlvs_again tlvs are.tags (omega (arith, small, are.most))) refl

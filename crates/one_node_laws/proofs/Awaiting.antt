@@ -34,7 +34,12 @@ use Rattle.script_text.specs.Node.{Node, awaiting, request_at, step_at, tick_at,
 use Rattle.script_text.specs.Prints.{Print}
 use Rattle.script_text.specs.Pushes.{accounts_up, overdue_in, session_at, target_in}
 use Rattle.script_text.specs.Attempts.{Went, all_given_up, concluded, delivered_so, given_up, rests_at, submission_at, then_went, unanswered, went}
-use Rattle.script_text.specs.Runner.{Runner, Acted, Served, Came, answered_by, came_by, declined, ends, fails_by, followed_by, gives_up, gives_up_by, gone_on, granted, granted_unless, held_in, holds, last_incarnation, makes_room, no_incarnation, nothing_came, on_delivery, on_done, on_frame, on_frames, on_grant, on_input, on_octets, on_reaction, on_read, on_request, on_rest, on_restart, on_tick, opened_at, posts, posts_for, posts_for_all, pushes, put_at, reaction_prints, reports_by, restarted, sent, sent_to, served_at, serves, session_in, ticked, unasked, with_session}
+use Rattle.script_text.specs.Runner.{Runner, Acted, Served, Came, answered_by, came_by, declined, ends, fails_by, followed_by, gives_up}
+use Rattle.script_text.specs.Runner.{gives_up_by, gone_on, granted, granted_unless, held_in, holds, last_incarnation, makes_room}
+use Rattle.script_text.specs.Runner.{no_incarnation, nothing_came, on_delivery, on_done, on_frame, on_frames, on_grant, on_input}
+use Rattle.script_text.specs.Runner.{on_octets, on_reaction, on_read, on_request, on_rest, on_restart, on_tick, opened_at, posts}
+use Rattle.script_text.specs.Runner.{posts_for, posts_for_all, pushes, put_at, reaction_prints, reports_by, restarted, sent, sent_to}
+use Rattle.script_text.specs.Runner.{served_at, serves, session_in, ticked, unasked, with_session}
 use Rattle.arrival_laws.proofs.Comings.{IsPlain}
 use Rattle.one_node_laws.proofs.Alone.{IsAlone, none_alone, request_plain, restart_alone, step_alone}
 

@@ -18,8 +18,11 @@ use Rattle.node_model.specs.Kept.{Held, Kept, message_at, with_message}
 use Rattle.node_model.specs.Learner.{heard, makes_known}
 use Rattle.node_model.specs.Message.{Message, Round}
 use Rattle.node_model.specs.Outputs.{Stepped, leaves, sends}
-use Rattle.node_model.specs.Packets.{answer_told, if_member, is_member, is_own_name, known_then, on_known, on_packet, on_promise, on_refused, on_tell, on_voted, promised_in, proposals, settled_for, settled_told, start_told, tell_held, tells_about, told_to, vote_concerns}
-use Rattle.node_model.specs.Proposer.{Prepared, Start, completes, highest_round, is_free, is_own_ballot, offered, prepared_at, promised_by, refused, runs_at, started}
+use Rattle.node_model.specs.Packets.{answer_told, if_member, is_member, is_own_name, known_then, on_known, on_packet, on_promise}
+use Rattle.node_model.specs.Packets.{on_refused, on_tell, on_voted, promised_in, proposals, settled_for, settled_told, start_told}
+use Rattle.node_model.specs.Packets.{tell_held, tells_about, told_to, vote_concerns}
+use Rattle.node_model.specs.Proposer.{Prepared, Start, completes, highest_round, is_free, is_own_ballot, offered, prepared_at, promised_by}
+use Rattle.node_model.specs.Proposer.{refused, runs_at, started}
 use Rattle.node_model.specs.Requests.{asks, begun, held_at, id_of, is_untold, settled_by, told_by, with_held}
 use Rattle.node_model.specs.Rules.{Fitting, first_rule}
 use Rattle.node_model.specs.Starts.{delete_for, take_for}

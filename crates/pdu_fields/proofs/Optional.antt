@@ -1,5 +1,7 @@
 -- Optional parameters: those that octets are, one more, one after the other, and those that pass a test.
-use Rattle.std.proofs.Common.{◌≡◌, ℕ, ◌+◌, ◌≤◌, ◌==◌, Bool, true, false, cond, eqb, List, [], ◌∷◌, ◌++◌, length, Option, Some, None, option_map, append_assoc, Result, Ok, Err, IsOk, OnOk, OnErr, refl, sym, subst, ◌∙◌, ap, arith, length-append}
+use Rattle.std.proofs.Common.{◌≡◌, ℕ, ◌+◌, ◌≤◌, ◌==◌, Bool, true, false, cond, eqb, List, [], ◌∷◌, ◌++◌, length, Option, Some, None}
+use Rattle.std.proofs.Common.{option_map, append_assoc, Result, Ok, Err, IsOk, OnOk, OnErr, refl, sym, subst, ◌∙◌, ap, arith}
+use Rattle.std.proofs.Common.{length-append}
 use Rattle.std.specs.Bool.{Decides}
 use Rattle.std.specs.Str.{bytes_eq}
 use Rattle.std.specs.Ordering.{on, eq_of_both}
@@ -30,7 +32,12 @@ optional-given octets are ok = by (parameters_at 7000 octets) refl ok
     by : (r : Result (List (ℕ × List ℕ) × List ℕ) Defect) → parameters_at 7000 octets ≡ r → IsOk (told parameters_fault r) → IsOptional octets
     by (Ok x) is ok =
         let taken = parameters_take 7000 octets x are is in
-        record { tlvs = x.0; limits = taken.within; spelled = taken.parts ∙ ap (λ (rest : List ℕ). optional_octets x.0 ++ rest) taken.rest ∙ append-nil (optional_octets x.0) }
+        record {
+          tlvs = x.0;
+          limits = taken.within;
+          spelled = taken.parts ∙ ap (λ (rest : List ℕ). optional_octets x.0 ++ rest) taken.rest
+              ∙ append-nil (optional_octets x.0);
+        }
     by (Err defect) is ok = absurd (false≢true ok)
 
 pub optional-again : (tlvs : List (ℕ × List ℕ)) → AreOptional tlvs → optional_at (optional_octets tlvs) ≡ Ok (tlvs, [])
@@ -66,13 +73,16 @@ octets-same one other one_are other_are same = sym (tlvs_in-octets one one_are) 
 
 pair_decides : (a b : ℕ × List ℕ) → Decides (eq_of_both (on (λ tlv. tlv.0) ◌==◌) (on (λ tlv. tlv.1) bytes_eq) a b) (a ≡ b)
 pair_decides a b =
-    Decides-like _ (λ (h : (a.0 ≡ b.0) × (a.1 ≡ b.1)). λ i. (h.0 i, h.1 i)) (λ (h : a ≡ b). (ap (λ (x : ℕ × List ℕ). x.0) h, ap (λ (x : ℕ × List ℕ). x.1) h)) (Decides-and (eqb a.0 b.0) (bytes_eq a.1 b.1) (Decides-eqb a.0 b.0) (bytes_eq-Decides a.1 b.1))
+    Decides-like _ (λ (h : (a.0 ≡ b.0) × (a.1 ≡ b.1)). λ i. (h.0 i, h.1 i))
+    (λ (h : a ≡ b). (ap (λ (x : ℕ × List ℕ). x.0) h, ap (λ (x : ℕ × List ℕ). x.1) h))
+    (Decides-and (eqb a.0 b.0) (bytes_eq a.1 b.1) (Decides-eqb a.0 b.0) (bytes_eq-Decides a.1 b.1))
 
 -- optional parameters are the same that have the same octets
 pub same-octets : (one other : List ℕ) → AreTlvs one → AreTlvs other → bytes_eq one other ≡ are_same_tlvs (tlvs_in one) (tlvs_in other)
 same-octets one other one_are other_are =
     let tlvs = slice_eq-Decides pair_decides (tlvs_in one) (tlvs_in other) (are_same_tlvs (tlvs_in one) (tlvs_in other)) refl in
-    let octets = Decides-like (bytes_eq one other) (λ (same : one ≡ other). ap tlvs_in same) (λ (same : tlvs_in one ≡ tlvs_in other). one_are.spelled ∙ ap optional_octets same ∙ sym other_are.spelled) (bytes_eq-Decides one other) in
+    let octets = Decides-like (bytes_eq one other) (λ (same : one ≡ other). ap tlvs_in same)
+    (λ (same : tlvs_in one ≡ tlvs_in other). one_are.spelled ∙ ap optional_octets same ∙ sym other_are.spelled) (bytes_eq-Decides one other) in
     same_from_decides (bytes_eq one other) (are_same_tlvs (tlvs_in one) (tlvs_in other)) octets tlvs
 
 -- ---- one more
@@ -85,10 +95,19 @@ octets-more : (tlvs : List (ℕ × List ℕ)) (tlv : ℕ × List ℕ) → option
 octets-more tlvs tlv =
     flat_map-append tlv_octets tlvs (tlv ∷ []) ∙ ap (λ (last : List ℕ). optional_octets tlvs ++ last) (append-nil (tlv_octets tlv))
 
-AreOptional-more : (tlvs : List (ℕ × List ℕ)) (tlv : ℕ × List ℕ) → AreOptional tlvs → IsTagged tlv → length (optional_octets tlvs) + 4 + length tlv.1 ≤ 7000 → AreOptional (tlvs ++ tlv ∷ [])
+AreOptional-more : (tlvs : List (ℕ × List ℕ)) (tlv : ℕ × List ℕ) → AreOptional tlvs → IsTagged tlv →
+    length (optional_octets tlvs) + 4 + length tlv.1 ≤ 7000 →
+    AreOptional (tlvs ++ tlv ∷ [])
 AreOptional-more tlvs tlv are tag few = record {
   tags = tags-more tlvs tlv are.tags tag;
-  most = omega (arith, few, ap length (octets-more tlvs tlv), length-append (optional_octets tlvs) (tlv_octets tlv), length-append (to_be_bytes w16 tlv.0 ++ to_be_bytes w16 (length tlv.1)) tlv.1);
+  most = omega (
+    arith,
+    few,
+    ap length (octets-more tlvs tlv),
+    length-append (optional_octets tlvs) (tlv_octets tlv),
+    length-append
+        (to_be_bytes w16 tlv.0 ++ to_be_bytes w16 (length tlv.1)) tlv.1,
+  );
 }
 
 -- what octets are with one more behind them
@@ -96,18 +115,23 @@ pub record More (octets : List ℕ) (tlv : ℕ × List ℕ) : Type 0 where
   pub are : AreTlvs (octets ++ tlv_octets tlv)
   pub tlvs : tlvs_in (octets ++ tlv_octets tlv) ≡ tlvs_in octets ++ tlv ∷ []
 
-pub tlvs-more : (octets : List ℕ) (tlv : ℕ × List ℕ) → AreTlvs octets → IsTagged tlv → length (optional_octets (tlvs_in octets)) + 4 + length tlv.1 ≤ 7000 → More octets tlv
+pub tlvs-more : (octets : List ℕ) (tlv : ℕ × List ℕ) → AreTlvs octets → IsTagged tlv →
+    length (optional_octets (tlvs_in octets)) + 4 + length tlv.1 ≤ 7000 →
+    More octets tlv
 tlvs-more octets tlv are tag few =
     let tlvs = tlvs_in octets in
     let limits = AreOptional-more tlvs tlv are.limits tag few in
-    let whole : optional_octets (tlvs ++ tlv ∷ []) ≡ octets ++ tlv_octets tlv = octets-more tlvs tlv ∙ ap (λ (front : List ℕ). front ++ tlv_octets tlv) (sym are.spelled) in
+    let whole : optional_octets (tlvs ++ tlv ∷ []) ≡ octets ++ tlv_octets tlv = octets-more tlvs tlv ∙ ap
+    (λ (front : List ℕ). front ++ tlv_octets tlv) (sym are.spelled) in
     record {
       are = subst AreTlvs whole (are_tlvs (tlvs ++ tlv ∷ []) limits);
       tlvs = ap tlvs_in (sym whole) ∙ tlvs_in-octets (tlvs ++ tlv ∷ []) limits;
     }
 
 -- if a call put one more behind octets, or changed nothing, they are optional parameters still
-pub tlvs-after : {E : Type 0} (r : Result (Unit {0}) E) (old new : List ℕ) (tlv : ℕ × List ℕ) → More old tlv → AreTlvs old → OnOk r (new ≡ old ++ tlv_octets tlv) → OnErr r (new ≡ old) → AreTlvs new
+pub tlvs-after : {E : Type 0} (r : Result (Unit {0}) E) (old new : List ℕ) (tlv : ℕ × List ℕ) → More old tlv → AreTlvs old →
+    OnOk r (new ≡ old ++ tlv_octets tlv) → OnErr r (new ≡ old) →
+    AreTlvs new
 tlvs-after (Ok x) old new tlv more are ok err = subst AreTlvs (sym ok) more.are
 tlvs-after (Err e) old new tlv more are ok err = subst AreTlvs (sym err) are
 
@@ -123,7 +147,14 @@ AreOptional-behind tlv tlvs are = record { tags = are.tags.1; most = omega (arit
 
 tlv-first : (tlv : ℕ × List ℕ) (tlvs : List (ℕ × List ℕ)) → AreOptional (tlv ∷ tlvs) → tlv_at (optional_octets (tlv ∷ tlvs)) ≡ Some (tlv, optional_octets tlvs)
 tlv-first tlv tlvs are =
-    tlv_again tlv (optional_octets tlvs) are.tags.0 (omega (arith, are.most, length-append (tlv_octets tlv) (optional_octets tlvs), length-append (to_be_bytes w16 tlv.0 ++ to_be_bytes w16 (length tlv.1)) tlv.1))
+    tlv_again tlv (optional_octets tlvs) are.tags.0
+    (omega (
+      arith,
+      are.most,
+      length-append (tlv_octets tlv) (optional_octets tlvs),
+      length-append
+          (to_be_bytes w16 tlv.0 ++ to_be_bytes w16 (length tlv.1)) tlv.1,
+    ))
 
 next_of : (tlvs : List (ℕ × List ℕ)) (x : (ℕ × List ℕ) × List ℕ) → AreOptional tlvs → tlv_at (optional_octets tlvs) ≡ Some x → Next (optional_octets tlvs) x
 unfolding tlv_at
@@ -165,7 +196,13 @@ most-filter : (test : ℕ × List ℕ → Bool) (tlvs : List (ℕ × List ℕ)) 
 most-filter test [] = omega arith
 most-filter test (tlv ∷ tlvs) =
     elim (test tlv) as (λ t. length (optional_octets (cond t (tlv ∷ filter test tlvs) (filter test tlvs))) ≤ length (optional_octets (tlv ∷ tlvs))) [
-      | true ↦ omega (arith, most-filter test tlvs, length-append (tlv_octets tlv) (optional_octets (filter test tlvs)), length-append (tlv_octets tlv) (optional_octets tlvs))
+      | true ↦ omega (
+        arith,
+        most-filter test tlvs,
+        length-append (tlv_octets tlv) (optional_octets (filter test tlvs)),
+        length-append
+            (tlv_octets tlv) (optional_octets tlvs),
+      )
       | false ↦ omega (arith, most-filter test tlvs, length-append (tlv_octets tlv) (optional_octets tlvs))
     ]
 
@@ -176,25 +213,31 @@ AreOptional-filter test tlvs limits = record {
   most = omega (arith, most-filter test tlvs, limits.most);
 }
 
-kept-next : (test : ℕ × List ℕ → Bool) (octets : List ℕ) (x : (ℕ × List ℕ) × List ℕ) → Next octets x → filter test (tlvs_in octets) ≡ cond (test x.0) (x.0 ∷ filter test (tlvs_in x.1)) (filter test (tlvs_in x.1))
+kept-next : (test : ℕ × List ℕ → Bool) (octets : List ℕ) (x : (ℕ × List ℕ) × List ℕ) → Next octets x →
+    filter test (tlvs_in octets) ≡ cond (test x.0) (x.0 ∷ filter test (tlvs_in x.1)) (filter test (tlvs_in x.1))
 kept-next test octets x next = ap (filter test) next.tlvs
 
 -- of the octets of what passes, those so far and those of what is left
-pub kept-more : (test : ℕ × List ℕ → Bool) (kept octets all : List ℕ) (x : (ℕ × List ℕ) × List ℕ) → Next octets x → test x.0 ≡ true → kept ++ optional_octets (filter test (tlvs_in octets)) ≡ all → (kept ++ tlv_octets x.0) ++ optional_octets (filter test (tlvs_in x.1)) ≡ all
+pub kept-more : (test : ℕ × List ℕ → Bool) (kept octets all : List ℕ) (x : (ℕ × List ℕ) × List ℕ) → Next octets x → test x.0 ≡ true →
+    kept ++ optional_octets (filter test (tlvs_in octets)) ≡ all →
+    (kept ++ tlv_octets x.0) ++ optional_octets (filter test (tlvs_in x.1)) ≡ all
 kept-more test kept octets all x next passes before =
     let others : List (ℕ × List ℕ) = filter test (tlvs_in x.1) in
     append_assoc kept (tlv_octets x.0) (optional_octets others)
     ∙ ap (λ (tlvs : List (ℕ × List ℕ)). kept ++ optional_octets tlvs) (sym (kept-next test octets x next ∙ ap (λ b. cond b (x.0 ∷ others) others) passes))
     ∙ before
 
-pub kept-same : (test : ℕ × List ℕ → Bool) (kept octets all : List ℕ) (x : (ℕ × List ℕ) × List ℕ) → Next octets x → test x.0 ≡ false → kept ++ optional_octets (filter test (tlvs_in octets)) ≡ all → kept ++ optional_octets (filter test (tlvs_in x.1)) ≡ all
+pub kept-same : (test : ℕ × List ℕ → Bool) (kept octets all : List ℕ) (x : (ℕ × List ℕ) × List ℕ) → Next octets x → test x.0 ≡ false →
+    kept ++ optional_octets (filter test (tlvs_in octets)) ≡ all →
+    kept ++ optional_octets (filter test (tlvs_in x.1)) ≡ all
 kept-same test kept octets all x next fails before =
     let others : List (ℕ × List ℕ) = filter test (tlvs_in x.1) in
     ap (λ (tlvs : List (ℕ × List ℕ)). kept ++ optional_octets tlvs) (sym (kept-next test octets x next ∙ ap (λ b. cond b (x.0 ∷ others) others) fails))
     ∙ before
 
 -- the value is that of the first, or is looked for behind it
-pub value-next : (tag : ℕ) (octets : List ℕ) (x : (ℕ × List ℕ) × List ℕ) → Next octets x → value_of tag (tlvs_in octets) ≡ cond (eqb x.0.0 tag) (Some x.0.1) (value_of tag (tlvs_in x.1))
+pub value-next : (tag : ℕ) (octets : List ℕ) (x : (ℕ × List ℕ) × List ℕ) → Next octets x →
+    value_of tag (tlvs_in octets) ≡ cond (eqb x.0.0 tag) (Some x.0.1) (value_of tag (tlvs_in x.1))
 value-next tag octets x next = ap (value_of tag) next.tlvs ∙ by (eqb x.0.0 tag) (find (λ tlv. eqb tlv.0 tag) (tlvs_in x.1))
   where
     by : (b : Bool) (o : Option (ℕ × List ℕ)) → option_map (λ tlv. tlv.1) (cond b (Some x.0) o) ≡ cond b (Some x.0.1) (option_map (λ tlv. tlv.1) o)

@@ -1,6 +1,8 @@
 -- What stands at the front of a stream: a part of a frame, a wrong length, or a frame, and one of these alone.
-use Rattle.std.proofs.Common.{◌≡◌, ℕ, true, false, nat_le, ◌+◌, ◌-◌, ◌≤◌, ◌⊎◌, inl, inr, List, ◌++◌, length, take, drop, refl, sym, ap, ◌∙◌, subst, arith, append_assoc}
-use Rattle.std.proofs.lemmas.List.{append_cancel_left, length-append, length-take-le, take_at, take-append-le, take-append-drop, take-take, take_rest, drop-take}
+use Rattle.std.proofs.Common.{◌≡◌, ℕ, true, false, nat_le, ◌+◌, ◌-◌, ◌≤◌, ◌⊎◌, inl, inr, List, ◌++◌, length, take, drop, refl, sym, ap}
+use Rattle.std.proofs.Common.{◌∙◌, subst, arith, append_assoc}
+use Rattle.std.proofs.lemmas.List.{append_cancel_left, length-append, length-take-le, take_at, take-append-le, take-append-drop, take-take}
+use Rattle.std.proofs.lemmas.List.{take_rest, drop-take}
 use Rattle.std.proofs.Math.Bool.{and-false}
 use Rattle.std.proofs.lemmas.Bool.{cases_lt, cases_Bool, and_parts, and_from, leb-true, le-leb, lt-leb}
 use Rattle.std.specs.Int.{from_be_bytes, w32}
@@ -37,19 +39,23 @@ no_frame frame behind stream e is (inr wrong) = frame_is_not_wrong frame behind 
 pub one_frame : (frame other behind rest : List ℕ) → IsFrame frame → IsFrame other → frame ++ behind ≡ other ++ rest → (frame ≡ other) × (behind ≡ rest)
 one_frame frame other behind rest is too e =
     let lengths : length other ≡ length frame = sym (length_of_frame other rest too) ∙ (ap (λ s. command_length s) (sym e) ∙ length_of_frame frame behind is) in
-    let same : frame ≡ other = sym (take_at frame behind (length frame) refl) ∙ (ap (λ s. take (length frame) s) e ∙ take_at other rest (length frame) lengths) in
+    let same : frame ≡ other = sym (take_at frame behind (length frame) refl) ∙
+    (ap (λ s. take (length frame) s) e ∙ take_at other rest (length frame) lengths) in
     (same, append_cancel_left other behind rest (ap (λ f. f ++ behind) (sym same) ∙ e))
 
 -- As many octets as a command_length says are a frame, if it is no wrong one and they have come.
-pub whole_front : (stream : List ℕ) → is_pdu_length (command_length stream) ≡ true → command_length stream ≤ length stream → IsFrame (take (command_length stream) stream)
+pub whole_front : (stream : List ℕ) → is_pdu_length (command_length stream) ≡ true → command_length stream ≤ length stream →
+    IsFrame (take (command_length stream) stream)
 whole_front stream may whole =
     let count : length (take (command_length stream) stream) ≡ command_length stream = length-take-le (command_length stream) stream whole in
     let come : 4 ≤ command_length stream = omega (arith, within_limits (command_length stream) may) in
-    let field : command_length (take (command_length stream) stream) ≡ command_length stream = ap (λ octets. from_be_bytes w32 octets) (take-take 4 (command_length stream) stream come) in
+    let field : command_length (take (command_length stream) stream) ≡ command_length stream = ap (λ octets. from_be_bytes w32 octets)
+    (take-take 4 (command_length stream) stream come) in
     record { counted = field ∙ sym count; allowed = subst (λ n. is_pdu_length n ≡ true) (sym count) may }
 
 -- A part, a wrong length or a frame stands at the front of any stream.
-pub front_cases : (stream : List ℕ) → (IsPart stream ⊎ HasWrongLength stream) ⊎ ((frame : List ℕ) × (behind : List ℕ) × IsFrame frame × (stream ≡ frame ++ behind))
+pub front_cases : (stream : List ℕ) →
+    (IsPart stream ⊎ HasWrongLength stream) ⊎ ((frame : List ℕ) × (behind : List ℕ) × IsFrame frame × (stream ≡ frame ++ behind))
 front_cases stream =
     elim (cases_lt (length stream) 4) [
       | inl short ↦ inl (inl (inl short))
@@ -57,7 +63,13 @@ front_cases stream =
         | inr wrong ↦ inl (inr (record { come = come; wrong = wrong }))
         | inl may ↦ elim (cases_lt (length stream) (command_length stream)) [
           | inl short ↦ inl (inl (inr (may, short)))
-          | inr whole ↦ inr (take (command_length stream) stream, drop (command_length stream) stream, whole_front stream may whole, sym (take-append-drop (command_length stream) stream))
+          | inr whole ↦ inr (
+            take (command_length stream) stream,
+            drop (command_length stream) stream,
+            whole_front stream may whole,
+            sym
+                (take-append-drop (command_length stream) stream),
+          )
         ]
       ]
     ]
@@ -79,7 +91,8 @@ part_begins octets (inl short) = rw (lt-leb 4 (length octets) short) refl
 part_begins octets (inr part) = let allowed : is_pdu_length (command_length octets) ≡ true = part.0 in rw allowed (and-false (nat_le 4 (length octets)))
 
 -- What is added to what is held in two goes, off a piece and off the rest of it, is the front of the piece.
-pub added_in_two : (held piece : List ℕ) (first second : ℕ) → (held ++ take first piece) ++ take second (take (length piece - first) (drop first piece)) ≡ held ++ take (first + second) piece
+pub added_in_two : (held piece : List ℕ) (first second : ℕ) →
+    (held ++ take first piece) ++ take second (take (length piece - first) (drop first piece)) ≡ held ++ take (first + second) piece
 added_in_two held piece first second =
     let joined : take first piece ++ take second (drop first piece) ≡ take (first + second) piece =
     rw (← take-take first (first + second) piece (omega arith), ← drop-take first second piece) (take-append-drop first (take (first + second) piece)) in

@@ -1,5 +1,6 @@
 -- The laws of frames, by recursion on the frames of a stream and on calls.
-use Rattle.std.proofs.Common.{◌≡◌, ℕ, false, zero, suc, nat_le, ◌≤◌, ◌⊎◌, inl, inr, List, [], ◌∷◌, ◌++◌, length, drop, refl, sym, ap, ◌∙◌, subst, arith, append_assoc}
+use Rattle.std.proofs.Common.{◌≡◌, ℕ, false, zero, suc, nat_le, ◌≤◌, ◌⊎◌, inl, inr, List, [], ◌∷◌, ◌++◌, length, drop, refl, sym, ap, ◌∙◌}
+use Rattle.std.proofs.Common.{subst, arith, append_assoc}
 use Rattle.std.proofs.lemmas.List.{append-nil, length-drop, take-append-drop}
 use Rattle.std.proofs.lemmas.Bool.{cases_Bool, and_parts, leb-true}
 use Rattle.pdu_frames.specs.Frames.{command_length, is_pdu_length, IsPart, HasWrongLength, AreFrames, begins_with_frame, cut, cut_within}
@@ -35,7 +36,8 @@ cut_are (suc most) stream within =
       | inl begins ↦
           let both = and_parts (is_pdu_length (command_length stream)) (nat_le (command_length stream) (length stream)) begins in
           let come = leb-true (command_length stream) (length stream) both.1 in
-          let fewer : length (drop (command_length stream) stream) ≤ most = omega (arith, within_limits (command_length stream) both.0, length-drop (command_length stream) stream) in
+          let fewer : length (drop (command_length stream) stream) ≤ most =
+          omega (arith, within_limits (command_length stream) both.0, length-drop (command_length stream) stream) in
           let more = cut_are most (drop (command_length stream) stream) fewer in
           rw begins (whole_front stream both.0 come, (drop (command_length stream) stream, sym (take-append-drop (command_length stream) stream), more))
     ]
@@ -47,7 +49,8 @@ pub stream_frames : StreamHasFrames
 stream_frames stream = ((cut stream).frames, (cut stream).rest, streams_cut stream)
 
 -- The same of calls on a Framer that holds some octets already.
-first_given : (calls : List Call) (old held more rest : List ℕ) (frames : List (List ℕ)) → Run old calls held → AreFrames (old ++ (taken_in calls ++ more)) frames rest
+first_given : (calls : List Call) (old held more rest : List ℕ) (frames : List (List ℕ)) → Run old calls held →
+    AreFrames (old ++ (taken_in calls ++ more)) frames rest
     → (further : List (List ℕ)) × (frames ≡ given_out calls ++ further) × AreFrames (held ++ more) further rest
 first_given [] old held more rest frames run are = (frames, refl, subst (λ s. AreFrames (s ++ more) frames rest) (sym run) are)
 first_given (TakesIn octets ∷ calls) old held more rest frames run are =
@@ -65,13 +68,21 @@ first_given (GivesOut frame ∷ calls) old held more rest (other ∷ frames) run
 pub first_frames : FirstFramesAreGiven
 first_frames calls held more rest frames run are = first_given calls [] held more rest frames run are
 
-all_given : (calls : List Call) (old held : List ℕ) → Run old calls held → IsPart held ⊎ HasWrongLength held → AreFrames (old ++ taken_in calls) (given_out calls) held
+all_given : (calls : List Call) (old held : List ℕ) → Run old calls held → IsPart held ⊎ HasWrongLength held →
+    AreFrames (old ++ taken_in calls) (given_out calls) held
 all_given [] old held run end = (append-nil old ∙ sym run, end)
 all_given (TakesIn octets ∷ calls) old held run end =
     let joined : run.0 ++ taken_in calls ≡ old ++ (octets ++ taken_in calls) = rw run.1 (append_assoc old octets (taken_in calls)) in
     subst (λ s. AreFrames s (given_out calls) held) joined (all_given calls run.0 held run.2 end)
-all_given (GivesOut frame ∷ calls) old held run end =
-    (run.1.0, (taken_in calls, ap (λ s. s ++ taken_in calls) run.1.1, subst (λ s. AreFrames (s ++ taken_in calls) (given_out calls) held) run.1.2 (all_given calls run.0 held run.2 end)))
+all_given (GivesOut frame ∷ calls) old held run end = (
+  run.1.0,
+  (
+    taken_in calls,
+    ap (λ s. s ++ taken_in calls) run.1.1,
+    subst
+        (λ s. AreFrames (s ++ taken_in calls) (given_out calls) held) run.1.2 (all_given calls run.0 held run.2 end),
+  ),
+)
 
 pub all_frames : AllFramesAreGiven
 all_frames calls held run end = all_given calls [] held run end

@@ -3,7 +3,8 @@
 ghost use Rattle.std.specs.Prelude.{◌≡◌, ◌≤◌, ◌↔◌, ◌+◌, ◌++◌, length, IfOk, IsErrOf, OnErr, OnOk};
 ghost use Rattle.fate_chain.specs.Kinds.{final_of};
 ghost use Rattle.receipts.specs.Receipts.{AppendsReceipt, HasFate, IsAsked};
-ghost use Rattle.receipts.specs.Texts.{dates_part, delivered_count, fate_part, first_text, message_part, stat, text_part, three_digits, receipt_text as text_told};
+ghost use Rattle.receipts.specs.Texts.{dates_part, delivered_count, fate_part, first_text, message_part, stat, text_part, three_digits};
+ghost use Rattle.receipts.specs.Texts.{receipt_text as text_told};
 ghost use Rattle.receipts.specs.Told.{report_of};
 ghost use Rattle.receipts.specs.declared.fault.ReceiptFault.TheVariants.{NoFate, NotAsked};
 

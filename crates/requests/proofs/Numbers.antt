@@ -32,7 +32,8 @@ one_more from id IsOne None is = by_test (nat_lt id from) refl
     )
 one_more from id IsOne (Some least) is = by_test (nat_lt id from) refl
   where
-    by_order : (test : Bool) → nat_le least id ≡ test → from ≤ id → IsLeastFrom from (λ other. IsOne other ⊎ (other ≡ id)) (if test then Some least else Some id)
+    by_order : (test : Bool) → nat_le least id ≡ test → from ≤ id →
+        IsLeastFrom from (λ other. IsOne other ⊎ (other ≡ id)) (if test then Some least else Some id)
     by_order true lower from_on = (
       inl is.0,
       (
@@ -70,7 +71,8 @@ one_more from id IsOne (Some least) is = by_test (nat_lt id from) refl
 
 all_more : (from : ℕ) (IsOne : ℕ → Type 0) (held : List Held) (least : Option ℕ) → IsLeastFrom from IsOne least →
     IsLeastFrom from (λ other. IsOne other ⊎ In other (ids_in held)) (least_of from held least)
-all_more from IsOne [] least is = same_numbers from IsOne (λ other. IsOne other ⊎ ⊥) (λ id one. inl one) (λ id either. elim either [ inl one ↦ one | inr none ↦ absurd none ]) least is
+all_more from IsOne [] least is =
+    same_numbers from IsOne (λ other. IsOne other ⊎ ⊥) (λ id one. inl one) (λ id either. elim either [ inl one ↦ one | inr none ↦ absurd none ]) least is
 all_more from IsOne (h ∷ others) least is =
     same_numbers from (λ other. (IsOne other ⊎ (other ≡ id_of h)) ⊎ In other (ids_in others)) (λ other. IsOne other ⊎ In other (ids_in (h ∷ others)))
     (λ id either. elim either [ inl front ↦ elim front [ inl one ↦ inl one | inr same ↦ inr (inl same) ] | inr later ↦ inr (inr later) ])

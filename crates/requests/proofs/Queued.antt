@@ -11,7 +11,8 @@ use Rattle.mc_model.specs.node.Room.{most_waiting}
 use Rattle.requests.specs.Waiting.{Waits, held_in, held_of}
 use Rattle.requests.specs.Queues.{Ascend, IsAbove, IsBelow, IsQueue}
 
-below_pushed : (ticket : ℕ) (waits : List Waits) (w : Waits) → IsBelow ticket (held_in waits) → ticket < w.waiting.ticket → IsBelow ticket (held_in (waits ++ w ∷ []))
+below_pushed : (ticket : ℕ) (waits : List Waits) (w : Waits) → IsBelow ticket (held_in waits) → ticket < w.waiting.ticket →
+    IsBelow ticket (held_in (waits ++ w ∷ []))
 below_pushed ticket [] w below lower = (lower, tt)
 below_pushed ticket (first ∷ others) w below lower = (below.0, below_pushed ticket others w below.1 lower)
 
@@ -20,7 +21,9 @@ ascend_pushed [] w ascend above = (tt, tt)
 ascend_pushed (first ∷ others) w ascend above =
     (below_pushed first.waiting.ticket others w ascend.0 above.0, ascend_pushed others w ascend.1 above.1)
 
-pub queue_pushed : (before after : ℕ) (waits : List Waits) (w : Waits) → before ≤ after → length waits < most_waiting → IsAbove (held_in waits) w.waiting.ticket → IsQueue before waits → IsQueue after (waits ++ w ∷ [])
+pub queue_pushed : (before after : ℕ) (waits : List Waits) (w : Waits) → before ≤ after → length waits < most_waiting →
+    IsAbove (held_in waits) w.waiting.ticket → IsQueue before waits →
+    IsQueue after (waits ++ w ∷ [])
 queue_pushed before after waits w more few above is = record {
   room = let room = is.room in omega (arith, room, more);
   few = let count = length-append waits (w ∷ []) in omega (arith, count, few);
@@ -53,7 +56,9 @@ fewer_kept test (h ∷ hs) = at_test (test h) (fewer_kept test hs)
     at_test true rest = omega arith
     at_test false rest = omega arith
 
-pub queue_kept : (test : Held → Bool) (before after : ℕ) (old new : List Waits) → after ≡ before → held_in new ≡ filter test (held_in old) → IsQueue before old → IsQueue after new
+pub queue_kept : (test : Held → Bool) (before after : ℕ) (old new : List Waits) → after ≡ before → held_in new ≡ filter test (held_in old) →
+    IsQueue before old →
+    IsQueue after new
 queue_kept test before after old new more kept is =
     let fewer = fewer_kept test (held_in old) in
     let count : length (held_in new) ≡ length (filter test (held_in old)) = ap (λ (hs : List Held). length hs) kept in
@@ -72,7 +77,10 @@ queue_kept test before after old new more kept is =
 module _ (f : Held → Held) (same : (h : Held) → ticket_of (f h) ≡ ticket_of h) where
   below_changed : (one other : ℕ) (hs : List Held) → other ≡ one → IsBelow one hs → IsBelow other (map f hs)
   below_changed one other [] is below = tt
-  below_changed one other (h ∷ hs) is below = (let lower = below.0 in let mine = same h in omega (arith, lower, mine, is), below_changed one other hs is below.1)
+  below_changed one other (h ∷ hs) is below = (
+    let lower = below.0 in let mine = same h in omega (arith, lower, mine, is),
+    below_changed one other hs is below.1,
+  )
 
   ascend_changed : (hs : List Held) → Ascend hs → Ascend (map f hs)
   ascend_changed [] ascend = tt

@@ -13,11 +13,16 @@ by_cases true false false = refl
 by_cases false true reached = refl
 by_cases false false reached = refl
 
-pub answer_settled : (nodes : ℕ) (known : Option (List Decree)) (h : Held) → answer_to nodes known (settled_by nodes known h) ≡ answer_by known (is_settled nodes known h) (h.waiting.settled || (is_cancel h.waiting.request && is_settled nodes known h)) h.waiting.request
+pub answer_settled : (nodes : ℕ) (known : Option (List Decree)) (h : Held) →
+    answer_to nodes known (settled_by nodes known h) ≡ answer_by known (is_settled nodes known h)
+    (h.waiting.settled || (is_cancel h.waiting.request && is_settled nodes known h)) h.waiting.request
 answer_settled nodes known h =
     settled_if (settles nodes known h)
-    ∙ ap (λ (settled : Bool). answer_by known (is_settled nodes known h) settled h.waiting.request) (by_cases (is_cancel h.waiting.request) h.waiting.settled (is_settled nodes known h))
+    ∙ ap (λ (settled : Bool). answer_by known (is_settled nodes known h) settled h.waiting.request)
+    (by_cases (is_cancel h.waiting.request) h.waiting.settled (is_settled nodes known h))
   where
-    settled_if : (now : Bool) → answer_to nodes known (cond now (record h { waiting = record h.waiting { settled = true } }) h) ≡ answer_by known (is_settled nodes known h) (cond now true h.waiting.settled) h.waiting.request
+    settled_if : (now : Bool) →
+        answer_to nodes known (cond now (record h { waiting = record h.waiting { settled = true } }) h) ≡ answer_by known
+        (is_settled nodes known h) (cond now true h.waiting.settled) h.waiting.request
     settled_if true = refl
     settled_if false = refl

@@ -18,7 +18,8 @@ map_or : {A B : Type 0} (f : A → B) (one other : Option A) → option_map f (o
 map_or f None other = refl
 map_or f (Some x) other = refl
 
-taken_by : (setup : Setup) (k : Kept) (h : Held) (request : Request) → IsNumberedBy setup.node k.incarnation request → take_for setup k h request ≡ option_map begun_start (begun_in h.waiting.since request)
+taken_by : (setup : Setup) (k : Kept) (h : Held) (request : Request) → IsNumberedBy setup.node k.incarnation request →
+    take_for setup k h request ≡ option_map begun_start (begun_in h.waiting.since request)
 taken_by setup k h (Submit id message) by = λ i. Some (record {
   place = 0;
   chain = record { author = record { node = sym by.0 i; incarnation = sym by.1 i }; moment = h.waiting.since; kind = Taken message } ∷ [];
@@ -26,14 +27,17 @@ taken_by setup k h (Submit id message) by = λ i. Some (record {
 taken_by setup k h (Query id account source) by = refl
 taken_by setup k h (Cancel id account source destination) by = refl
 
-taken_if : (about : Bool) (take : Option Start) (begun : Option Begun) → take ≡ option_map begun_start begun → cond about take None ≡ option_map begun_start (cond about begun None)
+taken_if : (about : Bool) (take : Option Start) (begun : Option Begun) → take ≡ option_map begun_start begun →
+    cond about take None ≡ option_map begun_start (cond about begun None)
 taken_if true take begun same = same
 taken_if false take begun same = refl
 
-pub taken_first : (setup : Setup) (k : Kept) (id : ℕ) (hs : List Held) → AreNumberedBy setup.node k.incarnation hs → taken_for setup k id hs ≡ option_map begun_start (first_begun id hs)
+pub taken_first : (setup : Setup) (k : Kept) (id : ℕ) (hs : List Held) → AreNumberedBy setup.node k.incarnation hs →
+    taken_for setup k id hs ≡ option_map begun_start (first_begun id hs)
 taken_first setup k id [] by = refl
 taken_first setup k id (h ∷ hs) by =
-    (λ i. option_or (taken_if (id_of h == id) (take_for setup k h h.waiting.request) (begun_in h.waiting.since h.waiting.request) (taken_by setup k h h.waiting.request by.0) i) (taken_first setup k id hs by.1 i))
+    (λ i. option_or (taken_if (id_of h == id) (take_for setup k h h.waiting.request) (begun_in h.waiting.since h.waiting.request)
+    (taken_by setup k h h.waiting.request by.0) i) (taken_first setup k id hs by.1 i))
     ∙ sym (map_or begun_start (begun_of id h) (first_begun id hs))
 
 -- what is begun for an id is of that id
@@ -53,6 +57,8 @@ first_named id (h ∷ hs) b is = by_test (id_of h == id) refl (first_named id hs
         let one : other ≡ b = cc in
         begun_named h.waiting.since h.waiting.request b (found ∙ ap (λ (x : Begun). Some x) one) ∙ same
 
-    by_test : (test : Bool) → (id_of h == id) ≡ test → (first_begun id hs ≡ Some b → b.id ≡ id) → option_or (if test then begun_in h.waiting.since h.waiting.request else None) (first_begun id hs) ≡ Some b → b.id ≡ id
+    by_test : (test : Bool) → (id_of h == id) ≡ test → (first_begun id hs ≡ Some b → b.id ≡ id) →
+        option_or (if test then begun_in h.waiting.since h.waiting.request else None) (first_begun id hs) ≡ Some b →
+        b.id ≡ id
     by_test true about later is = by_first (begun_in h.waiting.since h.waiting.request) refl later is ((Decides-eqb (id_of h) id).0 about)
     by_test false apart later is = later is

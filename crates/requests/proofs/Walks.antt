@@ -1,5 +1,6 @@
 -- What is done with all that wait, one after another.
-use Rattle.std.proofs.Common.{◌≡◌, ℕ, zero, suc, ◌+◌, ◌<◌, ◌≤◌, ◌++◌, Bool, true, false, cond, List, [], ◌∷◌, map, length, take, drop, set, get_or, option_map, Option, Some, None, refl, sym, ap, subst, ◌∙◌, arith}
+use Rattle.std.proofs.Common.{◌≡◌, ℕ, zero, suc, ◌+◌, ◌<◌, ◌≤◌, ◌++◌, Bool, true, false, cond, List, [], ◌∷◌, map, length, take, drop, set}
+use Rattle.std.proofs.Common.{get_or, option_map, Option, Some, None, refl, sym, ap, subst, ◌∙◌, arith}
 use Rattle.std.specs.Prelude.{◌==◌, ◌||◌, Err, Ok, OnErr, Result, filter, nat_lt}
 use Rattle.std.specs.List.{list_any, position, position_or_len}
 use Rattle.std.proofs.lemmas.Bool.{eqb-true, ltb-false}
@@ -32,13 +33,17 @@ pub kept_in : (test : Held → Bool) (boxes : List (Box Waits)) → boxed_in (fi
 kept_in test [] = refl
 kept_in test (b ∷ boxes) = at_test (test (in_box b)) (kept_in test boxes)
   where
-    at_test : (pass : Bool) → boxed_in (filter (λ c. test (in_box c)) boxes) ≡ filter test (boxed_in boxes) → boxed_in (cond pass (b ∷ filter (λ c. test (in_box c)) boxes) (filter (λ c. test (in_box c)) boxes)) ≡ cond pass (in_box b ∷ filter test (boxed_in boxes)) (filter test (boxed_in boxes))
+    at_test : (pass : Bool) → boxed_in (filter (λ c. test (in_box c)) boxes) ≡ filter test (boxed_in boxes) →
+        boxed_in (cond pass (b ∷ filter (λ c. test (in_box c)) boxes) (filter (λ c. test (in_box c)) boxes)) ≡ cond pass
+        (in_box b ∷ filter test (boxed_in boxes)) (filter test (boxed_in boxes))
     at_test true same = ap (λ (hs : List Held). in_box b ∷ hs) same
     at_test false same = same
 
 -- ---- replies
 
-pub replied_is : (items : List Sent) (reply : Option Sent) (h : Held) (answer : Option Answer) (rest : List Reply) → option_map reply_given reply ≡ reply_with h answer → map reply_given (items ++ option_to_list reply) ++ rest ≡ map reply_given items ++ replied h answer rest
+pub replied_is : (items : List Sent) (reply : Option Sent) (h : Held) (answer : Option Answer) (rest : List Reply) →
+    option_map reply_given reply ≡ reply_with h answer →
+    map reply_given (items ++ option_to_list reply) ++ rest ≡ map reply_given items ++ replied h answer rest
 replied_is items None h None rest same = ap (λ (all : List Sent). map reply_given all ++ rest) (append-nil items)
 replied_is items None h (Some answer) rest same = absurd (cc)
 replied_is items (Some reply) h None rest same = absurd (cc)
@@ -50,14 +55,16 @@ replied_is items (Some reply) h (Some answer) rest same =
 
 -- ---- each is changed
 
-module _ (f : Held → Held) (old cur : List (Box Waits)) (i : ℕ) (x b : Box Waits) (within : i < length cur) (before : i < length old) (is : x ≡ get_or cur i x) where
+module _ (f : Held → Held) (old cur : List (Box Waits)) (i : ℕ) (x b : Box Waits) (within : i < length cur) (before : i < length old)
+    (is : x ≡ get_or cur i x) where
   split : drop i cur ≡ drop i old → x ∷ drop (i + 1) cur ≡ get_or old i x ∷ drop (i + 1) old
   split back = ap (λ (c : Box Waits). c ∷ drop (i + 1) cur) is ∙ sym (drop_more cur i x within) ∙ back ∙ drop_more old i x before
 
   same_here : drop i cur ≡ drop i old → x ≡ get_or old i x
   same_here back = let all = split back in cc
 
-  pub changed_front : in_box b ≡ f (in_box x) → boxed_in (take i cur) ≡ map f (boxed_in (take i old)) → drop i cur ≡ drop i old → boxed_in (take (i + 1) (set cur i b)) ≡ map f (boxed_in (take (i + 1) old))
+  pub changed_front : in_box b ≡ f (in_box x) → boxed_in (take i cur) ≡ map f (boxed_in (take i old)) → drop i cur ≡ drop i old →
+      boxed_in (take (i + 1) (set cur i b)) ≡ map f (boxed_in (take (i + 1) old))
   changed_front here front back =
       ap boxed_in (take_more_set cur i b within)
       ∙ boxed_append (take i cur) (b ∷ [])
@@ -72,7 +79,11 @@ module _ (f : Held → Held) (old cur : List (Box Waits)) (i : ℕ) (x b : Box W
       let rest : drop (i + 1) cur ≡ drop (i + 1) old = cc in
       drop-set-lt (i + 1) cur i b (omega arith) ∙ rest
 
-pub replied_next : (f : Held → Held) (nodes : ℕ) (known : Option (List Decree)) (id : ℕ) (boxes : List (Box Waits)) (i : ℕ) (b : Box Waits) → i < length boxes → b ≡ get_or boxes i b → (before after : List Sent) (reply : Option Sent) → after ≡ before ++ option_to_list reply → option_map reply_given reply ≡ reply_with (f (in_box b)) (reply_of nodes known id (f (in_box b))) → map reply_given before ++ replies_to nodes known id (map f (boxed_in (drop i boxes))) ≡ replies_to nodes known id (map f (boxed_in boxes)) → map reply_given after ++ replies_to nodes known id (map f (boxed_in (drop (i + 1) boxes))) ≡ replies_to nodes known id (map f (boxed_in boxes))
+pub replied_next : (f : Held → Held) (nodes : ℕ) (known : Option (List Decree)) (id : ℕ) (boxes : List (Box Waits)) (i : ℕ) (b : Box Waits) →
+    i < length boxes → b ≡ get_or boxes i b → (before after : List Sent) (reply : Option Sent) → after ≡ before ++ option_to_list reply →
+    option_map reply_given reply ≡ reply_with (f (in_box b)) (reply_of nodes known id (f (in_box b))) →
+    map reply_given before ++ replies_to nodes known id (map f (boxed_in (drop i boxes))) ≡ replies_to nodes known id (map f (boxed_in boxes)) →
+    map reply_given after ++ replies_to nodes known id (map f (boxed_in (drop (i + 1) boxes))) ≡ replies_to nodes known id (map f (boxed_in boxes))
 replied_next f nodes known id boxes i b within is before after reply stored same so_far =
     let rest : List Reply = replies_to nodes known id (map f (boxed_in (drop (i + 1) boxes))) in
     let more : drop i boxes ≡ b ∷ drop (i + 1) boxes = drop_more boxes i b within ∙ ap (λ (c : Box Waits). c ∷ drop (i + 1) boxes) (sym is) in
@@ -97,7 +108,10 @@ below_same one other hs same below = subst (λ (k : ℕ). IsBelow k hs) same bel
 abbrev pub has_ticket : ℕ → Box Waits → Bool
 has_ticket ticket b = ticket_of (in_box b) == ticket
 
-pub put_at : (boxes : List (Box Waits)) (new : Box Waits) (i : ℕ) → Ascend (boxed_in boxes) → i < length boxes → has_ticket (ticket_of (in_box new)) (get_or boxes i new) ≡ true → ((k : ℕ) → k < i → has_ticket (ticket_of (in_box new)) (get_or boxes k new) ≡ false) → boxed_in (set boxes i new) ≡ with_held (boxed_in boxes) (in_box new)
+pub put_at : (boxes : List (Box Waits)) (new : Box Waits) (i : ℕ) → Ascend (boxed_in boxes) → i < length boxes →
+    has_ticket (ticket_of (in_box new)) (get_or boxes i new) ≡ true →
+    ((k : ℕ) → k < i → has_ticket (ticket_of (in_box new)) (get_or boxes k new) ≡ false) →
+    boxed_in (set boxes i new) ≡ with_held (boxed_in boxes) (in_box new)
 put_at [] new i ascend within here before = absurd (omega arith)
 put_at (b ∷ boxes) new zero ascend within here before =
     let same = eqb-true (ticket_of (in_box b)) (ticket_of (in_box new)) here in
@@ -111,18 +125,22 @@ put_at (b ∷ boxes) new (suc i) ascend within here before =
 none_passes : {X : Type 0} (p : X → Bool) (xs : List X) → position p xs ≡ None → length xs ≤ position_or_len p xs
 none_passes p xs nowhere = at_test (nat_lt (position_or_len p xs) (length xs)) refl nowhere
   where
-    at_test : (below : Bool) → nat_lt (position_or_len p xs) (length xs) ≡ below → cond below (Some (position_or_len p xs)) None ≡ None → length xs ≤ position_or_len p xs
+    at_test : (below : Bool) → nat_lt (position_or_len p xs) (length xs) ≡ below → cond below (Some (position_or_len p xs)) None ≡ None →
+        length xs ≤ position_or_len p xs
     at_test true is none = absurd (cc)
     at_test false is none = ltb-false (position_or_len p xs) (length xs) is
 
-all_stay : (boxes : List (Box Waits)) (new : Box Waits) → ((k : ℕ) → k < length boxes → has_ticket (ticket_of (in_box new)) (get_or boxes k new) ≡ false) → boxed_in boxes ≡ with_held (boxed_in boxes) (in_box new)
+all_stay : (boxes : List (Box Waits)) (new : Box Waits) →
+    ((k : ℕ) → k < length boxes → has_ticket (ticket_of (in_box new)) (get_or boxes k new) ≡ false) →
+    boxed_in boxes ≡ with_held (boxed_in boxes) (in_box new)
 all_stay [] new differ = refl
 all_stay (b ∷ boxes) new differ =
     let first = differ 0 (omega arith) in
     let rest = all_stay boxes new (λ k below. differ (suc k) (omega arith)) in
     λ j. cond (sym first j) (in_box new) (in_box b) ∷ rest j
 
-pub put_nowhere : (boxes : List (Box Waits)) (new : Box Waits) → position (has_ticket (ticket_of (in_box new))) boxes ≡ None → boxed_in boxes ≡ with_held (boxed_in boxes) (in_box new)
+pub put_nowhere : (boxes : List (Box Waits)) (new : Box Waits) → position (has_ticket (ticket_of (in_box new))) boxes ≡ None →
+    boxed_in boxes ≡ with_held (boxed_in boxes) (in_box new)
 put_nowhere boxes new nowhere =
     let test = has_ticket (ticket_of (in_box new)) in
     let past = none_passes test boxes nowhere in
@@ -133,7 +151,8 @@ put_nowhere boxes new nowhere =
 pub one_passes : (test : Held → Bool) (boxes : List (Box Waits)) (i : ℕ) (b : Box Waits) → i < length boxes → b ≡ get_or boxes i b → test (in_box b) ≡ true →
     list_any test (boxed_in boxes) ≡ true
 one_passes test [] i b within is passes = absurd (omega arith)
-one_passes test (first ∷ others) zero b within is passes = let here : test (in_box first) ≡ true = ap (λ (c : Box Waits). test (in_box c)) (sym is) ∙ passes in rw here refl
+one_passes test (first ∷ others) zero b within is passes =
+    let here : test (in_box first) ≡ true = ap (λ (c : Box Waits). test (in_box c)) (sym is) ∙ passes in rw here refl
 one_passes test (first ∷ others) (suc i) b within is passes = by_first (test (in_box first)) (one_passes test others i b (omega arith) is passes)
   where
     by_first : (here : Bool) → list_any test (boxed_in others) ≡ true → (here || list_any test (boxed_in others)) ≡ true
@@ -141,7 +160,8 @@ one_passes test (first ∷ others) (suc i) b within is passes = by_first (test (
     by_first false later = later
 
 -- and is kept by another test
-pub one_kept : (keeps test : Held → Bool) (boxes : List (Box Waits)) (i : ℕ) (b : Box Waits) → i < length boxes → b ≡ get_or boxes i b → keeps (in_box b) ≡ true → test (in_box b) ≡ true →
+pub one_kept : (keeps test : Held → Bool) (boxes : List (Box Waits)) (i : ℕ) (b : Box Waits) → i < length boxes → b ≡ get_or boxes i b →
+    keeps (in_box b) ≡ true → test (in_box b) ≡ true →
     list_any test (filter keeps (boxed_in boxes)) ≡ true
 one_kept keeps test [] i b within is kept passes = absurd (omega arith)
 one_kept keeps test (first ∷ others) zero b within is kept passes =

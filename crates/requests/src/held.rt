@@ -122,7 +122,8 @@ impl Held {
 
     /// A copy of the vote that is told, if it is higher than what was told before.
     fn higher_copy(&self, told: Option<&Vote>) -> Result<Option<Vote>, AllocError>
-        ensures { IfOk result (λ copy. higher_top (held_of self.now).top (told_vote (option_copied told.entry)) ≡ over (told_vote copy) (held_of self.now).top) }
+        ensures { IfOk result (λ copy. higher_top (held_of self.now).top (told_vote (option_copied told.entry))
+            ≡ over (told_vote copy) (held_of self.now).top) }
     {
         let Some(vote) = told else {
             return Ok(None);
@@ -344,7 +345,8 @@ impl Held {
 
     /// Its question, for the node and the incarnation in which it waits, if it asks one.
     pub fn asked(&self, node: NodeNo, incarnation: Incarnation) -> Option<Packet>
-        ensures { option_map packet_of result ≡ (if asks (held_of self.now).waiting.request then Some (question_by node incarnation (held_of self.now)) else None) }
+        ensures { option_map packet_of result ≡
+            (if asks (held_of self.now).waiting.request then Some (question_by node incarnation (held_of self.now)) else None) }
     {
         if !self.request.asks() {
             return None;

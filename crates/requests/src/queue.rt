@@ -173,7 +173,8 @@ impl Queue {
         incarnation: Incarnation,
         nodes: u8,
     ) -> Result<Vec<Packet>, AllocError>
-        ensures packets { IfOk result (λ packets. map packet_of packets.items ≡ map (question_by node incarnation) (filter (is_untold nodes) (timely clock (held_in self.now)))) }
+        ensures packets { IfOk result (λ packets. map packet_of packets.items
+            ≡ map (question_by node incarnation) (filter (is_untold nodes) (timely clock (held_in self.now)))) }
         ensures memory { OnErr result (IsTrue (list_any (is_untold nodes) (timely clock (held_in self.now)))) }
     {
         questions(

@@ -148,7 +148,8 @@ pub(crate) fn questions(
     incarnation: Incarnation,
     nodes: u8,
 ) -> Result<Vec<Packet>, AllocError>
-    ensures packets { IfOk result (λ packets. map packet_of packets.items ≡ map (question_by node incarnation) (filter (is_untold nodes) (timely clock (boxed_in held.now)))) }
+    ensures packets { IfOk result (λ packets. map packet_of packets.items
+        ≡ map (question_by node incarnation) (filter (is_untold nodes) (timely clock (boxed_in held.now)))) }
     ensures memory { OnErr result (IsTrue (list_any (is_untold nodes) (timely clock (boxed_in held.now)))) }
 {
     let mut packets = Vec::new(alloc);

@@ -16,7 +16,8 @@ use Rattle.rules.specs.declared.standpoint.Standpoint.{Standpoint}
 use Rattle.rules.specs.Dues.{own_rule}
 use Rattle.rules.specs.Seen.{IsSeen}
 
-pub rule_seen : (setup : Setup) (k : Kept) (up : List ℕ → Bool) (id : ℕ) (newest : Decree) (older : List Decree) (taken : Submission) (s : Standpoint) (a : Attempted)
+pub rule_seen : (setup : Setup) (k : Kept) (up : List ℕ → Bool) (id : ℕ) (newest : Decree) (older : List Decree) (taken : Submission)
+    (s : Standpoint) (a : Attempted)
     (cancelled : Bool) → taken_in (newest ∷ older) ≡ Some taken → IsSeen setup k id taken (length older) s a cancelled →
     known_rule setup k up id (Some (newest ∷ older)) ≡ own_rule s a cancelled up newest older taken
 rule_seen setup k up id newest older taken s a cancelled message seen =

@@ -53,7 +53,8 @@ module _ (s : Standpoint) (taken : Submission) (newest : Decree) (older : List D
     older = older;
     decrees_are = refl;
     idle = subst IsIdleKind (sym is) idle;
-    may = λ author. subst (λ (t : Option Submission). MayExtend t (newest ∷ older) (record { author = author; moment = now; kind = kind_due error due })) (sym message)
+    may = λ author. subst (λ (t : Option Submission). MayExtend t (newest ∷ older)
+        (record { author = author; moment = now; kind = kind_due error due })) (sym message)
         (later, subst (λ (k : Kind). MayFollow taken attempts newest.author newest.moment k author now (kind_due error due)) (sym is) (follows author));
   }
 
@@ -64,7 +65,8 @@ module _ (s : Standpoint) (taken : Submission) (newest : Decree) (older : List D
 
   follows_of : (kind : Kind) → newest.kind ≡ kind → (due : DueDecree) → May due → Follows kind due
   follows_of kind is due may author =
-      let extends = subst (λ (t : Option Submission). MayExtend t (newest ∷ older) (record { author = author; moment = now; kind = kind_due error due })) message (may.may author) in
+      let extends = subst (λ (t : Option Submission). MayExtend t (newest ∷ older)
+      (record { author = author; moment = now; kind = kind_due error due })) message (may.may author) in
       subst (λ (k : Kind). MayFollow taken attempts newest.author newest.moment k author now (kind_due error due)) is extends.1
 
   -- ---- the rules in their order, by this kind
@@ -73,7 +75,8 @@ module _ (s : Standpoint) (taken : Submission) (newest : Decree) (older : List D
   fit due = fitting_for s newest older (dues.Decree due)
 
   abbrev expires : Kind → Option Fitting
-  expires kind = fitting Expire (if is_idle kind && nat_le taken.expiry now then Some (start_behind (setup_of s) (kept_of s) newest older (Fate Expired 0)) else None)
+  expires kind = fitting Expire (if is_idle kind && nat_le taken.expiry now then Some
+      (start_behind (setup_of s) (kept_of s) newest older (Fate Expired 0)) else None)
 
   abbrev answer : Kind → Option Fitting
   answer kind = option_or (expires kind)
@@ -92,13 +95,15 @@ module _ (s : Standpoint) (taken : Submission) (newest : Decree) (older : List D
   behind_taking of is true t u expired first is_up None none =
       absurd (none decrees.Expired (may_be (Taken of) is decrees.Expired tt (λ author. grind (arith, nat_tests)), tt))
   behind_taking of is true t u expired first is_up (Some decrees.Expired) due = rw (expired) refl
-  behind_taking of is true t u expired first is_up (Some decrees.Undeliverable) due = absurd (follows_of (Taken of) is decrees.Undeliverable due.fits.0 newest.author)
+  behind_taking of is true t u expired first is_up (Some decrees.Undeliverable) due = absurd
+      (follows_of (Taken of) is decrees.Undeliverable due.fits.0 newest.author)
   behind_taking of is true t u expired first is_up (Some (decrees.Attempt number)) due =
       let follows = follows_of (Taken of) is (decrees.Attempt number) due.fits.0 newest.author in
       let before = follows.valid in absurd (grind (arith, nat_tests))
   behind_taking of is false t u expired first is_up (Some decrees.Expired) due =
       let follows = follows_of (Taken of) is decrees.Expired due.fits.0 newest.author in absurd (grind (arith, nat_tests))
-  behind_taking of is false t u expired first is_up (Some decrees.Undeliverable) due = absurd (follows_of (Taken of) is decrees.Undeliverable due.fits.0 newest.author)
+  behind_taking of is false t u expired first is_up (Some decrees.Undeliverable) due = absurd
+      (follows_of (Taken of) is decrees.Undeliverable due.fits.0 newest.author)
   behind_taking of is false t u expired first is_up (Some (decrees.Attempt number)) due =
       let follows = follows_of (Taken of) is (decrees.Attempt number) due.fits.0 newest.author in
       let scheduled = follows.scheduled in
@@ -122,7 +127,8 @@ module _ (s : Standpoint) (taken : Submission) (newest : Decree) (older : List D
 
   next_decides : Decides is_next ((attempts < most_attempts) × ((now < taken.expiry) × (newest.moment + retry_delay * attempts ≤ now)))
   next_decides =
-      Decides-and (nat_lt attempts most_attempts) (nat_lt now taken.expiry && nat_le (newest.moment + retry_delay * attempts) now) (Decides-ltb attempts most_attempts)
+      Decides-and (nat_lt attempts most_attempts) (nat_lt now taken.expiry && nat_le (newest.moment + retry_delay * attempts) now)
+      (Decides-ltb attempts most_attempts)
       (Decides-and (nat_lt now taken.expiry) (nat_le (newest.moment + retry_delay * attempts) now) (Decides-ltb now taken.expiry)
       (nat_le_decides (newest.moment + retry_delay * attempts) now))
 
@@ -191,7 +197,8 @@ idle_is_due s a cancelled up [] newest taken head message other kept due is = le
 idle_is_due s a cancelled up (first ∷ older) newest taken head message other kept due is = λ of same.
     let one : newest ≡ first = let heads : Some first ≡ Some newest = head in cc in
     let messages : taken ≡ of = cc in
-    subst (λ (t : Submission). option_map (fitting_for s first older) (option_map (λ (d : DueDecree). dues.Decree d) due) ≡ own_rule s a cancelled up first older t) messages
+    subst (λ (t : Submission). option_map (fitting_for s first older)
+    (option_map (λ (d : DueDecree). dues.Decree d) due) ≡ own_rule s a cancelled up first older t) messages
     (idle_here s a cancelled up first older taken message
     (subst (λ (n : Decree). is_attempt_by s.author.node n n.kind ≡ false) one other)
     (subst (λ (n : Decree). (is_idle n.kind && cancelled) ≡ false) one kept) due

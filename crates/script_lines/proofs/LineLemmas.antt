@@ -25,7 +25,11 @@ pub lines_of-last : (line : List ℕ) → line ≢ [] → IsOneLine line → lin
 lines_of-last [] some one = absurd (some refl)
 lines_of-last (octet ∷ []) some one = lines_of-other octet [] (one_head octet [] one)
 lines_of-last (octet ∷ next ∷ line) some one =
-    rw (lines_of-other octet (next ∷ line) (one_head octet (next ∷ line) one), lines_of-last (next ∷ line) (λ (e : next ∷ line ≡ []). absurd cc) (one_tail octet (next ∷ line) one)) refl
+    rw (
+      lines_of-other octet (next ∷ line) (one_head octet (next ∷ line) one),
+      lines_of-last (next ∷ line)
+          (λ (e : next ∷ line ≡ []). absurd cc) (one_tail octet (next ∷ line) one),
+    ) refl
 
 -- the first line is there, and has so many octets or more
 pub record BeginsWith (count : ℕ) (lines : List (List ℕ)) : Type 0 where
@@ -47,14 +51,16 @@ lines_of-begins octet (next ∷ octets) more one =
     rw (lines_of-other octet (next ∷ octets ++ more) (one_head octet (next ∷ octets) one))
     (onto_first-longer octet _ _ (lines_of-begins next octets more (one_tail octet (next ∷ octets) one)))
 
-pub lines_of-too_long : (octets more : List ℕ) → BeginsTooLong octets → (line : List ℕ) × (lines : List (List ℕ)) × (lines_of (octets ++ more) ≡ line ∷ lines) × (20000 < length line)
+pub lines_of-too_long : (octets more : List ℕ) → BeginsTooLong octets →
+    (line : List ℕ) × (lines : List (List ℕ)) × (lines_of (octets ++ more) ≡ line ∷ lines) × (20000 < length line)
 lines_of-too_long [] more h = absurd (omega (arith, h.many))
 lines_of-too_long (octet ∷ octets) more h =
     let begins = lines_of-begins octet octets more h.line in
     (begins.first, begins.others, begins.parts, omega (arith, h.many, begins.long))
 
 -- a whole line at the front is the first line, whatever follows
-pub lines_of-begins_with : (count : ℕ) (octets more : List ℕ) → BeginsWithLine count octets → lines_of (octets ++ more) ≡ take count octets ∷ lines_of (drop (count + 1) octets ++ more)
+pub lines_of-begins_with : (count : ℕ) (octets more : List ℕ) → BeginsWithLine count octets →
+    lines_of (octets ++ more) ≡ take count octets ∷ lines_of (drop (count + 1) octets ++ more)
 lines_of-begins_with count octets more h =
     let within : count < length octets = slice_get_within octets count 10 h.feed in
     let feed : get_or octets count 0 ≡ 10 = get_or_from_slice_get octets count 10 0 h.feed in

@@ -1,5 +1,7 @@
 -- What a line says is what it spells: each piece that is read is spelled so, and what is spelled so is read again.
-use Rattle.std.proofs.Common.{◌≡◌, ◌≢◌, ◌↔◌, ◌⊎◌, ℕ, suc, ◌+◌, ◌-◌, ◌^◌, ◌<◌, ◌≤◌, ◌==◌, ◌&&◌, Bool, true, false, cond, nat_eq, nat_le, ltb, List, [], ◌∷◌, ◌++◌, length, get_or, take, drop, map, Option, Some, None, Result, Ok, Err, All, codes, decimal, refl, sym, ap, subst, ◌∙◌, inl, inr, arith, append-nil, length-append}
+use Rattle.std.proofs.Common.{◌≡◌, ◌≢◌, ◌↔◌, ◌⊎◌, ℕ, suc, ◌+◌, ◌-◌, ◌^◌, ◌<◌, ◌≤◌, ◌==◌, ◌&&◌, Bool, true, false, cond, nat_eq, nat_le}
+use Rattle.std.proofs.Common.{ltb, List, [], ◌∷◌, ◌++◌, length, get_or, take, drop, map, Option, Some, None, Result, Ok, Err, All, codes}
+use Rattle.std.proofs.Common.{decimal, refl, sym, ap, subst, ◌∙◌, inl, inr, arith, append-nil, length-append}
 use Rattle.std.specs.Prelude.{option_map}
 use Rattle.std.specs.Int.{is_in_range}
 use Rattle.std.specs.List.{starts_with}
@@ -17,7 +19,11 @@ use Rattle.hex.specs.Hex.{decode_of}
 use Rattle.mc_model.specs.message.Ids.{IsId, IsMoment, IsNode}
 use Rattle.mc_types.specs.Texts.{id_in}
 use Rattle.mc_types.proofs.Texts.{ids_and_texts}
-use Rattle.script_lines.specs.Said.{Said, Skipped, Nodes, Octets, Deliver, Crash, Tick, Grant, Settle, Restart, Replay, IsWording, IsSession, Spells, spaced, side_word, most_number, each_once, ◌>>=◌, behind, has_leading_zero, number_of, word_len, number_at, node_at, ends, nodes_said, octets_parts, octets_said, deliver_said, side_in, crash_said, tick_said, grant_said, nodes_in, settle_said, restart_said, replay_said, named_said, is_skipped, words_said, said_of, names_within, said_within}
+use Rattle.script_lines.specs.Said.{Said, Skipped, Nodes, Octets, Deliver, Crash, Tick, Grant, Settle, Restart, Replay, IsWording}
+use Rattle.script_lines.specs.Said.{IsSession, Spells, spaced, side_word, most_number, each_once, ◌>>=◌, behind, has_leading_zero}
+use Rattle.script_lines.specs.Said.{number_of, word_len, number_at, node_at, ends, nodes_said, octets_parts, octets_said, deliver_said}
+use Rattle.script_lines.specs.Said.{side_in, crash_said, tick_said, grant_said, nodes_in, settle_said, restart_said, replay_said}
+use Rattle.script_lines.specs.Said.{named_said, is_skipped, words_said, said_of, names_within, said_within}
 use Rattle.script_lines.proofs.WordLemmas.{own, Numeral, Numeral-from_test, test-from_Numeral}
 
 -- ---- a step that gave a value
@@ -101,7 +107,8 @@ unfolding number_at
 number_at_takes least most text n rest e =
     let a = bind_some (behind (codes " ") text) (λ words. number_of (take (word_len words) words) >>= λ number. cond (nat_le least number && nat_le number most) (Some (number, drop (word_len words) words)) None) (n, rest) e in
     let words = a.0 in
-    let b = bind_some (number_of (take (word_len words) words)) (λ number. cond (nat_le least number && nat_le number most) (Some (number, drop (word_len words) words)) None) (n, rest) a.2 in
+    let b = bind_some (number_of (take (word_len words) words))
+    (λ number. cond (nat_le least number && nat_le number most) (Some (number, drop (word_len words) words)) None) (n, rest) a.2 in
     let is = cond_some (nat_le least b.0 && nat_le b.0 most) (b.0, drop (word_len words) words) (n, rest) b.2 in
     let n-is : b.0 ≡ n = ap (λ (p : ℕ × List ℕ). p.0) is.1 in
     let rest-is : drop (word_len words) words ≡ rest = ap (λ (p : ℕ × List ℕ). p.1) is.1 in
@@ -133,10 +140,19 @@ word_len-decimal n rest fits ends =
     ∙ ap (λ i. get_or rest i 0) (let none : length (decimal n) - length (decimal n) ≡ 0 = omega arith in none) in
     eq-eqb _ _ (behind_it ∙ ends (omega (arith, length-append (decimal n) rest))))
 
-number_at_again : (least most n : ℕ) (rest : List ℕ) → least ≤ n → n ≤ most → n < 2 ^ 64 → EndsWord rest → number_at least most (32 ∷ decimal n ++ rest) ≡ Some (n, rest)
+number_at_again : (least most n : ℕ) (rest : List ℕ) → least ≤ n → n ≤ most → n < 2 ^ 64 → EndsWord rest →
+    number_at least most (32 ∷ decimal n ++ rest) ≡ Some (n, rest)
 unfolding number_at behind
 number_at_again least most n rest low high fits ends =
-    rw (word_len-decimal n rest fits ends, take_at (decimal n) rest (length (decimal n)) refl, drop_at (decimal n) rest (length (decimal n)) refl, number_of_again n fits, le-leb least n low, le-leb n most high) refl
+    rw (
+      word_len-decimal n rest fits ends,
+      take_at (decimal n) rest (length (decimal n)) refl,
+      drop_at (decimal n) rest
+          (length (decimal n)) refl,
+      number_of_again n fits,
+      le-leb least n low,
+      le-leb n most high,
+    ) refl
 
 -- a step that reads a number
 record ReadsNumber (least most : ℕ) (text : List ℕ) (later : ℕ × List ℕ → Option Said) (said : Said) : Type 0 where
@@ -176,7 +192,8 @@ node_at_takes (octet ∷ digit ∷ text) node rest e =
     let node_is : digit - 48 ≡ node = same.0 in
     record {
       is_node = record { least = omega arith; most = omega arith };
-      parts = node_digit octet digit text (eqb-true octet 32 both.0) low high ∙ ap (λ n. 32 ∷ decimal n ++ text) same.0 ∙ ap (λ xs. 32 ∷ decimal node ++ xs) same.1;
+      parts = node_digit octet digit text (eqb-true octet 32 both.0) low high ∙ ap (λ n. 32 ∷ decimal n ++ text) same.0 ∙ ap
+          (λ xs. 32 ∷ decimal node ++ xs) same.1;
     }
 
 digit_passes : (node : ℕ) → IsNode node → is_in_range 49 57 (48 + node) ≡ true
@@ -237,10 +254,17 @@ nodes_takes text said e =
           subst (λ s. IsWording s (codes "nodes" ++ text)) is.1 (a.taken.is_node, b.taken.low, b.taken.high, inl (ap (λ xs. codes "nodes" ++ xs) words))
     ]
 
-nodes_again : (count serial : ℕ) → IsNode count → 1 ≤ serial → serial ≤ 99999 → nodes_said (spaced (decimal count ∷ decimal serial ∷ [])) ≡ Some (Nodes count serial)
+nodes_again : (count serial : ℕ) → IsNode count → 1 ≤ serial → serial ≤ 99999 →
+    nodes_said (spaced (decimal count ∷ decimal serial ∷ [])) ≡ Some (Nodes count serial)
 unfolding nodes_said
 nodes_again count serial is low high =
-    rw (node_at_again count (32 ∷ decimal serial ++ []) is, some_word (32 ∷ decimal serial ++ []) (λ (e : 32 ∷ decimal serial ++ [] ≡ []). absurd cc), number_at_again 1 99999 serial [] low high (omega arith) (λ some. absurd (omega arith))) refl
+    rw (
+      node_at_again count (32 ∷ decimal serial ++ []) is,
+      some_word (32 ∷ decimal serial ++ [])
+          (λ (e : 32 ∷ decimal serial ++ [] ≡ []). absurd cc),
+      number_at_again 1 99999 serial [] low high (omega arith)
+          (λ some. absurd (omega arith)),
+    ) refl
 
 nodes_first : (count : ℕ) → IsNode count → nodes_said (spaced (decimal count ∷ [])) ≡ Some (Nodes count 1)
 unfolding nodes_said
@@ -296,7 +320,13 @@ octets_parts_again : (node session : ℕ) (digits : List ℕ) → IsNode node �
     octets_parts (spaced (decimal node ∷ decimal session ∷ digits ∷ [])) ≡ Some (node, session, digits)
 unfolding octets_parts behind
 octets_parts_again node session digits is range some =
-    rw (node_at_again node (32 ∷ decimal session ++ (32 ∷ digits ++ [])) is, number_at_again 1 99 session (32 ∷ digits ++ []) range.least range.most (omega (arith, range.most)) (λ more. refl), append-nil digits, some_word digits some) refl
+    rw (
+      node_at_again node (32 ∷ decimal session ++ (32 ∷ digits ++ [])) is,
+      number_at_again 1 99 session
+          (32 ∷ digits ++ []) range.least range.most (omega (arith, range.most)) (λ more. refl),
+      append-nil digits,
+      some_word digits some,
+    ) refl
 
 octets_again : (node session : ℕ) (digits octets : List ℕ) → IsNode node → IsSession session → digits ≢ [] → decode_of digits ≡ Ok octets →
     octets_said (spaced (decimal node ∷ decimal session ∷ digits ∷ [])) ≡ Some (Octets node session octets)
@@ -356,7 +386,12 @@ crash_again : (node number : ℕ) (after : Bool) → IsNode node → number ≤ 
     crash_said (spaced (decimal node ∷ decimal number ∷ side_word after ∷ [])) ≡ Some (Crash node number after)
 unfolding crash_said
 crash_again node number after is most =
-    rw (node_at_again node (32 ∷ decimal number ++ spaced (side_word after ∷ [])) is, number_at_again 0 most_number number (spaced (side_word after ∷ [])) (omega arith) most (omega arith) (side_ends_word after), side_again after) refl
+    rw (
+      node_at_again node (32 ∷ decimal number ++ spaced (side_word after ∷ [])) is,
+      number_at_again 0 most_number number
+          (spaced (side_word after ∷ [])) (omega arith) most (omega arith) (side_ends_word after),
+      side_again after,
+    ) refl
 
 -- ---- ticks
 
@@ -373,7 +408,11 @@ tick_takes text said e =
 tick_again : (node moment : ℕ) → IsNode node → IsMoment moment → tick_said (spaced (decimal node ∷ decimal moment ∷ [])) ≡ Some (Tick node moment)
 unfolding tick_said
 tick_again node moment is range =
-    rw (node_at_again node (32 ∷ decimal moment ++ []) is, number_at_again 946684800 4102444799 moment [] range.least range.most (omega (arith, range.most)) (λ some. absurd (omega arith))) refl
+    rw (
+      node_at_again node (32 ∷ decimal moment ++ []) is,
+      number_at_again 946684800 4102444799 moment [] range.least range.most
+          (omega (arith, range.most)) (λ some. absurd (omega arith)),
+    ) refl
 
 -- ---- grants
 

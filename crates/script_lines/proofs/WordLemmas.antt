@@ -1,5 +1,7 @@
 -- Words, numbers and digits of a line.
-use Rattle.std.proofs.Common.{◌≡◌, ◌↔◌, ℕ, ◌+◌, ◌-◌, ◌%◌, ◌^◌, ◌<◌, ◌≤◌, ◌==◌, ◌&&◌, ◌||◌, not, Bool, true, false, cond, nat_le, List, [], ◌∷◌, length, get_or, Option, Some, None, Result, Ok, Err, IsOk, position, refl, sym, ap, subst, ◌∙◌, inl, inr, arith}
+use Rattle.std.proofs.Common.{◌≡◌, ◌↔◌, ℕ, ◌+◌, ◌-◌, ◌%◌, ◌^◌, ◌<◌, ◌≤◌, ◌==◌, ◌&&◌, ◌||◌, not, Bool, true, false, cond, nat_le, List, []}
+use Rattle.std.proofs.Common.{◌∷◌, length, get_or, Option, Some, None, Result, Ok, Err, IsOk, position, refl, sym, ap, subst, ◌∙◌, inl}
+use Rattle.std.proofs.Common.{inr, arith}
 use Rattle.std.specs.Prelude.{unwrap_or, filter, is_some, option_map, IsUtf8, MatchResult}
 use Rattle.std.specs.Result.{result_ok}
 use Rattle.std.specs.List.{position_or_len, list_all, range_with_len}
@@ -37,7 +39,8 @@ nodes_in-end [] some e = absurd (omega arith)
 nodes_in-end (octet ∷ []) some e = refl
 nodes_in-end (octet ∷ digit ∷ text) some e = by_test (octet == 32 && is_in_range 49 57 digit) e
   where
-    by_test : (test : Bool) → ◌≡◌ {A = Option (ℕ × List ℕ)} None (cond test (Some (digit - 48, text)) None) → cond test (option_map (λ nodes. (digit - 48) ∷ nodes) (nodes_in text)) None ≡ None
+    by_test : (test : Bool) → ◌≡◌ {A = Option (ℕ × List ℕ)} None (cond test (Some (digit - 48, text)) None) →
+        cond test (option_map (λ nodes. (digit - 48) ∷ nodes) (nodes_in text)) None ≡ None
     by_test true e = absurd cc
     by_test false e = refl
 
@@ -52,7 +55,8 @@ nodes_in-next [] rest node e = absurd cc
 nodes_in-next (octet ∷ []) rest node e = absurd cc
 nodes_in-next (octet ∷ digit ∷ text) rest node e = by_test (octet == 32 && is_in_range 49 57 digit) e refl
   where
-    by_test : (test : Bool) → ◌≡◌ {A = Option (ℕ × List ℕ)} (Some (node, rest)) (cond test (Some (digit - 48, text)) None) → (octet == 32 && is_in_range 49 57 digit) ≡ test →
+    by_test : (test : Bool) → ◌≡◌ {A = Option (ℕ × List ℕ)} (Some (node, rest)) (cond test (Some (digit - 48, text)) None) →
+        (octet == 32 && is_in_range 49 57 digit) ≡ test →
         GoesOn (octet ∷ digit ∷ text) rest node
     by_test true e is =
         let both = some_pair_parts node (digit - 48) rest text e in
@@ -74,7 +78,8 @@ or_assoc : (a b c : Bool) → ((a || b) || c) ≡ (a || (b || c))
 or_assoc true b c = refl
 or_assoc false b c = refl
 
-pub joined-first : (test : ℕ → Bool) → ((node : ℕ) → test node ≡ false) → (listed : Option (List ℕ)) → option_map (joined test) listed ≡ option_map each_once listed
+pub joined-first : (test : ℕ → Bool) → ((node : ℕ) → test node ≡ false) → (listed : Option (List ℕ)) →
+    option_map (joined test) listed ≡ option_map each_once listed
 joined-first test none None = refl
 joined-first test none (Some nodes) = λ i. Some (nodes_with (λ node. none node i || is_listed nodes node))
 
@@ -98,7 +103,8 @@ pub unsettled : (listed : Option (List ℕ)) → None ≡ option_map each_once l
 unsettled None e = refl
 unsettled (Some words) e = absurd cc
 
-pub settled : (nodes : List ℕ) (listed : Option (List ℕ)) → Some nodes ≡ option_map each_once listed → Some (Settle nodes) ≡ option_map (λ words. Settle (each_once words)) listed
+pub settled : (nodes : List ℕ) (listed : Option (List ℕ)) → Some nodes ≡ option_map each_once listed →
+    Some (Settle nodes) ≡ option_map (λ words. Settle (each_once words)) listed
 settled nodes None e = absurd cc
 settled nodes (Some words) e = cc
 
@@ -108,7 +114,8 @@ kept_all : (test q : ℕ → Bool) (nodes : List ℕ) → list_all q (filter tes
 kept_all test q [] = refl
 kept_all test q (node ∷ nodes) = by_test (test node) (kept_all test q nodes)
   where
-    by_test : (passes : Bool) → list_all q (filter test nodes) ≡ list_all (λ n. not (test n) || q n) nodes → list_all q (cond passes (node ∷ filter test nodes) (filter test nodes)) ≡ ((not passes || q node) && list_all (λ n. not (test n) || q n) nodes)
+    by_test : (passes : Bool) → list_all q (filter test nodes) ≡ list_all (λ n. not (test n) || q n) nodes →
+        list_all q (cond passes (node ∷ filter test nodes) (filter test nodes)) ≡ ((not passes || q node) && list_all (λ n. not (test n) || q n) nodes)
     by_test true rest = ap (λ b. q node && b) rest
     by_test false rest = rest
 
@@ -176,7 +183,9 @@ pub IsUtf8-numeral : (word : List ℕ) → Numeral word → IsUtf8 word
 IsUtf8-numeral word h = IsUtf8-from_ascii word (IsAscii-from_digits word (own.to word h.digits))
 
 -- what `from_utf8` says, behind `ok`
-pub was_refused : {S E : Type 0} (P : S → Type 0) (Q : Type 0) (X : E → Type 0) (r : Result S E) → MatchResult r P (λ e. (¬ Q) × X e) → None ≡ result_ok r → Q → ⊥
+pub was_refused : {S E : Type 0} (P : S → Type 0) (Q : Type 0) (X : E → Type 0) (r : Result S E) → MatchResult r P (λ e. (¬ Q) × X e) →
+    None ≡ result_ok r → Q →
+    ⊥
 was_refused P Q X (Ok x) h e q = absurd cc
 was_refused P Q X (Err x) h e q = h.0 q
 
@@ -199,7 +208,8 @@ parsed {E} word (Err e) h p =
 
 -- ---- octets in hex digits
 
-digit_cases : (upper lower digit : Bool) (x y z : ℕ) → ((digit || upper) || lower) ≡ is_some (cond upper (Some x) (cond lower (Some y) (cond digit (Some z) None)))
+digit_cases : (upper lower digit : Bool) (x y z : ℕ) →
+    ((digit || upper) || lower) ≡ is_some (cond upper (Some x) (cond lower (Some y) (cond digit (Some z) None)))
 digit_cases true true true x y z = refl
 digit_cases true true false x y z = refl
 digit_cases true false true x y z = refl
@@ -219,10 +229,13 @@ ok_value (Err e) h = cc h
 pub IsOk-decode_of : (digits : List ℕ) → length digits % 2 ≡ 0 → (list_all is_ascii_hexdigit digits ≡ true) ↔ IsOk (decode_of digits)
 IsOk-decode_of digits even = (
   λ all.
-      let pass = All-weaker (λ c. is_ascii_hexdigit c ≡ true) (λ c. is_hex_digit c ≡ true) (λ c h. sym (hex_digit_same c) ∙ h) digits (AllPass-from_list_all is_ascii_hexdigit digits all) in
+      let pass = All-weaker (λ c. is_ascii_hexdigit c ≡ true) (λ c. is_hex_digit c ≡ true) (λ c h. sym (hex_digit_same c) ∙ h) digits
+      (AllPass-from_list_all is_ascii_hexdigit digits all) in
       let read = decode_of-digits digits even pass in
       rw read.1 refl,
   λ ok.
       let read = ok_value (decode_of digits) ok in
-      list_all-from_AllPass is_ascii_hexdigit digits (All-weaker (λ c. is_hex_digit c ≡ true) (λ c. is_ascii_hexdigit c ≡ true) (λ c h. hex_digit_same c ∙ h) digits (decode_of-ok digits read.0 read.1).1),
+      list_all-from_AllPass is_ascii_hexdigit digits
+      (All-weaker (λ c. is_hex_digit c ≡ true) (λ c. is_ascii_hexdigit c ≡ true) (λ c h. hex_digit_same c ∙ h) digits
+      (decode_of-ok digits read.0 read.1).1),
 )

@@ -70,6 +70,8 @@ pub record LinesAreRead : Type 0 where
   pub last : (line : List ℕ) → line ≢ [] → IsOneLine line → lines_of line ≡ line ∷ []
   pub next : (line rest : List ℕ) → IsOneLine line → lines_of (line ++ 10 ∷ rest) ≡ line ∷ lines_of rest
   -- the same where a whole line is found at the front, whatever follows
-  pub begins : (count : ℕ) (octets more : List ℕ) → BeginsWithLine count octets → lines_of (octets ++ more) ≡ take count octets ∷ lines_of (drop (count + 1) octets ++ more)
+  pub begins : (count : ℕ) (octets more : List ℕ) → BeginsWithLine count octets →
+      lines_of (octets ++ more) ≡ take count octets ∷ lines_of (drop (count + 1) octets ++ more)
   -- where more octets than a line may have stand at the front, the first line is too long, whatever follows
-  pub too_long : (octets more : List ℕ) → BeginsTooLong octets → (line : List ℕ) × (lines : List (List ℕ)) × (lines_of (octets ++ more) ≡ line ∷ lines) × (20000 < length line)
+  pub too_long : (octets more : List ℕ) → BeginsTooLong octets →
+      (line : List ℕ) × (lines : List (List ℕ)) × (lines_of (octets ++ more) ≡ line ∷ lines) × (20000 < length line)

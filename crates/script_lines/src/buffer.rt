@@ -1,6 +1,7 @@
 //! Lines out of a reader, with one buffer of 20,001 octets.
 
-ghost use Rattle.std.specs.Prelude.{◌≡◌, ◌≢◌, ◌≤◌, ◌<◌, ◌^◌, ◌+◌, ◌-◌, ◌++◌, ◌⊎◌, List, ℕ, Option, [], true, nat_lt, take, drop, slice_range, length, IfOk, IfErr, IsErr, OnOk, OnErr, IfSome, IfNone};
+ghost use Rattle.std.specs.Prelude.{◌≡◌, ◌≢◌, ◌≤◌, ◌<◌, ◌^◌, ◌+◌, ◌-◌, ◌++◌, ◌⊎◌, List, ℕ, Option, [], true, nat_lt, take, drop};
+ghost use Rattle.std.specs.Prelude.{slice_range, length, IfOk, IfErr, IsErr, OnOk, OnErr, IfSome, IfNone};
 ghost use Rattle.std.specs.IoError.{error_kind};
 ghost use Rattle.std.specs.Io.KnownBytes.{Consumes, IsAtEnd, ReadConsumes};
 ghost use Rattle.std.specs.Bool.{OnFalse};
@@ -113,7 +114,8 @@ impl LineBuffer {
     /// Reads once, and says whether the reader may have more: `false` if it is at its end.
     fn read_more<R: Read>(&mut self, reader: &mut R) -> Result<bool, ReadFault>
         requires { length self.old.octets ≤ 20000 }
-        ensures grew { IfOk result (λ _. (got : List ℕ) × Consumes (R.remaining reader.old) (R.remaining reader.new) got × (self.new.octets ≡ self.old.octets ++ got)) }
+        ensures grew { IfOk result (λ _. (got : List ℕ) × Consumes (R.remaining reader.old) (R.remaining reader.new) got ×
+            (self.new.octets ≡ self.old.octets ++ got)) }
         ensures reads { OnOk result (self.new.reads_left + 1 ≡ self.old.reads_left) }
         ensures end { IfOk result (λ more. OnFalse more ((self.new.octets ≡ self.old.octets) × IsAtEnd (R.remaining reader.new))) }
         ensures err { OnErr result ((self.new.octets ≡ self.old.octets) × Consumes (R.remaining reader.old) (R.remaining reader.new) []) }

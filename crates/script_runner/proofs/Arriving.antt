@@ -1,5 +1,6 @@
 -- Which packets came to which nodes: a packet comes to one more.
-use Rattle.std.proofs.Common.{◌≡◌, ℕ, zero, suc, ◌+◌, ◌-◌, ◌<◌, ◌≤◌, Bool, true, false, List, [], ◌∷◌, ◌++◌, length, set, Option, Some, None, refl, sym, ap, ◌∙◌, arith, length-append}
+use Rattle.std.proofs.Common.{◌≡◌, ℕ, zero, suc, ◌+◌, ◌-◌, ◌<◌, ◌≤◌, Bool, true, false, List, [], ◌∷◌, ◌++◌, length, set, Option, Some}
+use Rattle.std.proofs.Common.{None, refl, sym, ap, ◌∙◌, arith, length-append}
 use Rattle.std.proofs.lemmas.Bool.{eq-eqb, eqb-false, eqb-true, ne_eqb, or_right}
 use Rattle.std.specs.Prelude.{pred, ◌==◌, ◌&&◌, ◌||◌, slice_get, slice_index_or, slice_set}
 use Rattle.mc_types.specs.Nodes.{has}
@@ -86,9 +87,11 @@ one_came sets place was now node (suc k) at found is =
 pub still_marked : (sets : List ℕ) (place was now node : ℕ) (marks : List ℕ) → slice_get sets place ≡ Some was →
     ((other : ℕ) → has now other ≡ (has was other || other == node)) → AreMarked sets marks → AreMarked (slice_set sets place now) marks
 still_marked sets place was now node marks found is marked at first number least most =
-    one_came sets place was now node number at found is ∙ or_right (number == suc place && at == node) (came_in sets number at) (marked at first number least most)
+    one_came sets place was now node number at found is ∙ or_right (number == suc place && at == node) (came_in sets number at)
+    (marked at first number least most)
 
-pub longer_marked : (sets : List ℕ) (empty : ℕ) (marks : List ℕ) → ((node : ℕ) → has empty node ≡ false) → AreMarked sets marks → AreMarked (sets ++ empty ∷ []) marks
+pub longer_marked : (sets : List ℕ) (empty : ℕ) (marks : List ℕ) → ((node : ℕ) → has empty node ≡ false) → AreMarked sets marks →
+    AreMarked (sets ++ empty ∷ []) marks
 longer_marked sets empty marks none marked at first number least most = one_more sets empty number at (none at) ∙ marked at first number least most
 
 -- ---- while places are made

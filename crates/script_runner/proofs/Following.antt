@@ -20,8 +20,10 @@ pub all_left : (line : World → Moved) (old : Centre) (w : World) (before : Lis
 all_left line old w before is = record { world = w; is = is; next = refl; written = refl }
 
 -- One thing was done.
-unfoldable pub one_done : (all : Moved) (rest others first : World → Moved) (now new : Centre) (before text after : List ℕ) (left : IsLeft all rest now before text) →
-    rest left.world ≡ then_moved (first left.world) (others (first left.world).next) → IsMoved (first left.world) new text after → IsLeft all others new before after
+unfoldable pub one_done : (all : Moved) (rest others first : World → Moved) (now new : Centre) (before text after : List ℕ)
+    (left : IsLeft all rest now before text) →
+    rest left.world ≡ then_moved (first left.world) (others (first left.world).next) → IsMoved (first left.world) new text after →
+    IsLeft all others new before after
 one_done all rest others first now new before text after left is moved = record {
   world = (first left.world).next;
   is = moved.next;
@@ -37,7 +39,8 @@ one_done all rest others first now new before text after left is moved = record 
     later = (others (first left.world).next).prints
 
 -- Nothing is left.
-pub all_done : (all : Moved) (rest : World → Moved) (now : Centre) (before text : List ℕ) (left : IsLeft all rest now before text) → rest left.world ≡ stays left.world →
+pub all_done : (all : Moved) (rest : World → Moved) (now : Centre) (before text : List ℕ) (left : IsLeft all rest now before text) →
+    rest left.world ≡ stays left.world →
     IsMoved all now before text
 all_done all rest now before text left is = record {
   next = subst (IsWorld now) (ap (λ (m : Moved). m.next) (sym is) ∙ left.next) left.is;
@@ -45,7 +48,8 @@ all_done all rest now before text left is = record {
 }
 
 -- the last thing was done
-pub last_done : (all last : Moved) (rest : World → Moved) (now new : Centre) (before text after : List ℕ) (left : IsLeft all rest now before text) → rest left.world ≡ last →
+pub last_done : (all last : Moved) (rest : World → Moved) (now new : Centre) (before text after : List ℕ)
+    (left : IsLeft all rest now before text) → rest left.world ≡ last →
     IsMoved last new text after → IsMoved all new before after
 last_done all last rest now new before text after left is moved = record {
   next = subst (IsWorld new) (ap (λ (m : Moved). m.next) (sym is) ∙ left.next) moved.next;
@@ -54,7 +58,8 @@ last_done all last rest now new before text after left is moved = record {
 
 -- ---- a packet comes to all nodes again
 
-to_first : (number node : ℕ) (nodes : List ℕ) (w : World) → comes_to number (node ∷ nodes) w ≡ then_moved (comes_again w number node) (comes_to number nodes (comes_again w number node).next)
+to_first : (number node : ℕ) (nodes : List ℕ) (w : World) →
+    comes_to number (node ∷ nodes) w ≡ then_moved (comes_again w number node) (comes_to number nodes (comes_again w number node).next)
 unfolding comes_to
 to_first number node nodes w = refl
 
@@ -66,15 +71,18 @@ pub to_all_of : (number start left : ℕ) (w : World) → left ≡ 0 → comes_t
 to_all_of number start left w none = ap (λ (n : ℕ). comes_to number (range_with_len start n) w) none ∙ to_none number w
 
 pub to_next : (number start left more : ℕ) (w : World) → left ≡ suc more →
-    comes_to number (range_with_len start left) w ≡ then_moved (comes_again w number start) (comes_to number (range_with_len (start + 1) more) (comes_again w number start).next)
+    comes_to number (range_with_len start left) w ≡ then_moved (comes_again w number start)
+    (comes_to number (range_with_len (start + 1) more) (comes_again w number start).next)
 to_next number start left more w is = ap (λ (n : ℕ). comes_to number (range_with_len start n) w) is ∙ to_first number start (range_with_len (start + 1) more) w
 
-again_if : (up : Bool) (w : World) (moved : Moved) (new : Centre) (before after : List ℕ) → (up ≡ true → IsMoved moved new before after) → (up ≡ false → IsMoved (stays w) new before after) →
+again_if : (up : Bool) (w : World) (moved : Moved) (new : Centre) (before after : List ℕ) → (up ≡ true → IsMoved moved new before after) →
+    (up ≡ false → IsMoved (stays w) new before after) →
     IsMoved (cond up moved (stays w)) new before after
 again_if true w moved new before after if_so if_not = if_so refl
 again_if false w moved new before after if_so if_not = if_not refl
 
-pub again_moved : (w : World) (number node : ℕ) (new : Centre) (before after : List ℕ) → (is_up_at (runner_at w node) ≡ true → IsMoved (comes w number node) new before after) →
+pub again_moved : (w : World) (number node : ℕ) (new : Centre) (before after : List ℕ) →
+    (is_up_at (runner_at w node) ≡ true → IsMoved (comes w number node) new before after) →
     (is_up_at (runner_at w node) ≡ false → IsMoved (stays w) new before after) → IsMoved (comes_again w number node) new before after
 again_moved w number node new before after if_so if_not = again_if (is_up_at (runner_at w node)) w (comes w number node) new before after if_so if_not
 
@@ -91,7 +99,8 @@ downward count =
     let same : 1 + count ≡ suc count = omega arith in
     ap reverse (range_more 1 count) ∙ reverse-append (range_with_len 1 count) ((1 + count) ∷ []) ∙ ap (λ (n : ℕ). n ∷ reverse (range_with_len 1 count)) same
 
-come_first : (number : ℕ) (numbers : List ℕ) (w : World) → all_come (number ∷ numbers) w ≡ then_moved (comes_to number (node_numbers w) w) (all_come numbers (comes_to number (node_numbers w) w).next)
+come_first : (number : ℕ) (numbers : List ℕ) (w : World) →
+    all_come (number ∷ numbers) w ≡ then_moved (comes_to number (node_numbers w) w) (all_come numbers (comes_to number (node_numbers w) w).next)
 unfolding all_come
 come_first number numbers w = refl
 
@@ -100,7 +109,8 @@ unfolding all_come
 come_none w = refl
 
 pub come_next : (left more : ℕ) (w : World) → left ≡ suc more →
-    all_come (reverse (range_with_len 1 left)) w ≡ then_moved (comes_to left (node_numbers w) w) (all_come (reverse (range_with_len 1 more)) (comes_to left (node_numbers w) w).next)
+    all_come (reverse (range_with_len 1 left)) w ≡ then_moved (comes_to left (node_numbers w) w)
+    (all_come (reverse (range_with_len 1 more)) (comes_to left (node_numbers w) w).next)
 come_next left more w is =
     rw is (ap (λ (ns : List ℕ). all_come ns w) (downward more) ∙ come_first (suc more) (reverse (range_with_len 1 more)) w)
 

@@ -14,7 +14,8 @@ use Rattle.script_runner.specs.declared.station.Station.{Station}
 use Rattle.script_runner.proofs.Coming.{packet_in}
 use Rattle.script_runner.proofs.Searching.{at_or_below, first_found, lacks_is, none_found}
 
-module _ (centre : Centre) (w : World) (nodes : List ℕ) (number : ℕ) (packet : Sent) (is : IsWorld centre w) (sent : Some packet ≡ numbered centre.packets.sent number)
+module _ (centre : Centre) (w : World) (nodes : List ℕ) (number : ℕ) (packet : Sent) (is : IsWorld centre w)
+    (sent : Some packet ≡ numbered centre.packets.sent number)
     (part : takes_part nodes (sender_of (packet_by packet)) ≡ true) where
   due_is : due_at w nodes number (packet_of w.packets number) ≡ find (lacks w nodes number) (node_numbers w)
   due_is =
@@ -27,13 +28,15 @@ module _ (centre : Centre) (w : World) (nodes : List ℕ) (number : ℕ) (packet
       let same = is.nodes in
       sym (due_is ∙ none_found (lacks w nodes number) 1 (length w.runners) (λ j below. none j (omega (arith, below, past, same))))
 
-  pub first_lacks : (place : ℕ) → place < length centre.stations.items → ((j : ℕ) → j < place → lacks w nodes number (1 + j) ≡ false) → lacks w nodes number (1 + place) ≡ true →
+  pub first_lacks : (place : ℕ) → place < length centre.stations.items → ((j : ℕ) → j < place → lacks w nodes number (1 + j) ≡ false) →
+      lacks w nodes number (1 + place) ≡ true →
       Some (1 + place) ≡ due_at w nodes number (packet_of w.packets number)
   first_lacks place within none here =
       let same = is.nodes in
       sym (due_is ∙ first_found (lacks w nodes number) 1 (length w.runners) place (omega (arith, within, same)) none here)
 
-pub lacks_so : (centre : Centre) (w : World) (nodes : List ℕ) (number place node : ℕ) (station : Station) (b : Bool) → IsWorld centre w → slice_get centre.stations.items place ≡ Some station →
+pub lacks_so : (centre : Centre) (w : World) (nodes : List ℕ) (number place node : ℕ) (station : Station) (b : Bool) → IsWorld centre w →
+    slice_get centre.stations.items place ≡ Some station →
     node ≡ place + 1 → b ≡ (takes_part nodes node && (is_up station && not (came_in centre.arrivals number node))) → lacks w nodes number (1 + place) ≡ b
 lacks_so centre w nodes number place node station b is found same tested =
     let first : 1 + place ≡ suc place = omega arith in
@@ -41,5 +44,7 @@ lacks_so centre w nodes number place node station b is found same tested =
     ap (lacks w nodes number) first ∙ lacks_is centre w nodes number place station is found
     ∙ ap (λ (n : ℕ). takes_part nodes n && (is_up station && not (came_in centre.arrivals number n))) last ∙ sym tested
 
-pub one_further : (test : ℕ → Bool) (place : ℕ) → ((j : ℕ) → j < place → test (1 + j) ≡ false) → test (1 + place) ≡ false → (j : ℕ) → j < place + 1 → test (1 + j) ≡ false
+pub one_further : (test : ℕ → Bool) (place : ℕ) → ((j : ℕ) → j < place → test (1 + j) ≡ false) → test (1 + place) ≡ false → (j : ℕ) →
+    j < place + 1 →
+    test (1 + j) ≡ false
 one_further test place none here j below = elim (at_or_below j place below) [ inl less ↦ none j less | inr same ↦ ap (λ (n : ℕ). test (1 + n)) same ∙ here ]

@@ -1,5 +1,6 @@
 -- A node of the centre does something, and what it sent comes behind all packets.
-use Rattle.std.proofs.Common.{◌≡◌, ℕ, zero, suc, ◌-◌, ◌<◌, ◌≤◌, pred, Bool, true, false, List, [], ◌∷◌, ◌++◌, length, map, get_or, Option, Some, None, Result, Ok, Err, refl, sym, ap, subst, ◌∙◌, inl, inr, arith}
+use Rattle.std.proofs.Common.{◌≡◌, ℕ, zero, suc, ◌-◌, ◌<◌, ◌≤◌, pred, Bool, true, false, List, [], ◌∷◌, ◌++◌, length, map, get_or, Option}
+use Rattle.std.proofs.Common.{Some, None, Result, Ok, Err, refl, sym, ap, subst, ◌∙◌, inl, inr, arith}
 use Rattle.std.specs.Prelude.{OnOk, slice_get, slice_set, if◌then◌else◌}
 use Rattle.std.specs.Vec.{with_item}
 use Rattle.std.specs.declared.alloc.AllocError.{AllocError}
@@ -21,7 +22,8 @@ use Rattle.script_runner.specs.declared.station.Station.{Station}
 -- ---- places
 
 -- a list as long as another has something in each place in which that has
-pub found_too : {A B : Type 0} (xs : List A) (ys : List B) (place : ℕ) (x : A) → length xs ≡ length ys → slice_get xs place ≡ Some x → (y : B) × (slice_get ys place ≡ Some y)
+pub found_too : {A B : Type 0} (xs : List A) (ys : List B) (place : ℕ) (x : A) → length xs ≡ length ys → slice_get xs place ≡ Some x →
+    (y : B) × (slice_get ys place ≡ Some y)
 found_too [] ys place x same found = absurd cc
 found_too (x ∷ xs) [] place z same found = absurd (omega (arith, same))
 found_too (x ∷ xs) (y ∷ ys) zero z same found = (y, refl)
@@ -44,14 +46,17 @@ some_same is = cc
 pub record IsBut (centre : Centre) (place : ℕ) (w : World) : Type 0 where
   pub nodes : length centre.stations.items ≡ length w.runners
   pub few : length w.runners ≤ 9
-  pub each : (k : ℕ) → (k ≡ place → ⊥) → (station : Station) (runner : Runner) → slice_get centre.stations.items k ≡ Some station → slice_get w.runners k ≡ Some runner →
+  pub each : (k : ℕ) → (k ≡ place → ⊥) → (station : Station) (runner : Runner) → slice_get centre.stations.items k ≡ Some station →
+      slice_get w.runners k ≡ Some runner →
       Stands station runner
   pub packets : map packet_by centre.packets.sent ≡ w.packets
   pub came : (number node : ℕ) → came_in centre.arrivals number node ≡ w.came number node
 
 -- Another station stands in a place, and the world has other marks.
-pub but_there : (old mid : Centre) (w marked : World) (place : ℕ) (left : Station) → IsWorld old w → mid.stations.items ≡ slice_set old.stations.items place left →
-    mid.packets ≡ old.packets → marked.runners ≡ w.runners → marked.packets ≡ w.packets → ((number node : ℕ) → came_in mid.arrivals number node ≡ marked.came number node) →
+pub but_there : (old mid : Centre) (w marked : World) (place : ℕ) (left : Station) → IsWorld old w →
+    mid.stations.items ≡ slice_set old.stations.items place left →
+    mid.packets ≡ old.packets → marked.runners ≡ w.runners → marked.packets ≡ w.packets →
+    ((number node : ℕ) → came_in mid.arrivals number node ≡ marked.came number node) →
     IsBut mid place marked
 but_there old mid w marked place left is set packets runners same came = record {
   nodes = ap length set ∙ length-set old.stations.items place left ∙ is.nodes ∙ ap length (sym runners);
@@ -66,7 +71,8 @@ but_there old mid w marked place left is set packets runners same came = record 
 }
 
 -- What a node did is shared: it is as the runner that it left, and its packets come behind all.
-pub shared_moved : (mid new : Centre) (w : World) (node place : ℕ) (acted : Acted) (left : Station) (before after : List ℕ) → node ≡ suc place → IsBut mid place w →
+pub shared_moved : (mid new : Centre) (w : World) (node place : ℕ) (acted : Acted) (left : Station) (before after : List ℕ) →
+    node ≡ suc place → IsBut mid place w →
     slice_get mid.stations.items place ≡ Some left → IsAs left acted.next → HasShared mid place new → after ≡ before ++ text_at node acted.prints →
     IsMoved (shared w node acted) new before after
 shared_moved mid new w node place acted left before after is but found like has wrote = record {
@@ -108,7 +114,8 @@ shared_moved mid new w node place acted left before after is but found like has 
 pub same_runner : (runner : Runner) → runner.node.packets ≡ [] → given_out runner ≡ runner
 same_runner runner none = λ i. record runner { node = record runner.node { packets = sym none i } }
 
-pub still_world : (old mid new : Centre) (w : World) (place : ℕ) (station left : Station) (runner : Runner) → IsWorld old w → slice_get old.stations.items place ≡ Some station →
+pub still_world : (old mid new : Centre) (w : World) (place : ℕ) (station left : Station) (runner : Runner) → IsWorld old w →
+    slice_get old.stations.items place ≡ Some station →
     slice_get w.runners place ≡ Some runner → mid.stations.items ≡ slice_set old.stations.items place left → slice_get mid.stations.items place ≡ Some left →
     mid.packets ≡ old.packets → mid.arrivals ≡ old.arrivals → IsAs left runner → HasShared mid place new → IsWorld new w
 still_world old mid new w place station left runner is found there set at packets arrivals like has = record {
@@ -146,13 +153,17 @@ still_world old mid new w place station left runner is found there set at packet
         ]
 
 -- a line that is refused adds its line
-pub refused_moved : (new : Centre) (w : World) (number : ℕ) (before after : List ℕ) → IsWorld new w → after ≡ before ++ declined_line number → IsMoved (refuses w number) new before after
-refused_moved new w number before after is wrote = record { next = is; text = wrote ∙ ap (λ (t : List ℕ). before ++ t) (sym (append-nil (declined_line number))) }
+pub refused_moved : (new : Centre) (w : World) (number : ℕ) (before after : List ℕ) → IsWorld new w →
+    after ≡ before ++ declined_line number →
+    IsMoved (refuses w number) new before after
+refused_moved new w number before after is wrote =
+    record { next = is; text = wrote ∙ ap (λ (t : List ℕ). before ++ t) (sym (append-nil (declined_line number))) }
 
 -- ---- a node acts
 
 -- Either it is up, and does what it does, or it is down, and refuses.
-pub if_up_moved : (new : Centre) (w : World) (node place : ℕ) (up : Runner → Moved) (runner : Runner) (before after : List ℕ) → node ≡ suc place → slice_get w.runners place ≡ Some runner →
+pub if_up_moved : (new : Centre) (w : World) (node place : ℕ) (up : Runner → Moved) (runner : Runner) (before after : List ℕ) →
+    node ≡ suc place → slice_get w.runners place ≡ Some runner →
     (runner.node.kept.up ≡ true → IsMoved (up runner) new before after) → (runner.node.kept.up ≡ false → IsMoved (refuses w is_down) new before after) →
     IsMoved (if_up w node up) new before after
 if_up_moved new w node place up runner before after is there if_so if_not =
@@ -165,20 +176,24 @@ if_up_moved new w node place up runner before after is there if_so if_not =
     by_test false if_so if_not = if_not refl
 
 -- what it did, if it is up
-pub acted_if : (b : Bool) (node : ℕ) (act : Runner → Acted) (runner : Runner) (left : Station) (before after : List ℕ) → ActsIf b node act runner left before after → b ≡ true →
+pub acted_if : (b : Bool) (node : ℕ) (act : Runner → Acted) (runner : Runner) (left : Station) (before after : List ℕ) →
+    ActsIf b node act runner left before after → b ≡ true →
     HasActed node (act runner) left before after
 acted_if true node act runner left before after acts is = acts
 acted_if false node act runner left before after acts is = absurd cc
 
-declined_if : (b : Bool) (node : ℕ) (act : Runner → Acted) (runner : Runner) (left : Station) (before after : List ℕ) → ActsIf b node act runner left before after → b ≡ false →
+declined_if : (b : Bool) (node : ℕ) (act : Runner → Acted) (runner : Runner) (left : Station) (before after : List ℕ) →
+    ActsIf b node act runner left before after → b ≡ false →
     HasDeclined runner left before after
 declined_if true node act runner left before after acts is = absurd cc
 declined_if false node act runner left before after acts is = acts
 
-pub acts_moved : (old mid new : Centre) (w : World) (node place : ℕ) (act : Runner → Acted) (station left : Station) (before after : List ℕ) → node ≡ suc place → IsWorld old w →
+pub acts_moved : (old mid new : Centre) (w : World) (node place : ℕ) (act : Runner → Acted) (station left : Station)
+    (before after : List ℕ) → node ≡ suc place → IsWorld old w →
     slice_get old.stations.items place ≡ Some station →
     ((runner : Runner) → Stands station runner → ActsIf (is_up station) node act runner left before after) →
-    mid.stations.items ≡ slice_set old.stations.items place left → slice_get mid.stations.items place ≡ Some left → mid.packets ≡ old.packets → mid.arrivals ≡ old.arrivals →
+    mid.stations.items ≡ slice_set old.stations.items place left → slice_get mid.stations.items place ≡ Some left →
+    mid.packets ≡ old.packets → mid.arrivals ≡ old.arrivals →
     HasShared mid place new → IsMoved (acts w node act) new before after
 acts_moved old mid new w node place act station left before after is world found acts set at packets arrivals has =
     let there = found_too old.stations.items w.runners place station world.nodes found in
@@ -189,10 +204,12 @@ acts_moved old mid new w node place act station left before after is world found
     (λ up.
     let done = acted_if (is_up station) node act runner left before after did (sym stands.up ∙ up) in
     shared_moved mid new w node place (act runner) left before after is
-    (but_there old mid w w place left world set packets refl refl (λ number n. ap (λ (all : Came). came_in all number n) arrivals ∙ world.came number n)) at done.like has done.text)
+    (but_there old mid w w place left world set packets refl refl
+    (λ number n. ap (λ (all : Came). came_in all number n) arrivals ∙ world.came number n)) at done.like has done.text)
     (λ down.
     let done = declined_if (is_up station) node act runner left before after did (sym stands.up ∙ down) in
-    refused_moved new w is_down before after (still_world old mid new w place station left runner world found there.1 set at packets arrivals done.like has) done.text)
+    refused_moved new w is_down before after (still_world old mid new w place station left runner world found there.1 set at packets
+    arrivals done.like has) done.text)
 
 -- ---- as the code does it
 
@@ -213,7 +230,8 @@ pub number_is : (node number : ℕ) → number ≡ node → 1 ≤ node → node 
 number_is node number same least = omega (arith, same, least)
 
 -- A node that is there acts, and what it sent is shared.
-pub acts_does_if : (r : Result (Unit {0}) AllocError) (old new : Centre) (node number : ℕ) (act : Runner → Acted) (station left : Station) (before after : List ℕ) →
+pub acts_does_if : (r : Result (Unit {0}) AllocError) (old new : Centre) (node number : ℕ) (act : Runner → Acted) (station left : Station)
+    (before after : List ℕ) →
     number ≡ node → 1 ≤ node → number - 1 < length old.stations.items → station ≡ get_or old.stations.items (number - 1) station →
     ActsAt node act station left before after → OnOk r (HasShared (with_left old (number - 1) left) (number - 1) new) →
     OnOk r (Does (λ w. acts w node act) old new before after)
@@ -221,4 +239,5 @@ acts_does_if (Err fault) old new node number act station left before after same 
 acts_does_if (Ok done) old new node number act station left before after same least inside is does has =
     λ w world.
     acts_moved old (with_left old (number - 1) left) new w node (number - 1) act station left before after (number_is node number same least) world
-    (stood_at old (number - 1) station inside is) (λ runner stands. does runner stands.like) refl (set_there old.stations.items (number - 1) left inside) refl refl has
+    (stood_at old (number - 1) station inside is) (λ runner stands. does runner stands.like) refl
+    (set_there old.stations.items (number - 1) left inside) refl refl has

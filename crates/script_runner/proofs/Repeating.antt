@@ -15,7 +15,8 @@ pub begins : (old : Centre) (w : World) (times left : ℕ) (before : List ℕ) �
     IsLeft (on_replay w times) (replays left (length old.packets.sent)) old before before
 begins old w times left before same is =
     subst (λ (n : ℕ). IsLeft (on_replay w times) (replays n (length old.packets.sent)) old before before) (sym same)
-    (subst (λ (n : ℕ). IsLeft (on_replay w times) (replays times n) old before before) (sym (sent_count old w is)) (record { world = w; is = is; next = refl; written = refl }))
+    (subst (λ (n : ℕ). IsLeft (on_replay w times) (replays times n) old before before) (sym (sent_count old w is))
+    (record { world = w; is = is; next = refl; written = refl }))
 
 -- none was sent
 pub none_again : (old : Centre) (times : ℕ) (before : List ℕ) → length old.packets.sent ≡ 0 → Does (λ w. on_replay w times) old old before before

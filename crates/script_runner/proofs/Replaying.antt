@@ -14,7 +14,8 @@ use Rattle.script_runner.proofs.Moving.{found_too, stood_at}
 
 -- what is still to be done of a packet that comes to all nodes, and as many are up
 pub record IsComing (number place count : ℕ) (old now : Centre) (before text : List ℕ) : Type 0 where
-  pub left : (w : World) → IsWorld old w → IsLeft (comes_to number (node_numbers w) w) (comes_to number (range_with_len (1 + place) (count - place))) now before text
+  pub left : (w : World) → IsWorld old w →
+      IsLeft (comes_to number (node_numbers w) w) (comes_to number (range_with_len (1 + place) (count - place))) now before text
   pub up : map is_up now.stations.items ≡ map is_up old.stations.items
 
 pub begins : (number count : ℕ) (old : Centre) (before : List ℕ) → count ≡ length old.stations.items → IsComing number 0 count old old before before
@@ -36,12 +37,14 @@ station_up centre w place station is found =
 -- ---- one node after another
 
 -- a node that is up gets it
-pub one_came : (number place count : ℕ) (old now new : Centre) (station : Station) (before text after : List ℕ) → place < count → IsComing number place count old now before text →
+pub one_came : (number place count : ℕ) (old now new : Centre) (station : Station) (before text after : List ℕ) → place < count →
+    IsComing number place count old now before text →
     slice_get now.stations.items place ≡ Some station → is_up station ≡ true → Does (λ w. comes w number (1 + place)) now new text after →
     map is_up new.stations.items ≡ map is_up now.stations.items → IsComing number (place + 1) count old new before after
 one_came number place count old now new station before text after within way found up did ups = record { left = next; up = ups ∙ way.up }
   where
-    next : (w : World) → IsWorld old w → IsLeft (comes_to number (node_numbers w) w) (comes_to number (range_with_len (1 + (place + 1)) (count - (place + 1)))) new before after
+    next : (w : World) → IsWorld old w →
+        IsLeft (comes_to number (node_numbers w) w) (comes_to number (range_with_len (1 + (place + 1)) (count - (place + 1)))) new before after
     next w world =
         let left = way.left w world in
         let v = left.world in
@@ -51,15 +54,18 @@ one_came number place count old now new station before text after within way fou
         again_moved v number (1 + place) new text after (λ is_so. did v left.is)
         (λ is_not. absurd (let clash : true ≡ false = sym up ∙ sym (station_up now v place station left.is found) ∙ is_not in cc)) in
         subst (λ (n : ℕ). IsLeft (comes_to number (node_numbers w) w) (comes_to number (range_with_len n (count - (place + 1)))) new before after) start
-        (one_done (comes_to number (node_numbers w) w) (comes_to number (range_with_len (1 + place) (count - place))) (comes_to number (range_with_len ((1 + place) + 1) (count - (place + 1))))
+        (one_done (comes_to number (node_numbers w) w) (comes_to number (range_with_len (1 + place) (count - place)))
+        (comes_to number (range_with_len ((1 + place) + 1) (count - (place + 1))))
         (λ u. comes_again u number (1 + place)) now new before text after left (to_next number (1 + place) (count - place) (count - (place + 1)) v rest) moved)
 
 -- one that is down is passed by
-pub one_passed : (number place count : ℕ) (old now : Centre) (station : Station) (before text : List ℕ) → place < count → IsComing number place count old now before text →
+pub one_passed : (number place count : ℕ) (old now : Centre) (station : Station) (before text : List ℕ) → place < count →
+    IsComing number place count old now before text →
     slice_get now.stations.items place ≡ Some station → is_up station ≡ false → IsComing number (place + 1) count old now before text
 one_passed number place count old now station before text within way found down = record { left = next; up = way.up }
   where
-    next : (w : World) → IsWorld old w → IsLeft (comes_to number (node_numbers w) w) (comes_to number (range_with_len (1 + (place + 1)) (count - (place + 1)))) now before text
+    next : (w : World) → IsWorld old w →
+        IsLeft (comes_to number (node_numbers w) w) (comes_to number (range_with_len (1 + (place + 1)) (count - (place + 1)))) now before text
     next w world =
         let left = way.left w world in
         let v = left.world in
@@ -70,7 +76,8 @@ one_passed number place count old now station before text within way found down 
         (λ is_so. absurd (let clash : false ≡ true = sym down ∙ sym (station_up now v place station left.is found) ∙ is_so in cc))
         (λ is_not. record { next = left.is; text = sym (append-nil text) }) in
         subst (λ (n : ℕ). IsLeft (comes_to number (node_numbers w) w) (comes_to number (range_with_len n (count - (place + 1)))) now before text) start
-        (one_done (comes_to number (node_numbers w) w) (comes_to number (range_with_len (1 + place) (count - place))) (comes_to number (range_with_len ((1 + place) + 1) (count - (place + 1))))
+        (one_done (comes_to number (node_numbers w) w) (comes_to number (range_with_len (1 + place) (count - place)))
+        (comes_to number (range_with_len ((1 + place) + 1) (count - (place + 1))))
         (λ u. comes_again u number (1 + place)) now now before text text left (to_next number (1 + place) (count - place) (count - (place + 1)) v rest) moved)
 
 -- no node is left
@@ -83,7 +90,8 @@ all_came number place count old now before text past way w world =
 
 -- ---- as the code goes
 
-pub same_count : (number place count : ℕ) (old now : Centre) (before text : List ℕ) → IsComing number place count old now before text → length now.stations.items ≡ length old.stations.items
+pub same_count : (number place count : ℕ) (old now : Centre) (before text : List ℕ) → IsComing number place count old now before text →
+    length now.stations.items ≡ length old.stations.items
 same_count number place count old now before text way =
     sym (length-map now.stations.items is_up) ∙ ap length way.up ∙ length-map old.stations.items is_up
 
@@ -93,7 +101,9 @@ below a b test = let same : nat_lt a b ≡ true = sym test in grind (arith, nat_
 pub not_below : (a b : ℕ) → false ≡ nat_lt a b → b ≤ a
 not_below a b test = let same : nat_lt a b ≡ false = sym test in grind (arith, nat_tests)
 
-pub found_there : (now : Centre) (items : List Station) (place : ℕ) (station : Station) → items ≡ now.stations.items → true ≡ nat_lt place (length items) → station ≡ get_or items place station →
+pub found_there : (now : Centre) (items : List Station) (place : ℕ) (station : Station) → items ≡ now.stations.items → true ≡ nat_lt place
+    (length items) → station ≡ get_or items place station →
     slice_get now.stations.items place ≡ Some station
 found_there now items place station same test is =
-    stood_at now place station (subst (λ (ss : List Station). place < length ss) same (below place (length items) test)) (subst (λ (ss : List Station). station ≡ get_or ss place station) same is)
+    stood_at now place station (subst (λ (ss : List Station). place < length ss) same (below place (length items) test))
+    (subst (λ (ss : List Station). station ≡ get_or ss place station) same is)

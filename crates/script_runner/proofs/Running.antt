@@ -1,5 +1,6 @@
 -- How far a script has run, and what comes of the next line.
-use Rattle.std.proofs.Common.{◌≡◌, ℕ, suc, ◌+◌, ◌*◌, ◌^◌, ◌<◌, ◌≤◌, List, [], ◌∷◌, ◌++◌, length, get_or, take, drop, Option, Some, None, Result, Ok, Err, add-one, refl, sym, ap, subst, ◌∙◌, append_assoc, arith, inl, inr}
+use Rattle.std.proofs.Common.{◌≡◌, ℕ, suc, ◌+◌, ◌*◌, ◌^◌, ◌<◌, ◌≤◌, List, [], ◌∷◌, ◌++◌, length, get_or, take, drop, Option, Some, None}
+use Rattle.std.proofs.Common.{Result, Ok, Err, add-one, refl, sym, ap, subst, ◌∙◌, append_assoc, arith, inl, inr}
 use Rattle.std.proofs.lemmas.List.{append-nil, length-append, length-drop, drop_more, take_all, take-append-drop}
 use Rattle.std.proofs.lemmas.Option.{slice_get_within, get_or_from_slice_get}
 use Rattle.std.specs.Prelude.{◌⊎◌}
@@ -69,7 +70,8 @@ appended_none (Some xs) = sym (append-nil xs)
 
 -- ---- the start
 
-nothing_run : (before written : Option (List ℕ)) (held : Held) → held.octets ≡ [] → held.reads_left ≡ 2 ^ 40 → Progress before before written written held None 0
+nothing_run : (before written : Option (List ℕ)) (held : Held) → held.octets ≡ [] → held.reads_left ≡ 2 ^ 40 →
+    Progress before before written written held None 0
 unfolding prints_from bad_from
 nothing_run before written held none reads = record {
   done = [];
@@ -110,7 +112,9 @@ grown before left now written out old new stage number got p took grew =
 -- ---- the ends
 
 -- the reader failed within a line
-pub within_line : (before left written out : Option (List ℕ)) (held : Held) (stage : Stage) (number : ℕ) → Progress before left written out held stage number → NeedsMore held.octets → StopsInLine before left written out
+pub within_line : (before left written out : Option (List ℕ)) (held : Held) (stage : Stage) (number : ℕ) →
+    Progress before left written out held stage number → NeedsMore held.octets →
+    StopsInLine before left written out
 within_line before left written out held stage number p more =
     let lines : StopsBetween before left written out = record {
       done = p.done;
@@ -152,14 +156,16 @@ pub record BadFirst (held : List ℕ) (stage : Stage) (more : List ℕ) : Type 0
   pub first : lines_of (held ++ more) ≡ line ∷ lines
   pub bad : step_of script_settings stage line ≡ None
 
-bad_found : (before left written out : Option (List ℕ)) (held : Held) (stage : Stage) (number : ℕ) (p : Progress before left written out held stage number) (more : List ℕ)
+bad_found : (before left written out : Option (List ℕ)) (held : Held) (stage : Stage) (number : ℕ)
+    (p : Progress before left written out held stage number) (more : List ℕ)
     → BadFirst held.octets stage more → bad_line ((p.done ++ held.octets) ++ more) ≡ Some (suc number)
 unfolding bad_from
 bad_found before left written out held stage number p more b =
     ap bad_line (append_assoc p.done held.octets more) ∙ p.bad_on (held.octets ++ more) ∙ ap (bad_from script_settings stage (suc number)) b.first
     ∙ ap (after (Some (suc number)) (λ done. bad_from script_settings done.stage (suc (suc number)) b.lines)) b.bad
 
-text_found : (before left written out : Option (List ℕ)) (held : Held) (stage : Stage) (number : ℕ) (p : Progress before left written out held stage number) (more : List ℕ)
+text_found : (before left written out : Option (List ℕ)) (held : Held) (stage : Stage) (number : ℕ)
+    (p : Progress before left written out held stage number) (more : List ℕ)
     → BadFirst held.octets stage more → text_of ((p.done ++ held.octets) ++ more) ≡ text_of p.done
 unfolding prints_from
 text_found before left written out held stage number p more b =
@@ -180,20 +186,27 @@ stops before left written out held stage number p b decided =
       text = subst (λ text. Appends written out text) (sym (ap text_of (sym whole) ∙ text_found before left written out held stage number p [] b)) p.text;
     }
 
-pub stops_at_end : (before left written out : Option (List ℕ)) (held : Held) (stage : Stage) (number : ℕ) (p : Progress before left written out held stage number)
+pub stops_at_end : (before left written out : Option (List ℕ)) (held : Held) (stage : Stage) (number : ℕ)
+    (p : Progress before left written out held stage number)
     → BadFirst held.octets stage [] → IsAtEnd left → StopsAt (suc number) before left written out
 stops_at_end before left written out held stage number p b ended = stops before left written out held stage number p b (inl ended)
 
-pub stops_for_good : (before left written out : Option (List ℕ)) (held : Held) (stage : Stage) (number : ℕ) (p : Progress before left written out held stage number)
+pub stops_for_good : (before left written out : Option (List ℕ)) (held : Held) (stage : Stage) (number : ℕ)
+    (p : Progress before left written out held stage number)
     → ((more : List ℕ) → BadFirst held.octets stage more) → StopsAt (suc number) before left written out
 stops_for_good before left written out held stage number p b =
     let read = p.done ++ held.octets in
     let same : text_of read ≡ text_of p.done = ap text_of (sym (append-nil read)) ∙ text_found before left written out held stage number p [] (b []) in
     stops before left written out held stage number p (b [])
-    (inr (λ more. (bad_found before left written out held stage number p more (b more), text_found before left written out held stage number p more (b more) ∙ sym same)))
+    (inr (λ more. (
+      bad_found before left written out held stage number p more (b more),
+      text_found before left written out held stage number p more (b more) ∙ sym same,
+    )))
 
 -- a bad line of the right number, and nothing was written
-pub refused_at : (number told : ℕ) (before left written out now : Option (List ℕ)) → StopsAt (suc number) before left written out → told ≡ number + 1 → Keeps out now → StopsAt told before left written now
+pub refused_at : (number told : ℕ) (before left written out now : Option (List ℕ)) → StopsAt (suc number) before left written out →
+    told ≡ number + 1 → Keeps out now →
+    StopsAt told before left written now
 refused_at number told before left written out now s e keeps =
     subst (λ n. StopsAt n before left written now) (sym (omega arith))
     (let kept : StopsAt (suc number) before left written now = record {
@@ -221,7 +234,9 @@ too_long_first laws spelled held stage long more =
       bad = step_of-none stage first.0 (not_said spelled first.0 (said_of first.0) refl first.3);
     }
 
-pub line_first : LinesAreRead → (held : List ℕ) (stage : Stage) (count : ℕ) → BeginsWithLine count held → step_of script_settings stage (take count held) ≡ None → (more : List ℕ) → BadFirst held stage more
+pub line_first : LinesAreRead → (held : List ℕ) (stage : Stage) (count : ℕ) → BeginsWithLine count held →
+    step_of script_settings stage (take count held) ≡ None → (more : List ℕ) →
+    BadFirst held stage more
 line_first laws held stage count begins bad more = record {
   line = take count held;
   lines = lines_of (drop (count + 1) held ++ more);
@@ -235,7 +250,9 @@ some_octets count held last none = absurd (omega (arith, last.some, last.all, ap
 last_lines : LinesAreRead → (count : ℕ) (held : List ℕ) → IsLastLine count held → lines_of held ≡ held ∷ []
 last_lines laws count held last = laws.last held (some_octets count held last) last.line
 
-pub last_first : LinesAreRead → (held : List ℕ) (stage : Stage) (count : ℕ) → IsLastLine count held → step_of script_settings stage held ≡ None → BadFirst held stage []
+pub last_first : LinesAreRead → (held : List ℕ) (stage : Stage) (count : ℕ) → IsLastLine count held →
+    step_of script_settings stage held ≡ None →
+    BadFirst held stage []
 last_first laws held stage count last bad = record {
   line = held;
   lines = [];
@@ -245,13 +262,16 @@ last_first laws held stage count last bad = record {
 
 -- ---- a good line
 
-text_of_first : (stage : Stage) (line : List ℕ) (lines : List (List ℕ)) (done : Stepped) → step_of script_settings stage line ≡ Some done → text_from stage (line ∷ lines) ≡ world_text done.prints ++ text_from done.stage lines
+text_of_first : (stage : Stage) (line : List ℕ) (lines : List (List ℕ)) (done : Stepped) → step_of script_settings stage line ≡ Some done →
+    text_from stage (line ∷ lines) ≡ world_text done.prints ++ text_from done.stage lines
 unfolding prints_from
 text_of_first stage line lines done e =
     ap (λ next. world_text (after [] (λ d. d.prints ++ prints_from script_settings d.stage lines) next)) e
     ∙ flat_map-append world_line done.prints (prints_from script_settings done.stage lines)
 
-bad_of_first : (stage : Stage) (number : ℕ) (line : List ℕ) (lines : List (List ℕ)) (done : Stepped) → step_of script_settings stage line ≡ Some done → bad_from script_settings stage number (line ∷ lines) ≡ bad_from script_settings done.stage (suc number) lines
+bad_of_first : (stage : Stage) (number : ℕ) (line : List ℕ) (lines : List (List ℕ)) (done : Stepped) →
+    step_of script_settings stage line ≡ Some done →
+    bad_from script_settings stage number (line ∷ lines) ≡ bad_from script_settings done.stage (suc number) lines
 unfolding bad_from
 bad_of_first stage number line lines done e = ap (after (Some number) (λ d. bad_from script_settings d.stage (suc number) lines)) e
 
@@ -265,17 +285,20 @@ bad_of_nothing stage number = refl
 
 -- the last line was good, and its text was written
 pub whole_with : LinesAreRead → (before left written out now : Option (List ℕ)) (held : Held) (stage : Stage) (new : Option Centre) (number count : ℕ)
-    → Progress before left written out held stage number → IsLastLine count held.octets → IsAtEnd left → Writes stage held.octets new out now → IsWhole before left written now
+    → Progress before left written out held stage number → IsLastLine count held.octets → IsAtEnd left →
+    Writes stage held.octets new out now → IsWhole before left written now
 whole_with laws before left written out now held stage new number count p last ended w =
     let lines = last_lines laws count held.octets last in
     let told : text_of (p.done ++ held.octets) ≡ text_of p.done ++ (world_text w.done.prints) =
     p.text_on held.octets ∙ ap (λ ls. text_of p.done ++ text_from stage ls) lines
-    ∙ ap (λ t. text_of p.done ++ t) (text_of_first stage held.octets [] w.done w.step ∙ ap (λ t. (world_text w.done.prints) ++ t) (text_of_nothing w.done.stage) ∙ append-nil (world_text w.done.prints)) in
+    ∙ ap (λ t. text_of p.done ++ t) (text_of_first stage held.octets [] w.done w.step ∙ ap (λ t. (world_text w.done.prints) ++ t)
+    (text_of_nothing w.done.stage) ∙ append-nil (world_text w.done.prints)) in
     record {
       read = p.done ++ held.octets;
       consumed = p.consumed;
       ended = ended;
-      good = p.bad_on held.octets ∙ ap (bad_from script_settings stage (suc number)) lines ∙ bad_of_first stage (suc number) held.octets [] w.done w.step ∙ bad_of_nothing w.done.stage (suc (suc number));
+      good = p.bad_on held.octets ∙ ap (bad_from script_settings stage (suc number)) lines ∙ bad_of_first stage (suc number) held.octets
+          [] w.done w.step ∙ bad_of_nothing w.done.stage (suc (suc number));
       text = subst (λ t. Appends written now t) (sym told) (appended_on written out now (text_of p.done) (world_text w.done.prints) p.text w.text);
     }
 
@@ -297,7 +320,8 @@ advanced : LinesAreRead → (before left written out now : Option (List ℕ)) (h
 advanced laws before left written out now held rest stage new number count p begins w dropped reads =
     let line = take count held.octets in
     let done = p.done ++ (line ++ 10 ∷ []) in
-    let next : (more : List ℕ) → lines_of ((line ++ 10 ∷ []) ++ more) ≡ line ∷ lines_of more = λ more. ap lines_of (append_assoc line (10 ∷ []) more) ∙ laws.next line more begins.line in
+    let next : (more : List ℕ) → lines_of ((line ++ 10 ∷ []) ++ more) ≡ line ∷ lines_of more = λ more. ap lines_of
+    (append_assoc line (10 ∷ []) more) ∙ laws.next line more begins.line in
     let text_next : (more : List ℕ) → text_of (done ++ more) ≡ (text_of p.done ++ (world_text w.done.prints)) ++ text_from w.done.stage (lines_of more) =
     λ more. ap text_of (append_assoc p.done (line ++ 10 ∷ []) more) ∙ p.text_on ((line ++ 10 ∷ []) ++ more)
     ∙ ap (λ ls. text_of p.done ++ text_from stage ls) (next more)
@@ -307,9 +331,11 @@ advanced laws before left written out now held rest stage new number count p beg
     λ more. ap bad_line (append_assoc p.done (line ++ 10 ∷ []) more) ∙ p.bad_on ((line ++ 10 ∷ []) ++ more)
     ∙ ap (bad_from script_settings stage (suc number)) (next more) ∙ bad_of_first stage (suc number) line (lines_of more) w.done w.step in
     let text_done : text_of done ≡ text_of p.done ++ (world_text w.done.prints) =
-    ap text_of (sym (append-nil done)) ∙ text_next [] ∙ ap (λ t. (text_of p.done ++ (world_text w.done.prints)) ++ t) (text_of_nothing w.done.stage) ∙ append-nil (text_of p.done ++ (world_text w.done.prints)) in
+    ap text_of (sym (append-nil done)) ∙ text_next [] ∙ ap (λ t. (text_of p.done ++ (world_text w.done.prints)) ++ t)
+    (text_of_nothing w.done.stage) ∙ append-nil (text_of p.done ++ (world_text w.done.prints)) in
     let whole : p.done ++ held.octets ≡ done ++ rest.octets =
-    ap (λ t. p.done ++ t) (parts count held.octets begins ∙ ap (λ t. (line ++ 10 ∷ []) ++ t) (sym dropped)) ∙ sym (append_assoc p.done (line ++ 10 ∷ []) rest.octets) in
+    ap (λ t. p.done ++ t) (parts count held.octets begins ∙ ap (λ t. (line ++ 10 ∷ []) ++ t) (sym dropped)) ∙ sym
+    (append_assoc p.done (line ++ 10 ∷ []) rest.octets) in
     let more = within_held count held.octets begins in
     let shorter : length rest.octets + (count + 1) ≡ length held.octets = omega (arith, ap length dropped, length-drop (count + 1) held.octets, more) in
     let next_stage = w.done.stage in
@@ -348,35 +374,49 @@ pub with_fault : (r : Result (Unit {0}) ScriptFault) (fault : ScriptFault) (befo
 with_fault (Ok done) fault before left written out told outcome = absurd told
 with_fault (Err e) fault before left written out told outcome = subst (λ f. IsOutcome (Err f) before left written out) (sym told) outcome
 
-pub after_last : LinesAreRead → (r : Result (Unit {0}) ScriptFault) (before left written out now : Option (List ℕ)) (held : Held) (stage : Stage) (new : Option Centre) (number count : ℕ) (octets : List ℕ)
+pub after_last : LinesAreRead →
+    (r : Result (Unit {0}) ScriptFault) (before left written out now : Option (List ℕ)) (held : Held) (stage : Stage) (new : Option Centre)
+    (number count : ℕ) (octets : List ℕ)
     → octets ≡ held.octets → Progress before left written out held stage number → IsLastLine count held.octets → IsAtEnd left
     → WritesLineAt r stage (take count octets) (number + 1) new out now → IsOutcome r before left written now
 after_last laws (Ok done) before left written out now held stage new number count octets same p last ended w =
-    whole_with laws before left written out now held stage new number count p last ended (subst (λ line. Writes stage line new out now) (ap (take count) same ∙ all_taken count held.octets last.all) w)
+    whole_with laws before left written out now held stage new number count p last ended
+    (subst (λ line. Writes stage line new out now) (ap (take count) same ∙ all_taken count held.octets last.all) w)
 after_last laws (Err (BadLine told)) before left written out now held stage new number count octets same p last ended w =
-    let bad : step_of script_settings stage held.octets ≡ None = ap (step_of script_settings stage) (sym (ap (take count) same ∙ all_taken count held.octets last.all)) ∙ w.bad in
-    refused_at number told before left written out now (stops_at_end before left written out held stage number p (last_first laws held.octets stage count last bad) ended) w.counted w.text
+    let bad : step_of script_settings stage held.octets ≡ None = ap (step_of script_settings stage)
+    (sym (ap (take count) same ∙ all_taken count held.octets last.all)) ∙ w.bad in
+    refused_at number told before left written out now
+    (stops_at_end before left written out held stage number p (last_first laws held.octets stage count last bad) ended) w.counted w.text
 after_last laws (Err Read) before left written out now held stage new number count octets same p last ended w = absurd w
 after_last laws (Err Write) before left written out now held stage new number count octets same p last ended w = tt
-after_last laws (Err Memory) before left written out now held stage new number count octets same p last ended w = between_kept before left written out now held stage number p w
+after_last laws (Err Memory) before left written out now held stage new number count octets same p last ended w =
+    between_kept before left written out now held stage number p w
 
-pub after_line : LinesAreRead → (fault : ScriptFault) (before left written out now : Option (List ℕ)) (held : Held) (stage : Stage) (new : Option Centre) (number count : ℕ) (octets : List ℕ)
+pub after_line : LinesAreRead →
+    (fault : ScriptFault) (before left written out now : Option (List ℕ)) (held : Held) (stage : Stage) (new : Option Centre)
+    (number count : ℕ) (octets : List ℕ)
     → octets ≡ held.octets → Progress before left written out held stage number → BeginsWithLine count held.octets
     → WritesLineAt (Err fault) stage (take count octets) (number + 1) new out now → IsOutcome (Err fault) before left written now
 after_line laws (BadLine told) before left written out now held stage new number count octets same p begins w =
     let bad : step_of script_settings stage (take count held.octets) ≡ None = ap (λ t. step_of script_settings stage (take count t)) (sym same) ∙ w.bad in
-    refused_at number told before left written out now (stops_for_good before left written out held stage number p (line_first laws held.octets stage count begins bad)) w.counted w.text
+    refused_at number told before left written out now
+    (stops_for_good before left written out held stage number p (line_first laws held.octets stage count begins bad)) w.counted w.text
 after_line laws Read before left written out now held stage new number count octets same p begins w = absurd w
 after_line laws Write before left written out now held stage new number count octets same p begins w = tt
-after_line laws Memory before left written out now held stage new number count octets same p begins w = between_kept before left written out now held stage number p w
+after_line laws Memory before left written out now held stage new number count octets same p begins w =
+    between_kept before left written out now held stage number p w
 
 pub after_too_long : LinesAreRead → SaysItsSpelling → (before left written out : Option (List ℕ)) (held : Held) (stage : Stage) (number : ℕ)
     → Progress before left written out held stage number → BeginsTooLong held.octets → StopsAt (number + 1) before left written out
 after_too_long laws spelled before left written out held stage number p long =
-    subst (λ n. StopsAt n before left written out) (sym (add-one number)) (stops_for_good before left written out held stage number p (too_long_first laws spelled held.octets stage long))
+    subst (λ n. StopsAt n before left written out) (sym (add-one number))
+    (stops_for_good before left written out held stage number p (too_long_first laws spelled held.octets stage long))
 
-pub after_good_line : LinesAreRead → (before left written out now : Option (List ℕ)) (held rest : Held) (stage : Stage) (new : Option Centre) (number count : ℕ) (octets : List ℕ)
-    → octets ≡ held.octets → Progress before left written out held stage number → BeginsWithLine count held.octets → Writes stage (take count octets) new out now
+pub after_good_line : LinesAreRead →
+    (before left written out now : Option (List ℕ)) (held rest : Held) (stage : Stage) (new : Option Centre) (number count : ℕ) (octets : List ℕ)
+    → octets ≡ held.octets → Progress before left written out held stage number → BeginsWithLine count held.octets → Writes stage
+    (take count octets) new out now
     → rest.octets ≡ drop (count + 1) held.octets → rest.reads_left ≡ held.reads_left → HasRun before left written now rest new (number + 1)
 after_good_line laws before left written out now held rest stage new number count octets same p begins w dropped reads =
-    advanced laws before left written out now held rest stage new number count p begins (subst (λ t. Writes stage (take count t) new out now) same w) dropped reads
+    advanced laws before left written out now held rest stage new number count p begins
+    (subst (λ t. Writes stage (take count t) new out now) same w) dropped reads

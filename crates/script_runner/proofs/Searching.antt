@@ -1,5 +1,6 @@
 -- The first of some numbers, in ascending order.
-use Rattle.std.proofs.Common.{◌≡◌, ◌⊎◌, inl, inr, ℕ, zero, suc, ◌+◌, ◌-◌, ◌<◌, ◌≤◌, Bool, true, false, cond, List, [], ◌∷◌, length, find, Option, Some, None, refl, sym, ap, ◌∙◌, arith}
+use Rattle.std.proofs.Common.{◌≡◌, ◌⊎◌, inl, inr, ℕ, zero, suc, ◌+◌, ◌-◌, ◌<◌, ◌≤◌, Bool, true, false, cond, List, [], ◌∷◌, length, find}
+use Rattle.std.proofs.Common.{Option, Some, None, refl, sym, ap, ◌∙◌, arith}
 use Rattle.std.specs.Prelude.{◌&&◌, not, slice_get, if◌then◌else◌}
 use Rattle.std.specs.List.{range_with_len}
 use Rattle.mc_model.specs.synod.Packet.{Packet}
@@ -28,7 +29,8 @@ first_found test start (suc count) (suc k) within before is =
     let here : start + 0 ≡ start = omega arith in
     let fails : test start ≡ false = sym (ap test here) ∙ before 0 (omega arith) in
     ap (λ (b : Bool). cond b (Some start) (find test (range_with_len (start + 1) count))) fails
-    ∙ first_found test (start + 1) count k (omega (arith, within)) (λ j below. ap test (sym (later start j)) ∙ before (suc j) (omega (arith, below))) (ap test (sym (later start k)) ∙ is)
+    ∙ first_found test (start + 1) count k (omega (arith, within))
+    (λ j below. ap test (sym (later start j)) ∙ before (suc j) (omega (arith, below))) (ap test (sym (later start k)) ∙ is)
     ∙ ap Some (sym (later start k))
 
 pub none_found : (test : ℕ → Bool) (start count : ℕ) → ((j : ℕ) → j < count → test (start + j) ≡ false) → find test (range_with_len start count) ≡ None
@@ -39,7 +41,8 @@ none_found test start (suc count) none =
     ∙ none_found test (start + 1) count (λ j below. ap test (sym (later start j)) ∙ none (suc j) (omega (arith, below)))
 
 -- what none passes, none passes that is passed by fewer
-pub none_of_fewer : (test fewer : ℕ → Bool) (numbers : List ℕ) → ((n : ℕ) → test n ≡ false → fewer n ≡ false) → find test numbers ≡ None → find fewer numbers ≡ None
+pub none_of_fewer : (test fewer : ℕ → Bool) (numbers : List ℕ) → ((n : ℕ) → test n ≡ false → fewer n ≡ false) → find test numbers ≡ None →
+    find fewer numbers ≡ None
 none_of_fewer test fewer [] weaker none = refl
 none_of_fewer test fewer (n ∷ numbers) weaker none = by_test (test n) refl none (none_of_fewer test fewer numbers weaker)
   where
@@ -65,7 +68,8 @@ module _ (w : World) (nodes : List ℕ) where
   due_found start (suc count) (suc k) node within before is =
       let here : start + 0 ≡ start = omega arith in
       ap (λ (found : Option ℕ). due_first start found (due_among w nodes (range_with_len (start + 1) count))) (sym (ap to here) ∙ before 0 (omega arith))
-      ∙ due_found (start + 1) count k node (omega (arith, within)) (λ j below. ap to (sym (later start j)) ∙ before (suc j) (omega (arith, below))) (ap to (sym (later start k)) ∙ is)
+      ∙ due_found (start + 1) count k node (omega (arith, within))
+      (λ j below. ap to (sym (later start j)) ∙ before (suc j) (omega (arith, below))) (ap to (sym (later start k)) ∙ is)
       ∙ ap (λ (n : ℕ). Some (record { number = n; node = node })) (sym (later start k))
 
   due_none : (start count : ℕ) → ((j : ℕ) → j < count → to (start + j) ≡ None) → due_among w nodes (range_with_len start count) ≡ None
@@ -76,7 +80,8 @@ module _ (w : World) (nodes : List ℕ) where
       ap (λ (found : Option ℕ). due_first start found (due_among w nodes (range_with_len (start + 1) count))) (sym (ap to here) ∙ none 0 (omega arith))
       ∙ due_none (start + 1) count (λ j below. ap to (sym (later start j)) ∙ none (suc j) (omega (arith, below)))
 
-  pub first_due : (number node : ℕ) → NothingBefore w nodes number → number < suc (length w.packets) → to number ≡ Some node → Some (record { number = number; node = node }) ≡ due w nodes
+  pub first_due : (number node : ℕ) → NothingBefore w nodes number → number < suc (length w.packets) → to number ≡ Some node →
+      Some (record { number = number; node = node }) ≡ due w nodes
   first_due zero node before within is = absurd (let none : None ≡ Some node = is in cc)
   first_due (suc k) node before within is =
       let same : 1 + k ≡ suc k = omega arith in
@@ -92,7 +97,8 @@ all_three : (one other last : Bool) → ((one && other) && last) ≡ (one && (ot
 all_three true other last = refl
 all_three false other last = refl
 
-pub lacks_is : (centre : Centre) (w : World) (nodes : List ℕ) (number place : ℕ) (station : Station) → IsWorld centre w → slice_get centre.stations.items place ≡ Some station →
+pub lacks_is : (centre : Centre) (w : World) (nodes : List ℕ) (number place : ℕ) (station : Station) → IsWorld centre w →
+    slice_get centre.stations.items place ≡ Some station →
     lacks w nodes number (suc place) ≡ (takes_part nodes (suc place) && (is_up station && not (came_in centre.arrivals number (suc place))))
 lacks_is centre w nodes number place station is found =
     let there = found_too centre.stations.items w.runners place station is.nodes found in

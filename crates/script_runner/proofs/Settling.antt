@@ -1,5 +1,6 @@
 -- Packets come that are due, one after another.
-use Rattle.std.proofs.Common.{◌≡◌, ℕ, zero, suc, ◌+◌, ◌<◌, ◌≤◌, Bool, true, false, List, [], ◌∷◌, ◌++◌, find, length, map, Option, Some, None, Result, Ok, Err, refl, sym, ap, ◌∙◌, inl, inr, eq-or-lt_of_le, arith}
+use Rattle.std.proofs.Common.{◌≡◌, ℕ, zero, suc, ◌+◌, ◌<◌, ◌≤◌, Bool, true, false, List, [], ◌∷◌, ◌++◌, find, length, map, Option, Some}
+use Rattle.std.proofs.Common.{None, Result, Ok, Err, refl, sym, ap, ◌∙◌, inl, inr, eq-or-lt_of_le, arith}
 use Rattle.std.specs.Prelude.{◌&&◌, ◌==◌, OnOk, not, pred, slice_get, option_map, if◌then◌else◌}
 use Rattle.std.specs.List.{range_with_len}
 use Rattle.std.specs.declared.alloc.AllocError.{AllocError}
@@ -9,7 +10,9 @@ use Rattle.mc_model.specs.synod.Packet.{Packet}
 use Rattle.node_model.specs.Stepped.{sender_of}
 use Rattle.script_text.specs.Prints.{unsettled_line}
 use Rattle.script_text.specs.Runner.{Runner, on_delivery}
-use Rattle.script_world.specs.World.{Due as WorldDue, Moved, World, comes, comes_if, due, due_among, due_at, due_first, is_down, is_up_at, lacks, marked, node_numbers, on_settle, packet_of, refuses, runner_at, settles, shared, stays, takes_part, then_moved, unsettled, up_or_refuses}
+use Rattle.script_world.specs.World.{Due as WorldDue, Moved, World, comes, comes_if, due, due_among, due_at, due_first, is_down, is_up_at}
+use Rattle.script_world.specs.World.{lacks, marked, node_numbers, on_settle, packet_of, refuses, runner_at, settles, shared, stays}
+use Rattle.script_world.specs.World.{takes_part, then_moved, unsettled, up_or_refuses}
 use Rattle.script_runner.specs.Centres.{Does, IsMoved, IsWorld, NothingBefore, due_of}
 use Rattle.script_runner.specs.Stations.{is_up}
 use Rattle.script_runner.specs.declared.centre.Centre.{Centre}
@@ -25,7 +28,9 @@ module _ (w : World) (nodes : List ℕ) where
   abbrev to : ℕ → Option ℕ
   to number = due_at w nodes number (packet_of w.packets number)
 
-  none_before : (start count : ℕ) (next : WorldDue) → due_among w nodes (range_with_len start count) ≡ Some next → (n : ℕ) → start ≤ n → n < next.number → to n ≡ None
+  none_before : (start count : ℕ) (next : WorldDue) → due_among w nodes (range_with_len start count) ≡ Some next → (n : ℕ) → start ≤ n →
+      n < next.number →
+      to n ≡ None
   unfolding due_among
   none_before start zero next is n from below = absurd cc
   none_before start (suc count) next is n from below = by_first (λ rest more. none_before (start + 1) count next rest n more below) (to start) refl is
@@ -44,14 +49,17 @@ module _ (w : World) (nodes : List ℕ) where
   due_before next is zero below = refl
   due_before next is (suc n) below = none_before 1 (length w.packets) next is (suc n) (omega arith) below
 
-  among_within : (start count : ℕ) (next : WorldDue) → due_among w nodes (range_with_len start count) ≡ Some next → (start ≤ next.number) × (next.number < start + count)
+  among_within : (start count : ℕ) (next : WorldDue) → due_among w nodes (range_with_len start count) ≡ Some next →
+      (start ≤ next.number) × (next.number < start + count)
   unfolding due_among
   among_within start zero next is = absurd cc
   among_within start (suc count) next is = by_first (λ rest. among_within (start + 1) count next rest) (to start) is
     where
-      by_first : (due_among w nodes (range_with_len (start + 1) count) ≡ Some next → (start + 1 ≤ next.number) × (next.number < (start + 1) + count)) → (found : Option ℕ) →
+      by_first : (due_among w nodes (range_with_len (start + 1) count) ≡ Some next → (start + 1 ≤ next.number) ×
+          (next.number < (start + 1) + count)) → (found : Option ℕ) →
           due_first start found (due_among w nodes (range_with_len (start + 1) count)) ≡ Some next → (start ≤ next.number) × (next.number < start + suc count)
-      by_first others (Some node) is = let same : start ≡ next.number = ap (λ (d : WorldDue). d.number) (some_same is) in (omega (arith, same), omega (arith, same))
+      by_first others (Some node) is = let same : start ≡ next.number = ap (λ (d : WorldDue). d.number) (some_same is) in
+          (omega (arith, same), omega (arith, same))
       by_first others None is = let rest = others is in (omega (arith, rest.0), omega (arith, rest.1))
 
   pub due_within : (next : WorldDue) → due w nodes ≡ Some next → next.number < suc (length w.packets)
@@ -103,10 +111,12 @@ abbrev or_down : Option Bool → Bool
 or_down None = false
 or_down (Some up) = up
 
-up_as : (centre : Centre) (w : World) (place : ℕ) → IsWorld centre w → is_up_at (slice_get w.runners place) ≡ or_down (option_map is_up (slice_get centre.stations.items place))
+up_as : (centre : Centre) (w : World) (place : ℕ) → IsWorld centre w →
+    is_up_at (slice_get w.runners place) ≡ or_down (option_map is_up (slice_get centre.stations.items place))
 up_as centre w place is = by_station (slice_get centre.stations.items place) refl
   where
-    by_station : (found : Option Station) → slice_get centre.stations.items place ≡ found → is_up_at (slice_get w.runners place) ≡ or_down (option_map is_up found)
+    by_station : (found : Option Station) → slice_get centre.stations.items place ≡ found →
+        is_up_at (slice_get w.runners place) ≡ or_down (option_map is_up found)
     by_station None none = ap is_up_at (none_too centre.stations.items w.runners place is.nodes none)
     by_station (Some station) found =
         let there = found_too centre.stations.items w.runners place station is.nodes found in
@@ -131,7 +141,8 @@ fewer_lack true true true now more none = ap not (more refl)
 fewer_lack true true false now more none = absurd cc
 
 pub nothing_more : (old new : Centre) (w : World) (nodes : List ℕ) (number node : ℕ) → IsWorld old w → IsWorld new (comes w number node).next →
-    map is_up new.stations.items ≡ map is_up old.stations.items → number < suc (length w.packets) → NothingBefore w nodes number → NothingBefore (comes w number node).next nodes number
+    map is_up new.stations.items ≡ map is_up old.stations.items → number < suc (length w.packets) → NothingBefore w nodes number →
+    NothingBefore (comes w number node).next nodes number
 nothing_more old new w nodes number node was is up within none n below = by_packet (packet_of w.packets n) refl
   where
     next : World
@@ -193,7 +204,8 @@ pub begins : (old : Centre) (w : World) (most from : ℕ) (nodes : List ℕ) (be
 begins old w most from nodes before is none = record { left = record { world = w; is = is; next = refl; written = refl }; below = none }
 
 -- a packet came that was due
-pub one_came : (all : Moved) (most more : ℕ) (nodes : List ℕ) (from : ℕ) (now new : Centre) (found : Due) (before text after : List ℕ) (way : IsUnderWay all most nodes from now before text) →
+pub one_came : (all : Moved) (most more : ℕ) (nodes : List ℕ) (from : ℕ) (now new : Centre) (found : Due) (before text after : List ℕ)
+    (way : IsUnderWay all most nodes from now before text) →
     most ≡ suc more → Some (due_of found) ≡ due way.left.world nodes → IsMoved (comes way.left.world found.number found.node) new text after →
     map is_up new.stations.items ≡ map is_up now.stations.items → IsUnderWay all more nodes found.number new before after
 unfolding one_done
@@ -203,15 +215,18 @@ one_came all most more nodes from now new found before text after way is due_is 
     record {
       left = one_done all (settles most nodes) (settles more nodes) (λ (v : World). comes v found.number found.node) now new before text after way.left
           (settle_next most more nodes w next is (sym due_is)) moved;
-      below = nothing_more now new w nodes found.number found.node way.left.is moved.next up (due_within w nodes next (sym due_is)) (due_before w nodes next (sym due_is));
+      below = nothing_more now new w nodes found.number found.node way.left.is moved.next up (due_within w nodes next (sym due_is))
+          (due_before w nodes next (sym due_is));
     }
 
-pub nothing_left : (all : Moved) (most more : ℕ) (nodes : List ℕ) (from : ℕ) (now : Centre) (before text : List ℕ) (way : IsUnderWay all most nodes from now before text) →
+pub nothing_left : (all : Moved) (most more : ℕ) (nodes : List ℕ) (from : ℕ) (now : Centre) (before text : List ℕ)
+    (way : IsUnderWay all most nodes from now before text) →
     most ≡ suc more → None ≡ due way.left.world nodes → IsMoved all now before text
 nothing_left all most more nodes from now before text way is none =
     all_done all (settles most nodes) now before text way.left (settle_ends most more nodes way.left.world is (sym none))
 
-pub stopped_there : (all : Moved) (most : ℕ) (nodes : List ℕ) (from : ℕ) (now : Centre) (before text after : List ℕ) (way : IsUnderWay all most nodes from now before text) →
+pub stopped_there : (all : Moved) (most : ℕ) (nodes : List ℕ) (from : ℕ) (now : Centre) (before text after : List ℕ)
+    (way : IsUnderWay all most nodes from now before text) →
     most ≡ zero → after ≡ text ++ unsettled_line → IsMoved all now before after
 stopped_there all most nodes from now before text after way is wrote =
     last_done all (unsettled way.left.world) (settles most nodes) now now before text after way.left (settle_stops most nodes way.left.world is)

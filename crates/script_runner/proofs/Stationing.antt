@@ -35,7 +35,8 @@ acted_if (Err fault) old was left node act before after up done = tt
 acted_if (Ok fine) old was left node act before after up done =
     subst (λ (s : Station). ActsAt node act s (Up left) before after) (sym up) (λ runner is. acted node act was left runner before after is done)
 
-pub begun : (old : Station) (was left : Site) (node : ℕ) (before after : List ℕ) → old ≡ Up was → IsDone node (on_restart (runner_of was)) (runner_of left) before after →
+pub begun : (old : Station) (was left : Site) (node : ℕ) (before after : List ℕ) → old ≡ Up was → IsDone node (on_restart (runner_of was))
+    (runner_of left) before after →
     Begins node old (Up left) before after
 begun old was left node before after up done =
     subst (λ (s : Station). Begins node s (Up left) before after) (sym up) (λ runner is. acted node on_restart was left runner before after is done)
@@ -52,18 +53,21 @@ restarts_so runner left = ap (λ (b : Bool). if b then restarted runner else dec
 declines_so : (runner : Runner) → nat_lt runner.node.kept.incarnation last_incarnation ≡ false → on_restart runner ≡ declined runner no_incarnation
 declines_so runner last = ap (λ (b : Bool). if b then restarted runner else declined runner no_incarnation) last
 
-up_again : (node : ℕ) (stopped : Standing Listed) (running : Running) (site : Site) (runner : Runner) (before : List ℕ) → IsDownAs stopped runner → StartsAnew stopped (Begun running) →
+up_again : (node : ℕ) (stopped : Standing Listed) (running : Running) (site : Site) (runner : Runner) (before : List ℕ) →
+    IsDownAs stopped runner → StartsAnew stopped (Begun running) →
     runner_of site ≡ runner_opened (node_of running) → HasActed node (on_restart runner) (Up site) before before
 up_again node stopped running site runner before was anew made =
     let begun_so = anew runner.node.setup runner.node.kept was.stopped in
     let none : [] ≡ runner.node.packets ++ (step_at runner.node (Restart 0)).outputs.packets =
     sym (ap (λ (ps : List Packet). ps ++ (step_at runner.node (Restart 0)).outputs.packets) was.packets ∙ silent runner.node.kept.up _ _) in
     subst (λ (done : Acted). HasActed node done (Up site) before before) (sym (restarts_so runner begun_so.left)) (record {
-      like = made ∙ ap runner_opened begun_so.is ∙ (λ i. runner_opened (record { setup = runner.node.setup; kept = (step_at runner.node (Restart 0)).kept; packets = none i }));
+      like = made ∙ ap runner_opened begun_so.is ∙
+          (λ i. runner_opened (record { setup = runner.node.setup; kept = (step_at runner.node (Restart 0)).kept; packets = none i }));
       text = sym (append-nil before) ∙ ap (λ (sessions : List (ℕ × Session)). before ++ text_at node (gone_prints sessions)) (sym was.sessions);
     })
 
-pub begun_down : (old : Station) (node : ℕ) (stopped : Standing Listed) (running : Running) (site : Site) (before : List ℕ) → old ≡ Down stopped → StartsAnew stopped (Begun running) →
+pub begun_down : (old : Station) (node : ℕ) (stopped : Standing Listed) (running : Running) (site : Site) (before : List ℕ) →
+    old ≡ Down stopped → StartsAnew stopped (Begun running) →
     runner_of site ≡ runner_opened (node_of running) → Begins node old (Up site) before before
 begun_down old node stopped running site before down anew made =
     subst (λ (s : Station). Begins node s (Up site) before before) (sym down) (λ runner was. up_again node stopped running site runner before was anew made)

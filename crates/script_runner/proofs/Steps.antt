@@ -18,7 +18,8 @@ pub step_of-none : (stage : Stage) (line : List ℕ) → said_of line ≡ None �
 unfolding step_of
 step_of-none stage line e = rw e refl
 
-step_of-said : (stage : Stage) (line : List ℕ) (said : Said) → said_of line ≡ Some said → step_of script_settings stage line ≡ step_by script_settings stage (said_among (nodes_of stage) said)
+step_of-said : (stage : Stage) (line : List ℕ) (said : Said) → said_of line ≡ Some said →
+    step_of script_settings stage line ≡ step_by script_settings stage (said_among (nodes_of stage) said)
 unfolding step_of
 step_of-said stage line said e = rw e refl
 
@@ -42,7 +43,8 @@ number_fits spelled line (Replay count) e = tt
 
 -- ---- the first line that says something
 
-nothing_opened : (b : Bool) (said : Said) → opened_by script_settings said ≡ None → step_by script_settings None (if b then Some said else None) ≡ opened_by script_settings said
+nothing_opened : (b : Bool) (said : Said) → opened_by script_settings said ≡ None →
+    step_by script_settings None (if b then Some said else None) ≡ opened_by script_settings said
 nothing_opened true said none = refl
 nothing_opened false said none = sym none
 
@@ -70,7 +72,8 @@ pub says_nothing : (old new : Option Centre) (line : List ℕ) (text after : Lis
 says_nothing old new line text after none stage stands =
     subst (λ (step : Option Stepped). IsStepBy step false new text after) (sym (step_of-none stage line none)) refl
 
-pub first_line : (old new : Option Centre) (line : List ℕ) (said : Said) (good : Bool) (text : List ℕ) → old ≡ None → said_of line ≡ Some said → NumberFits said →
+pub first_line : (old new : Option Centre) (line : List ℕ) (said : Said) (good : Bool) (text : List ℕ) → old ≡ None →
+    said_of line ≡ Some said → NumberFits said →
     IsStarted (opened_by script_settings said) good new → IsStep old line good new text text
 first_line old new line said good text none e fits is stage stands = by_stage stage (subst (λ (c : Option Centre). StandsAt c stage) none stands)
   where
@@ -80,7 +83,8 @@ first_line old new line said good text none e fits is stage stands = by_stage st
         (started_text (opened_by script_settings said) good new text is)
     by_stage (Some w) at = absurd at
 
-pub next_line : (old : Option Centre) (centre new : Centre) (line : List ℕ) (said : Said) (good : Bool) (before after : List ℕ) → old ≡ Some centre → said_of line ≡ Some said →
+pub next_line : (old : Option Centre) (centre new : Centre) (line : List ℕ) (said : Said) (good : Bool) (before after : List ℕ) →
+    old ≡ Some centre → said_of line ≡ Some said →
     IsAct centre said good new before after → IsStep old line good (Some new) before after
 next_line old centre new line said good before after is e act stage stands = by_stage stage (subst (λ (c : Option Centre). StandsAt c stage) is stands)
   where
@@ -88,12 +92,14 @@ next_line old centre new line said good before after is e act stage stands = by_
     by_stage None at = absurd at
     by_stage (Some w) at = subst (λ (step : Option Stepped). IsStepBy step good (Some new) before after) (sym (step_of-said (Some w) line said e)) (act w at)
 
-pub first_line_if : (r : Result Bool AllocError) (old new : Option Centre) (line : List ℕ) (said : Said) (text : List ℕ) → old ≡ None → said_of line ≡ Some said → NumberFits said →
+pub first_line_if : (r : Result Bool AllocError) (old new : Option Centre) (line : List ℕ) (said : Said) (text : List ℕ) → old ≡ None →
+    said_of line ≡ Some said → NumberFits said →
     IfOk r (λ good. IsStarted (opened_by script_settings said) good new) → IfOk r (λ good. IsStep old line good new text text)
 first_line_if (Err fault) old new line said text none e fits is = tt
 first_line_if (Ok good) old new line said text none e fits is = first_line old new line said good text none e fits is
 
-pub next_line_if : (r : Result Bool AllocError) (old : Option Centre) (centre new : Centre) (line : List ℕ) (said : Said) (before after : List ℕ) → old ≡ Some centre → said_of line ≡ Some said →
+pub next_line_if : (r : Result Bool AllocError) (old : Option Centre) (centre new : Centre) (line : List ℕ) (said : Said)
+    (before after : List ℕ) → old ≡ Some centre → said_of line ≡ Some said →
     IfOk r (λ good. IsAct centre said good new before after) → IfOk r (λ good. IsStep old line good (Some new) before after)
 next_line_if (Err fault) old centre new line said before after is e act = tt
 next_line_if (Ok good) old centre new line said before after is e act = next_line old centre new line said good before after is e act
@@ -107,7 +113,8 @@ among_so centre w said b is within = ap (λ (c : Bool). if c then Some said else
 pub acts_by : (old new : Centre) (said : Said) (good : Bool) (before after : List ℕ) → names_within (length old.stations.items) said ≡ true →
     ((w : World) → IsWorld old w → IsStepBy (moved_by script_settings w said) good (Some new) before after) → IsAct old said good new before after
 acts_by old new said good before after within does w is =
-    subst (λ (named : Option Said). IsStepBy (step_by script_settings (Some w) named) good (Some new) before after) (sym (among_so old w said true is within)) (does w is)
+    subst (λ (named : Option Said). IsStepBy (step_by script_settings (Some w) named) good (Some new) before after)
+    (sym (among_so old w said true is within)) (does w is)
 
 pub skips : (old : Centre) (text : List ℕ) → IsAct old Skipped true old text text
 skips old text w is = (refl, is, sym (append-nil text))

@@ -17,7 +17,8 @@ use Rattle.script_runner.specs.declared.station.Station.{Station}
 pub record IsWorld (centre : Centre) (w : World) : Type 0 where
   pub nodes : length centre.stations.items ≡ length w.runners
   pub few : length w.runners ≤ 9
-  pub each : (place : ℕ) (station : Station) (runner : Runner) → slice_get centre.stations.items place ≡ Some station → slice_get w.runners place ≡ Some runner →
+  pub each : (place : ℕ) (station : Station) (runner : Runner) → slice_get centre.stations.items place ≡ Some station →
+      slice_get w.runners place ≡ Some runner →
       Stands station runner
   pub packets : map packet_by centre.packets.sent ≡ w.packets
   pub came : (number node : ℕ) → came_in centre.arrivals number node ≡ w.came number node

@@ -53,7 +53,8 @@ impl Station {
         octets: &[u8],
         text: &mut Vec<u8>,
     ) -> Result<(), AllocError>
-        ensures acts { OnOk result (ActsAt node (λ runner. on_octets (settings_of config.now) runner number octets.now) self.old self.new text.old.items text.new.items) }
+        ensures acts { OnOk result (ActsAt node (λ runner. on_octets (settings_of config.now) runner number octets.now)
+            self.old self.new text.old.items text.new.items) }
         ensures up { OnOk result (is_up self.new ≡ is_up self.old) }
     {
         match self {

@@ -1,5 +1,6 @@
 -- Receipts go out, one after another.
-use Rattle.std.proofs.Common.{◌≡◌, ℕ, zero, suc, ◌+◌, ◌<◌, Bool, true, false, cond, List, [], ◌∷◌, ◌++◌, drop, find, get_or, length, map, Option, Some, None, Ok, Err, refl, sym, ap, ◌∙◌, subst, add-one, arith}
+use Rattle.std.proofs.Common.{◌≡◌, ℕ, zero, suc, ◌+◌, ◌<◌, Bool, true, false, cond, List, [], ◌∷◌, ◌++◌, drop, find, get_or, length, map}
+use Rattle.std.proofs.Common.{Option, Some, None, Ok, Err, refl, sym, ap, ◌∙◌, subst, add-one, arith}
 use Rattle.std.proofs.Math.Seq.{drop-cons}
 use Rattle.std.proofs.lemmas.List.{append-nil}
 use Rattle.std.specs.Prelude.{option_map}
@@ -11,7 +12,8 @@ use Rattle.sessions.specs.Windows.{without_first}
 use Rattle.sessions.specs.declared.pushed.Delivery.TheVariants as deliveries
 use Rattle.script_text.specs.Prints.{Print, text_at}
 use Rattle.script_text.specs.Pushes.{knows_optional, target_in, with_push}
-use Rattle.script_text.specs.Receipts.{Mail, Posted, all_posted, goes_out, goes_out_up_to, is_for, posted, posted_for, posted_for_all, reported_by, reports_on, stays, then_posted, with_both}
+use Rattle.script_text.specs.Receipts.{Mail, Posted, all_posted, goes_out, goes_out_up_to, is_for, posted, posted_for, posted_for_all}
+use Rattle.script_text.specs.Receipts.{reported_by, reports_on, stays, then_posted, with_both}
 use Rattle.script_sessions.specs.Posting.{IsPosted, mail, report_prints}
 use Rattle.node_model.specs.Reported.{receipt_of}
 use Rattle.script_sessions.specs.Pushing.{GoesOut}

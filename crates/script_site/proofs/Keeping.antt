@@ -1,5 +1,6 @@
 -- A session is taken out, served, and put back, and what waits for its account goes out.
-use Rattle.std.proofs.Common.{◌≡◌, ℕ, suc, ◌==◌, Bool, true, false, cond, List, [], ◌∷◌, ◌++◌, length, Option, Some, None, Result, Ok, Err, refl, sym, ap, ◌∙◌, subst, arith}
+use Rattle.std.proofs.Common.{◌≡◌, ℕ, suc, ◌==◌, Bool, true, false, cond, List, [], ◌∷◌, ◌++◌, length, Option, Some, None, Result, Ok, Err}
+use Rattle.std.proofs.Common.{refl, sym, ap, ◌∙◌, subst, arith}
 use Rattle.std.proofs.lemmas.Bool.{eqb-true}
 use Rattle.std.proofs.lemmas.List.{append-nil}
 use Rattle.std.specs.declared.alloc.AllocError.{AllocError}
@@ -15,7 +16,8 @@ use Rattle.script_text.specs.Settings.{Settings}
 use Rattle.script_text.specs.Node.{Node}
 use Rattle.script_text.specs.Prints.{text_at}
 use Rattle.script_text.specs.Receipts.{Mail, goes_out_up_to, posted_for_any, stays}
-use Rattle.script_text.specs.Runner.{Acted, Runner, Served, ends, mail_of, on_frame, posts_for, put_at, served_at, serves, session_in, with_posted, with_session}
+use Rattle.script_text.specs.Runner.{Acted, Runner, Served, ends, mail_of, on_frame, posts_for, put_at, served_at, serves, session_in}
+use Rattle.script_text.specs.Runner.{with_posted, with_session}
 use Rattle.script_site.specs.Sites.{IsDone, IsLeft, IsServed, keeps, put_back}
 use Rattle.script_site.proofs.Serving.{left_served, served_by}
 use Rattle.script_site.proofs.Telling.{in_turn}

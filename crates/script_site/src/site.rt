@@ -49,7 +49,8 @@ impl Site {
     ghost use Rattle.script_text.specs.Node.{opened_by};
     ghost use Rattle.script_text.specs.Prints.{text_at};
     ghost use Rattle.synod_acceptor.specs.Packets.{packet_of};
-    ghost use Rattle.script_text.specs.Runner.{ends, given_out, gives_up, gone_prints, held_in, makes_room, on_frame, on_grant, on_octets, on_restart, on_tick, opened_at, posts_for, runner_opened, sent};
+    ghost use Rattle.script_text.specs.Runner.{ends, given_out, gives_up, gone_prints, held_in, makes_room, on_frame, on_grant, on_octets};
+    ghost use Rattle.script_text.specs.Runner.{on_restart, on_tick, opened_at, posts_for, runner_opened, sent};
 
     /// A node that is set up so, over a new store, and no session. An `Err` is want of memory.
     pub fn start(alloc: Global, setup: Setup) -> Result<Site, AllocError>

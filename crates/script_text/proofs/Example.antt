@@ -7,7 +7,8 @@ use Rattle.octet_fields.specs.Reading.{content_at, number_at, parameters_at, tak
 use Rattle.pdu_codec.specs.Bodies.{body_at}
 use Rattle.pdu_codec.specs.Pdu.{framed, octets_of, read_pdu}
 use Rattle.pdu_frames.specs.Frames.{cut_within}
-use Rattle.script_lines.specs.Said.{behind, grant_said, named_said, node_at, nodes_in, nodes_said, nodes_with, number_of, octets_parts, octets_said, said_of, settle_said, tick_said, words_said}
+use Rattle.script_lines.specs.Said.{behind, grant_said, named_said, node_at, nodes_in, nodes_said, nodes_with, number_of, octets_parts}
+use Rattle.script_lines.specs.Said.{octets_said, said_of, settle_said, tick_said, words_said}
 use Rattle.script_lines.specs.Said as said
 use Rattle.delivery.specs.Outcomes.{outcome_by}
 use Rattle.receipts.specs.Texts.{receipt_text}

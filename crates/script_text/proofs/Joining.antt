@@ -37,28 +37,42 @@ use Rattle.script_text.specs.Node.{Node, awaiting, request_at, step_at, tick_at,
 use Rattle.script_text.specs.Prints.{Print}
 use Rattle.script_text.specs.Pushes.{accounts_up, overdue_in, session_at, target_in}
 use Rattle.script_text.specs.Attempts.{Went, all_given_up, concluded, delivered_so, given_up, rests_at, submission_at, unanswered, went}
-use Rattle.script_text.specs.Runner.{Runner, Acted, Served, Came, answered_by, came_by, declined, ends, first_or, followed_by, gives_up, granted, granted_unless, held_in, holds, last_incarnation, makes_room, most_deliveries, no_incarnation, nothing_came, on_delivery, on_done, on_frame, on_frames, on_grant, on_octets, on_reaction, on_read, on_request, on_rest, on_restart, on_settle, on_tick, opened_at, posts, posts_for, posts_for_all, pushes, put_at, restarted, rests, sent, sent_to, served_at, serves, session_in, settles, ticked, with_session}
+use Rattle.script_text.specs.Runner.{Runner, Acted, Served, Came, answered_by, came_by, declined, ends, first_or, followed_by, gives_up}
+use Rattle.script_text.specs.Runner.{granted, granted_unless, held_in, holds, last_incarnation, makes_room, most_deliveries}
+use Rattle.script_text.specs.Runner.{no_incarnation, nothing_came, on_delivery, on_done, on_frame, on_frames, on_grant, on_octets}
+use Rattle.script_text.specs.Runner.{on_reaction, on_read, on_request, on_rest, on_restart, on_settle, on_tick, opened_at, posts}
+use Rattle.script_text.specs.Runner.{posts_for, posts_for_all, pushes, put_at, restarted, rests, sent, sent_to, served_at, serves}
+use Rattle.script_text.specs.Runner.{session_in, settles, ticked, with_session}
 use Rattle.script_text.specs.Script.{Stage, Stepped, Joins, LineStep, after, bad_from, prints_from, script_nodes, step_by, step_of, stepped}
 use Rattle.script_text.specs.Laws.{GoesBy, kept_by}
 
 -- ---- joined lines, and those computed
 
-pub printed : (settings : Settings) (first : Stage) (lines : List (List ℕ)) (inputs : List Input) (prints : List Print) (last : Stage) (number : ℕ) → Joins settings first lines inputs prints last → (prints ≡ prints_from settings first lines) × (bad_from settings first number lines ≡ None)
+pub printed : (settings : Settings) (first : Stage) (lines : List (List ℕ)) (inputs : List Input) (prints : List Print) (last : Stage) (number : ℕ) →
+    Joins settings first lines inputs prints last →
+    (prints ≡ prints_from settings first lines) × (bad_from settings first number lines ≡ None)
 unfolding Joins prints_from bad_from
 printed settings first [] inputs prints last number joins = (joins.1, refl)
 printed settings first (line ∷ lines) inputs prints last number joins =
     let (done, later, others, is, did, said, rest) = joins in
     let behind = printed settings done.stage lines later others last (suc number) rest in (
-      said ∙ ap (λ (more : List Print). done.prints ++ more) behind.0 ∙ sym (ap (after [] (λ (d : Stepped). d.prints ++ prints_from settings d.stage lines)) is),
+      said ∙ ap (λ (more : List Print). done.prints ++ more) behind.0 ∙ sym
+          (ap (after [] (λ (d : Stepped). d.prints ++ prints_from settings d.stage lines)) is),
       ap (after (Some number) (λ (d : Stepped). bad_from settings d.stage (suc number) lines)) is ∙ behind.1,
     )
 
-pub joined : (settings : Settings) (first : Stage) (lines : List (List ℕ)) (number : ℕ) → bad_from settings first number lines ≡ None → (inputs : List Input) × (last : Stage) × Joins settings first lines inputs (prints_from settings first lines) last
+pub joined : (settings : Settings) (first : Stage) (lines : List (List ℕ)) (number : ℕ) → bad_from settings first number lines ≡ None →
+    (inputs : List Input) × (last : Stage) × Joins settings first lines inputs (prints_from settings first lines) last
 unfolding Joins prints_from bad_from
 joined settings first [] number good = ([], first, (refl, refl, refl))
 joined settings first (line ∷ lines) number good = at_step (λ stage. joined settings stage lines (suc number)) (step_of settings first line) refl good
   where
-    at_step : ((stage : Stage) → bad_from settings stage (suc number) lines ≡ None → (inputs : List Input) × (last : Stage) × Joins settings stage lines inputs (prints_from settings stage lines) last) → (step : Option Stepped) → step_of settings first line ≡ step → after (Some number) (λ (d : Stepped). bad_from settings d.stage (suc number) lines) step ≡ None → (inputs : List Input) × (last : Stage) × Joins settings first (line ∷ lines) inputs (after [] (λ (d : Stepped). d.prints ++ prints_from settings d.stage lines) step) last
+    at_step : ((stage : Stage) → bad_from settings stage (suc number) lines ≡ None → (inputs : List Input) ×
+        (last : Stage) × Joins settings stage lines inputs (prints_from settings stage lines) last) →
+        (step : Option Stepped) → step_of settings first line ≡ step →
+        after (Some number) (λ (d : Stepped). bad_from settings d.stage (suc number) lines) step ≡ None →
+        (inputs : List Input) × (last : Stage) × Joins settings first (line ∷ lines) inputs
+        (after [] (λ (d : Stepped). d.prints ++ prints_from settings d.stage lines) step) last
     at_step behind None is good = absurd cc
     at_step behind (Some done) is good =
         let (later, last, rest) = behind done.stage good in
@@ -71,7 +85,8 @@ unfolding kept_by
 inputs_behind setup k [] later = refl
 inputs_behind setup k (input ∷ inputs) later = inputs_behind setup (node_stepped setup k input).kept inputs later
 
-goes_behind : (first middle last : Node) (inputs later : List Input) → GoesBy first inputs middle → GoesBy middle later last → GoesBy first (inputs ++ later) last
+goes_behind : (first middle last : Node) (inputs later : List Input) → GoesBy first inputs middle → GoesBy middle later last →
+    GoesBy first (inputs ++ later) last
 goes_behind first middle last inputs later one other = record {
   setup = other.setup ∙ one.setup;
   kept = other.kept
@@ -118,13 +133,17 @@ all_go node (first ∷ others) =
 abbrev ServedGoes : Node → Served → Type 0
 ServedGoes node served = GoesBy node served.inputs served.node
 
-request_goes : (number : ℕ) (node : Node) (session : Session) (requested : Requested) (sequence : ℕ) (account : Option (List ℕ)) (request : Option Request) → ServedGoes node (on_request number node session requested sequence account request)
+request_goes : (number : ℕ) (node : Node) (session : Session) (requested : Requested) (sequence : ℕ) (account : Option (List ℕ))
+    (request : Option Request) →
+    ServedGoes node (on_request number node session requested sequence account request)
 request_goes number node session requested sequence None request = goes_nowhere node
 request_goes number node session requested sequence (Some account) None = goes_nowhere node
 request_goes number node session requested sequence (Some account) (Some request) = goes_once node (request_at node account request)
 
-reaction_goes : (settings : Settings) (number : ℕ) (node : Node) (came : Came) (session : Session) (reaction : Reaction) → ServedGoes node (on_reaction settings number node came session reaction)
-reaction_goes settings number node came session (reactions.Ask requested) = request_goes number node session requested came.sequence session.account came.request
+reaction_goes : (settings : Settings) (number : ℕ) (node : Node) (came : Came) (session : Session) (reaction : Reaction) →
+    ServedGoes node (on_reaction settings number node came session reaction)
+reaction_goes settings number node came session (reactions.Ask requested) =
+    request_goes number node session requested came.sequence session.account came.request
 reaction_goes settings number node came session (reactions.Answered pushed) = delivered_goes node pushed.delivery (came.outcome pushed.sequence)
 reaction_goes settings number node came session (reactions.Leave outgoing abandoned) = all_go node abandoned
 reaction_goes settings number node came session other = goes_nowhere node
@@ -132,9 +151,11 @@ reaction_goes settings number node came session other = goes_nowhere node
 done_goes : (settings : Settings) (number : ℕ) (node : Node) (came : Came) (done : Done) → ServedGoes node (on_done settings number node came done)
 done_goes settings number node came done = reaction_goes settings number node came done.next done.reaction
 
-read_goes : (settings : Settings) (number : ℕ) (node : Node) (session : Session) (octets : List ℕ) (read : Result Pdu PduFault) → ServedGoes node (on_read settings number node session octets read)
+read_goes : (settings : Settings) (number : ℕ) (node : Node) (session : Session) (octets : List ℕ) (read : Result Pdu PduFault) →
+    ServedGoes node (on_read settings number node session octets read)
 read_goes settings number node session octets (Ok pdu) = done_goes settings number node (came_by settings pdu) (on_pdu settings.accounts session pdu)
-read_goes settings number node session octets (Err fault) = done_goes settings number node nothing_came (on_fault session fault (requested_by (command_of (word_at 4 octets))) (word_at 12 octets))
+read_goes settings number node session octets (Err fault) =
+    done_goes settings number node nothing_came (on_fault session fault (requested_by (command_of (word_at 4 octets))) (word_at 12 octets))
 
 -- ---- by what comes on a session
 
@@ -163,7 +184,8 @@ frame_goes : (settings : Settings) (number : ℕ) (runner : Runner) (octets : Li
 unfolding on_frame
 frame_goes settings number runner octets =
     let session = session_in runner.sessions number in
-    serves_goes runner number (on_read settings number runner.node session octets (read_pdu octets)) (read_goes settings number runner.node session octets (read_pdu octets))
+    serves_goes runner number (on_read settings number runner.node session octets (read_pdu octets))
+    (read_goes settings number runner.node session octets (read_pdu octets))
 
 rest_goes : (settings : Settings) (number : ℕ) (runner : Runner) (rest : List ℕ) → ActedGoes runner (on_rest settings number runner rest)
 rest_goes settings number runner rest = at_test (begins_wrong rest)
@@ -175,10 +197,12 @@ rest_goes settings number runner rest = at_test (begins_wrong rest)
     at_test true = serves_goes runner number (on_done settings number runner.node nothing_came ended) (done_goes settings number runner.node nothing_came ended)
     at_test false = goes_nowhere runner.node
 
-frames_go : (settings : Settings) (number : ℕ) (runner : Runner) (frames : List (List ℕ)) (rest : List ℕ) → ActedGoes runner (on_frames settings number runner frames rest)
+frames_go : (settings : Settings) (number : ℕ) (runner : Runner) (frames : List (List ℕ)) (rest : List ℕ) →
+    ActedGoes runner (on_frames settings number runner frames rest)
 unfolding on_frames
 frames_go settings number runner [] rest = rest_goes settings number runner rest
-frames_go settings number runner (frame ∷ frames) rest = at_test (is_none (session_at first.next.sessions number)) (frames_go settings number first.next frames rest)
+frames_go settings number runner (frame ∷ frames) rest =
+    at_test (is_none (session_at first.next.sessions number)) (frames_go settings number first.next frames rest)
   where
     first : Acted
     first = on_frame settings number runner frame
@@ -213,7 +237,8 @@ tick_goes runner moment =
 fails_goes : (runner : Runner) (slot : Slot) → ActedGoes runner (sent runner slot None)
 fails_goes runner slot = let goes = concluded_goes runner.node slot unanswered in record { setup = goes.setup; kept = goes.kept }
 
-pushes_goes : (runner : Runner) (slot : Slot) (taken : Submission) (number : ℕ) (session : Option Session) → ActedGoes runner (pushes runner slot taken number session)
+pushes_goes : (runner : Runner) (slot : Slot) (taken : Submission) (number : ℕ) (session : Option Session) →
+    ActedGoes runner (pushes runner slot taken number session)
 pushes_goes runner slot taken number None = goes_nowhere runner.node
 pushes_goes runner slot taken number (Some session) = goes_nowhere runner.node
 
@@ -256,7 +281,9 @@ unfolding settles
 settles_goes zero runner = goes_nowhere runner.node
 settles_goes (suc more) runner = at_first runner.node.packets (settles_goes more)
   where
-    at_first : (packets : List Packet) → ((next : Runner) → ActedGoes next (settles more next)) → ActedGoes runner (first_or (rests runner) (λ packet others. followed_by (on_delivery runner packet others) (settles more (on_delivery runner packet others).next)) packets)
+    at_first : (packets : List Packet) → ((next : Runner) → ActedGoes next (settles more next)) →
+        ActedGoes runner (first_or (rests runner) (λ packet others. followed_by (on_delivery runner packet others)
+        (settles more (on_delivery runner packet others).next)) packets)
     at_first [] later = goes_nowhere runner.node
     at_first (packet ∷ others) later =
         let first = on_delivery runner packet others in
@@ -273,7 +300,8 @@ goes_so runner one other is goes = let same : one ≡ other = cc in subst (λ (d
 acted_goes : (runner : Runner) (acted : Acted) (done : Stepped) → ActedGoes runner acted → stepped acted ≡ Some done → StageGoes runner done.inputs done.stage
 acted_goes runner acted done goes is = goes_so runner _ done is (acted.next, refl, goes)
 
-line_goes : (settings : Settings) (runner : Runner) (line : List ℕ) (done : Stepped) → LineStep settings (Some runner) line done → StageGoes runner done.inputs done.stage
+line_goes : (settings : Settings) (runner : Runner) (line : List ℕ) (done : Stepped) → LineStep settings (Some runner) line done →
+    StageGoes runner done.inputs done.stage
 unfolding step_of
 line_goes settings runner line done is = by_said (said_within script_nodes line) is
   where
@@ -281,7 +309,8 @@ line_goes settings runner line done is = by_said (said_within script_nodes line)
     by_said None is = absurd cc
     by_said (Some Skipped) is = goes_so runner _ done is (runner, refl, goes_nowhere runner.node)
     by_said (Some (Nodes count serial)) is = absurd cc
-    by_said (Some (Octets node session octets)) is = acted_goes runner (on_octets settings runner session octets) done (octets_go settings runner session octets) is
+    by_said (Some (Octets node session octets)) is = acted_goes runner (on_octets settings runner session octets) done
+        (octets_go settings runner session octets) is
     by_said (Some (Deliver number node)) is = absurd cc
     by_said (Some (Crash node number after)) is = absurd cc
     by_said (Some (Tick node moment)) is = acted_goes runner (on_tick runner moment) done (tick_goes runner moment) is
@@ -290,7 +319,9 @@ line_goes settings runner line done is = by_said (said_within script_nodes line)
     by_said (Some (Restart node)) is = acted_goes runner (on_restart runner) done (restart_goes runner) is
     by_said (Some (Replay count)) is = absurd cc
 
-lines_go : (settings : Settings) (first : Stage) (runner : Runner) (lines : List (List ℕ)) (inputs : List Input) (prints : List Print) (last : Stage) → first ≡ Some runner → Joins settings first lines inputs prints last → StageGoes runner inputs last
+lines_go : (settings : Settings) (first : Stage) (runner : Runner) (lines : List (List ℕ)) (inputs : List Input) (prints : List Print)
+    (last : Stage) → first ≡ Some runner → Joins settings first lines inputs prints last →
+    StageGoes runner inputs last
 unfolding Joins
 lines_go settings first runner [] inputs prints last begins joins =
     let (none, nothing, same) = joins in
@@ -298,10 +329,16 @@ lines_go settings first runner [] inputs prints last begins joins =
 lines_go settings first runner (line ∷ lines) inputs prints last begins joins =
     let (done, later, others, is, did, said, rest) = joins in
     let (middle, at_middle, one) = line_goes settings runner line done (subst (λ (s : Stage). LineStep settings s line done) begins is) in
-    let (end, at_end, other) = lines_go settings done.stage middle lines later others last at_middle rest in
-    (end, at_end, subst (λ (s : List Input). GoesBy runner.node s end.node) (sym did) (goes_behind runner.node middle.node end.node done.inputs later one other))
+    let (end, at_end, other) = lines_go settings done.stage middle lines later others last at_middle rest in (
+      end,
+      at_end,
+      subst (λ (s : List Input). GoesBy runner.node s end.node) (sym did)
+          (goes_behind runner.node middle.node end.node done.inputs later one other),
+    )
 
-pub goes : (settings : Settings) (first last : Runner) (lines : List (List ℕ)) (inputs : List Input) (prints : List Print) → Joins settings (Some first) lines inputs prints (Some last) → GoesBy first.node inputs last.node
+pub goes : (settings : Settings) (first last : Runner) (lines : List (List ℕ)) (inputs : List Input) (prints : List Print) →
+    Joins settings (Some first) lines inputs prints (Some last) →
+    GoesBy first.node inputs last.node
 goes settings first last lines inputs prints joins =
     let (end, at_end, by) = lines_go settings (Some first) first lines inputs prints (Some last) refl joins in
     let same : end ≡ last = cc in

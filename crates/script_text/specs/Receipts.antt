@@ -1,5 +1,6 @@
 -- Delivery receipts: what one reports, to whom it goes, and those that wait for a session (SMPP 3.4, appendix B; the queue: own).
-use Rattle.std.specs.Prelude.{ℕ, zero, suc, Bool, nat_lt, List, [], ◌∷◌, ◌++◌, filter, find, length, reverse, slice_get, Option, Some, None, option_map, if◌then◌else◌}
+use Rattle.std.specs.Prelude.{ℕ, zero, suc, Bool, nat_lt, List, [], ◌∷◌, ◌++◌, filter, find, length, reverse, slice_get, Option, Some}
+use Rattle.std.specs.Prelude.{None, option_map, if◌then◌else◌}
 use Rattle.mc_model.specs.message.Chain.{taken_in}
 use Rattle.mc_model.specs.message.Decree.{Decree, Fate, Kind}
 use Rattle.mc_model.specs.message.Submission.{Submission}

@@ -1,5 +1,6 @@
 -- The world of a script over several nodes, and what a line does there (own).
-use Rattle.std.specs.Prelude.{ℕ, zero, suc, pred, ◌==◌, ◌&&◌, ◌||◌, Bool, true, false, not, List, [], ◌∷◌, ◌++◌, find, length, map, reverse, slice_get, slice_set, Option, Some, None, if◌then◌else◌}
+use Rattle.std.specs.Prelude.{ℕ, zero, suc, pred, ◌==◌, ◌&&◌, ◌||◌, Bool, true, false, not, List, [], ◌∷◌, ◌++◌, find, length, map}
+use Rattle.std.specs.Prelude.{reverse, slice_get, slice_set, Option, Some, None, if◌then◌else◌}
 use Rattle.std.specs.List.{range_with_len}
 use Rattle.mc_model.specs.synod.Packet.{Packet}
 use Rattle.mc_model.specs.node.Input.{Crash, Input}
@@ -8,7 +9,8 @@ use Rattle.node_model.specs.Stepped.{sender_of}
 use Rattle.script_lines.specs.Said.{is_listed}
 use Rattle.script_text.specs.Settings.{Settings}
 use Rattle.script_text.specs.Node.{opened_by, step_at, with_step}
-use Rattle.script_text.specs.Runner.{Runner, Acted, given_out, gone_prints, most_deliveries, on_delivery, on_grant, on_octets, on_restart, on_tick, runner_opened}
+use Rattle.script_text.specs.Runner.{Runner, Acted, given_out, gone_prints, most_deliveries, on_delivery, on_grant, on_octets, on_restart}
+use Rattle.script_text.specs.Runner.{on_tick, runner_opened}
 use Rattle.script_world.specs.Prints.{WorldPrint, At, Refuses, StopsSettling}
 
 -- Of each node, from the node 1 on, its runner, whose node has no packet to give out between two acts; all packets that were ever sent, the

@@ -7,17 +7,22 @@ use Rattle.std.proofs.lemmas.Grind.{common_steps}
 use Rattle.std.proofs.lemmas.Option.{slice_get_past}
 use Rattle.sessions.specs.Windows.{without_first}
 
-found_at : {X : Type 0} (p : X → Bool) (xs : List X) (i : ℕ) (d : X) → i < length xs → p (get_or xs i d) ≡ true → ((k : ℕ) → k < i → p (get_or xs k d) ≡ false) → find p xs ≡ Some (get_or xs i d)
+found_at : {X : Type 0} (p : X → Bool) (xs : List X) (i : ℕ) (d : X) → i < length xs → p (get_or xs i d) ≡ true →
+    ((k : ℕ) → k < i → p (get_or xs k d) ≡ false) →
+    find p xs ≡ Some (get_or xs i d)
 found_at p [] i d within passes fail = absurd (omega arith)
 found_at p (x ∷ xs) zero d within passes fail = ap (λ b. cond b (Some x) (find p xs)) passes
 found_at p (x ∷ xs) (suc i) d within passes fail =
     ap (λ b. cond b (Some x) (find p xs)) (fail 0 (omega arith)) ∙ found_at p xs i d (omega arith) passes (λ k below. fail (suc k) (omega arith))
 
-left_at : {X : Type 0} (p : X → Bool) (xs : List X) (i : ℕ) (d : X) → i < length xs → p (get_or xs i d) ≡ true → ((k : ℕ) → k < i → p (get_or xs k d) ≡ false) → without_first p xs ≡ remove xs i
+left_at : {X : Type 0} (p : X → Bool) (xs : List X) (i : ℕ) (d : X) → i < length xs → p (get_or xs i d) ≡ true →
+    ((k : ℕ) → k < i → p (get_or xs k d) ≡ false) →
+    without_first p xs ≡ remove xs i
 left_at p [] i d within passes fail = absurd (omega arith)
 left_at p (x ∷ xs) zero d within passes fail = ap (λ b. cond b xs (x ∷ without_first p xs)) passes
 left_at p (x ∷ xs) (suc i) d within passes fail =
-    ap (λ b. cond b xs (x ∷ without_first p xs)) (fail 0 (omega arith)) ∙ ap (λ ys. x ∷ ys) (left_at p xs i d (omega arith) passes (λ k below. fail (suc k) (omega arith)))
+    ap (λ b. cond b xs (x ∷ without_first p xs)) (fail 0 (omega arith)) ∙ ap (λ ys. x ∷ ys)
+    (left_at p xs i d (omega arith) passes (λ k below. fail (suc k) (omega arith)))
 
 -- what is found at the position
 pub found_first : {X : Type 0} (p : X → Bool) (xs : List X) (i : ℕ) (d : X) → position p xs ≡ Some i → find p xs ≡ Some (get_or xs i d)

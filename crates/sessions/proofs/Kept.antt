@@ -6,7 +6,9 @@ use Rattle.sessions.specs.Windows.{without_first}
 use Rattle.sessions.specs.Session.{Session, IsSession}
 use Rattle.sessions.proofs.Firsts.{no_longer, of_empty}
 
-pub without_request : (session : Session) (p : OpenRequest → Bool) (requests : List OpenRequest) → requests ≡ without_first p session.requests → IsSession session → IsSession (record session { requests = requests })
+pub without_request : (session : Session) (p : OpenRequest → Bool) (requests : List OpenRequest) →
+    requests ≡ without_first p session.requests → IsSession session →
+    IsSession (record session { requests = requests })
 without_request session p requests left is = record {
   account = is.account;
   requests = let fewer = no_longer p session.requests in let same = ap length left in omega arith;
@@ -17,7 +19,9 @@ without_request session p requests left is = record {
   last = is.last;
 }
 
-pub without_pushed : (session : Session) (p : Pushed → Bool) (pushed : List Pushed) → pushed ≡ without_first p session.pushed → IsSession session → IsSession (record session { pushed = pushed })
+pub without_pushed : (session : Session) (p : Pushed → Bool) (pushed : List Pushed) → pushed ≡ without_first p session.pushed →
+    IsSession session →
+    IsSession (record session { pushed = pushed })
 without_pushed session p pushed left is = record {
   account = is.account;
   requests = is.requests;
@@ -36,7 +40,9 @@ no_more p (x ∷ xs) = at_test (p x) (no_more p xs)
     at_test true others = omega arith
     at_test false others = omega arith
 
-pub filtered_pushed : (session : Session) (p : Pushed → Bool) (pushed : List Pushed) → pushed ≡ filter p session.pushed → IsSession session → IsSession (record session { pushed = pushed })
+pub filtered_pushed : (session : Session) (p : Pushed → Bool) (pushed : List Pushed) → pushed ≡ filter p session.pushed →
+    IsSession session →
+    IsSession (record session { pushed = pushed })
 filtered_pushed session p pushed left is = record {
   account = is.account;
   requests = is.requests;

@@ -8,7 +8,8 @@ use Rattle.sessions.specs.Laws.{AreAbove, AreBelow, Rise}
 abbrev pub is_of : ℕ → OpenRequest → Bool
 is_of ticket request = request.ticket == ticket
 
-above_added : (low : ℕ) (requests : List OpenRequest) (request : OpenRequest) → AreAbove low requests → low < request.ticket → AreAbove low (requests ++ request ∷ [])
+above_added : (low : ℕ) (requests : List OpenRequest) (request : OpenRequest) → AreAbove low requests → low < request.ticket →
+    AreAbove low (requests ++ request ∷ [])
 above_added low [] request above less = (less, tt)
 above_added low (first ∷ others) request above less = (above.0, above_added low others request above.1 less)
 
@@ -48,6 +49,7 @@ pub apart : (requests : List OpenRequest) (ticket : ℕ) → Rise requests → f
 apart [] ticket rise = refl
 apart (first ∷ others) ticket rise = at_test (first.ticket == ticket) refl (apart others ticket rise.1)
   where
-    at_test : (b : Bool) → first.ticket == ticket ≡ b → find (is_of ticket) (without_first (is_of ticket) others) ≡ None → find (is_of ticket) (cond b others (first ∷ without_first (is_of ticket) others)) ≡ None
+    at_test : (b : Bool) → first.ticket == ticket ≡ b → find (is_of ticket) (without_first (is_of ticket) others) ≡ None →
+        find (is_of ticket) (cond b others (first ∷ without_first (is_of ticket) others)) ≡ None
     at_test true is none = none_above first.ticket ticket others (grind (arith, nat_tests)) rise.0
     at_test false is none = ap (λ b. cond b (Some first) (find (is_of ticket) (without_first (is_of ticket) others))) is ∙ none

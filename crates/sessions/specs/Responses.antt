@@ -10,7 +10,9 @@ use Rattle.pdu_tables.specs.StatusCodes.{status_code}
 use Rattle.pdu_bodies.specs.declared.pdu.Pdu.{Pdu}
 use Rattle.pdu_bodies.specs.declared.pdu.BindAnswer.{BindAnswer}
 use Rattle.pdu_bodies.specs.declared.pdu.Body.{Body}
-use Rattle.pdu_bodies.specs.declared.pdu.Body.TheVariants.{BindReceiverResp, BindTransmitterResp, BindTransceiverResp, SubmitSmResp, DeliverSmResp, QuerySmResp, CancelSmResp, UnbindResp, EnquireLinkResp, GenericNack}
+use Rattle.pdu_bodies.specs.declared.pdu.Body.TheVariants.{BindReceiverResp, BindTransmitterResp, BindTransceiverResp, SubmitSmResp}
+use Rattle.pdu_bodies.specs.declared.pdu.Body.TheVariants.{DeliverSmResp, QuerySmResp, CancelSmResp, UnbindResp, EnquireLinkResp}
+use Rattle.pdu_bodies.specs.declared.pdu.Body.TheVariants.{GenericNack}
 use Rattle.sessions.specs.declared.requested.Requested.{Requested}
 use Rattle.sessions.specs.declared.requested.Requested.TheVariants as requests
 use Rattle.sessions.specs.declared.response.Response.{Response}

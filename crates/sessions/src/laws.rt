@@ -1,6 +1,8 @@
 //! What holds of sessions, whatever comes.
 
-ghost use Rattle.sessions.specs.Laws.{NoPduTakesAPlace, NothingLeavesGone, NoFaultIsToldOfGone, NothingBeginsInGone, RefusalChangesNothing, ReplyToAnotherChangesNothing, RisingTicketsAreApart, TicketsRiseByWaiting, TicketsRiseOverReplies};
+ghost use Rattle.sessions.specs.Laws.{NoPduTakesAPlace, NothingLeavesGone, NoFaultIsToldOfGone, NothingBeginsInGone};
+ghost use Rattle.sessions.specs.Laws.{RefusalChangesNothing, ReplyToAnotherChangesNothing, RisingTicketsAreApart, TicketsRiseByWaiting};
+ghost use Rattle.sessions.specs.Laws.{TicketsRiseOverReplies};
 
 /// No PDU takes a place in the window of the ESME's requests, whatever it is answered: only the node gives places.
 pub fn no_pdu_takes_a_place()

@@ -76,7 +76,12 @@ module _ {V : Type 0} where
   none_between (e ∷ es) key zero at =
       let below : key < e.0 = at.behind 0 e (omega arith) (omega arith) in
       let less : nat_cmp key e.0 ≡ Less = grind (arith, nat_tests) in
-      rw less (none_between es key zero (record { within = omega arith; before = λ k d lower. absurd (omega arith); behind = λ k d from lower. at.behind (suc k) d (omega arith) (omega arith) }))
+      rw less (none_between es key zero (record {
+        within = omega arith;
+        before = λ k d lower. absurd (omega arith);
+        behind =
+            λ k d from lower. at.behind (suc k) d (omega arith) (omega arith);
+      }))
   none_between (e ∷ es) key (suc place) at =
       let below : e.0 < key = at.before 0 e (omega arith) in
       let greater : nat_cmp key e.0 ≡ Greater = grind (arith, nat_tests) in

@@ -44,7 +44,8 @@ module _ {V : Type 0} (f : V → V) where
   abbrev pub visited : ℕ × V → ℕ × V
   visited entry = (entry.0, f entry.1)
 
-  value_by : (key : ℕ) (e : ℕ × V) (es : List (ℕ × V)) → value_at (map visited es) key ≡ option_map f (value_at es key) → (order : Ordering) → nat_cmp key e.0 ≡ order →
+  value_by : (key : ℕ) (e : ℕ × V) (es : List (ℕ × V)) → value_at (map visited es) key ≡ option_map f (value_at es key) →
+      (order : Ordering) → nat_cmp key e.0 ≡ order →
       value_at (map visited (e ∷ es)) key ≡ option_map f (value_at (e ∷ es) key)
   value_by key e es rest Less is = rw (is) rest
   value_by key e es rest Equal is = rw (is) refl

@@ -34,20 +34,23 @@ epoch_same d late =
 -- a date of an earlier year has a smaller day number than any of a later one
 pub earlier_year : (d : Civil) (year month day : ℕ) → 1 ≤ day → d.year <ℤ pos year → epoch_day d <ℤ days_from_civil (pos year) month day
 earlier_year d year month day first before =
-    let less : day_count d.year d.month d.day < day_count (pos year) month day = day_count-lt_year d.year d.month d.day (pos year) month day (civil d) first before in
+    let less : day_count d.year d.month d.day < day_count (pos year) month day = day_count-lt_year d.year d.month d.day (pos year) month day
+    (civil d) first before in
     omega (arith, signed_arith, days_from_civil-day_count d.year d.month d.day, days_from_civil-day_count (pos year) month day, less)
 
 -- and of a later one a greater than any date of an earlier one
 pub later_year : (year month day : ℕ) (d : Civil) → pos year <ℤ d.year → IsCivilDate (pos year) month day → days_from_civil (pos year) month day <ℤ epoch_day d
 later_year year month day d after is =
-    let less : day_count (pos year) month day < day_count d.year d.month d.day = day_count-lt_year (pos year) month day d.year d.month d.day is d.day_in.0 after in
+    let less : day_count (pos year) month day < day_count d.year d.month d.day = day_count-lt_year
+    (pos year) month day d.year d.month d.day is d.day_in.0 after in
     omega (arith, signed_arith, days_from_civil-day_count d.year d.month d.day, days_from_civil-day_count (pos year) month day, less)
 
 -- a day from the epoch on is in 1970 or later
 pub from_1970 : (d : Civil) (day : ℕ) → epoch_day d ≡ pos day → pos 1970 ≤ℤ d.year
 unfolding days_of_years days_of_months
 from_1970 d day e =
-    by_lt_z d.year (pos 1970) (λ before. absurd (let less = earlier_year d 1970 1 1 (omega arith) before in let zero_at : days_from_civil (pos 1970) 1 1 ≡ pos 0 = day_same 1970 1 1 (omega arith) (omega arith) in omega (arith, signed_arith, less, zero_at, e)))
+    by_lt_z d.year (pos 1970) (λ before. absurd (let less = earlier_year d 1970 1 1 (omega arith) before in let zero_at : days_from_civil
+    (pos 1970) 1 1 ≡ pos 0 = day_same 1970 1 1 (omega arith) (omega arith) in omega (arith, signed_arith, less, zero_at, e)))
     (λ late. late)
 
 -- the date of a day
@@ -85,7 +88,8 @@ day_of_2500 = day_same 2500 1 1 (omega arith) (omega arith)
 
 pub up_to_2500 : (d : Civil) (day : ℕ) → epoch_day d ≡ pos day → day ≤ 100000 → d.year ≤ℤ pos 2500
 up_to_2500 d day e most =
-    by_lt_z (pos 2500) d.year (λ after. absurd (let less = later_year 2500 1 1 d after first_of_2500 in omega (arith, signed_arith, less, day_of_2500, e, most))) (λ within. within)
+    by_lt_z (pos 2500) d.year (λ after. absurd (let less = later_year 2500 1 1 d after first_of_2500 in
+    omega (arith, signed_arith, less, day_of_2500, e, most))) (λ within. within)
 
 year_least : (z : ℤ) → pos 2000 ≤ℤ z → 2000 ≤ unsigned_abs z
 year_least (pos n) late = omega (arith, signed_arith)
@@ -98,9 +102,11 @@ year_most (negsuc n) late within = absurd (omega (arith, signed_arith))
 pub from_2000 : (d : Civil) (day : ℕ) → epoch_day d ≡ pos day → 10957 ≤ day → 2000 ≤ (plain_date d).year
 from_2000 d day e least =
     year_least d.year
-    (by_lt_z d.year (pos 2000) (λ before. absurd (let less = earlier_year d 2000 1 1 (omega arith) before in omega (arith, signed_arith, less, day_of_2000, e, least))) (λ within. within))
+    (by_lt_z d.year (pos 2000) (λ before. absurd (let less = earlier_year d 2000 1 1 (omega arith) before in
+    omega (arith, signed_arith, less, day_of_2000, e, least))) (λ within. within))
 
 pub up_to_2099 : (d : Civil) (day : ℕ) → epoch_day d ≡ pos day → day ≤ 47481 → (plain_date d).year ≤ 2099
 up_to_2099 d day e most =
     year_most d.year (from_1970 d day e)
-    (by_lt_z (pos 2099) d.year (λ after. absurd (let less = later_year 2099 12 31 d after last_of_2099 in omega (arith, signed_arith, less, day_of_2099, e, most))) (λ within. within))
+    (by_lt_z (pos 2099) d.year (λ after. absurd (let less = later_year 2099 12 31 d after last_of_2099 in
+    omega (arith, signed_arith, less, day_of_2099, e, most))) (λ within. within))

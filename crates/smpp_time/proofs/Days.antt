@@ -30,7 +30,8 @@ months_same year (suc n) = ap (λ days. days + days_in_month year (suc n)) (mont
 year_from : (year base : ℕ) → base ≡ 11970 → 1970 ≤ year → unsigned_abs (pos year +ℤ pos 10000) ≡ (year - 1970) + base
 year_from year base at late = omega (arith, signed_arith)
 
-counted : (year month day base : ℕ) → base ≡ 11970 → 1970 ≤ year → 1 ≤ day → day_count (pos year) month day ≡ civil_years base + day_number (date_at year month day)
+counted : (year month day base : ℕ) → base ≡ 11970 → 1970 ≤ year → 1 ≤ day →
+    day_count (pos year) month day ≡ civil_years base + day_number (date_at year month day)
 unfolding day_count
 counted year month day base at late first =
     let years : civil_years (unsigned_abs (pos year +ℤ pos 10000)) ≡ civil_years base + days_of_years (year - 1970) =

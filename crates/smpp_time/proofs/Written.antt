@@ -39,7 +39,8 @@ date_is : (day : ℕ) (date : Date) → IsDateOf day date → is_date date ≡ t
 date_is day date is = grind (arith, nat_tests)
 
 -- the text of a date and a time of the day names their seconds
-said : (year month day h m s now : ℕ) (today : Date) → year < 100 → month < 100 → day < 100 → h < 24 → m < 60 → s < 60 → is_date (date_at (2000 + year) month day) ≡ true
+said : (year month day h m s now : ℕ) (today : Date) → year < 100 → month < 100 → day < 100 → h < 24 → m < 60 → s < 60 →
+    is_date (date_at (2000 + year) month day) ≡ true
     → said_of (written year month day h m s) now today ≡ moment_of (86400 * day_number (date_at (2000 + year) month day) + (3600 * h + 60 * m + s))
 said year month day h m s now today hy hmo hd hh hm hs is =
     said_absolute (written year month day h m s) now today (shaped year month day h m s hy hmo hd (omega arith) (omega arith) (omega arith)) (λ e. absurd cc)
@@ -63,10 +64,15 @@ written_said moment now is =
     let least : 2000 ≤ d.year = from_2000 (moment / 86400) d is_today (omega (arith, is)) in
     let most : d.year ≤ 2099 = to_2099 (moment / 86400) d is_today (omega (arith, is)) in
     let year : 2000 + (d.year - 2000) ≡ d.year = omega (arith, least) in
-    let real : is_date (date_at (2000 + (d.year - 2000)) d.month d.day) ≡ true = ap (λ y. is_date (date_at y d.month d.day)) year ∙ date_is (moment / 86400) d is_today in
-    let days : day_number (date_at (2000 + (d.year - 2000)) d.month d.day) ≡ moment / 86400 = ap (λ y. day_number (date_at y d.month d.day)) year ∙ is_today.number in
-    let all : 86400 * day_number (date_at (2000 + (d.year - 2000)) d.month d.day) + (3600 * (clock / 3600) + 60 * (clock / 60 % 60) + clock % 60) ≡ moment = omega (arith, days) in
-    said (d.year - 2000) d.month d.day (clock / 3600) (clock / 60 % 60) (clock % 60) now today (omega (arith, least, most)) (omega (arith, is_today.most_month)) (omega (arith, is_today.most_day, month_most d.year d.month)) (omega arith) (omega arith) (omega arith) real
+    let real : is_date (date_at (2000 + (d.year - 2000)) d.month d.day) ≡ true = ap (λ y. is_date (date_at y d.month d.day)) year ∙ date_is
+    (moment / 86400) d is_today in
+    let days : day_number (date_at (2000 + (d.year - 2000)) d.month d.day) ≡ moment / 86400 = ap
+    (λ y. day_number (date_at y d.month d.day)) year ∙ is_today.number in
+    let all : 86400 * day_number (date_at (2000 + (d.year - 2000)) d.month d.day) +
+    (3600 * (clock / 3600) + 60 * (clock / 60 % 60) + clock % 60) ≡ moment = omega (arith, days) in
+    said (d.year - 2000) d.month d.day (clock / 3600) (clock / 60 % 60) (clock % 60) now today (omega (arith, least, most))
+    (omega (arith, is_today.most_month)) (omega (arith, is_today.most_day, month_most d.year d.month)) (omega arith) (omega arith)
+    (omega arith) real
     ∙ ap moment_of all ∙ moment_said moment is
 
 pub one_moment : (one other : ℕ) → IsMoment one → IsMoment other → time_text one ≡ time_text other → one ≡ other
@@ -79,8 +85,34 @@ digits_above : (n : ℕ) → 0 < 48 + n
 digits_above n = omega arith
 
 all_above : (a b c d e f : ℕ) → AllByRecursion (λ octet. 0 < octet) (written a b c d e f)
-all_above a b c d e f =
-    (digits_above _, (digits_above _, (digits_above _, (digits_above _, (digits_above _, (digits_above _, (digits_above _, (digits_above _, (digits_above _, (digits_above _, (digits_above _, (digits_above _, (omega arith, (omega arith, (omega arith, (omega arith, tt))))))))))))))))
+all_above a b c d e f = (
+  digits_above _,
+  (
+    digits_above _,
+    (
+      digits_above _,
+      (
+        digits_above _,
+        (
+          digits_above _,
+          (
+            digits_above _,
+            (
+              digits_above _,
+              (
+                digits_above _,
+                (
+                  digits_above _,
+                  (digits_above _, (digits_above _, (digits_above _, (omega arith, (omega arith, (omega arith, (omega arith, tt))))))),
+                ),
+              ),
+            ),
+          ),
+        ),
+      ),
+    ),
+  ),
+)
 
 no_zero : (moment : ℕ) → All (λ octet. 0 < octet) (time_text moment)
 no_zero moment =

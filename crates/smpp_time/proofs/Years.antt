@@ -69,7 +69,8 @@ one_date day a b ia ib =
     let year = one_year day a b ia ib in
     let month = one_month day a b ia ib in
     let at : days_of_years (b.year - 1970) + days_of_months b.year (b.month - 1) + (a.day - 1) ≡ day =
-    subst (λ m. days_of_years (b.year - 1970) + days_of_months b.year (m - 1) + (a.day - 1) ≡ day) month (subst (λ y. days_of_years (y - 1970) + days_of_months y (a.month - 1) + (a.day - 1) ≡ day) year ia.number) in
+    subst (λ m. days_of_years (b.year - 1970) + days_of_months b.year (m - 1) + (a.day - 1) ≡ day) month
+    (subst (λ y. days_of_years (y - 1970) + days_of_months y (a.month - 1) + (a.day - 1) ≡ day) year ia.number) in
     let last : a.day ≡ b.day = omega (arith, at, ib.number, ia.least_day, ib.least_day) in
     λ i. date_at (year i) (month i) (last i)
 
@@ -96,7 +97,8 @@ next_day days d is h = record {
   number = omega (arith, is.number, is.least_day);
 }
 
-next_month : (days : ℕ) (d : Date) → IsDateOf days d → days_in_month d.year d.month ≤ d.day → d.month < 12 → IsDateOf (suc days) (date_at d.year (d.month + 1) 1)
+next_month : (days : ℕ) (d : Date) → IsDateOf days d → days_in_month d.year d.month ≤ d.day → d.month < 12 →
+    IsDateOf (suc days) (date_at d.year (d.month + 1) 1)
 next_month days d is last h =
     let back : d.month + 1 - 1 ≡ d.month = omega arith in
     let months : days_of_months d.year (d.month + 1 - 1) ≡ days_of_months d.year d.month = ap (days_of_months d.year) back in
@@ -113,7 +115,8 @@ next_january : (days : ℕ) (d : Date) → IsDateOf days d → days_in_month d.y
 unfolding days_of_months
 next_january days d is last h =
     let here : 1970 + (d.year - 1970) ≡ d.year = omega (arith, is.year) in
-    let years : days_of_years (suc (d.year - 1970)) ≡ days_of_years (d.year - 1970) + days_in_year d.year = next_year (d.year - 1970) ∙ ap (λ y. days_of_years (d.year - 1970) + days_in_year y) here in
+    let years : days_of_years (suc (d.year - 1970)) ≡ days_of_years (d.year - 1970) + days_in_year d.year = next_year (d.year - 1970) ∙ ap
+    (λ y. days_of_years (d.year - 1970) + days_in_year y) here in
     let later : d.year + 1 - 1970 ≡ suc (d.year - 1970) = omega (arith, is.year) in
     let up : days_of_years (d.year + 1 - 1970) ≡ days_of_years (suc (d.year - 1970)) = ap days_of_years later in
     let last_month : d.month ≡ 12 = omega (arith, is.most_month, h) in

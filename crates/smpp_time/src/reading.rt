@@ -2,7 +2,8 @@
 
 ghost use Rattle.std.specs.Prelude.{◌≡◌, ◌<◌, ◌≤◌, ◌≤ℤ◌, ◌+◌, length, pos};
 ghost use Rattle.std.specs.Str.{all_ascii_digits};
-ghost use Rattle.smpp_time.specs.Texts.{time_said, digit_at, number_at, is_shaped, is_clock, is_real, date_in, clock_in, utc_seconds, moment_of, said_of_absolute, said_of_relative};
+ghost use Rattle.smpp_time.specs.Texts.{time_said, digit_at, number_at, is_shaped, is_clock, is_real, date_in, clock_in, utc_seconds};
+ghost use Rattle.smpp_time.specs.Texts.{moment_of, said_of_absolute, said_of_relative};
 ghost use Rattle.smpp_time.specs.Dates.{plain_date, IsDateIf};
 
 use crate::calendar::{date_of_day, date_of_parts, day_of_date, months_after};

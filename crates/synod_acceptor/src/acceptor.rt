@@ -92,7 +92,8 @@ impl Acceptor {
         ballot: Ballot,
     ) -> Result<Verdict, AllocError>
         ensures answer { IfOk result (λ verdict. packet_of verdict.answer ≡ (prepare_judged node slot ballot (record_at self.now slot)).answer) }
-        ensures change { IfOk result (λ verdict. Changes slot (record_at self.now slot) (prepare_judged node slot ballot (record_at self.now slot)).after verdict.change) }
+        ensures change { IfOk result (λ verdict. Changes slot (record_at self.now slot)
+            (prepare_judged node slot ballot (record_at self.now slot)).after verdict.change) }
         ensures memory { OnErr result ((record_at self.now slot).promised < ballot) }
     {
         let Some(record) = self.record(slot) else {
@@ -109,8 +110,10 @@ impl Acceptor {
     /// refusal. A vote that stands already is told again without a change. It changes nothing, and takes memory only to copy
     /// the vote.
     pub fn judge_propose(&self, node: NodeNo, vote: &Vote) -> Result<Verdict, AllocError>
-        ensures answer { IfOk result (λ verdict. packet_of verdict.answer ≡ (propose_judged node (slot_in vote.now) (vote_of vote.now) (record_at self.now (slot_in vote.now))).answer) }
-        ensures change { IfOk result (λ verdict. Changes (slot_in vote.now) (record_at self.now (slot_in vote.now)) (propose_judged node (slot_in vote.now) (vote_of vote.now) (record_at self.now (slot_in vote.now))).after verdict.change) }
+        ensures answer { IfOk result (λ verdict. packet_of verdict.answer ≡
+            (propose_judged node (slot_in vote.now) (vote_of vote.now) (record_at self.now (slot_in vote.now))).answer) }
+        ensures change { IfOk result (λ verdict. Changes (slot_in vote.now) (record_at self.now (slot_in vote.now))
+            (propose_judged node (slot_in vote.now) (vote_of vote.now) (record_at self.now (slot_in vote.now))).after verdict.change) }
         ensures memory { OnErr result ((record_at self.now (slot_in vote.now)).promised ≤ vote.now.ballot) }
     {
         let Some(record) = self.record(vote.slot()) else {

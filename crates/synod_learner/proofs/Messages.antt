@@ -1,5 +1,6 @@
 -- What a learner heard and knows of a message, as a node keeps it.
-use Rattle.std.proofs.Common.{◌≡◌, ◌⊎◌, ◌↔◌, ℕ, pred, ◌*◌, ◌<◌, Bool, true, false, cond, List, [], ◌∷◌, length, Option, Some, None, refl, sym, ap, subst, ◌∙◌, inl, inr, arith}
+use Rattle.std.proofs.Common.{◌≡◌, ◌⊎◌, ◌↔◌, ℕ, pred, ◌*◌, ◌<◌, Bool, true, false, cond, List, [], ◌∷◌, length, Option, Some, None, refl}
+use Rattle.std.proofs.Common.{sym, ap, subst, ◌∙◌, inl, inr, arith}
 use Rattle.std.proofs.Math.Path.{fun_ext}
 use Rattle.std.specs.Prelude.{◌==◌, ◌&&◌, IsTrue}
 use Rattle.std.specs.Bool.{Decides}
@@ -41,7 +42,8 @@ first_decides first slot vote node =
 pub voter_decides : (counts : List Count) (slot : Slot) (vote : Vote) (node : ℕ) → Decides (is_voter counts slot vote node) (IsCounted counts node slot vote)
 voter_decides [] slot vote node = (λ t. absurd (true≢false (sym t)), λ counted. absurd counted.stands)
 voter_decides (first ∷ others) slot vote node =
-    Decides-like (is_voter (first ∷ others) slot vote node) here back (Decides-or _ _ (first_decides first slot vote node) (voter_decides others slot vote node))
+    Decides-like (is_voter (first ∷ others) slot vote node) here back
+    (Decides-or _ _ (first_decides first slot vote node) (voter_decides others slot vote node))
   where
     here : IsOfFirst first slot vote node ⊎ IsCounted others node slot vote → IsCounted (first ∷ others) node slot vote
     here (inl same) = record { voters = first.voters; stands = inl (λ i. count (sym same.0 i) (sym same.1.0 i) first.voters); counted = same.1.1 }
@@ -73,7 +75,8 @@ counted_are counts slot vote voters single stands node = (
 
 pub votes_heard : (nodes : ℕ) (counts new : List Count) (known : List Chain) (voter : ℕ) (vote : Cast) →
     IsAdded counts new voter (slot_in vote) (vote_of vote) →
-    (message_in (learned_of nodes new known) vote.chain.id).votes ≡ (heard (message_in (learned_of nodes counts known) vote.chain.id) voter (vote_of vote)).votes
+    (message_in (learned_of nodes new known) vote.chain.id).votes ≡
+    (heard (message_in (learned_of nodes counts known) vote.chain.id) voter (vote_of vote)).votes
 votes_heard nodes counts new known voter vote added = fun_ext λ other. fun_ext λ node. both_ways _ _ (forth other node) (back other node)
   where
     forth : (other : Vote) (node : ℕ) → is_voter new (slot_of vote.chain.id other.chain) other node ≡ true →
@@ -120,14 +123,16 @@ grows_is nodes voters test known chain grows same decides =
 
 pub message_is : (grows : Bool) (nodes : ℕ) (counts new : List Count) (known later : List Chain) (voter : ℕ) (vote : Cast) →
     IsAdded counts new voter (slot_in vote) (vote_of vote) → Grows grows known vote.chain later →
-    message_in (learned_of nodes new later) vote.chain.id ≡ known_if grows (heard (message_in (learned_of nodes counts known) vote.chain.id) voter (vote_of vote)) vote.chain.decrees
+    message_in (learned_of nodes new later) vote.chain.id ≡ known_if grows
+    (heard (message_in (learned_of nodes counts known) vote.chain.id) voter (vote_of vote)) vote.chain.decrees
 message_is false nodes counts new known later voter vote added same = λ i. record unseen {
   votes = votes_heard nodes counts new known voter vote added i;
   known = known_in (same i) vote.chain.id;
 }
 message_is true nodes counts new known later voter vote added with = λ i. record unseen {
   votes = votes_heard nodes counts new known voter vote added i;
-  known = (with.known vote.chain.id ∙ ap (λ (b : Bool). cond b (Some vote.chain.decrees) (known_in known vote.chain.id)) (eq-eqb vote.chain.id vote.chain.id refl)) i;
+  known = (with.known vote.chain.id ∙ ap (λ (b : Bool). cond b (Some vote.chain.decrees) (known_in known vote.chain.id))
+      (eq-eqb vote.chain.id vote.chain.id refl)) i;
 }
 
 -- ---- what a majority cast is known
@@ -164,7 +169,8 @@ learned_more true nodes counts known later vote place voters learned decides wit
         IsShorter (known_in later c.slot.id) c.vote.chain → ⊥
     each c is_in most shorter =
         let by : (test : Bool) → (c.slot.id == vote.chain.id) ≡ test → IsShorter (cond test (Some vote.chain.decrees) (known_in known c.slot.id)) c.vote.chain =
-        λ test is. subst (λ (k : Option (List Decree)). IsShorter k c.vote.chain) (with.known c.slot.id ∙ ap (λ (b : Bool). cond b (Some vote.chain.decrees) (known_in known c.slot.id)) is) shorter in
+        λ test is. subst (λ (k : Option (List Decree)). IsShorter k c.vote.chain)
+        (with.known c.slot.id ∙ ap (λ (b : Bool). cond b (Some vote.chain.decrees) (known_in known c.slot.id)) is) shorter in
         elim (with_from counts place (count (slot_in vote) (vote_of vote) voters) c is_in) [
           | inl old ↦ elim (cases_Bool (c.slot.id == vote.chain.id)) [
             | inl here ↦
@@ -191,8 +197,10 @@ pub grows_again : (nodes : ℕ) (counts : List Count) (known : List Chain) (vote
     false ≡ makes_known nodes (heard (message_in (learned_of nodes counts known) vote.chain.id) voter (vote_of vote)) (vote_of vote)
 grows_again nodes counts known voter vote single learned counted =
     let votes = votes_heard nodes counts counts known voter vote (added_again counts voter (slot_in vote) (vote_of vote) counted) in
-    let are = test_is counts (slot_in vote) (vote_of vote) counted.voters (counted_are counts (slot_in vote) (vote_of vote) counted.voters single counted.stands) in
-    let test : (heard (message_in (learned_of nodes counts known) vote.chain.id) voter (vote_of vote)).votes (vote_of vote) ≡ has counted.voters = sym (ap (λ (f : Vote → ℕ → Bool). f (vote_of vote)) votes) ∙ are in
+    let are = test_is counts (slot_in vote) (vote_of vote) counted.voters
+    (counted_are counts (slot_in vote) (vote_of vote) counted.voters single counted.stands) in
+    let test : (heard (message_in (learned_of nodes counts known) vote.chain.id) voter (vote_of vote)).votes
+    (vote_of vote) ≡ has counted.voters = sym (ap (λ (f : Vote → ℕ → Bool). f (vote_of vote)) votes) ∙ are in
     grows_is nodes counted.voters _ (known_in known vote.chain.id) vote.chain.decrees false test
     (λ t. absurd (true≢false (sym t)), λ makes. absurd (learned.each (count (slot_in vote) (vote_of vote) counted.voters) counted.stands makes.0 makes.1))
 

@@ -68,7 +68,8 @@ impl Learner {
         ensures nodes { self.new.nodes ≡ self.old.nodes }
         ensures heard { OnOk result ((received : List Packet) → HasHeard self.old received →
             HasHeard self.new (Voted from (slot_in vote.now) (vote_of vote.now) ∷ received)) }
-        ensures grows { IfOk result (λ grows. grows ≡ makes_known self.old.nodes (heard (message_in self.old vote.now.chain.id) from (vote_of vote.now)) (vote_of vote.now)) }
+        ensures grows { IfOk result (λ grows. grows ≡ makes_known self.old.nodes
+            (heard (message_in self.old vote.now.chain.id) from (vote_of vote.now)) (vote_of vote.now)) }
         ensures message { IfOk result (λ grows. message_in self.new vote.now.chain.id
             ≡ known_if grows (heard (message_in self.old vote.now.chain.id) from (vote_of vote.now)) vote.now.chain.decrees) }
         ensures err { OnErr result (self.new ≡ self.old) }
@@ -130,7 +131,8 @@ fn take_in(
     grows: bool,
 ) -> Result<(), AllocError>
     requires { IsCountPlace (counts_of tallies.old.items) (slot_in vote.now) (vote_of vote.now) place }
-    ensures counts { OnOk result (counts_of tallies.new.items ≡ with_count (counts_of tallies.old.items) place (record { slot = slot_in vote.now; vote = vote_of vote.now; voters = voters })) }
+    ensures counts { OnOk result (counts_of tallies.new.items ≡ with_count (counts_of tallies.old.items) place
+        (record { slot = slot_in vote.now; vote = vote_of vote.now; voters = voters })) }
     ensures known { OnOk result (AreOfOthers known.old.items → Grows grows known.old.items vote.now.chain known.new.items) }
     ensures err { OnErr result ((tallies.new.items ≡ tallies.old.items) × (known.new.items ≡ known.old.items)) }
 {
@@ -164,7 +166,8 @@ fn count(
     voters: NodeSet,
 ) -> Result<(), AllocError>
     requires { IsCountPlace (counts_of tallies.old.items) (slot_in vote.now) (vote_of vote.now) place }
-    ensures ok { OnOk result (counts_of tallies.new.items ≡ with_count (counts_of tallies.old.items) place (record { slot = slot_in vote.now; vote = vote_of vote.now; voters = voters })) }
+    ensures ok { OnOk result (counts_of tallies.new.items ≡ with_count (counts_of tallies.old.items) place
+        (record { slot = slot_in vote.now; vote = vote_of vote.now; voters = voters })) }
     ensures err { OnErr result (tallies.new.items ≡ tallies.old.items) }
 {
     let Some(place) = place else {

@@ -30,7 +30,8 @@ completes_decides nodes old new node report is =
     Decides-like (completes nodes (as_round old) node)
     (λ p. record { before = p.0; after = subst (λ (f : ℕ → Bool). IsMajority nodes f) (sym members) p.1 })
     (λ c. (c.before, subst (λ (f : ℕ → Bool). IsMajority nodes f) members c.after))
-    (Decides-and _ _ (Decides-not (is_majority nodes (has old.promised)) (most_decides nodes (has old.promised))) (most_decides nodes (with_node (has old.promised) node)))
+    (Decides-and _ _ (Decides-not (is_majority nodes (has old.promised)) (most_decides nodes (has old.promised)))
+    (most_decides nodes (with_node (has old.promised) node)))
   where
     members : has new.promised ≡ with_node (has old.promised) node
     members = fun_ext is.promised

@@ -1,5 +1,6 @@
 -- What a world answers to a step, as a step of the run in which it stands.
-use Rattle.std.proofs.Common.{◌≡◌, ℕ, ◌+◌, ◌≤◌, Bool, true, false, List, length, map, Option, Some, None, Result, Ok, Err, refl, sym, ap, subst, ◌∙◌, inl, inr, length-append}
+use Rattle.std.proofs.Common.{◌≡◌, ℕ, ◌+◌, ◌≤◌, Bool, true, false, List, length, map, Option, Some, None, Result, Ok, Err, refl, sym, ap}
+use Rattle.std.proofs.Common.{subst, ◌∙◌, inl, inr, length-append}
 use Rattle.std.specs.Prelude.{IfErr, IfOk, OnErr, option_map, reverse, if◌then◌else◌}
 use Rattle.std.proofs.lemmas.List.{length-reverse}
 use Rattle.mc_model.specs.synod.Packet.{Packet}

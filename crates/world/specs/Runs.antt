@@ -1,5 +1,6 @@
 -- The steps of a world of nodes of the code, as a run of a cluster of nodes by what they keep (own).
-use Rattle.std.specs.Prelude.{◌≡◌, ℕ, zero, suc, ◌+◌, ◌<◌, nat_lt, nat_le, ◌&&◌, not, Bool, true, false, List, [], ◌∷◌, ◌++◌, length, map, reverse, option_map, Option, Some, None, Result, Ok, Err, if◌then◌else◌}
+use Rattle.std.specs.Prelude.{◌≡◌, ℕ, zero, suc, ◌+◌, ◌<◌, nat_lt, nat_le, ◌&&◌, not, Bool, true, false, List, [], ◌∷◌, ◌++◌, length, map}
+use Rattle.std.specs.Prelude.{reverse, option_map, Option, Some, None, Result, Ok, Err, if◌then◌else◌}
 use Rattle.mc_model.specs.synod.Packet.{Packet}
 use Rattle.mc_model.specs.node.Input.{Crash, Delivery, Grant, Response, Restart, Tick}
 use Rattle.mc_model.specs.node.Outputs.{HasNumber, Outputs}
@@ -39,7 +40,8 @@ use Rattle.world.specs.Scenes.{Placed, Scene}
 
 -- Nodes by what they keep, after which so many packets that this world does not number were sent: this comes to one of them by a step.
 abbrev pub Comes : Cluster → ℕ → KeptCluster → Step → NodeInput → Type 0
-Comes cluster behind w (steps.Deliver number node) next = (packet : Packet) × HasNumber w.packets (number + behind) packet × (next ≡ comes_to node (Delivery packet))
+Comes cluster behind w (steps.Deliver number node) next =
+    (packet : Packet) × HasNumber w.packets (number + behind) packet × (next ≡ comes_to node (Delivery packet))
 Comes cluster behind w (steps.Request node account request) next = next ≡ comes_to node (requested (setup_of cluster node) (w.kept node) account request)
 Comes cluster behind w (steps.Tick node moment up) next = next ≡ comes_to node (Tick moment (is_up up.items))
 Comes cluster behind w (steps.Grant node id) next = next ≡ comes_to node (Grant (known_slot (w.kept node) id))

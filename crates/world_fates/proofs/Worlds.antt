@@ -1,5 +1,6 @@
 -- Where the world of a script over several nodes stands, and what its lines do.
-use Rattle.std.proofs.Common.{◌≡◌, ℕ, ◌≤◌, zero, suc, pred, Bool, true, false, List, [], ◌∷◌, ◌++◌, length, map, Option, Some, None, refl, sym, ap, subst, ◌∙◌, append_assoc, inl, inr, arith}
+use Rattle.std.proofs.Common.{◌≡◌, ℕ, ◌≤◌, zero, suc, pred, Bool, true, false, List, [], ◌∷◌, ◌++◌, length, map, Option, Some, None, refl}
+use Rattle.std.proofs.Common.{sym, ap, subst, ◌∙◌, append_assoc, inl, inr, arith}
 use Rattle.std.specs.Prelude.{find, if◌then◌else◌, reverse}
 use Rattle.std.specs.List.{range_with_len}
 use Rattle.std.proofs.lemmas.List.{length-set, map-append}
@@ -19,7 +20,11 @@ use Rattle.script_text.specs.Prints.{Print}
 use Rattle.script_text.specs.Runner.{Acted, Runner, given_out, most_deliveries, on_delivery, on_grant, on_octets, on_restart, on_tick}
 use Rattle.script_text.specs.Settings.{Settings}
 use Rattle.script_world.specs.Prints.{At, Refuses, StopsSettling, WorldPrint}
-use Rattle.script_world.specs.World.{Due, Moved, NodeInput as LineInput, World, acts, all_come, comes, comes_again, comes_if, comes_to, crashed, crashes, crashes_if, due, due_among, due_at, due_first, grants, hears, if_due, if_up, is_down, is_up, is_up_at, lacks, marked, no_packet, node_numbers, on_replay, on_settle, packet_of, refuses, replays, restarts, restarts_if, runner_at, settles, shared, stays, takes_part, then_moved, ticks, unsettled, up_or_refuses}
+use Rattle.script_world.specs.World.{Due, Moved, NodeInput as LineInput, World, acts, all_come, comes, comes_again, comes_if, comes_to}
+use Rattle.script_world.specs.World.{crashed, crashes, crashes_if, due, due_among, due_at, due_first, grants, hears, if_due, if_up}
+use Rattle.script_world.specs.World.{is_down, is_up, is_up_at, lacks, marked, no_packet, node_numbers, on_replay, on_settle, packet_of}
+use Rattle.script_world.specs.World.{refuses, replays, restarts, restarts_if, runner_at, settles, shared, stays, takes_part, then_moved}
+use Rattle.script_world.specs.World.{ticks, unsettled, up_or_refuses}
 use Rattle.fate_laws.proofs.Posting.{found_in}
 use Rattle.fate_laws.proofs.Behind.{behind, behind_then, came_to, input_to, sent_later}
 use Rattle.fate_laws.proofs.ReceiptsOut.{AreReceiptsOut, receipts_out_later}

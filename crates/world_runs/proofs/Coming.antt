@@ -114,7 +114,8 @@ no_ticket : (setup : Setup) (k : Kept) (status ticket : ℕ) (up : Bool) →
 no_ticket setup k status ticket true same = cc
 no_ticket setup k status ticket false same = cc
 
-by_judged : (cluster : Cluster) (w : KeptCluster) (node ticket : ℕ) (judged : Result Request Status) (next : NodeInput) → next ≡ comes_to node (judged_as judged) →
+by_judged : (cluster : Cluster) (w : KeptCluster) (node ticket : ℕ) (judged : Result Request Status) (next : NodeInput) →
+    next ≡ comes_to node (judged_as judged) →
     (step_at cluster w next).outputs.ticket ≡ Some ticket → (request : Request) × (next ≡ comes_to node (Arrival request))
 by_judged cluster w node ticket (Ok request) next same under = (request, same)
 by_judged cluster w node ticket (Err status) next same under =

@@ -77,7 +77,8 @@ module _ (cluster : Cluster) (behind : List Packet) where
       record { newer = it.newer; split = it.split; each = λ next among. among_more (step, Err fault) events next (it.each next among) }
 
   -- each answer is of a step
-  pub event_of : (inputs : List NodeInput) (steps : List Step) (answers : List Answer) (last : List NodeInput) → Reaches cluster behind inputs steps answers last →
+  pub event_of : (inputs : List NodeInput) (steps : List Step) (answers : List Answer) (last : List NodeInput) →
+      Reaches cluster behind inputs steps answers last →
       (answer : Answer) → In answer answers → (step : Step) × In (step, answer) (zip steps answers)
   event_of inputs steps [] last r answer none = absurd none
   event_of inputs [] (first ∷ answers) last none answer among = absurd none
@@ -120,7 +121,8 @@ module _ (cluster : Cluster) (behind : List Packet) where
       }
 
   -- what these gave out before is given out
-  pub outputs_since : (newer inputs : List NodeInput) → (more : List Outputs) × (cluster_outputs cluster (newer ++ inputs) ≡ more ++ cluster_outputs cluster inputs)
+  pub outputs_since : (newer inputs : List NodeInput) →
+      (more : List Outputs) × (cluster_outputs cluster (newer ++ inputs) ≡ more ++ cluster_outputs cluster inputs)
   outputs_since [] inputs = ([], refl)
   outputs_since (next ∷ newer) inputs =
       let it = outputs_since newer inputs in (outputs_at cluster (newer ++ inputs) next ∷ it.0, λ i. outputs_at cluster (newer ++ inputs) next ∷ it.1 i)

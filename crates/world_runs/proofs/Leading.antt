@@ -7,7 +7,8 @@ use Rattle.node_laws.specs.Clusters.{NodeInput}
 use Rattle.world.specs.declared.step.Step.{Step}
 use Rattle.world.specs.Runs.{Answers, IsSomewhere, Leads}
 use Rattle.world.specs.Scenes.{Scene}
-use Rattle.world_runs.specs.Traces.{AcceptedAreKnown, Answer, AreChosen, DeliveriesStand, DeliveriesStandInRuns, GoesTo, GrantsNoneAfterAFate, HasOneFate, LaterQueriesAreTold, LeadsAll, Reaches}
+use Rattle.world_runs.specs.Traces.{AcceptedAreKnown, Answer, AreChosen, DeliveriesStand, DeliveriesStandInRuns, GoesTo}
+use Rattle.world_runs.specs.Traces.{GrantsNoneAfterAFate, HasOneFate, LaterQueriesAreTold, LeadsAll, Reaches}
 use Rattle.world_runs.proofs.Asking.{accepted_are_known, later_queries_are_told}
 use Rattle.world_runs.proofs.Choosing.{are_chosen}
 use Rattle.world_runs.proofs.Standing.{deliveries_stand, deliveries_stand_in_run}
@@ -20,15 +21,18 @@ module _ (cluster : Cluster) (behind : List Packet) where
   onward inputs [] [] mid last step answer same one = subst (λ (i : List NodeInput). Reaches cluster behind i (step ∷ []) (answer ∷ []) last) same one
   onward inputs [] (first ∷ answers) mid last step answer none one = absurd none
   onward inputs (next ∷ steps) [] mid last step answer none one = absurd none
-  onward inputs (next ∷ steps) (Ok given ∷ answers) mid last step answer r one = (r.0, r.1, r.2, r.3, onward (r.0 ∷ inputs) steps answers mid last step answer r.4 one)
+  onward inputs (next ∷ steps) (Ok given ∷ answers) mid last step answer r one =
+      (r.0, r.1, r.2, r.3, onward (r.0 ∷ inputs) steps answers mid last step answer r.4 one)
   onward inputs (next ∷ steps) (Err fault ∷ answers) mid last step answer r one = (r.0, onward inputs steps answers mid last step answer r.1 one)
 
   one_step : (inputs : List NodeInput) (step : Step) (answer : Answer) (new : Scene) → Answers cluster behind inputs step answer new →
       GoesTo cluster behind inputs (step ∷ []) (answer ∷ []) new
-  one_step inputs step (Ok given) new goes = record { last = goes.next ∷ inputs; reaches = (goes.next, goes.allowed, goes.comes, goes.gives, refl); at = goes.at }
+  one_step inputs step (Ok given) new goes = record
+      { last = goes.next ∷ inputs; reaches = (goes.next, goes.allowed, goes.comes, goes.gives, refl); at = goes.at }
   one_step inputs step (Err fault) new stays = record { last = inputs; reaches = (stays.refused, refl); at = stays.at }
 
-leads_more : (old mid new : Scene) (steps : List Step) (answers : List Answer) (step : Step) (answer : Answer) → LeadsAll old steps answers mid → Leads mid step answer new →
+leads_more : (old mid new : Scene) (steps : List Step) (answers : List Answer) (step : Step) (answer : Answer) →
+    LeadsAll old steps answers mid → Leads mid step answer new →
     LeadsAll old (steps ++ step ∷ []) (answers ++ answer ∷ []) new
 leads_more old mid new steps answers step answer all one = record {
   each = λ cluster behind inputs now.
@@ -53,14 +57,16 @@ pub goes_on : (old mid new : Scene) (steps left rest : List Step) (answers more 
 goes_on old mid new steps left rest answers more step answer room wider way first one pushed wide = record {
   done = way.done ++ step ∷ [];
   split = way.split ∙ ap (λ (ss : List Step). way.done ++ ss) first ∙ sym (append_assoc way.done (step ∷ []) rest);
-  count = let longer = length-append answers (answer ∷ []) in let further = length-append way.done (step ∷ []) in let so_far = way.count in let all = ap length pushed in omega arith;
+  count = let longer = length-append answers (answer ∷ []) in let further = length-append way.done (step ∷ []) in let so_far = way.count in
+      let all = ap length pushed in omega arith;
   room_is = let fits = way.room_is in omega arith;
   leads = subst (λ (given : List Answer). LeadsAll old (way.done ++ step ∷ []) given new) (sym pushed)
       (leads_more old mid new way.done answers step answer way.leads one);
 }
 
 -- there is room for one answer more
-pub has_room : (old mid : Scene) (steps left rest : List Step) (answers : List Answer) (step : Step) (room : ℕ) → IsUnderWay old steps left answers room mid → left ≡ step ∷ rest →
+pub has_room : (old mid : Scene) (steps left rest : List Step) (answers : List Answer) (step : Step) (room : ℕ) →
+    IsUnderWay old steps left answers room mid → left ≡ step ∷ rest →
     length answers + 1 ≤ room
 has_room old mid steps left rest answers step room way first =
     let all = ap length (way.split ∙ ap (λ (ss : List Step). way.done ++ ss) first) in
@@ -75,7 +81,9 @@ append_none (x ∷ xs) = ap (λ (ys : List Step). x ∷ ys) (append_none xs)
 
 -- ---- at the end
 
-pub all_led : (old now : Scene) (steps left : List Step) (answers : List Answer) (room : ℕ) → IsUnderWay old steps left answers room now → left ≡ [] → LeadsAll old steps answers now
+pub all_led : (old now : Scene) (steps left : List Step) (answers : List Answer) (room : ℕ) → IsUnderWay old steps left answers room now →
+    left ≡ [] →
+    LeadsAll old steps answers now
 all_led old now steps left answers room way none =
     subst (λ (ss : List Step). LeadsAll old ss answers now) (sym (way.split ∙ ap (λ (ss : List Step). way.done ++ ss) none ∙ append_none way.done)) way.leads
 
@@ -94,7 +102,8 @@ has_one_fate old new steps answers is all =
     let so = all.each is.cluster is.behind is.inputs is.at in
     one_fate is.cluster is.behind is.inputs steps answers so.last so.reaches so.at.may
 
-pub grants_none_after : (old new : Scene) (steps : List Step) (answers : List Answer) → IsSomewhere old → LeadsAll old steps answers new → GrantsNoneAfterAFate answers
+pub grants_none_after : (old new : Scene) (steps : List Step) (answers : List Answer) → IsSomewhere old → LeadsAll old steps answers new →
+    GrantsNoneAfterAFate answers
 grants_none_after old new steps answers is all =
     let so = all.each is.cluster is.behind is.inputs is.at in
     grants_none is.cluster is.behind is.inputs steps answers so.last so.reaches so.at.may

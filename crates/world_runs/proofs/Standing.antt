@@ -16,7 +16,8 @@ use Rattle.world.specs.declared.given.Given.{Given}
 use Rattle.world.specs.declared.step.Step.{Step}
 use Rattle.world.specs.declared.step.Step.TheVariants as steps
 use Rattle.world.specs.Runs.{IsGiven, given_out}
-use Rattle.world_runs.specs.Traces.{Answer, CameInOneLife, DeliveriesStand, Event, IsAnswered, IsGranted, LivesOn, Reaches, StandsInTheRun, StandsOnAnAttempt, told_in}
+use Rattle.world_runs.specs.Traces.{Answer, CameInOneLife, DeliveriesStand, Event, IsAnswered, IsGranted, LivesOn, Reaches, StandsInTheRun}
+use Rattle.world_runs.specs.Traces.{StandsOnAnAttempt, told_in}
 use Rattle.world_runs.proofs.Coming.{answered_by_step, granted_by_step}
 use Rattle.world_runs.proofs.Events.{CameBy, ReachesBy, brought_by, came_from_none, goes_on_by, reached_by, reaches_of, until}
 use Rattle.world_runs.proofs.Tracing.{states_given, states_nothing}

@@ -1,5 +1,6 @@
 -- The statements of a list of steps, one after the other.
-use Rattle.std.proofs.Common.{◌≡◌, ◌⊎◌, ℕ, zero, suc, ◌+◌, ◌<◌, ◌≤◌, List, [], ◌∷◌, ◌++◌, length, map, take, get_or, flat_map, Option, Some, None, Ok, Err, refl, sym, ap, subst, ◌∙◌, inl, inr, arith}
+use Rattle.std.proofs.Common.{◌≡◌, ◌⊎◌, ℕ, zero, suc, ◌+◌, ◌<◌, ◌≤◌, List, [], ◌∷◌, ◌++◌, length, map, take, get_or, flat_map, Option}
+use Rattle.std.proofs.Common.{Some, None, Ok, Err, refl, sym, ap, subst, ◌∙◌, inl, inr, arith}
 use Rattle.std.specs.List.{enumerate_from, slice_get}
 use Rattle.std.proofs.lemmas.List.{append-nil, flat_map_more, length-take-le, take_all, take_more}
 use Rattle.std.proofs.lemmas.List.Concat.{flat_map-append}
@@ -13,7 +14,8 @@ use Rattle.mc_parts.proofs.Membership.{at_place, in_either}
 use Rattle.node_laws.specs.Clusters.{RepliesWith, StatesFinal}
 use Rattle.node_laws.proofs.Orders.{in_append}
 use Rattle.world.specs.declared.given.Given.{Given}
-use Rattle.world_runs.specs.Statements.{AreTold, Agree, IsTold, Statement, TellsBy, stated_at, stated_by, stated_of, stated_received, stated_replied, stated_shown, statements_of, with_state}
+use Rattle.world_runs.specs.Statements.{AreTold, Agree, IsTold, Statement, TellsBy, stated_at, stated_by, stated_of, stated_received}
+use Rattle.world_runs.specs.Statements.{stated_replied, stated_shown, statements_of, with_state}
 use Rattle.world_runs.specs.Traces.{Answer, HasOneFate, told_in}
 
 -- ---- lists that are put together
@@ -45,7 +47,8 @@ placed-append {A} n (x ∷ xs) ys =
     (placed-append (n + 1) xs ys ∙ ap (λ (m : ℕ). enumerate_from (n + 1) xs ++ enumerate_from m ys) next)
 
 -- one more answer
-pub told_next : (answers : List Answer) (place : ℕ) (answer : Answer) (before after : List Statement) → place < length answers → answer ≡ get_or answers place answer →
+pub told_next : (answers : List Answer) (place : ℕ) (answer : Answer) (before after : List Statement) → place < length answers →
+    answer ≡ get_or answers place answer →
     before ≡ flat_map stated_by (enumerate_from 0 (take place answers)) → after ≡ before ++ stated_at place (told_in answer) →
     after ≡ flat_map stated_by (enumerate_from 0 (take (place + 1) answers))
 told_next answers place answer before after below is so_far more =
@@ -113,7 +116,9 @@ record IsOf (step id : ℕ) (chain : List Decree) (one : Statement) : Type 0 whe
   chain_is : one.chain ≡ chain
   state_is : final_in chain ≡ Some one.state
 
-with_of : (step id : ℕ) (chain : List Decree) (final : Option Final) (one : Statement) → final_in chain ≡ final → In one (with_state step id chain final) → IsOf step id chain one
+with_of : (step id : ℕ) (chain : List Decree) (final : Option Final) (one : Statement) → final_in chain ≡ final →
+    In one (with_state step id chain final) →
+    IsOf step id chain one
 with_of step id chain None one is none = absurd none
 with_of step id chain (Some state) one is (inl same) = record {
   step_is = ap (λ (s : Statement). s.step) same;
@@ -146,8 +151,11 @@ told_at : (step : ℕ) (outputs : Outputs) (one : Statement) → In one (stated_
 told_at step outputs one is = elim (in_either one (flat_map (stated_replied step) outputs.replies) (flat_map (stated_received step) outputs.receipts) is) [
   | inl replied ↦
       let it = part_of (stated_replied step) outputs.replies one replied in
-      let shown = shown_of step it.from.id (shown_by it.from.answer) one it.within in
-      (shown.2.step_is, tells_chain outputs it.from.id shown.0 step one shown.2 (inl (record { reply = it.from; among = it.among; about = refl; shown = shown.1 })))
+      let shown = shown_of step it.from.id (shown_by it.from.answer) one it.within in (
+        shown.2.step_is,
+        tells_chain outputs it.from.id shown.0 step one shown.2
+            (inl (record { reply = it.from; among = it.among; about = refl; shown = shown.1 })),
+      )
   | inr received ↦
       let it = part_of (stated_received step) outputs.receipts one received in
       let of = with_of step it.from.id it.from.chain (final_in it.from.chain) one refl it.within in

@@ -78,7 +78,8 @@ module _ (cluster : Cluster) (behind : List Packet) (inputs : List NodeInput) wh
       one_final cluster last may here.outputs there.outputs id first second here.among there.among here.states there.states
 
   -- after one of the steps nothing is granted of a message of which a final state was told before it
-  not_after : (before : List Event) (granting : Event) (after : List Event) (last : List NodeInput) → ReachesBy cluster behind inputs (before ++ granting ∷ after) last →
+  not_after : (before : List Event) (granting : Event) (after : List Event) (last : List NodeInput) → ReachesBy cluster behind inputs
+      (before ++ granting ∷ after) last →
       MayHappen cluster last → (telling : Event) (id : ℕ) (final : Final) → In telling before → StatesFinal (told_in telling.1) id final →
       GrantsOut (told_in granting.1) id → ⊥
   not_after before (step, Ok given) after last r may telling id final among says grants =

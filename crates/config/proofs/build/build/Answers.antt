@@ -12,22 +12,28 @@ use Rattle.config.proofs.Sound.{account_rows, accounts_once, node_numbers, node_
 use Rattle.config.proofs.build.build.Goals as goal
 
 pub nodes_of-requires-clause-rows : goal.nodes_of-requires-clause-rows
-nodes_of-requires-clause-rows c = all_to_map IsNodeRow view c.rows.result.now (subst (AllByRecursion IsNodeRow) (sym c.rows.ensures) (node_rows (view c.args.document.now) c.requires))
+nodes_of-requires-clause-rows c =
+    all_to_map IsNodeRow view c.rows.result.now (subst (AllByRecursion IsNodeRow) (sym c.rows.ensures) (node_rows (view c.args.document.now) c.requires))
 
 pub nodes_of-requires-clause-numbers : goal.nodes_of-requires-clause-numbers
 nodes_of-requires-clause-numbers c = subst (λ (rows : List Data). AreNumbered rows) (sym c.rows.ensures) (node_numbers (view c.args.document.now) c.requires)
 
 pub accounts_of-requires-clause-rows : goal.accounts_of-requires-clause-rows
-accounts_of-requires-clause-rows c = all_to_map IsAccountRow view c.rows-2.result.now (subst (AllByRecursion IsAccountRow) (sym c.rows-2.ensures) (account_rows (view c.args.document.now) c.requires))
+accounts_of-requires-clause-rows c =
+    all_to_map IsAccountRow view c.rows-2.result.now
+    (subst (AllByRecursion IsAccountRow) (sym c.rows-2.ensures) (account_rows (view c.args.document.now) c.requires))
 
 pub accounts_of-requires-clause-once : goal.accounts_of-requires-clause-once
-accounts_of-requires-clause-once c = ap (λ (rows : List Data). has_twice (codes "system_id") rows) c.rows-2.ensures ∙ accounts_once (view c.args.document.now) c.requires
+accounts_of-requires-clause-once c =
+    ap (λ (rows : List Data). has_twice (codes "system_id") rows) c.rows-2.ensures ∙ accounts_once (view c.args.document.now) c.requires
 
 pub routes_of-requires-clause-rows : goal.routes_of-requires-clause-rows
-routes_of-requires-clause-rows c = all_to_map IsRouteRow view c.rows-3.result.now (subst (AllByRecursion IsRouteRow) (sym c.rows-3.ensures) (route_rows (view c.args.document.now) c.requires))
+routes_of-requires-clause-rows c =
+    all_to_map IsRouteRow view c.rows-3.result.now (subst (AllByRecursion IsRouteRow) (sym c.rows-3.ensures) (route_rows (view c.args.document.now) c.requires))
 
 pub routes_of-requires-clause-once : goal.routes_of-requires-clause-once
-routes_of-requires-clause-once c = ap (λ (rows : List Data). has_twice (codes "prefix") rows) c.rows-3.ensures ∙ routes_once (view c.args.document.now) c.requires
+routes_of-requires-clause-once c =
+    ap (λ (rows : List Data). has_twice (codes "prefix") rows) c.rows-3.ensures ∙ routes_once (view c.args.document.now) c.requires
 
 pub short_text-requires : goal.short_text-requires
 short_text-requires c =

@@ -19,8 +19,11 @@ node_of-requires c =
 pub loop-place-preserved : goal.loop-place-preserved
 loop-place-preserved c =
     let found : Some c.in-Some.row.now ≡ find (λ row. is_numbered (c.loop-place.place + 1) (view row)) c.args.rows.now = search rules in
-    begun_more c.args.rows.now c.loop-place.place c.loop-place.nodes.items c.push.new.self.items c.in-Some.row.now c.in_ok-node_of.field-0 c.loop-place.invariant found c.in_ok-node_of.ensures c.in_ok-push.ensures.items
+    begun_more c.args.rows.now c.loop-place.place c.loop-place.nodes.items c.push.new.self.items c.in-Some.row.now c.in_ok-node_of.field-0
+    c.loop-place.invariant found c.in_ok-node_of.ensures c.in_ok-push.ensures.items
 
 pub returns : goal.returns
 returns c =
-    nodes_end c.args.rows.now c.loop-place.nodes.items c.requires.numbers (let nine : c.loop-place.place ≡ 9 = omega arith in subst (λ n. IsBegun c.args.rows.now n c.loop-place.nodes.items) nine c.loop-place.invariant)
+    nodes_end c.args.rows.now c.loop-place.nodes.items c.requires.numbers
+    (let nine : c.loop-place.place ≡ 9 = omega arith in subst
+    (λ n. IsBegun c.args.rows.now n c.loop-place.nodes.items) nine c.loop-place.invariant)

@@ -4,8 +4,11 @@ use Rattle.mc_laws.proofs.replies.answers_are_fresh.Goals as goal
 
 pub returns-clause-told : goal.returns-clause-told
 returns-clause-told c = λ run newer replying middle beginning older ticket request id chain stating final is begins replies.
-    fresh_query run.nodes run.serials beginning ticket request id chain older (answered run.nodes run.serials run.acts newer replying middle beginning older ticket request id (Shown chain) run.may is begins replies) stating final
+    fresh_query run.nodes run.serials beginning ticket request id chain older
+    (answered run.nodes run.serials run.acts newer replying middle beginning older ticket request id
+    (Shown chain) run.may is begins replies) stating final
 
 pub returns-clause-known : goal.returns-clause-known
 returns-clause-known c = λ run newer replying middle beginning older ticket request id accepting taken is begins replies.
-    never_unknown run.nodes run.serials beginning ticket request id older (answered run.nodes run.serials run.acts newer replying middle beginning older ticket request id Unknown run.may is begins replies) accepting taken
+    never_unknown run.nodes run.serials beginning ticket request id older
+    (answered run.nodes run.serials run.acts newer replying middle beginning older ticket request id Unknown run.may is begins replies) accepting taken

@@ -15,4 +15,5 @@ put-requires-clause-listings c =
 pub loop-put-preserved : goal.loop-put-preserved
 loop-put-preserved c =
     let split : c.loop-put.messages.items ≡ c.pop.new.self.items ++ c.in-Some.put ∷ [] = search rules in
-    putting_goes_on _ c.loop-put.kept c.put.new.self c.loop-put.messages.items c.pop.new.self.items c.in-Some.put split c.put.ensures.entries c.put.ensures.room c.put.ensures.listings c.loop-put.invariant
+    putting_goes_on _ c.loop-put.kept c.put.new.self c.loop-put.messages.items c.pop.new.self.items c.in-Some.put split
+    c.put.ensures.entries c.put.ensures.room c.put.ensures.listings c.loop-put.invariant

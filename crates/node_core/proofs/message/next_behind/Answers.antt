@@ -16,5 +16,8 @@ returns-clause-start c backed =
     let place : c.slot.inside.place ≡ c.args.slot.place = ap (λ (s : Slot). s.place) c.slot.view_is in
     let known : Some c.in-Some.chain.now.decrees ≡ known_in c.args.learner.now.known c.args.slot.id = rw id at c.in-Some.ensures.known in
     let here = subst (IsBacked at.author.node at.author.incarnation c.args.slot.place) (sym known) backed in
-    subst (λ (k : Option (List Decree)). Some (start_of c.in_ok-next.next) ≡ concluded (setup_of at) (kept_of at) c.args.slot (closed_as c.args.closing.now) k) known
-    (next_concludes at c.args.slot c.args.closing.now c.in-Some.chain.now.decrees c.in_ok-next.next c.in-Some-end.due (sym c.place.ensures.place ∙ c.if-place-slot.false ∙ place) c.in-Some-end.ensures.due c.in-Some-end.ensures.may c.in_ok-next.ensures.decrees here)
+    subst (λ (k : Option (List Decree)). Some (start_of c.in_ok-next.next) ≡ concluded (setup_of at) (kept_of at) c.args.slot
+    (closed_as c.args.closing.now) k) known
+    (next_concludes at c.args.slot c.args.closing.now c.in-Some.chain.now.decrees c.in_ok-next.next c.in-Some-end.due
+    (sym c.place.ensures.place ∙ c.if-place-slot.false
+    ∙ place) c.in-Some-end.ensures.due c.in-Some-end.ensures.may c.in_ok-next.ensures.decrees here)

@@ -7,4 +7,5 @@ use Rattle.node_core.proofs.message_shelf.place_of.Goals as goal
 pub returns : goal.returns
 returns c =
     let facts = c.binary_search_by_key.ensures in
-    searched c.args.ids.now c.args.id c.requires c.binary_search_by_key.result facts.bound (facts.position (λ other. other) (answers_always _ _ _ (λ f a r g called. search rules)))
+    searched c.args.ids.now c.args.id c.requires c.binary_search_by_key.result facts.bound
+    (facts.position (λ other. other) (answers_always _ _ _ (λ f a r g called. search rules)))

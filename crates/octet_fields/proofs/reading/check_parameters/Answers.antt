@@ -17,7 +17,8 @@ loop-after-preserved c =
 pub returns-then-not-is_empty : goal.returns-then-not-is_empty
 unfolding content_at
 returns-then-not-is_empty c =
-    parameters-cut c.args.most c.args.octets.now c.loop-after.rest.now (search rules) c.in_default.ensures c.loop-after.invariant (sym c.if-not-is_empty.ensures)
+    parameters-cut c.args.most c.args.octets.now c.loop-after.rest.now (search rules) c.in_default.ensures c.loop-after.invariant
+    (sym c.if-not-is_empty.ensures)
 
 pub returns : goal.returns
 unfolding content_at

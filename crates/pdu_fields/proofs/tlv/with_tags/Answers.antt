@@ -27,7 +27,8 @@ loop-tag-preserved-in_ok-put_tlv c =
     let next = tlvs-next c.loop-tag.rest.now x c.loop-tag.invariant.are c.in-Some.ensures in
     record {
       are = next.behind;
-      kept = rw c.in_ok-put_tlv.ensures.ok (kept-more (has_tag_among c.args.tags.now) c.loop-tag.kept.items c.loop-tag.rest.now _ x next (sym c.contains.ensures.value ∙ c.if-contains.true) c.loop-tag.invariant.kept);
+      kept = rw c.in_ok-put_tlv.ensures.ok (kept-more (has_tag_among c.args.tags.now) c.loop-tag.kept.items c.loop-tag.rest.now _ x next
+          (sym c.contains.ensures.value ∙ c.if-contains.true) c.loop-tag.invariant.kept);
     }
 
 pub loop-tag-preserved : goal.loop-tag-preserved
@@ -36,11 +37,13 @@ loop-tag-preserved c =
     let next = tlvs-next c.loop-tag.rest.now x c.loop-tag.invariant.are c.in-Some.ensures in
     record {
       are = next.behind;
-      kept = kept-same (has_tag_among c.args.tags.now) c.loop-tag.kept.items c.loop-tag.rest.now _ x next (sym c.contains.ensures.value ∙ c.if-contains.false) c.loop-tag.invariant.kept;
+      kept = kept-same (has_tag_among c.args.tags.now) c.loop-tag.kept.items c.loop-tag.rest.now _ x next
+          (sym c.contains.ensures.value ∙ c.if-contains.false) c.loop-tag.invariant.kept;
     }
 
 pub returns : goal.returns
 returns c =
     sym (append-nil c.loop-tag.kept.items)
-    ∙ ap (λ (tlvs : List (ℕ × List ℕ)). c.loop-tag.kept.items ++ optional_octets (filter (has_tag_among c.args.tags.now) tlvs)) (sym (tlvs-end c.loop-tag.rest.now c.loop-tag.invariant.are c.in_default.ensures))
+    ∙ ap (λ (tlvs : List (ℕ × List ℕ)). c.loop-tag.kept.items ++ optional_octets (filter (has_tag_among c.args.tags.now) tlvs))
+    (sym (tlvs-end c.loop-tag.rest.now c.loop-tag.invariant.are c.in_default.ensures))
     ∙ c.loop-tag.invariant.kept

@@ -5,4 +5,6 @@ use Rattle.requests.specs.Queues.{boxed_in, timely}
 use Rattle.requests.proofs.walk.cancels.Given as goal
 
 abbrev pub invariant-loop-one : goal.invariant-loop-one
-invariant-loop-one l = list_any (cancels l.id l.message) (timely l.clock (boxed_in (drop l.one-index l.held))) ≡ list_any (cancels l.id l.message) (timely l.clock (boxed_in l.held))
+invariant-loop-one l =
+    list_any (cancels l.id l.message) (timely l.clock (boxed_in (drop l.one-index l.held))) ≡ list_any (cancels l.id l.message)
+    (timely l.clock (boxed_in l.held))

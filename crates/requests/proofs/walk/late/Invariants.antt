@@ -6,4 +6,6 @@ use Rattle.requests.specs.Replying.{reply_given}
 use Rattle.requests.proofs.walk.late.Given as goal
 
 abbrev pub invariant-loop-one : goal.invariant-loop-one
-invariant-loop-one l = map reply_given l.replies.items ++ map late_reply (filter (is_late l.clock) (boxed_in (drop l.one-index l.held))) ≡ map late_reply (filter (is_late l.clock) (boxed_in l.held))
+invariant-loop-one l =
+    map reply_given l.replies.items ++ map late_reply (filter (is_late l.clock) (boxed_in (drop l.one-index l.held))) ≡ map late_reply
+    (filter (is_late l.clock) (boxed_in l.held))

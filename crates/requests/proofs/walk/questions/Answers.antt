@@ -9,4 +9,5 @@ pub returns-in_err-push-clause-memory : goal.returns-in_err-push-clause-memory
 returns-in_err-push-clause-memory c =
     let timely : not (is_late c.args.clock (in_box c.one-item.result)) ≡ true = search rules in
     let untold : is_untold c.args.nodes (in_box c.one-item.result) ≡ true = search rules in
-    at_fault _ c.from_residual.result (one_kept (λ (h : Held). not (is_late c.args.clock h)) (is_untold c.args.nodes) c.args.held.now c.loop-one.one-index c.one-item.result (omega arith) c.one-item.is timely untold)
+    at_fault _ c.from_residual.result (one_kept (λ (h : Held). not (is_late c.args.clock h))
+    (is_untold c.args.nodes) c.args.held.now c.loop-one.one-index c.one-item.result (omega arith) c.one-item.is timely untold)

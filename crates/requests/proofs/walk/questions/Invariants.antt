@@ -7,4 +7,7 @@ use Rattle.requests.specs.Questions.{question_by}
 use Rattle.requests.proofs.walk.questions.Given as goal
 
 abbrev pub invariant-loop-one : goal.invariant-loop-one
-invariant-loop-one l = map packet_of l.packets.items ++ map (question_by l.node l.incarnation) (filter (is_untold l.nodes) (timely l.clock (boxed_in (drop l.one-index l.held)))) ≡ map (question_by l.node l.incarnation) (filter (is_untold l.nodes) (timely l.clock (boxed_in l.held)))
+invariant-loop-one l =
+    map packet_of l.packets.items ++ map (question_by l.node l.incarnation)
+    (filter (is_untold l.nodes) (timely l.clock (boxed_in (drop l.one-index l.held)))) ≡ map (question_by l.node l.incarnation)
+    (filter (is_untold l.nodes) (timely l.clock (boxed_in l.held)))

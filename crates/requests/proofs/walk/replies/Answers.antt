@@ -12,6 +12,8 @@ loop-one-preserved c =
     let f = settled_for c.args.nodes c.args.chain.now.id c.args.chain.now.decrees in
     let h : Held = f (in_box c.one-item.result) in
     let stored : c.put.new.replies.items ≡ c.loop-one.replies.items ++ option_to_list c.in_ok-reply.field-0 = search rules in
-    let reply : option_map reply_given c.in_ok-reply.field-0 ≡ reply_with h (reply_of c.args.nodes (Some c.args.chain.now.decrees) c.args.chain.now.id h) = search rules in
-    replied_next f c.args.nodes (Some c.args.chain.now.decrees) c.args.chain.now.id c.args.held.now c.loop-one.one-index c.one-item.result (omega arith) c.one-item.is
+    let reply : option_map reply_given c.in_ok-reply.field-0 ≡ reply_with h
+    (reply_of c.args.nodes (Some c.args.chain.now.decrees) c.args.chain.now.id h) = search rules in
+    replied_next f c.args.nodes (Some c.args.chain.now.decrees) c.args.chain.now.id c.args.held.now c.loop-one.one-index c.one-item.result
+    (omega arith) c.one-item.is
     c.loop-one.replies.items c.put.new.replies.items c.in_ok-reply.field-0 stored reply c.loop-one.invariant

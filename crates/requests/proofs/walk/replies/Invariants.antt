@@ -7,5 +7,6 @@ use Rattle.requests.proofs.walk.replies.Given as goal
 
 abbrev pub invariant-loop-one : goal.invariant-loop-one
 invariant-loop-one l =
-    map reply_given l.replies.items ++ replies_to l.nodes (Some l.chain.decrees) l.chain.id (map (settled_for l.nodes l.chain.id l.chain.decrees) (boxed_in (drop l.one-index l.held)))
+    map reply_given l.replies.items ++ replies_to l.nodes (Some l.chain.decrees) l.chain.id
+    (map (settled_for l.nodes l.chain.id l.chain.decrees) (boxed_in (drop l.one-index l.held)))
     ≡ replies_to l.nodes (Some l.chain.decrees) l.chain.id (map (settled_for l.nodes l.chain.id l.chain.decrees) (boxed_in l.held))

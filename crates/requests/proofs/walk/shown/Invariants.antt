@@ -6,4 +6,6 @@ use Rattle.requests.specs.Queues.{boxed_in, timely}
 use Rattle.requests.proofs.walk.shown.Given as goal
 
 abbrev pub invariant-loop-one : goal.invariant-loop-one
-invariant-loop-one l = shown_to l.id (timely l.clock (boxed_in (drop l.one-index l.held))) (told_vote (option_copied l.top)) ≡ shown_to l.id (timely l.clock (boxed_in l.held)) (told_vote (option_copied l.fn.told))
+invariant-loop-one l =
+    shown_to l.id (timely l.clock (boxed_in (drop l.one-index l.held))) (told_vote (option_copied l.top)) ≡ shown_to l.id
+    (timely l.clock (boxed_in l.held)) (told_vote (option_copied l.fn.told))

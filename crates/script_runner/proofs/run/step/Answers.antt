@@ -27,5 +27,6 @@ returns-in-None c =
 pub returns-in-Some-stage : goal.returns-in-Some-stage
 returns-in-Some-stage c =
     let is_said = sym c.in_ok-said.ensures.said ∙ ap (option_map said_by) c.in-Some.is in
-    next_line_if c.act.result c.args.stage.now c.in-Some-stage.centre c.act.new.centre c.args.line.now (said_by c.in-Some.said) c.args.text.now.items c.act.new.text.items
+    next_line_if c.act.result c.args.stage.now c.in-Some-stage.centre c.act.new.centre c.args.line.now
+    (said_by c.in-Some.said) c.args.text.now.items c.act.new.text.items
     c.in-Some-stage.is is_said c.act.ensures

@@ -7,4 +7,5 @@ use Rattle.shelf.proofs.shelf.place_of.Goals as goal
 pub returns : goal.returns
 returns g c ascends =
     let facts = c.binary_search_by_key.ensures in
-    searched_in c.args.entries.now c.args.key ascends c.binary_search_by_key.result facts.bound (facts.position (λ entry. entry.0) (answers_always _ _ _ (λ f a r g called. search rules)))
+    searched_in c.args.entries.now c.args.key ascends c.binary_search_by_key.result facts.bound
+    (facts.position (λ entry. entry.0) (answers_always _ _ _ (λ f a r g called. search rules)))

@@ -7,7 +7,8 @@ use Rattle.smpp_time.proofs.calendar.date_of_day.Goals as goal
 pub returns-clause-value : goal.returns-clause-value
 returns-clause-value c =
     let told = rw c.unwrap.ensures at c.from_unix_epoch_day.ensures.value in
-    (date_is_of c.args.day (plain_date c.unwrap.result)).1 (is_date_of c.unwrap.result c.args.day (told ∙ back w64 c.from.result c.args.day c.from.ensures (omega (arith, c.requires))))
+    (date_is_of c.args.day (plain_date c.unwrap.result)).1
+    (is_date_of c.unwrap.result c.args.day (told ∙ back w64 c.from.result c.args.day c.from.ensures (omega (arith, c.requires))))
 
 pub returns-clause-least : goal.returns-clause-least
 returns-clause-least c =

@@ -7,9 +7,11 @@ use Rattle.synod_acceptor.proofs.acceptor.place_of.Goals as goal
 pub returns-then-eq : goal.returns-then-eq
 returns-then-eq c =
     let same : c.slot.result ≡ c.args.slot = slots_same c.slot.result c.args.slot (sym c.eq.ensures ∙ c.if-eq.true) in
-    found_here c.args.records.now c.loop-place.place c.index-records-place.result c.args.slot (omega arith) c.index-records-place.is (sym c.slot.ensures.slot ∙ same)
+    found_here c.args.records.now c.loop-place.place c.index-records-place.result c.args.slot (omega arith) c.index-records-place.is
+    (sym c.slot.ensures.slot ∙ same)
 
 pub loop-place-preserved : goal.loop-place-preserved
 loop-place-preserved c =
-    none_at_next c.args.records.now c.loop-place.place c.index-records-place.result c.args.slot (omega arith) c.index-records-place.is c.loop-place.invariant (λ same.
+    none_at_next c.args.records.now c.loop-place.place c.index-records-place.result c.args.slot
+    (omega arith) c.index-records-place.is c.loop-place.invariant (λ same.
     true≢false (sym (is_same c.slot.result c.args.slot (c.slot.ensures.slot ∙ same)) ∙ (sym c.eq.ensures ∙ c.if-eq.false)))

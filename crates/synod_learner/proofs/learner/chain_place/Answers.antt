@@ -10,4 +10,5 @@ returns-then-eq c =
 pub loop-place-preserved : goal.loop-place-preserved
 loop-place-preserved c =
     let differs : c.id.result ≡ c.args.id → ⊥ = search rules in
-    none_at_next c.args.chains.now c.loop-place.place c.index-chains-place.result c.args.id (omega arith) c.index-chains-place.is c.loop-place.invariant (λ same. differs (c.id.ensures ∙ same))
+    none_at_next c.args.chains.now c.loop-place.place c.index-chains-place.result c.args.id
+    (omega arith) c.index-chains-place.is c.loop-place.invariant (λ same. differs (c.id.ensures ∙ same))

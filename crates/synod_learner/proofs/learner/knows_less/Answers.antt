@@ -11,4 +11,5 @@ returns-in-Some c = λ others.
     let within = slice_get_within c.args.known.now c.in-Some.place found.chain found.stands in
     let stands = slice_get_read c.args.known.now (length c.args.known.now) c.in-Some.place c.index-known-place.result refl within c.index-known-place.is in
     let held = known_here c.args.known.now c.in-Some.place c.index-known-place.result c.args.chain.now.id others found stands in
-    shorter_by (known_in c.args.known.now c.args.chain.now.id) c.index-known-place.result.decrees c.args.chain.now.decrees c.place.result c.place-in-Some.result held.0 c.place.ensures.place c.place-in-Some.ensures.place
+    shorter_by (known_in c.args.known.now c.args.chain.now.id) c.index-known-place.result.decrees c.args.chain.now.decrees c.place.result
+    c.place-in-Some.result held.0 c.place.ensures.place c.place-in-Some.ensures.place

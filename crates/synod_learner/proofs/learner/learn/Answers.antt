@@ -6,7 +6,8 @@ use Rattle.synod_learner.proofs.learner.learn.Goals as goal
 
 pub returns-in_default : goal.returns-in_default
 returns-in_default c =
-    let none : known_in c.args.known.now.items c.args.chain.id ≡ None = rw (← c.deref.ensures.value, ← c.id.ensures) (place_none c.deref.result.now c.id.result c.chain_place.result c.chain_place.ensures (search rules)) in
+    let none : known_in c.args.known.now.items c.args.chain.id ≡ None = rw (← c.deref.ensures.value, ← c.id.ensures)
+    (place_none c.deref.result.now c.id.result c.chain_place.result c.chain_place.ensures (search rules)) in
     rw c.push_reserved.ensures.items (chain_pushed c.args.known.now.items c.args.chain none)
 
 pub index_mut-requires : goal.index_mut-requires

@@ -11,7 +11,8 @@ returns-then-is c =
 pub loop-place-preserved : goal.loop-place-preserved
 loop-place-preserved c =
     let differs : c.index-tallies-place.result.vote ≡ c.args.vote.now → ⊥ = search rules in
-    uncounted_next c.args.tallies.now c.loop-place.place c.index-tallies-place.result c.args.vote.now (omega arith) c.index-tallies-place.is c.loop-place.invariant differs
+    uncounted_next c.args.tallies.now c.loop-place.place c.index-tallies-place.result c.args.vote.now
+    (omega arith) c.index-tallies-place.is c.loop-place.invariant differs
 
 pub returns : goal.returns
 returns c =

@@ -1,4 +1,5 @@
-use Rattle.world_runs.proofs.Leading.{accepted_known, chosen_all, deliveries_stand_in, deliveries_stand_in_runs, goes_on, grants_none_after, has_one_fate, later_queries_told, led}
+use Rattle.world_runs.proofs.Leading.{accepted_known, chosen_all, deliveries_stand_in, deliveries_stand_in_runs, goes_on}
+use Rattle.world_runs.proofs.Leading.{grants_none_after, has_one_fate, later_queries_told, led}
 use Rattle.world_runs.proofs.Stating.{agree}
 use Rattle.world_runs.proofs.running.run.Goals as goal
 

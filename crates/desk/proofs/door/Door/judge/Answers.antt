@@ -4,7 +4,8 @@ use Rattle.desk.proofs.door.Door.judge.Goals as goal
 
 pub returns-in-Err-clause-judged : goal.returns-in-Err-clause-judged
 returns-in-Err-clause-judged c =
-    (judged c.args.message.now c.args.self.now (Err c.in-Err.status) (sym c.in_default.is ∙ c.fields_refusal.ensures) (sym c.in-Err.is ∙ c.times.ensures.judged))
+    (judged c.args.message.now c.args.self.now (Err c.in-Err.status) (sym c.in_default.is ∙ c.fields_refusal.ensures)
+    (sym c.in-Err.is ∙ c.times.ensures.judged))
 
 pub returns-in-Ok-clause-judged : goal.returns-in-Ok-clause-judged
 returns-in-Ok-clause-judged c =

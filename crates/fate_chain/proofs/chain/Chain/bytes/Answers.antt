@@ -5,7 +5,12 @@ use Rattle.fate_chain.proofs.chain.Chain.bytes.Goals as goal
 
 pub overflow_cast-len : goal.overflow_cast-len
 overflow_cast-len c =
-    omega (arith, c.len.ensures, most_decrees c.self.inside.id (reverse c.self.inside.decrees.items) c.self.invariant, length-reverse c.self.inside.decrees.items)
+    omega (
+      arith,
+      c.len.ensures,
+      most_decrees c.self.inside.id (reverse c.self.inside.decrees.items) c.self.invariant,
+      length-reverse c.self.inside.decrees.items,
+    )
 
 pub returns-clause-fits : goal.returns-clause-fits
 returns-clause-fits c =

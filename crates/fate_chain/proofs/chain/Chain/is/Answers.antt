@@ -8,6 +8,8 @@ returns-then-eq c =
     let two = c.deref-then-eq.ensures.value in
     let ids : c.self.inside.id ≡ c.other.inside.id = search rules in
     rw (← c.self.view_is, ← c.other.view_is) (
-      λ is. chains_same c.self.inside.id c.other.inside.id c.self.inside.decrees.items c.other.inside.decrees.items ids (sym one ∙ (c.are_same.ensures.0 is ∙ two)),
-      λ same. c.are_same.ensures.1 (one ∙ (decrees_same c.self.inside.id c.other.inside.id c.self.inside.decrees.items c.other.inside.decrees.items same ∙ sym two)),
+      λ is. chains_same c.self.inside.id c.other.inside.id c.self.inside.decrees.items c.other.inside.decrees.items ids
+          (sym one ∙ (c.are_same.ensures.0 is ∙ two)),
+      λ same. c.are_same.ensures.1 (one ∙ (decrees_same c.self.inside.id c.other.inside.id c.self.inside.decrees.items
+          c.other.inside.decrees.items same ∙ sym two)),
     )

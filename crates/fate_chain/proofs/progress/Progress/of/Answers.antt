@@ -9,4 +9,5 @@ loop-decree-preserved c =
     let i = c.loop-decree.decree-index in
     let all : List Decree = c.args.decrees.now in
     let next : Decree = c.decree-item.result in
-    rw (pushed (take i all) (take (i + 1) all) (get_or all i next) next (take_more all i next c.loop-decree-test.true) (sym c.decree-item.is)) (c.after-progress.ensures (reverse (take i all)) next c.loop-decree.invariant c.mark.ensures)
+    rw (pushed (take i all) (take (i + 1) all) (get_or all i next) next (take_more all i next c.loop-decree-test.true)
+    (sym c.decree-item.is)) (c.after-progress.ensures (reverse (take i all)) next c.loop-decree.invariant c.mark.ensures)

@@ -16,4 +16,5 @@ returns-clause-spelled c =
 
 pub returns-clause-only : goal.returns-clause-only
 returns-clause-only c id is spells =
-    let same = only_named c.args.text.now (Some c.number_of-value.result) (named c.args.text.now _ (search rules) c.number_of-value.ensures (search rules)) id is spells in cc
+    let same = only_named c.args.text.now (Some c.number_of-value.result)
+    (named c.args.text.now _ (search rules) c.number_of-value.ensures (search rules)) id is spells in cc

@@ -8,4 +8,5 @@ use Rattle.node_core.proofs.kept.Kept.asked_behind.Goals as goal
 pub returns-in-Some-clause-next : goal.returns-in-Some-clause-next
 returns-in-Some-clause-next c is =
     let number : c.number.result + 1 ≡ suc c.args.id = omega (arith, c.number.ensures.value) in
-    subst (λ (n : ℕ). IsLeastFrom n (λ other. In other (ids_in (timely c.args.clock (held_in c.args.self.now.queue)))) c.next_id.result) number c.next_id.ensures
+    subst (λ (n : ℕ). IsLeastFrom n (λ other. In other
+    (ids_in (timely c.args.clock (held_in c.args.self.now.queue)))) c.next_id.result) number c.next_id.ensures

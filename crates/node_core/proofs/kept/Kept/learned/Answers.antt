@@ -9,7 +9,8 @@ use Rattle.node_core.proofs.kept.Kept.learned.Goals as goal
 pub returns : goal.returns
 returns c m is fate =
     let outputs : Outputs = record c.in_ok-step.step.outputs { replies = c.in_ok-replies.replies } in
-    learned_so c.args.self.now c.args.message c.start_for-packet.new.self c.args.chain.now m (option_map start_of c.in_ok-next.next) c.start_for-packet.result c.requires is
+    learned_so c.args.self.now c.args.message c.start_for-packet.new.self c.args.chain.now m
+    (option_map start_of c.in_ok-next.next) c.start_for-packet.result c.requires is
     (c.start_for-packet.ensures c.args.chain.now.id c.in_ok-next.ensures.id)
     c.submission.result.now c.cancels_then-cancelled.result c.args.had_fate c.in_ok-receipt.receipt outputs c.in_ok-step.step c.in_ok-settled.settled
     c.submission.ensures (rw c.nodes.ensures at (c.cancels_then-cancelled.ensures c.submission.result.now c.submission.ensures)) c.in_ok-next.ensures.start

@@ -11,4 +11,5 @@ returns-in_ok-copy-in-Some-clause-id c =
     let id = id_of (held_of c.args.held.now) in
     ap (λ (chain : Chain). chain.id) c.in_ok-copy-in-Some.ensures
     ∙ c.in-Some.ensures.id id
-    (subst (λ (top : Option TopVote). IfSome top (λ it. it.id ≡ id)) (sym c.told_by_most.ensures) (most_told c.nodes.result (held_of c.args.held.now) c.requires.told))
+    (subst (λ (top : Option TopVote). IfSome top (λ it. it.id ≡ id)) (sym c.told_by_most.ensures)
+    (most_told c.nodes.result (held_of c.args.held.now) c.requires.told))

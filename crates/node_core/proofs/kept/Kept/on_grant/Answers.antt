@@ -7,6 +7,9 @@ pub returns-clause-ok : goal.returns-clause-ok
 returns-clause-ok c =
     let same = c.in_ok-chain.ensures in
     let known = c.in_ok-attempt.ensures.known ∙ sym (ap (λ (chain : Chain). Some chain.decrees) same) in
-    granted_step c.args.self.now c.args.id c.place.result c.in_ok-chain.chain c.in_ok-message.message c.grant.new.self c.granting.result c.in_ok-next.next c.requires
-    c.in_ok-attempt.ensures.given known (ap (λ (chain : Chain). chain.id) same ∙ c.in_ok-attempt.ensures.id) c.place.ensures.place c.in_ok-message.ensures c.grant.ensures
-    c.granting.ensures.ticket c.granting.ensures.refused c.granting.ensures.packets c.granting.ensures.replies c.granting.ensures.receipts c.granting.ensures.granted c.in_ok-next.ensures
+    granted_step c.args.self.now c.args.id c.place.result c.in_ok-chain.chain c.in_ok-message.message c.grant.new.self c.granting.result
+    c.in_ok-next.next c.requires
+    c.in_ok-attempt.ensures.given known (ap (λ (chain : Chain). chain.id) same
+    ∙ c.in_ok-attempt.ensures.id) c.place.ensures.place c.in_ok-message.ensures c.grant.ensures
+    c.granting.ensures.ticket c.granting.ensures.refused c.granting.ensures.packets c.granting.ensures.replies c.granting.ensures.receipts
+    c.granting.ensures.granted c.in_ok-next.ensures

@@ -26,7 +26,8 @@ returns-in-Propose c =
     let member : is_member setup c.in-Propose.from ≡ true = sym (ap (λ (n : ℕ). is_member setup n) from) ∙ sym c.is_member.ensures ∙ c.if-not-is_member.false in
     rw c.in-Propose.is
     (subst (λ (to : Stepped). IfOk c.on_propose.result (IsStep c.args.self.now to))
-    (of_member setup (kept_of c.args.self.now) c.in-Propose.from (on_propose setup (kept_of c.args.self.now) (slot_in c.in-Propose.vote) (vote_of c.in-Propose.vote)) member)
+    (of_member setup (kept_of c.args.self.now) c.in-Propose.from
+    (on_propose setup (kept_of c.args.self.now) (slot_in c.in-Propose.vote) (vote_of c.in-Propose.vote)) member)
     c.on_propose.ensures)
 
 pub returns-in-Voted : goal.returns-in-Voted
@@ -36,5 +37,6 @@ returns-in-Voted c =
     let member : is_member setup c.in-Voted.from ≡ true = sym (ap (λ (n : ℕ). is_member setup n) from) ∙ sym c.is_member.ensures ∙ c.if-not-is_member.false in
     rw c.in-Voted.is
     (subst (λ (to : Stepped). IfOk c.on_voted.result (IsStep c.args.self.now to))
-    (of_member setup (kept_of c.args.self.now) c.in-Voted.from (voted_in setup (kept_of c.args.self.now) c.in-Voted.from (slot_in c.in-Voted.vote) (vote_of c.in-Voted.vote)) member)
+    (of_member setup (kept_of c.args.self.now) c.in-Voted.from
+    (voted_in setup (kept_of c.args.self.now) c.in-Voted.from (slot_in c.in-Voted.vote) (vote_of c.in-Voted.vote)) member)
     c.on_voted.ensures)

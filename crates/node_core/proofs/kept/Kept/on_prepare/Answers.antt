@@ -11,4 +11,6 @@ returns c =
     let taken = rw id at c.in_ok-message.ensures in
     let judged = rw c.node.ensures at c.in_ok-verdict.ensures in
     IfOk-weaker c.answer.result _ _ (λ step is.
-    answered c.args.self.now c.args.slot c.in_ok-message.message c.promise.new.self (λ r. prepare_judged c.args.self.now.setup.node c.args.slot c.args.ballot r) c.in_ok-verdict.verdict step taken judged (rw id at is)) c.answer.ensures
+    answered c.args.self.now c.args.slot c.in_ok-message.message c.promise.new.self
+    (λ r. prepare_judged c.args.self.now.setup.node c.args.slot c.args.ballot r) c.in_ok-verdict.verdict step taken judged
+    (rw id at is)) c.answer.ensures

@@ -13,6 +13,9 @@ returns c =
     let slot = slot_reported c.args.report.now in
     let id : c.slot.inside.id ≡ slot.id = ap (λ (s : Slot). s.id) (c.slot.view_is ∙ c.slot-slot.ensures.slot) in
     let taken = rw id at c.in_ok-message.ensures in
-    let test : runs_at (message_at (kept_of c.args.self.now) slot.id).round slot c.args.ballot ≡ true = sym (rw (id, c.slot-slot.ensures.slot) at c.runs_at.ensures) ∙ c.if-not-runs_at.false in
+    let test : runs_at (message_at (kept_of c.args.self.now) slot.id).round slot c.args.ballot ≡ true = sym
+    (rw (id, c.slot-slot.ensures.slot) at c.runs_at.ensures) ∙ c.if-not-runs_at.false in
     IfOk-weaker c.leave.result _ _ (λ step is.
-    promised_here c.args.self.now c.args.from slot c.args.ballot (report_of c.args.report.now) c.in_ok-message.message c.promised_by.new.self c.in_ok-packet.packet step c.requires test taken c.in_ok-packet.ensures (rw id at is)) c.leave.ensures
+    promised_here c.args.self.now c.args.from slot c.args.ballot
+    (report_of c.args.report.now) c.in_ok-message.message c.promised_by.new.self c.in_ok-packet.packet step c.requires test taken
+    c.in_ok-packet.ensures (rw id at is)) c.leave.ensures

@@ -23,7 +23,8 @@ told_to-requires-clause-sound c =
     let about : tells_about (told_vote (option_copied c.args.told)) (id_of (held_of c.in_ok-held.held)) ≡ true =
     ap (λ (h : Held). tells_about (told_vote (option_copied c.args.told)) (id_of h)) copy ∙ sym c.is_told_by.ensures ∙ c.if-not-is_told_by.false in
     subst (IsSound k.setup.node k.incarnation) (sym c.in_ok-hear.ensures.ok)
-    (sound_told k.setup.node k.incarnation c.args.from (told_vote (option_copied c.args.told)) (held_of c.in_ok-held.held) about (sound_asked k c.args.name (held_of c.in_ok-held.held) c.requires some))
+    (sound_told k.setup.node k.incarnation c.args.from (told_vote (option_copied c.args.told)) (held_of c.in_ok-held.held) about
+    (sound_asked k c.args.name (held_of c.in_ok-held.held) c.requires some))
 
 pub returns : goal.returns
 returns c =
@@ -33,5 +34,6 @@ returns c =
     let copy = ap held_of c.in_ok-held.ensures in
     let some : asked_by k.setup (kept_of k) c.args.name ≡ Some h = sym c.in-Some.ensures ∙ ap (λ (h : Held). Some h) (sym copy) in
     let about : tells_about told (id_of h) ≡ true = ap (λ (h : Held). tells_about told (id_of h)) copy ∙ sym c.is_told_by.ensures ∙ c.if-not-is_told_by.false in
-    let here = ap (λ (h : Held). told_to k.setup (kept_of k) (message_at (kept_of k) (id_of h)).known h) c.in_ok-hear.ensures.ok ∙ sym (tell_to k.setup (kept_of k) c.args.from c.args.name told h some about) in
+    let here = ap (λ (h : Held). told_to k.setup (kept_of k) (message_at (kept_of k) (id_of h)).known h) c.in_ok-hear.ensures.ok ∙ sym
+    (tell_to k.setup (kept_of k) c.args.from c.args.name told h some about) in
     IfOk-weaker c.told_to.result _ _ (λ step is. subst (λ (s : Stepped). IsStep k s step) here is) c.told_to.ensures

@@ -34,7 +34,8 @@ returns-clause-step c =
       messages = refl;
       room = (
         room_serves k.messages.room (length k.messages.entries) (length turns.messages.items) c.in_ok-room.room.shelf (rw many at c.in_ok-room.ensures.shelf),
-        room_serves k.messages.listings (length k.messages.entries) (length turns.messages.items) (vec_capacity c.in_ok-room.room.live) (rw many at c.in_ok-room.ensures.live),
+        room_serves k.messages.listings (length k.messages.entries) (length turns.messages.items) (vec_capacity c.in_ok-room.room.live)
+            (rw many at c.in_ok-room.ensures.live),
       );
       ticket = c.telling.ensures.ticket;
       refused = c.telling.ensures.refused;
@@ -58,8 +59,10 @@ returns-in_err-packets-clause-idle c idle =
     let k = c.args.self.now in
     let clock : c.max-clock.result ≡ max k.clock c.args.moment = search rules in
     let none : list_any (is_untold k.setup.nodes) (timely c.max-clock.result (held_in k.queue)) ≡ false =
-    none_passes (is_untold k.setup.nodes) (timely c.max-clock.result (held_in k.queue)) (λ h among. idle.told h (timely_in c.max-clock.result (held_in k.queue) h among)) in
-    let fits : NoneFits k.setup (kept_of k) c.max-clock.result (is_up c.args.up.now) = subst (λ (n : ℕ). NoneFits k.setup (kept_of k) n (is_up c.args.up.now)) (sym clock) idle.unruled in
+    none_passes (is_untold k.setup.nodes) (timely c.max-clock.result (held_in k.queue))
+    (λ h among. idle.told h (timely_in c.max-clock.result (held_in k.queue) h among)) in
+    let fits : NoneFits k.setup (kept_of k) c.max-clock.result (is_up c.args.up.now) = subst
+    (λ (n : ℕ). NoneFits k.setup (kept_of k) n (is_up c.args.up.now)) (sym clock) idle.unruled in
     let empty : c.in_ok-turns.turns.packets.items ≡ [] = (rw c.in_ok-turns.was at (c.turns.ensures.idle fits)).1 in
     let ok = c.with_questions.ensures.idle none empty in
     absurd (true≢false (sym (rw c.in_err-packets.was at ok)))

@@ -14,7 +14,8 @@ returns-then-not-branch c =
     let taken = rw c.id-id.ensures at c.in_ok-message.ensures in
     let test = sym (rw c.id-id.ensures at c.concerns.ensures) ∙ c.if-not-concerns.false in
     IfOk-weaker c.leave.result _ _ (λ step is.
-    voted_only c.args.self.now c.args.from c.args.vote.now c.in_ok-message.message c.heard.new.self c.in_ok-heard.field-0 step c.requires test taken c.in_ok-heard.ensures c.if-not-branch.true (rw c.id-id.ensures at is)) c.leave.ensures
+    voted_only c.args.self.now c.args.from c.args.vote.now c.in_ok-message.message c.heard.new.self c.in_ok-heard.field-0 step c.requires
+    test taken c.in_ok-heard.ensures c.if-not-branch.true (rw c.id-id.ensures at is)) c.leave.ensures
 
 pub returns : goal.returns
 returns c =
@@ -27,4 +28,5 @@ returns c =
     IfOk-weaker c.learned.result _ _ (λ step is.
     voted_known k c.args.from c.args.vote.now c.in_ok-message.message c.heard.new.self grows step c.requires test taken c.in_ok-heard.ensures is_known
     (is (heard (message_at (kept_of k) c.args.vote.now.chain.id) c.args.from (vote_of c.args.vote.now))
-    (known_as k c.args.from c.args.vote.now c.in_ok-message.message c.heard.new.self grows step c.requires test taken c.in_ok-heard.ensures is_known) fate)) c.learned.ensures
+    (known_as k c.args.from c.args.vote.now c.in_ok-message.message c.heard.new.self grows step c.requires test taken c.in_ok-heard.ensures
+    is_known) fate)) c.learned.ensures

@@ -17,7 +17,8 @@ returns-clause-quiet c =
           let same : c.deref-2.result.now ≡ c.args.up.items = search rules in
           let here = (rw c.in_ok-step.was at c.on_tick.ensures.rests) (c.is_still.ensures.0 w.if-is_still.true) in
           let rests : on_tick k.setup (kept_of k) c.args.moment (is_up c.args.up.items) ≡ leaves (ticked (kept_of k) (max k.clock c.args.moment)) =
-          subst (λ (ups : List (List ℕ)). on_tick k.setup (kept_of k) c.args.moment (is_up ups) ≡ leaves (ticked (kept_of k) (max k.clock c.args.moment))) same here in
+          subst (λ (ups : List (List ℕ)). on_tick k.setup (kept_of k) c.args.moment (is_up ups) ≡ leaves
+          (ticked (kept_of k) (max k.clock c.args.moment))) same here in
           subst (IsQuiet k.setup to) (sym w.idle-is) (quiet_then k.setup (kept_of k) c.args.moment c.args.up rests)
       | else-is_still w ↦ subst (IsQuiet k.setup to) (sym w.idle-is) tt
     ]

@@ -16,8 +16,10 @@ returns c =
     let told = held_of c.args.held in
     let known = (message_at (kept_of k) (id_of told)).known in
     let known_is : known_of (option_copied c.known-known.result) ≡ known = rw c.id-id.ensures at c.known-known.ensures.known in
-    let settles_is : c.settles-settles.result ≡ settles k.setup.nodes known told = c.settles-settles.ensures ∙ (λ i. settles (c.nodes.ensures i) (known_is i) told) in
-    let new_is : held_of c.settle.new.self ≡ settled_by k.setup.nodes known told = c.settle.ensures ∙ (λ i. settled_by (c.nodes-2.ensures i) (known_is i) told) in
+    let settles_is : c.settles-settles.result ≡ settles k.setup.nodes known told = c.settles-settles.ensures ∙
+    (λ i. settles (c.nodes.ensures i) (known_is i) told) in
+    let new_is : held_of c.settle.new.self ≡ settled_by k.setup.nodes known told = c.settle.ensures ∙
+    (λ i. settled_by (c.nodes-2.ensures i) (known_is i) told) in
     let verdict = rw (new_is, known_is) at c.in_ok-replies.ensures in
     let start = c.in_ok-next.ensures.start ∙ (λ i. next_told k.setup (kept_of k) (settles_is i) (known_is i) (new_is i)) in
     let outputs : Outputs = record c.in_ok-step.step.outputs { replies = c.in_ok-replies.replies } in

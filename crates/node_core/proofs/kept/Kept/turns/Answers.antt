@@ -58,9 +58,11 @@ loop-id-preserved c =
     let passed = c.passed-walk.ensures in
     let after = filter (nat_le (suc id)) ids in
     let rest : ids_left k clock c.passed-walk.result ≡ after = ap (λ (n : ℕ). filter (nat_le n) ids) passed.from in
-    let here = next_turning k clock up turns c.author.result c.author.ensures.node c.author.ensures.incarnation c.requires c.loop-id.walk id c.loop-id.invariant.rising next c.loop-id.invariant.turns in
+    let here = next_turning k clock up turns c.author.result c.author.ensures.node c.author.ensures.incarnation c.requires c.loop-id.walk id
+    c.loop-id.invariant.rising next c.loop-id.invariant.turns in
     let of = rw c.in_ok-turn.was at c.turn_of.ensures.turned in
-    let above : (other : ℕ) → In other after → id < other = (λ other among. let there = in_left (suc id) other ids among in let lower = there.1 in omega (arith, lower)) in
+    let above : (other : ℕ) → In other after → id < other =
+    (λ other among. let there = in_left (suc id) other ids among in let lower = there.1 in omega (arith, lower)) in
     record {
       walks = next.on c.passed-walk.result passed.from passed.same_live passed.live passed.same_asked passed.asked;
       turns = elim c.match-branch-2.branch [
@@ -68,7 +70,8 @@ loop-id-preserved c =
             (subst (λ (left : List ℕ). IsTurning k clock up left w.add.new.self) (sym rest)
             (turning_goes_on k clock up (id ∷ after) turns here id after refl w.add.new.self above
             (more_then k clock up (id ∷ after) turns here id after refl
-            c.author.result c.author.ensures.node c.author.ensures.incarnation c.requires w.in-Some-2.turn (rw w.in-Some-2.is at of) w.add.new.self (rw w.in_ok-add.was at w.add.ensures))))
+            c.author.result c.author.ensures.node c.author.ensures.incarnation c.requires w.in-Some-2.turn
+            (rw w.in-Some-2.is at of) w.add.new.self (rw w.in_ok-add.was at w.add.ensures))))
         | in_default-2 w ↦ subst (IsTurning k clock up (ids_left k clock c.passed-walk.result)) (sym w.turns-is)
             (subst (λ (left : List ℕ). IsTurning k clock up left turns) (sym rest)
             (turning_goes_on k clock up (id ∷ after) turns here id after refl turns above
@@ -90,5 +93,6 @@ returns-clause-turned c =
     let clock = c.args.clock in
     let walk = c.loop-id.walk in
     let none : next_of walk.live walk.asked ≡ None = sym c.next.ensures ∙ c.in_default.is in
-    all_turned k clock (is_up c.args.up.now) c.loop-id.turns c.author.result c.author.ensures.node c.author.ensures.incarnation c.requires walk c.loop-id.invariant.rising
+    all_turned k clock (is_up c.args.up.now) c.loop-id.turns c.author.result c.author.ensures.node c.author.ensures.incarnation c.requires
+    walk c.loop-id.invariant.rising
     (all_passed k clock walk c.loop-id.invariant.walks none) c.loop-id.invariant.turns

@@ -10,7 +10,8 @@ returns-in-Some c of =
     let closed = rw place at c.close.ensures in
     let start = rw c.in-Some.is at (c.in_ok-next.ensures.start (of.backed c.args.slot.place c.requires)) in
     let id = rw c.in-Some.is at c.in_ok-next.ensures.id in
-    concludes c.args.at.now c.args.self.now c.close.new.self c.args.slot (closings.Answered c.args.outcome) closed c.in-Some.next c.start.new.self c.start.result id start c.start.ensures
+    concludes c.args.at.now c.args.self.now c.close.new.self c.args.slot
+    (closings.Answered c.args.outcome) closed c.in-Some.next c.start.new.self c.start.result id start c.start.ensures
 
 pub returns-in-None : goal.returns-in-None
 returns-in-None c of =

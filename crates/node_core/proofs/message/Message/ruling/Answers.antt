@@ -15,5 +15,6 @@ returns-in-Some-follow-clause-id c =
     let own = record_at c.args.self.now.acceptor in
     let held = timely c.args.at.now.clock (held_in c.args.queue.now) in
     let named = shown_named c.args.id held (told_of own c.args.id) c.requires (told_of_named own c.args.id) in
-    let told = subst (λ (top : Option TopVote). IfSome top (λ it. it.id ≡ c.args.id)) (sym (c.shown.ensures ∙ ap (λ (top : Option TopVote). shown_to c.args.id held top) c.tell.ensures)) named in
+    let told = subst (λ (top : Option TopVote). IfSome top (λ it. it.id ≡ c.args.id))
+    (sym (c.shown.ensures ∙ ap (λ (top : Option TopVote). shown_to c.args.id held top) c.tell.ensures)) named in
     ap (λ (chain : Chain). chain.id) c.in_ok-chain-2.ensures ∙ c.in-Some-follow.ensures.id c.args.id told

@@ -22,5 +22,6 @@ returns-clause-rule c setup k rest =
     λ taken is. let both : Some c.submission.result.now ≡ Some taken = sym c.submission.ensures ∙ is in
     let same : c.submission.result.now ≡ taken = cc in
     (rw c.id.ensures at c.cancels-cancelled.ensures) ∙ ap (λ (message : Submission). list_any (cancels chain.id message) held) same in
-    ruled_behind setup k held up chain.id c.args.self.now at rest chain.decrees c.place-place.result c.cancels-cancelled.result c.in-Some.due c.in_ok-chain.chain c.given_up-given_up.result
+    ruled_behind setup k held up chain.id c.args.self.now at rest chain.decrees c.place-place.result c.cancels-cancelled.result
+    c.in-Some.due c.in_ok-chain.chain c.given_up-given_up.result
     c.place-place.ensures.place by due c.in-Some.ensures.may c.in_ok-chain.ensures.decrees c.given_up-given_up.ensures.place

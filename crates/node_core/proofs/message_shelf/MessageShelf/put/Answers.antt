@@ -37,7 +37,8 @@ returns-clause-listings c =
     let cap = vec_capacity c.self.inside.live in
     let put : c.put.new.self.entries ≡ with_value entries c.args.id (box_value c.args.message) = rw c.number.ensures.value at c.put.ensures.entries in
     let left : cap - length entries ≤ (cap - length c.put.new.self.entries) + 1 =
-    subst (λ (es : List (ℕ × Filed)). cap - length entries ≤ (cap - length es) + 1) (sym put) (listings_left entries cap c.args.id (box_value c.args.message)) in
+    subst (λ (es : List (ℕ × Filed)). cap - length entries ≤ (cap - length es) + 1) (sym put)
+    (listings_left entries cap c.args.id (box_value c.args.message)) in
     let same = c.enlist.ensures.capacity in
     let view : c.args.self.now.listings ≡ cap - length entries = sym (ap (λ s. s.listings) c.self.view_is) in
     omega (arith, left, same, view)

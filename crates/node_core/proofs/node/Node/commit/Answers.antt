@@ -35,7 +35,8 @@ invariant_of-self-in-Err-Device g c =
     let works : c.self.inside.broken ≡ false = search rules in
     let kept : c.pending.inside.was.value ≡ c.self.inside.kept =
     ap (λ (p : Awaited). p.was) c.pending.view_is ∙ c.requires ∙ sym (ap (λ (n : Standing g.row.S.Denot). n.kept) c.self.view_is) in
-    let is = cut c.self.inside.kept c.pending.inside.was.value c.args.pending.input c.pending.inside.given.value c.pending.inside.foreseen.step c.pending.inside.packet
+    let is = cut c.self.inside.kept c.pending.inside.was.value c.args.pending.input c.pending.inside.given.value
+    c.pending.inside.foreseen.step c.pending.inside.packet
     (records c.self.inside.store) (records c.save.new.store) kept (ap (λ (p : Awaited). p.input) c.pending.view_is) c.pending.invariant.prepared
     (c.self.invariant.0.saved works) c.in-Err-Device.ensures.change c.in-Err-Device.ensures.device in (
       record {
@@ -61,7 +62,8 @@ returns-in-Err-Device-clause-device g c = λ device.
     let works : c.self.inside.broken ≡ false = search rules in
     let kept : c.pending.inside.was.value ≡ c.self.inside.kept =
     ap (λ (p : Awaited). p.was) c.pending.view_is ∙ c.requires ∙ sym (ap (λ (n : Standing g.row.S.Denot). n.kept) c.self.view_is) in
-    let is = cut c.self.inside.kept c.pending.inside.was.value c.args.pending.input c.pending.inside.given.value c.pending.inside.foreseen.step c.pending.inside.packet
+    let is = cut c.self.inside.kept c.pending.inside.was.value c.args.pending.input c.pending.inside.given.value
+    c.pending.inside.foreseen.step c.pending.inside.packet
     (records c.self.inside.store) (records c.save.new.store) kept (ap (λ (p : Awaited). p.input) c.pending.view_is) c.pending.invariant.prepared
     (c.self.invariant.0.saved works) c.in-Err-Device.ensures.change c.in-Err-Device.ensures.device in
     subst (λ (old : Standing g.row.S.Denot). HasStopped (seen records started old) c.args.pending.input (seen records started new)) c.self.view_is

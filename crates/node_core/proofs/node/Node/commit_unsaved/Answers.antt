@@ -34,7 +34,8 @@ invariant_of-self g c =
     let records = g.S.StableStore.records c.self.inside.store in
     let stored : IsStored false records c.self.inside.unfinished c.install.new.self =
     kept_unsaved c.self.inside.kept c.pending.inside.was.value c.install.new.self c.args.pending.input c.pending.inside.given.value
-    c.pending.inside.foreseen.step c.pending.inside.packet c.self.inside.unfinished records kept input c.pending.invariant.prepared c.requires.unsaved c.install.ensures
+    c.pending.inside.foreseen.step c.pending.inside.packet c.self.inside.unfinished records kept input c.pending.invariant.prepared
+    c.requires.unsaved c.install.ensures
     (subst (λ (b : Bool). IsStored b records c.self.inside.unfinished c.self.inside.kept) works c.self.invariant.0) in
     let is : HasTaken before c.args.pending.input new c.pending.inside.foreseen.step.outputs =
     taken before new c.pending.inside.was.value c.args.pending.input c.pending.inside.given.value c.pending.inside.foreseen.step kept input

@@ -9,4 +9,6 @@ use Rattle.requests.proofs.queue.Queue.remove.Goals as goal
 
 pub invariant_of-self : goal.invariant_of-self
 invariant_of-self c =
-    queue_kept (λ (h : Held). not (ticket_of h == c.args.ticket)) (vec_capacity c.self.inside.held) (vec_capacity c.keep_others.new.held) (map box_value c.self.inside.held.items) (map box_value c.keep_others.new.held.items) c.keep_others.ensures.capacity c.keep_others.ensures.held c.self.invariant
+    queue_kept (λ (h : Held). not (ticket_of h == c.args.ticket)) (vec_capacity c.self.inside.held) (vec_capacity c.keep_others.new.held)
+    (map box_value c.self.inside.held.items) (map box_value c.keep_others.new.held.items) c.keep_others.ensures.capacity
+    c.keep_others.ensures.held c.self.invariant

@@ -12,5 +12,9 @@ invariant_of-self c =
     let nodes = c.args.nodes in
     let id = c.args.chain.now.id in
     let chain = c.args.chain.now.decrees in
-    let settled = queue_changed (settled_for nodes id chain) (settled_ticket nodes id chain) (vec_capacity c.self.inside.held) (vec_capacity c.settle.new.held) (map box_value c.self.inside.held.items) (map box_value c.settle.new.held.items) c.settle.ensures.capacity c.settle.ensures.held c.self.invariant in
-    queue_kept (still_waits nodes (Some chain) id) (vec_capacity c.settle.new.held) (vec_capacity c.keep_waiting.new.held) (map box_value c.settle.new.held.items) (map box_value c.keep_waiting.new.held.items) c.keep_waiting.ensures.capacity c.keep_waiting.ensures.held settled
+    let settled = queue_changed (settled_for nodes id chain) (settled_ticket nodes id chain) (vec_capacity c.self.inside.held)
+    (vec_capacity c.settle.new.held) (map box_value c.self.inside.held.items)
+    (map box_value c.settle.new.held.items) c.settle.ensures.capacity c.settle.ensures.held c.self.invariant in
+    queue_kept (still_waits nodes (Some chain) id) (vec_capacity c.settle.new.held) (vec_capacity c.keep_waiting.new.held)
+    (map box_value c.settle.new.held.items) (map box_value c.keep_waiting.new.held.items) c.keep_waiting.ensures.capacity
+    c.keep_waiting.ensures.held settled

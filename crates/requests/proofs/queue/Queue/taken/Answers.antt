@@ -16,7 +16,8 @@ pub returns-in-Some-clause-start : goal.returns-in-Some-clause-start
 returns-in-Some-clause-start c = λ setup k by.
     let held = timely c.args.clock (held_in c.args.self.now) in
     let found : first_begun c.args.id held ≡ Some c.in-Some.taken.now = search rules in
-    sym (taken_first setup k c.args.id held by ∙ ap (option_map begun_start) found ∙ ap (λ (chain : List Decree). Some (start_at chain)) (sym c.chain.ensures.decrees))
+    sym (taken_first setup k c.args.id held by ∙ ap (option_map begun_start) found ∙ ap (λ (chain : List Decree). Some (start_at chain))
+    (sym c.chain.ensures.decrees))
 
 pub returns-in-Some-clause-id : goal.returns-in-Some-clause-id
 returns-in-Some-clause-id c =

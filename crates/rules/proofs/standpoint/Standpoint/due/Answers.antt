@@ -21,7 +21,8 @@ returns-in-Some-clause-due c =
     idle_is_due c.args.self.now c.args.attempted c.args.cancelled (is_up c.args.up.now) c.args.chain.now.decrees newest c.submission.result.now
     c.newest-newest.ensures c.submission.ensures other kept (Some c.in-Some.due)
     (due_found c.args.chain.now.decrees c.moment_behind.result (moment_behind (kept_of c.args.self.now) newest) c.is_up-up.result
-    (is_up c.args.up.now c.submission.result.now.target) c.due.result (Some c.in-Some.due) c.moment_behind.ensures (c.is_up-up.ensures ∙ ap (λ (t : Submission). is_up c.args.up.now t.target) c.behind-chain.view_is) c.in-Some.is c.due.ensures)
+    (is_up c.args.up.now c.submission.result.now.target) c.due.result (Some c.in-Some.due) c.moment_behind.ensures
+    (c.is_up-up.ensures ∙ ap (λ (t : Submission). is_up c.args.up.now t.target) c.behind-chain.view_is) c.in-Some.is c.due.ensures)
 
 pub returns-in-Some-clause-may : goal.returns-in-Some-clause-may
 returns-in-Some-clause-may c =
@@ -41,4 +42,5 @@ returns-in-None-clause-due c =
     idle_is_due c.args.self.now c.args.attempted c.args.cancelled (is_up c.args.up.now) c.args.chain.now.decrees newest c.submission.result.now
     c.newest-newest.ensures c.submission.ensures other kept None
     (due_found c.args.chain.now.decrees c.moment_behind.result (moment_behind (kept_of c.args.self.now) newest) c.is_up-up.result
-    (is_up c.args.up.now c.submission.result.now.target) c.due.result None c.moment_behind.ensures (c.is_up-up.ensures ∙ ap (λ (t : Submission). is_up c.args.up.now t.target) c.behind-chain.view_is) c.in-None.is c.due.ensures)
+    (is_up c.args.up.now c.submission.result.now.target) c.due.result None c.moment_behind.ensures
+    (c.is_up-up.ensures ∙ ap (λ (t : Submission). is_up c.args.up.now t.target) c.behind-chain.view_is) c.in-None.is c.due.ensures)

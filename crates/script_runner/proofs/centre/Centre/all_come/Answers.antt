@@ -12,13 +12,17 @@ pub loop-number-preserved : goal.loop-number-preserved
 loop-number-preserved c =
     λ w is.
     let left = c.loop-number.invariant w is in
-    one_done (all_come (reverse (range_with_len 1 c.args.sent)) w) (all_come (reverse (range_with_len 1 c.loop-number.number))) (all_come (reverse (range_with_len 1 (c.loop-number.number - 1))))
-    (λ v. comes_to c.loop-number.number (node_numbers v) v) c.loop-number.self c.comes_to_all.new.self c.args.text.now.items c.loop-number.text.items c.comes_to_all.new.text.items left
-    (come_next c.loop-number.number (c.loop-number.number - 1) left.world (omega (arith, c.loop-number-test.true))) (c.in_ok-comes_to_all.ensures left.world left.is)
+    one_done (all_come (reverse (range_with_len 1 c.args.sent)) w) (all_come (reverse (range_with_len 1 c.loop-number.number)))
+    (all_come (reverse (range_with_len 1 (c.loop-number.number - 1))))
+    (λ v. comes_to c.loop-number.number (node_numbers v) v) c.loop-number.self c.comes_to_all.new.self c.args.text.now.items
+    c.loop-number.text.items c.comes_to_all.new.text.items left
+    (come_next c.loop-number.number (c.loop-number.number - 1) left.world (omega (arith, c.loop-number-test.true)))
+    (c.in_ok-comes_to_all.ensures left.world left.is)
 
 pub returns : goal.returns
 returns c =
     λ w is.
     let left = c.loop-number.invariant w is in
-    all_done (all_come (reverse (range_with_len 1 c.args.sent)) w) (all_come (reverse (range_with_len 1 c.loop-number.number))) c.loop-number.self c.args.text.now.items c.loop-number.text.items left
+    all_done (all_come (reverse (range_with_len 1 c.args.sent)) w)
+    (all_come (reverse (range_with_len 1 c.loop-number.number))) c.loop-number.self c.args.text.now.items c.loop-number.text.items left
     (come_all c.loop-number.number left.world (omega (arith, c.loop-number-test.false)))

@@ -20,13 +20,21 @@ returns-clause-comes c =
     let k = c.number.result - 1 in
     let inside : k < length c.args.self.now.stations.items = omega (arith, c.len.ensures, c.if-at-len.false) in
     let same : c.index_mut.result.now ≡ c.index.result.now =
-    some_same (sym (stood_at c.args.self.now k c.index_mut.result.now inside c.index_mut.ensures.value) ∙ stood_at c.args.self.now k c.index.result.now inside c.index.ensures) in
+    some_same (sym (stood_at c.args.self.now k c.index_mut.result.now inside c.index_mut.ensures.value)
+    ∙ stood_at c.args.self.now k c.index.result.now inside c.index.ensures) in
     let up : is_up c.index_mut.result.now ≡ true = ap is_up same ∙ sym c.is_up.ensures ∙ c.if-not-is_up.false in
-    let mid : Centre = record { stations = with_item c.args.self.now.stations k c.deliver.new.self; packets = c.args.self.now.packets; arrivals = c.add.new.self } in
-    comes_does_if c.share.result c.args.self.now mid c.share.new.self c.args.node c.number.result c.args.number c.in-Some.packet.now c.index_mut.result.now c.deliver.new.self
-    c.args.text.now.items c.deliver.new.text.items c.in-Some.ensures.packet c.number.ensures.value c.number.ensures.range.least inside c.index_mut.ensures.value up
+    let mid : Centre = record {
+      stations = with_item c.args.self.now.stations k c.deliver.new.self;
+      packets = c.args.self.now.packets;
+      arrivals = c.add.new.self;
+    } in
+    comes_does_if c.share.result c.args.self.now mid c.share.new.self c.args.node c.number.result c.args.number c.in-Some.packet.now
+    c.index_mut.result.now c.deliver.new.self
+    c.args.text.now.items c.deliver.new.text.items c.in-Some.ensures.packet c.number.ensures.value c.number.ensures.range.least inside
+    c.index_mut.ensures.value up
     c.in_ok-add.ensures refl refl
-    (subst (λ (p : Packet). ActsAt c.args.node (λ runner. comes_to runner (packet_of p)) c.index_mut.result.now c.deliver.new.self c.args.text.now.items c.deliver.new.text.items)
+    (subst (λ (p : Packet). ActsAt c.args.node (λ runner. comes_to runner
+    (packet_of p)) c.index_mut.result.now c.deliver.new.self c.args.text.now.items c.deliver.new.text.items)
     c.in_ok-packet.ensures c.in_ok-deliver.ensures.acts)
     c.share.ensures
 
@@ -34,5 +42,10 @@ pub returns-clause-up : goal.returns-clause-up
 returns-clause-up c =
     let k = c.number.result - 1 in
     let inside : k < length c.args.self.now.stations.items = omega (arith, c.len.ensures, c.if-at-len.false) in
-    let mid : Centre = record { stations = with_item c.args.self.now.stations k c.deliver.new.self; packets = c.args.self.now.packets; arrivals = c.add.new.self } in
-    ups_kept_if c.share.result c.args.self.now mid c.share.new.self k c.index_mut.result.now c.deliver.new.self inside c.index_mut.ensures.value c.in_ok-deliver.ensures.up refl c.share.ensures
+    let mid : Centre = record {
+      stations = with_item c.args.self.now.stations k c.deliver.new.self;
+      packets = c.args.self.now.packets;
+      arrivals = c.add.new.self;
+    } in
+    ups_kept_if c.share.result c.args.self.now mid c.share.new.self k c.index_mut.result.now c.deliver.new.self inside
+    c.index_mut.ensures.value c.in_ok-deliver.ensures.up refl c.share.ensures

@@ -6,4 +6,5 @@ use Rattle.script_runner.specs.Centres.{IsWorld, NothingBefore}
 use Rattle.script_runner.proofs.centre.Centre.due.Given as goal
 
 abbrev pub invariant-loop-place : goal.invariant-loop-place
-invariant-loop-place l = (w : World) → IsWorld l.self w → NothingBefore w (nodes_with (has l.nodes)) l.from → NothingBefore w (nodes_with (has l.nodes)) (l.place + 1)
+invariant-loop-place l =
+    (w : World) → IsWorld l.self w → NothingBefore w (nodes_with (has l.nodes)) l.from → NothingBefore w (nodes_with (has l.nodes)) (l.place + 1)

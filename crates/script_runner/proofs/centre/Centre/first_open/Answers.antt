@@ -12,7 +12,8 @@ loop-place-preserved c =
     λ w is number j least below within.
     let nodes = nodes_with (has c.args.nodes) in
     let found =
-    found_there c.args.self.now c.deref.result.now c.loop-place.place c.in-Some.station.now c.deref.ensures.value c.in-Some.ensures.lookup.0 c.in-Some.ensures.lookup.1 in
+    found_there c.args.self.now c.deref.result.now c.loop-place.place c.in-Some.station.now c.deref.ensures.value c.in-Some.ensures.lookup.0
+    c.in-Some.ensures.lookup.1 in
     let before : number < c.loop-place.first = omega (arith, below, c.min-first.ensures) in
     let here : number < c.first_lacked.result = omega (arith, below, c.min-first.ensures) in
     one_further (lacks w nodes number) c.loop-place.place (λ k earlier. c.loop-place.invariant w is number k least before earlier)

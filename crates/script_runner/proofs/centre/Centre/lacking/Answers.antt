@@ -24,11 +24,14 @@ returns-then-lacks c =
     let part = sym (c.if-not-takes_part.ensures ∙ ap (takes_part nodes) c.sender.ensures) in
     let here = below c.loop-place.place (length c.deref.result.now) c.in_ok-station.ensures.lookup.0 in
     let found =
-    found_there c.args.self.now c.deref.result.now c.loop-place.place c.in_ok-station.station.now c.deref.ensures.value c.in_ok-station.ensures.lookup.0 c.in_ok-station.ensures.lookup.1 in
-    let lacked = lacks_so c.args.self.now w nodes c.args.number c.loop-place.place c.of.result c.in_ok-station.station.now true is found c.of.ensures c.if-lacks.ensures in
+    found_there c.args.self.now c.deref.result.now c.loop-place.place c.in_ok-station.station.now c.deref.ensures.value
+    c.in_ok-station.ensures.lookup.0 c.in_ok-station.ensures.lookup.1 in
+    let lacked = lacks_so c.args.self.now w nodes c.args.number c.loop-place.place c.of.result c.in_ok-station.station.now true is found
+    c.of.ensures c.if-lacks.ensures in
     let number : c.of-then-lacks.result ≡ 1 + c.loop-place.place = omega (arith, c.of-then-lacks.ensures) in
     ap Some number
-    ∙ first_lacks c.args.self.now w nodes c.args.number c.in_ok-packet.packet.now is c.in_ok-packet.ensures.packet part c.loop-place.place (omega (arith, here, items))
+    ∙ first_lacks c.args.self.now w nodes c.args.number c.in_ok-packet.packet.now is c.in_ok-packet.ensures.packet part c.loop-place.place
+    (omega (arith, here, items))
     (c.loop-place.invariant w is) lacked
 
 pub loop-place-preserved : goal.loop-place-preserved
@@ -36,8 +39,10 @@ loop-place-preserved c =
     λ w is.
     let nodes = nodes_with (has c.args.nodes) in
     let found =
-    found_there c.args.self.now c.deref.result.now c.loop-place.place c.in_ok-station.station.now c.deref.ensures.value c.in_ok-station.ensures.lookup.0 c.in_ok-station.ensures.lookup.1 in
-    let not_here = lacks_so c.args.self.now w nodes c.args.number c.loop-place.place c.of.result c.in_ok-station.station.now false is found c.of.ensures c.if-lacks.ensures in
+    found_there c.args.self.now c.deref.result.now c.loop-place.place c.in_ok-station.station.now c.deref.ensures.value
+    c.in_ok-station.ensures.lookup.0 c.in_ok-station.ensures.lookup.1 in
+    let not_here = lacks_so c.args.self.now w nodes c.args.number c.loop-place.place c.of.result c.in_ok-station.station.now false is found
+    c.of.ensures c.if-lacks.ensures in
     one_further (lacks w nodes c.args.number) c.loop-place.place (c.loop-place.invariant w is) not_here
 
 pub returns : goal.returns

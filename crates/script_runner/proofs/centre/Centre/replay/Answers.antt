@@ -18,7 +18,8 @@ loop-time-preserved c =
     let left = c.loop-time.invariant w is in
     let sent = length c.args.self.now.packets.sent in
     one_done (on_replay w c.args.count) (replays (c.args.count - c.loop-time._time) sent) (replays (c.args.count - (c.loop-time._time + 1)) sent)
-    (λ v. all_come (reverse (range_with_len 1 sent)) v) c.loop-time.self c.all_come.new.self c.args.text.now.items c.loop-time.text.items c.all_come.new.text.items left
+    (λ v. all_come (reverse (range_with_len 1 sent)) v) c.loop-time.self c.all_come.new.self c.args.text.now.items c.loop-time.text.items
+    c.all_come.new.text.items left
     (replay_next (c.args.count - c.loop-time._time) (c.args.count - (c.loop-time._time + 1)) sent left.world (omega (arith, c.loop-time-test.true)))
     ((rw c.len-sent.ensures at c.in_ok-all_come.ensures) left.world left.is)
 
@@ -26,5 +27,6 @@ pub returns : goal.returns
 returns c =
     λ w is.
     let left = c.loop-time.invariant w is in
-    all_done (on_replay w c.args.count) (replays (c.args.count - c.loop-time._time) (length c.args.self.now.packets.sent)) c.loop-time.self c.args.text.now.items c.loop-time.text.items left
+    all_done (on_replay w c.args.count) (replays (c.args.count - c.loop-time._time)
+    (length c.args.self.now.packets.sent)) c.loop-time.self c.args.text.now.items c.loop-time.text.items left
     (replayed_all (c.args.count - c.loop-time._time) (length c.args.self.now.packets.sent) left.world (omega (arith, c.loop-time-test.false)))

@@ -4,4 +4,5 @@ use Rattle.script_runner.proofs.station.Station.grant.Goals as goal
 
 pub returns-in-Up-clause-acts : goal.returns-in-Up-clause-acts
 returns-in-Up-clause-acts c =
-    acted_if c.grant.result c.args.self.now c.in-Up.site c.grant.new.self c.args.node (λ runner. on_grant runner c.args.id) c.args.text.now.items c.grant.new.text.items c.in-Up.is c.grant.ensures
+    acted_if c.grant.result c.args.self.now c.in-Up.site c.grant.new.self c.args.node
+    (λ runner. on_grant runner c.args.id) c.args.text.now.items c.grant.new.text.items c.in-Up.is c.grant.ensures

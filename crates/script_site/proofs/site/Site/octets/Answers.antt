@@ -3,7 +3,8 @@ use Rattle.pdu_frames.specs.Frames.{IsPart, HasWrongLength}
 use Rattle.script_text.specs.Settings.{settings_of}
 use Rattle.script_text.specs.Pushes.{session_at}
 use Rattle.script_site.specs.Sites.{runner_of}
-use Rattle.script_site.proofs.Streaming.{after_kept_if, after_last, after_take, after_wrong_if, all_taken, is_there, joined, not_there, nothing_done, wrong_in_front}
+use Rattle.script_site.proofs.Streaming.{after_kept_if, after_last, after_take, after_wrong_if, all_taken, is_there, joined, not_there}
+use Rattle.script_site.proofs.Streaming.{nothing_done, wrong_in_front}
 use Rattle.script_site.proofs.site.Site.octets.Goals as goal
 
 pub loop-count-init : goal.loop-count-init

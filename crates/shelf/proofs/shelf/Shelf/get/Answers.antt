@@ -6,7 +6,8 @@ use Rattle.shelf.proofs.shelf.Shelf.get.Goals as goal
 pub returns-in-Ok : goal.returns-in-Ok
 returns-in-Ok g c =
     let at : StandsAt (entries_of c.deref.result.now) c.args.key c.in-Ok.place = c.in-Ok.ensures (rw c.deref.ensures.value c.self.invariant) in
-    rw (← c.self.view_is, c.deref-in-Ok.ensures) (sym (value_there c.self.inside.entries.items c.args.key c.in-Ok.place c.index.result.now (rw c.deref.ensures.value at at) c.index.ensures))
+    rw (← c.self.view_is, c.deref-in-Ok.ensures) (sym
+    (value_there c.self.inside.entries.items c.args.key c.in-Ok.place c.index.result.now (rw c.deref.ensures.value at at) c.index.ensures))
 
 pub returns-in-Err : goal.returns-in-Err
 returns-in-Err g c =

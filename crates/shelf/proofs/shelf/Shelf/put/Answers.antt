@@ -9,18 +9,21 @@ use Rattle.shelf.proofs.shelf.Shelf.put.Goals as goal
 pub invariant_of-self : goal.invariant_of-self
 invariant_of-self g c =
     let at : StandsAt (entries_of c.deref.result.now) c.args.key c.in-Ok.place = c.in-Ok.ensures (rw c.deref.ensures.value c.self.invariant) in
-    rw (put_there c.self.inside.entries.items c.args.key c.in-Ok.place c.index_mut.result.now c.args.value (rw c.deref.ensures.value at at) c.index_mut.ensures.value)
+    rw (put_there c.self.inside.entries.items c.args.key c.in-Ok.place c.index_mut.result.now c.args.value
+    (rw c.deref.ensures.value at at) c.index_mut.ensures.value)
     (still_ascends _ _ _ c.self.invariant)
 
 pub returns-in-Ok-clause-entries : goal.returns-in-Ok-clause-entries
 returns-in-Ok-clause-entries g c =
     let at : StandsAt (entries_of c.deref.result.now) c.args.key c.in-Ok.place = c.in-Ok.ensures (rw c.deref.ensures.value c.self.invariant) in
-    rw (← c.self.view_is) (put_there c.self.inside.entries.items c.args.key c.in-Ok.place c.index_mut.result.now c.args.value (rw c.deref.ensures.value at at) c.index_mut.ensures.value)
+    rw (← c.self.view_is) (put_there c.self.inside.entries.items c.args.key c.in-Ok.place c.index_mut.result.now c.args.value
+    (rw c.deref.ensures.value at at) c.index_mut.ensures.value)
 
 pub insert_reserved-requires-clause-room : goal.insert_reserved-requires-clause-room
 insert_reserved-requires-clause-room g c =
     let at : IsGapAt (entries_of c.deref.result.now) c.args.key c.in-Err.place = c.in-Err.ensures (rw c.deref.ensures.value c.self.invariant) in
-    let none : value_at (entries_of c.self.inside.entries.items) c.args.key ≡ None = none_between (entries_of c.self.inside.entries.items) c.args.key c.in-Err.place (rw c.deref.ensures.value at at) in
+    let none : value_at (entries_of c.self.inside.entries.items) c.args.key ≡ None = none_between
+    (entries_of c.self.inside.entries.items) c.args.key c.in-Err.place (rw c.deref.ensures.value at at) in
     let left : c.args.self.now.room ≡ vec_capacity c.self.inside.entries - vec_len c.self.inside.entries = sym (ap (λ s. s.room) c.self.view_is) in
     omega (arith, c.requires (rw (← c.self.view_is) none), left)
 
@@ -39,5 +42,6 @@ returns-in-Err-clause-entries g c =
 pub returns-in-Err-clause-kept : goal.returns-in-Err-clause-kept
 returns-in-Err-clause-kept g c some =
     let at : IsGapAt (entries_of c.deref.result.now) c.args.key c.in-Err.place = c.in-Err.ensures (rw c.deref.ensures.value c.self.invariant) in
-    let none : value_at (entries_of c.self.inside.entries.items) c.args.key ≡ None = none_between (entries_of c.self.inside.entries.items) c.args.key c.in-Err.place (rw c.deref.ensures.value at at) in
+    let none : value_at (entries_of c.self.inside.entries.items) c.args.key ≡ None = none_between
+    (entries_of c.self.inside.entries.items) c.args.key c.in-Err.place (rw c.deref.ensures.value at at) in
     absurd (false≢true (subst IsSome (sym (ap (λ s. value_at s.entries c.args.key) c.self.view_is) ∙ none) some))

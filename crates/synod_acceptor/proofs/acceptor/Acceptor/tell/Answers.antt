@@ -12,4 +12,5 @@ returns c =
     let entries = entries_of c.self.inside.records.items in
     let told = top_told entries c.args.id (told_vote (option_copied c.top_of.result)) c.self.invariant.apart (rw c.deref.ensures.value at c.top_of.ensures) in
     let also = told_is (record_at entries) c.args.id c.self.invariant.placed in
-    rw (← c.self.view_is) (told_once (record_at entries) c.args.id (told_vote (option_copied c.top_of.result)) (told_of (record_at entries) c.args.id) told also)
+    rw (← c.self.view_is) (told_once (record_at entries) c.args.id (told_vote (option_copied c.top_of.result))
+    (told_of (record_at entries) c.args.id) told also)

@@ -8,7 +8,8 @@ held : (c : goal.After-index) → (known_in c.self.inside.known.items c.args.id 
 held c =
     let found : IsChainAt c.self.inside.known.items c.args.id c.in_ok-place.place = rw (← c.deref.ensures.value) c.in_ok-place.ensures in
     let within = slice_get_within c.self.inside.known.items c.in_ok-place.place found.chain found.stands in
-    let stands = slice_get_read c.self.inside.known.items (length c.self.inside.known.items) c.in_ok-place.place c.index.result.now refl within c.index.ensures in
+    let stands = slice_get_read c.self.inside.known.items
+    (length c.self.inside.known.items) c.in_ok-place.place c.index.result.now refl within c.index.ensures in
     known_here c.self.inside.known.items c.in_ok-place.place c.index.result.now c.args.id c.self.invariant.others found stands
 
 pub returns-clause-known : goal.returns-clause-known

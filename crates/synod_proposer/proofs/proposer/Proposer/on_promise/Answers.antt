@@ -16,12 +16,15 @@ returns-clause-counted c = λ runs.
 pub returns-in_default-2-clause-proposed : goal.returns-in_default-2-clause-proposed
 returns-in_default-2-clause-proposed c = λ runs.
     let none : Offers c.self.inside.nodes c.in-Some.round c.count.new.self None = rw c.in_default-2.is at c.in_ok-vote.ensures.offers in
-    rw (← c.self.view_is, c.in-Some.is) (offers_is c.self.inside.me.node c.self.inside.nodes c.in-Some.round c.count.new.self c.args.from (report_of c.args.report.now) None c.in_ok-vote.ensures.counted none)
+    rw (← c.self.view_is, c.in-Some.is) (offers_is c.self.inside.me.node c.self.inside.nodes c.in-Some.round c.count.new.self c.args.from
+    (report_of c.args.report.now) None c.in_ok-vote.ensures.counted none)
 
 pub returns-clause-proposed : goal.returns-clause-proposed
 returns-clause-proposed c = λ runs.
-    let some : Offers c.self.inside.nodes c.in-Some.round c.count.new.self (Some (vote_of c.in-Some-2.vote)) = rw c.in-Some-2.is at c.in_ok-vote.ensures.offers in
+    let some : Offers c.self.inside.nodes c.in-Some.round c.count.new.self (Some (vote_of c.in-Some-2.vote)) =
+    rw c.in-Some-2.is at c.in_ok-vote.ensures.offers in
     let slot : slot_in c.in-Some-2.vote ≡ c.in-Some.round.slot = rw c.in-Some-2.is at c.in_ok-vote.ensures.slot in
     rw (← c.self.view_is, c.in-Some.is)
     (ap (λ (s : Slot). Some (Propose c.self.inside.me.node s (vote_of c.in-Some-2.vote))) slot
-    ∙ offers_is c.self.inside.me.node c.self.inside.nodes c.in-Some.round c.count.new.self c.args.from (report_of c.args.report.now) (Some (vote_of c.in-Some-2.vote)) c.in_ok-vote.ensures.counted some)
+    ∙ offers_is c.self.inside.me.node c.self.inside.nodes c.in-Some.round c.count.new.self c.args.from (report_of c.args.report.now)
+    (Some (vote_of c.in-Some-2.vote)) c.in_ok-vote.ensures.counted some)
