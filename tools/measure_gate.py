@@ -8,6 +8,8 @@
     python3 tools/measure_gate.py .. --cores N        the same, on so many of this machine's cores
     python3 tools/measure_gate.py --functions CRATE   checks one crate from nothing; prints its ten dearest functions
 
+It prints the ten dearest edits too, and what the checks took with which the edits of a crate begin and end.
+
 Each row has the day on which it was measured. Processor time is read off /proc four times a second for each process that
 the gate starts: what a process used after its last reading is lost, and stands under 'other' with compilers, linkers and
 `rt` itself. The wall time of a crate is how long a process of it ran. The last line of the gate is printed as it is. Beside
@@ -73,6 +75,8 @@ class Sampler(threading.Thread):
         self.root = root
         self.used = {}
         self.kinds = {}
+        # Of a process that tries an edit, over what it does so: the number of the edit, or 'seed'.
+        self.tried = {}
         self.wall = collections.Counter()
         self.ended = threading.Event()
 
@@ -99,7 +103,7 @@ class Sampler(threading.Thread):
             key = (pid, started)
             # A process that was just forked still has its parent's command line: look again until it is one that counts.
             if self.kinds.get(key) is None:
-                self.kinds[key] = kind_of(pid)
+                self.kinds[key], self.tried[key] = kind_of(pid)
             self.used[key] = ticks
             if self.kinds[key]:
                 running.add(self.kinds[key])
@@ -113,6 +117,14 @@ class Sampler(threading.Thread):
             pid = parents[pid]
         return False
 
+    def edits(self):
+        """Seconds of processor time of each edit, by its crate and its number, and of the checks before and after those of a crate."""
+        edits = collections.Counter()
+        for key, ticks in self.used.items():
+            if self.kinds[key] and self.kinds[key][1] == "edits":
+                edits[(self.kinds[key][0], self.tried[key] or "0")] += ticks / TICKS
+        return edits
+
     def totals(self):
         """Seconds of processor time, by crate and kind."""
         totals = collections.Counter()
@@ -122,20 +134,21 @@ class Sampler(threading.Thread):
 
 
 def kind_of(pid):
-    """The crate that a process works on, and whether it checks it, its tests or one of its edits; None for others."""
+    """The crate that a process works on, and whether it checks it, its tests or one of its edits; None for others. And of an edit, which."""
     try:
         words = pathlib.Path(f"/proc/{pid}/cmdline").read_bytes().decode(errors="replace").split("\0")
         folder = os.readlink(f"/proc/{pid}/cwd")
     except OSError:
-        return None
+        return None, None
     if "--crate-name" not in words:
-        return None
+        return None, None
     crate = words[words.index("--crate-name") + 1]
     if "/rt-edit" in folder or any("rt-edits" in word for word in words):
-        return (crate, "edits")
+        over = words[words.index("--incremental") + 1] if "--incremental" in words else ""
+        return (crate, "edits"), os.path.basename(over)
     if "--test" in words or any(word.endswith("_tests.o") for word in words):
-        return (crate, "tests")
-    return (crate, "check")
+        return (crate, "tests"), None
+    return (crate, "check"), None
 
 
 def run_gate(clone):
@@ -184,6 +197,18 @@ def whole_of(clone, sampler, wall, processor, last):
     return line, beyond
 
 
+def dearest_edits(clone, sampler):
+    """The ten dearest edits, and what the checks took with which the edits of a crate begin and end."""
+    edits = sampler.edits()
+    lines = []
+    for (crate, number), seconds in edits.most_common():
+        if number.isdigit() and len(lines) < 10:
+            names = sorted(file.name for file in (clone / "crates" / crate / "must-fail").glob("*.edit"))
+            lines.append(f"{seconds:7.1f} s  {crate}/{names[int(number)]}")
+    seeds = sum(seconds for (_, number), seconds in edits.items() if not number.isdigit())
+    return [*lines, f"{seeds / 60:.1f} of {sum(edits.values()) / 60:.1f} minutes for edits are for the checks before and after those of a crate"]
+
+
 def narrow(clone, wanted):
     """Leaves of a clone these crates and those below them, and of the latter no edits."""
     lines = {line.split(":")[0].split(" ")[0]: line for line in (clone / "crates.txt").read_text().splitlines() if ":" in line and line[0] != "#"}
@@ -218,6 +243,7 @@ def measure(wanted, write):
     rows = {crate: row for crate, (row, _) in found.items()}
     whole, beyond = (None, []) if wanted else whole_of(clone, sampler, wall, processor, last)
     print("\n".join([*HEAD, *rows.values(), "", whole or f"`{last}`"]))
+    print("\n".join(dearest_edits(clone, sampler)))
     spent = sum(sampler.totals()[(crate, kind)] for crate in rows for kind in KINDS) / 60
     print(f"{spent:.1f} minutes of processor time for these crates")
     for line in [*(line for _, lines in found.values() for line in lines), *beyond]:
