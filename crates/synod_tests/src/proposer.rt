@@ -2,8 +2,8 @@
 
 use crate::values::{node, other, taken, vote};
 use fate_chain::{Author, Chain};
-use mc_types::{Ballot, Incarnation};
-use std::alloc::AllocError;
+use mc_types::{Ballot, Incarnation, Slot};
+use std::alloc::{AllocError, Global};
 use std::test::Fail;
 use synod_acceptor::{Packet, Report};
 use synod_proposer::{Proposer, ProposerFault};
@@ -32,73 +32,139 @@ fn started(proposer: &mut Proposer, chain: Chain, own: u32) -> u32 {
     }
 }
 
-// Whether a promise of this node makes a Propose, and the Propose is for this chain.
-fn proposes(
-    proposer: &mut Proposer,
-    from: u8,
-    ballot: Ballot,
-    report: &Report,
-    chain: &Chain,
-) -> Result<Option<bool>, Fail> {
-    let sent = proposer.on_promise(node(from)?, ballot, report);
-    Ok(asked(sent, chain)?)
+// What a node reports with its promise.
+#[derive(Clone, Copy)]
+enum Reported {
+    Nothing,
+    Held,
 }
 
-fn asked(
-    sent: Result<Option<Packet>, AllocError>,
-    chain: &Chain,
-) -> Result<Option<bool>, AllocError> {
-    match sent {
-        Ok(Some(Packet::Propose { vote, .. })) => Ok(Some(vote.chain.is(chain))),
-        Ok(_) => Ok(None),
-        Err(AllocError) => Err(AllocError),
+fn report(alloc: Global, reported: Reported) -> Result<Report, Fail> {
+    let vote = vote(alloc, 262161)?;
+    match reported {
+        Reported::Nothing => Ok(Report::Nothing(vote.slot())),
+        Reported::Held => Ok(Report::Held(vote)),
     }
+}
+
+// Whether a promise of this node, at the ballot 262162, makes a Propose, and the Propose is for the first chain.
+fn proposes(
+    alloc: Global,
+    proposer: &mut Proposer,
+    from: u8,
+    reported: Reported,
+) -> Result<Option<bool>, Fail> {
+    let (from, ballot) = (node(from)?, Ballot::of_number(262162)?);
+    let report = report(alloc, reported)?;
+    let sent = proposer.on_promise(from, ballot, &report);
+    drop(report);
+    asked(alloc, sent?)
+}
+
+fn asked(alloc: Global, sent: Option<Packet>) -> Result<Option<bool>, Fail> {
+    match sent {
+        Some(Packet::Propose { vote, .. }) => is_first(alloc, &vote.chain),
+        _ => Ok(None),
+    }
+}
+
+fn is_first(alloc: Global, chain: &Chain) -> Result<Option<bool>, Fail> {
+    let first = taken(alloc)?;
+    let is_first = chain.is(&first);
+    drop(first);
+    Ok(Some(is_first))
+}
+
+// The number of the first of these promises, from 0, that makes something else.
+fn otherwise(
+    alloc: Global,
+    proposer: &mut Proposer,
+    rows: &[(u8, Reported, Option<bool>)],
+) -> Result<Option<usize>, Fail> {
+    for (number, (from, reported, proposed)) in rows.iter().enumerate() {
+        if proposes(alloc, proposer, *from, *reported)? != *proposed {
+            return Ok(Some(number));
+        }
+    }
+    Ok(None)
 }
 
 #[test]
 fn the_highest_report_is_proposed_once(rt: HostRuntime) -> Result<(), Fail> {
-    let chain = taken(rt.alloc())?;
-    let nothing = Report::Nothing(vote(rt.alloc(), 262161)?.slot());
-    let held = Report::Held(vote(rt.alloc(), 262161)?);
-    let ballot = Ballot::of_number(262162)?;
+    let rows = [
+        (1, Reported::Nothing, None),
+        (2, Reported::Nothing, None),
+        (2, Reported::Nothing, None),
+        (3, Reported::Held, Some(true)),
+        (4, Reported::Nothing, None),
+    ];
+    let own = other(rt.alloc())?;
     let mut proposer = proposer(2, 4)?;
-    assert_eq!(rt; started(&mut proposer, other(rt.alloc())?, 0), 1);
-    assert_eq!(rt; proposes(&mut proposer, 1, ballot, &nothing, &chain)?, None);
-    assert_eq!(rt; proposes(&mut proposer, 2, ballot, &nothing, &chain)?, None);
-    assert_eq!(rt; proposes(&mut proposer, 2, ballot, &nothing, &chain)?, None);
-    assert_eq!(rt;
-        proposes(&mut proposer, 3, ballot, &held, &chain)?,
-        Some(true)
-    );
-    assert_eq!(rt; proposes(&mut proposer, 4, ballot, &nothing, &chain)?, None);
+    let round = started(&mut proposer, own, 0);
+    let differs = otherwise(rt.alloc(), &mut proposer, &rows);
+    drop(proposer);
+    assert_eq!(rt; round, 1);
+    assert_eq!(rt; differs?, None);
     Ok(())
+}
+
+// Which round starts for the first chain.
+fn started_first(alloc: Global, proposer: &mut Proposer, own: u32) -> Result<u32, Fail> {
+    let chain = taken(alloc)?;
+    Ok(started(proposer, chain, own))
+}
+
+// Whether a round in this slot goes on after a refusal of a Prepare at one ballot, for which another was promised.
+fn goes_on(proposer: &mut Proposer, slot: Slot, ballot: u64, promised: u64) -> Result<bool, Fail> {
+    proposer.on_refused(
+        slot,
+        Ballot::of_number(ballot)?,
+        Ballot::of_number(promised)?,
+    );
+    Ok(proposer.running() == Some(slot))
+}
+
+// Whether a copy runs once its round was dropped.
+fn runs_once_dropped(proposer: &Proposer) -> Result<bool, AllocError> {
+    let mut copy = proposer.copy()?;
+    copy.drop_round();
+    Ok(copy.running().is_some())
 }
 
 #[test]
 fn a_greater_promise_ends_the_round(rt: HostRuntime) -> Result<(), Fail> {
     let slot = vote(rt.alloc(), 262161)?.slot();
     let mut proposer = proposer(1, 3)?;
-    assert_eq!(rt; started(&mut proposer, taken(rt.alloc())?, 0), 1);
-    assert_eq!(rt; proposer.running(), Some(slot));
-    proposer.on_refused(slot, Ballot::of_number(262163)?, Ballot::of_number(524306)?);
-    assert_eq!(rt; proposer.running(), Some(slot));
-    proposer.on_refused(
-        slot,
-        Ballot::of_number(262161)?,
-        Ballot::of_number(1310738)?,
-    );
-    assert_eq!(rt; proposer.running(), None);
-    assert_eq!(rt; started(&mut proposer, taken(rt.alloc())?, 0), 6);
-    let mut copy = proposer.copy()?;
-    copy.drop_round();
-    assert_eq!(rt; copy.running(), None);
+    let rounds = rounds_around_a_refusal(rt.alloc(), &mut proposer, slot);
+    let dropped = runs_once_dropped(&proposer);
+    drop(proposer);
+    assert_eq!(rt; rounds?, (1, 6));
+    assert_eq!(rt; dropped, Ok(false));
     Ok(())
+}
+
+// The round that starts, and after it was refused that of the next: a refusal at another ballot leaves it, one at its own ends it.
+fn rounds_around_a_refusal(
+    alloc: Global,
+    proposer: &mut Proposer,
+    slot: Slot,
+) -> Result<(u32, u32), Fail> {
+    let first = started_first(alloc, proposer, 0)?;
+    if !goes_on(proposer, slot, 262163, 524306)? {
+        return Err("a round that goes on".into());
+    }
+    if goes_on(proposer, slot, 262161, 1310738)? {
+        return Err("no round".into());
+    }
+    Ok((first, started_first(alloc, proposer, 0)?))
 }
 
 #[test]
 fn rounds_end_at_the_greatest_number(rt: HostRuntime) -> Result<(), Fail> {
     let mut proposer = proposer(1, 1)?;
-    assert_eq!(rt; started(&mut proposer, taken(rt.alloc())?, 4294967295), 0);
-    assert_eq!(rt; proposer.running(), None);
+    let round = started_first(rt.alloc(), &mut proposer, 4294967295);
+    let runs = proposer.running();
+    drop(proposer);
+    assert_eq!(rt; (round?, runs), (0, None));
     Ok(())
 }
