@@ -59,25 +59,7 @@ abbrev pub party_fields : List (Part Defect)
 party_fields = text 16 ∷ text 16 ∷ text 6 ∷ octet ∷ octet ∷ text 21 ∷ octet ∷ octet ∷ text 21 ∷ []
 
 abbrev pub parties_in : Submission → Contents party_fields
-parties_in m = (
-  m.submitter,
-  (
-    m.target,
-    (
-      m.service_type,
-      (
-        m.source.ton,
-        (
-          m.source.npi,
-          (
-            m.source.digits,
-            (m.destination.ton, (m.destination.npi, (m.destination.digits, tt))),
-          ),
-        ),
-      ),
-    ),
-  ),
-)
+parties_in m = (m.submitter, (m.target, (m.service_type, (m.source.ton, (m.source.npi, (m.source.digits, (m.destination.ton, (m.destination.npi, (m.destination.digits, tt)))))))))
 
 -- its esm_class, protocol_id, priority_flag, registered_delivery and data_coding, its schedule and its expiry
 abbrev pub handling_fields : List (Part Defect)

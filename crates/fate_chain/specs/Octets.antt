@@ -15,25 +15,8 @@ use Rattle.fate_chain.specs.declared.octets.KindOctets.TheVariants as seen
 use Rattle.fate_chain.specs.declared.octets.DecreeOctets.{DecreeOctets}
 
 abbrev pub parties_seen : Parties → Contents party_fields
-parties_seen p = (
-  p.submitter.now,
-  (
-    p.target.now,
-    (
-      p.service_type.now,
-      (
-        p.source.ton,
-        (
-          p.source.npi,
-          (
-            p.source.digits.now,
-            (p.destination.ton, (p.destination.npi, (p.destination.digits.now, tt))),
-          ),
-        ),
-      ),
-    ),
-  ),
-)
+parties_seen p =
+    (p.submitter.now, (p.target.now, (p.service_type.now, (p.source.ton, (p.source.npi, (p.source.digits.now, (p.destination.ton, (p.destination.npi, (p.destination.digits.now, tt)))))))))
 
 abbrev pub handling_seen : Handling → Contents handling_fields
 handling_seen h =

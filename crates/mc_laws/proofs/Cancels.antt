@@ -271,17 +271,7 @@ module _ (message : Submission) where
       replies = [];
       reports = [];
       acts_are = refl;
-      core_is = inl (
-        (
-          record { least = omega arith; most = omega arith },
-          λ mine same. record {
-            given = omega arith;
-            about = λ waiting waits is. of_both (λ w. first_id ≡ id_in w.request) (cancelling_at message 1 true)
-                (cancelling_at message 2 false) refl refl waiting waits;
-          },
-        ),
-        record { answer = []; answered = refl; acts_are = refl },
-      );
+      core_is = inl ((record { least = omega arith; most = omega arith }, λ mine same. record { given = omega arith; about = λ waiting waits is. of_both (λ w. first_id ≡ id_in w.request) (cancelling_at message 1 true) (cancelling_at message 2 false) refl refl waiting waits }), record { answer = []; answered = refl; acts_are = refl });
       settled = settles_second;
       ended = none_due (DueToEnd (Delivery (told_of_taking message)) now) (λ act due. due);
       asked = none_due (DueToAsk 1 1 before now (Delivery (told_of_taking message))) asks_none;

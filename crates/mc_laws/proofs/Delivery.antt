@@ -244,23 +244,7 @@ ready_to_deliver message = record {
 }
 
 knows_delivered : (message : Submission) → Knows 1 ((delivered message).actors 1).received first_id (delivered_chain message)
-knows_delivered message =
-    knows ((delivered message).actors 1).received (delivered_chain message) (
-      (omega arith, λ same. refl),
-      (
-        tt,
-        (
-          tt,
-          (
-            tt,
-            (
-              (omega arith, λ same. absurd (omega (arith, same))),
-              (tt, (tt, (tt, ((omega arith, λ same. absurd (omega (arith, same))), (tt, (tt, (tt, tt))))))),
-            ),
-          ),
-        ),
-      ),
-    ) (inl refl)
+knows_delivered message = knows ((delivered message).actors 1).received (delivered_chain message) ((omega arith, λ same. refl), (tt, (tt, (tt, ((omega arith, λ same. absurd (omega (arith, same))), (tt, (tt, (tt, ((omega arith, λ same. absurd (omega (arith, same))), (tt, (tt, (tt, tt)))))))))))) (inl refl)
 
 may_report : (message : Submission) → May (delivered message) 1 (Reports first_id (delivered_chain message))
 may_report message = record {
@@ -291,14 +275,8 @@ until_answered message =
     ∷ map by_node_1 (round_for (attempted_chain message)) ++ until_accepted message
 
 answered_run : (message : Submission) → MayBeTried message → IsRun one_node (until_answered message)
-answered_run message tried = (
-  may_answer message,
-  (
-    may_grant message,
-    run_on one_node (map by_node_1 (round_for (attempted_chain message))) (until_accepted message)
-        (round_runs (accepted message) _ _ (ready_to_attempt message tried)) (accepted_run message tried),
-  ),
-)
+answered_run message tried =
+    (may_answer message, (may_grant message, run_on one_node (map by_node_1 (round_for (attempted_chain message))) (until_accepted message) (round_runs (accepted message) _ _ (ready_to_attempt message tried)) (accepted_run message tried)))
 
 pub delivery_run : (message : Submission) → MayBeTried message → IsRun one_node (delivery_story message)
 delivery_run message tried = (

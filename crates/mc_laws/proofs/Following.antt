@@ -294,14 +294,7 @@ module _ (account source : List ℕ) (vote : Vote) where
 
   told_2_exact : IsExact among_three (at [] [] []) no_records (Delivery (Tell 2 question None)) (Receives (Tell 2 question None) ∷ [])
   told_2_exact = heard_exact account source (Tell 2 question None) [] [] []
-      (inl (
-        (
-          record { least = omega arith; most = omega arith },
-          λ mine now. record
-              { given = omega arith; about = λ waiting waits is. tt },
-        ),
-        record { answer = []; answered = refl; acts_are = refl },
-      ))
+      (inl ((record { least = omega arith; most = omega arith }, λ mine now. record { given = omega arith; about = λ waiting waits is. tt }), record { answer = []; answered = refl; acts_are = refl }))
       no_votes_2 few_2 [] []
       (none_due_once _ (no_cause (at [] [] []) (Tell 2 question None) (Tell 2 question None ∷ []) [] [] no_votes_2 no_follow_2))
       (none_due_once (DueToPropose 3 1 (at [] [] []) (at (Tell 2 question None ∷ []) [] [])) (proposes_none (at [] [] []) (Tell 2 question None ∷ [])))

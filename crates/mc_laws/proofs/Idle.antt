@@ -398,26 +398,11 @@ module _ (message : Submission) where
           by_cause (inr (inr (inr delete))) = absurd delete.deletes.cancelled.waits
       all act due = absurd due
 
-  pub concludes : IsStepAlone first_setup (node_of_actor (attempting (first_attempt message ∷ []) []))
-      (Response (first_attempt message) (Concluded Delivered 0))
-      (Prepares (slot_of first_id (delivered_chain message)) first_ballot (delivered_chain message) ∷ Concludes (first_attempt message)
-      (Concluded Delivered 0) ∷ [])
+  pub concludes : IsStepAlone first_setup (node_of_actor (attempting (first_attempt message ∷ []) [])) (Response (first_attempt message) (Concluded Delivered 0)) (Prepares (slot_of first_id (delivered_chain message)) first_ballot (delivered_chain message) ∷ Concludes (first_attempt message) (Concluded Delivered 0) ∷ [])
   concludes = record {
     run = (
       record { least = omega arith; most = omega arith; up = refl; needs = (refl, refl) },
-      (
-        record {
-          least = omega arith;
-          most = omega arith;
-          up = refl;
-          needs = record
-              { granted = inl refl; closed = λ outcome none. none; possible = refl };
-        },
-        tt,
-      ),
+      (record { least = omega arith; most = omega arith; up = refl; needs = record { granted = inl refl; closed = λ outcome none. none; possible = refl } }, tt),
     );
-    exact = idle_exact first_setup (attempting (first_attempt message ∷ []) []) no_records
-        (Response (first_attempt message) (Concluded Delivered 0)) (Concludes (first_attempt message) (Concluded Delivered 0) ∷ []) tt
-        (attempt_idle (first_attempt message ∷ []) ((first_attempt message, Concluded Delivered 0) ∷ [])) refl
-        (no_report_of (attempting (first_attempt message ∷ []) []) concluded refl) delivering one_round _ refl;
+    exact = idle_exact first_setup (attempting (first_attempt message ∷ []) []) no_records (Response (first_attempt message) (Concluded Delivered 0)) (Concludes (first_attempt message) (Concluded Delivered 0) ∷ []) tt (attempt_idle (first_attempt message ∷ []) ((first_attempt message, Concluded Delivered 0) ∷ [])) refl (no_report_of (attempting (first_attempt message ∷ []) []) concluded refl) delivering one_round _ refl;
   }

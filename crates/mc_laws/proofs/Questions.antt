@@ -122,29 +122,7 @@ top_delivered message = record {
 }
 
 knows_still : (message : Submission) → Knows 1 ((heard message).actors 1).received first_id (delivered_chain message)
-knows_still message =
-    knows ((heard message).actors 1).received (delivered_chain message) (
-      tt,
-      (
-        tt,
-        (
-          (omega arith, λ same. refl),
-          (
-            tt,
-            (
-              tt,
-              (
-                tt,
-                (
-                  (omega arith, λ same. absurd (omega (arith, same))),
-                  (tt, (tt, (tt, ((omega arith, λ same. absurd (omega (arith, same))), (tt, (tt, (tt, tt))))))),
-                ),
-              ),
-            ),
-          ),
-        ),
-      ),
-    ) (inr (inr (inl refl)))
+knows_still message = knows ((heard message).actors 1).received (delivered_chain message) (tt, (tt, ((omega arith, λ same. refl), (tt, (tt, (tt, ((omega arith, λ same. absurd (omega (arith, same))), (tt, (tt, (tt, ((omega arith, λ same. absurd (omega (arith, same))), (tt, (tt, (tt, tt)))))))))))))) (inr (inr (inl refl)))
 
 may_show : (message : Submission) → May (heard message) 1 (Replies 2 first_id (Shown (delivered_chain message)))
 may_show message = record {
@@ -261,19 +239,7 @@ may_remove message = record {
     asked = record { waiting = cancelling message true; waits = inl refl; ticket_is = refl; about = refl };
     fits = record {
       taken = message;
-      known = knows ((deleted message).actors 1).received (deleted_chain message) (
-        (omega arith, λ same. refl),
-        (
-          tt,
-          (
-            tt,
-            (
-              tt,
-              (tt, (tt, ((omega arith, λ same. absurd (omega (arith, same))), (tt, (tt, (tt, tt)))))),
-            ),
-          ),
-        ),
-      ) (inl refl);
+      known = knows ((deleted message).actors 1).received (deleted_chain message) ((omega arith, λ same. refl), (tt, (tt, (tt, (tt, (tt, ((omega arith, λ same. absurd (omega (arith, same))), (tt, (tt, (tt, tt)))))))))) (inl refl);
       settled = refl;
       message = refl;
       matched = matches message;

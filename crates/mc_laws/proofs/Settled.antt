@@ -151,13 +151,7 @@ module _ (message : Submission) where
   pub shows : IsStepAlone among_three (node_of_actor before) (Delivery (told_by_3 (second_vote message))) (showing message)
   shows = record {
     run = (
-      record {
-        least = omega arith;
-        most = omega arith;
-        up = refl;
-        needs = record
-            { asked = record { waiting = asked; waits = inl refl; ticket_is = refl; about = refl }; fits = shown };
-      },
+      record { least = omega arith; most = omega arith; up = refl; needs = record { asked = record { waiting = asked; waits = inl refl; ticket_is = refl; about = refl }; fits = shown } },
       (record { least = omega arith; most = omega arith; up = refl; needs = tt }, tt),
     );
     exact = record {
@@ -171,15 +165,7 @@ module _ (message : Submission) where
       replies = Replies 1 second_id (Shown (second_chain message)) ∷ [];
       reports = [];
       acts_are = refl;
-      core_is = inl (
-        (
-          record { least = omega arith; most = omega arith },
-          λ mine same. record
-              { given = omega arith; about = λ waiting waits is. only_asked (λ w. second_id ≡ id_in w.request) refl waiting waits },
-        ),
-        record
-            { answer = []; answered = refl; acts_are = refl },
-      );
+      core_is = inl ((record { least = omega arith; most = omega arith }, λ mine same. record { given = omega arith; about = λ waiting waits is. only_asked (λ w. second_id ≡ id_in w.request) refl waiting waits }), record { answer = []; answered = refl; acts_are = refl });
       settled = none_due (DueToSettle 3 1 now) settles_none;
       ended = none_due (DueToEnd (Delivery (told_by_3 (second_vote message))) now) (λ act due. due);
       asked = none_due (DueToAsk 3 1 before now (Delivery (told_by_3 (second_vote message)))) asks_none;

@@ -56,14 +56,7 @@ least_at (x ∷ xs) id (suc place) rise cut = by_found (slice_get xs place) (lea
 
     by_found : (found : Option ℕ) → IsLeastFrom id (λ other. In other xs) found → IsLeastFrom id (λ other. (other ≡ x) ⊎ In other xs) found
     by_found None least = λ other among. elim among [ inl same ↦ omega (arith, same, below) | inr later ↦ least other later ]
-    by_found (Some found) least = (
-      inr least.0,
-      (
-        least.1.0,
-        λ other among from. elim among
-            [ inl same ↦ absurd (omega (arith, same, below, from)) | inr later ↦ least.1.1 other later from ],
-      ),
-    )
+    by_found (Some found) least = (inr least.0, (least.1.0, λ other among from. elim among [ inl same ↦ absurd (omega (arith, same, below, from)) | inr later ↦ least.1.1 other later from ]))
 
 put_there : (ids : List ℕ) (id place d : ℕ) → AreRising ids → place < length ids → get_or ids place d ≡ id → insert_key nat_cmp ids id ≡ ids
 put_there [] id place d rise within same = absurd (omega (arith, within))

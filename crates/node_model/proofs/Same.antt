@@ -32,13 +32,7 @@ parties s = (s.submitter, (s.target, (s.service_type, (s.source, s.destination))
 parties_decide : (a b : Submission) → Decides (same_parties a b) (parties a ≡ parties b)
 parties_decide a b = Decides-like (same_parties a b)
     (λ p. λ i. (p.0 i, (p.1.0 i, (p.1.1.0 i, (p.1.1.1.0 i, p.1.1.1.1 i)))))
-    (λ e. (
-      ap (λ (x : Parties). x.0) e,
-      (
-        ap (λ (x : Parties). x.1.0) e,
-        (ap (λ (x : Parties). x.1.1.0) e, (ap (λ (x : Parties). x.1.1.1.0) e, ap (λ (x : Parties). x.1.1.1.1) e)),
-      ),
-    ))
+    (λ e. (ap (λ (x : Parties). x.0) e, (ap (λ (x : Parties). x.1.0) e, (ap (λ (x : Parties). x.1.1.0) e, (ap (λ (x : Parties). x.1.1.1.0) e, ap (λ (x : Parties). x.1.1.1.1) e)))))
     (Decides-and _ _ (bytes_eq-Decides a.submitter b.submitter)
     (Decides-and _ _ (bytes_eq-Decides a.target b.target)
     (Decides-and _ _ (bytes_eq-Decides a.service_type b.service_type)
@@ -53,19 +47,7 @@ handling s = (s.esm_class, (s.protocol_id, (s.priority_flag, (s.registered_deliv
 handling_decides : (a b : Submission) → Decides (same_handling a b) (handling a ≡ handling b)
 handling_decides a b = Decides-like (same_handling a b)
     (λ p. λ i. (p.0 i, (p.1.0 i, (p.1.1.0 i, (p.1.1.1.0 i, (p.1.1.1.1.0 i, (p.1.1.1.1.1.0 i, p.1.1.1.1.1.1 i)))))))
-    (λ e. (
-      ap (λ (x : Handling). x.0) e,
-      (
-        ap (λ (x : Handling). x.1.0) e,
-        (
-          ap (λ (x : Handling). x.1.1.0) e,
-          (
-            ap (λ (x : Handling). x.1.1.1.0) e,
-            (ap (λ (x : Handling). x.1.1.1.1.0) e, (ap (λ (x : Handling). x.1.1.1.1.1.0) e, ap (λ (x : Handling). x.1.1.1.1.1.1) e)),
-          ),
-        ),
-      ),
-    ))
+    (λ e. (ap (λ (x : Handling). x.0) e, (ap (λ (x : Handling). x.1.0) e, (ap (λ (x : Handling). x.1.1.0) e, (ap (λ (x : Handling). x.1.1.1.0) e, (ap (λ (x : Handling). x.1.1.1.1.0) e, (ap (λ (x : Handling). x.1.1.1.1.1.0) e, ap (λ (x : Handling). x.1.1.1.1.1.1) e)))))))
     (Decides-and _ _ (Decides-eqb a.esm_class b.esm_class)
     (Decides-and _ _ (Decides-eqb a.protocol_id b.protocol_id)
     (Decides-and _ _ (Decides-eqb a.priority_flag b.priority_flag)

@@ -29,122 +29,26 @@ abbrev pub bind_answer_from : Contents bind_answer_parts → BindAnswer
 bind_answer_from (system_id, (tlvs, _)) = record { system_id = system_id; tlvs = tlvs }
 
 abbrev pub message_contents : Message → Contents message_parts
-message_contents m = (
-  m.service_type,
-  (
-    m.source.ton,
-    (
-      m.source.npi,
-      (
-        m.source.digits,
-        (
-          m.destination.ton,
-          (
-            m.destination.npi,
-            (
-              m.destination.digits,
-              (
-                m.esm_class,
-                (
-                  m.protocol_id,
-                  (
-                    m.priority_flag,
-                    (
-                      m.schedule_delivery_time,
-                      (
-                        m.validity_period,
-                        (
-                          m.registered_delivery,
-                          (
-                            m.replace_if_present_flag,
-                            (
-                              m.data_coding,
-                              (
-                                m.sm_default_msg_id,
-                                (m.short_message, (m.tlvs, tt)),
-                              ),
-                            ),
-                          ),
-                        ),
-                      ),
-                    ),
-                  ),
-                ),
-              ),
-            ),
-          ),
-        ),
-      ),
-    ),
-  ),
-)
+message_contents m =
+    (m.service_type, (m.source.ton, (m.source.npi, (m.source.digits, (m.destination.ton, (m.destination.npi, (m.destination.digits, (m.esm_class, (m.protocol_id, (m.priority_flag, (m.schedule_delivery_time, (m.validity_period, (m.registered_delivery, (m.replace_if_present_flag, (m.data_coding, (m.sm_default_msg_id, (m.short_message, (m.tlvs, tt))))))))))))))))))
 
 abbrev pub message_from : Contents message_parts → Message
-message_from (
-  service_type,
-  (
-    source_ton,
-    (
-      source_npi,
-      (
-        source_digits,
-        (
-          destination_ton,
-          (
-            destination_npi,
-            (
-              destination_digits,
-              (
-                esm_class,
-                (
-                  protocol_id,
-                  (
-                    priority_flag,
-                    (
-                      schedule_delivery_time,
-                      (
-                        validity_period,
-                        (
-                          registered_delivery,
-                          (
-                            replace_if_present_flag,
-                            (
-                              data_coding,
-                              (
-                                sm_default_msg_id,
-                                (short_message, (tlvs, _)),
-                              ),
-                            ),
-                          ),
-                        ),
-                      ),
-                    ),
-                  ),
-                ),
-              ),
-            ),
-          ),
-        ),
-      ),
-    ),
-  ),
-) =
-    record {
-      service_type = service_type;
-      source = record { ton = source_ton; npi = source_npi; digits = source_digits };
-      destination = record { ton = destination_ton; npi = destination_npi; digits = destination_digits };
-      esm_class = esm_class;
-      protocol_id = protocol_id;
-      priority_flag = priority_flag;
-      schedule_delivery_time = schedule_delivery_time;
-      validity_period = validity_period;
-      registered_delivery = registered_delivery;
-      replace_if_present_flag = replace_if_present_flag;
-      data_coding = data_coding;
-      sm_default_msg_id = sm_default_msg_id;
-      short_message = short_message;
-      tlvs = tlvs;
-    }
+message_from (service_type, (source_ton, (source_npi, (source_digits, (destination_ton, (destination_npi, (destination_digits, (esm_class, (protocol_id, (priority_flag, (schedule_delivery_time, (validity_period, (registered_delivery, (replace_if_present_flag, (data_coding, (sm_default_msg_id, (short_message, (tlvs, _)))))))))))))))))) = record {
+  service_type = service_type;
+  source = record { ton = source_ton; npi = source_npi; digits = source_digits };
+  destination = record { ton = destination_ton; npi = destination_npi; digits = destination_digits };
+  esm_class = esm_class;
+  protocol_id = protocol_id;
+  priority_flag = priority_flag;
+  schedule_delivery_time = schedule_delivery_time;
+  validity_period = validity_period;
+  registered_delivery = registered_delivery;
+  replace_if_present_flag = replace_if_present_flag;
+  data_coding = data_coding;
+  sm_default_msg_id = sm_default_msg_id;
+  short_message = short_message;
+  tlvs = tlvs;
+}
 
 abbrev pub message_id_contents : List ℕ → Contents message_id_parts
 message_id_contents message_id = (message_id, tt)

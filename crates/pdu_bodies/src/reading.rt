@@ -13,7 +13,8 @@ use pdu_fields::{PduFault, nothing_at};
 use pdu_tables::Command;
 use std::alloc::Global;
 
-/// The body of a PDU of this command, which the octets behind its header are.
+/// The body of a PDU of this command, which the octets behind its header are, or their first fault. `Memory` comes only for octets that are
+/// such a body.
 #[tactic(auto, unfolding(crate::specs::Bodies::body_at))]
 pub fn body_of(alloc: Global, command: Command, octets: &[u8]) -> Result<Body, PduFault>
     ensures { IsMade (λ body. body) result (body_at (Some command) octets.now) }

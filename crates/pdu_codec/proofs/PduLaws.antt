@@ -11,7 +11,8 @@ use Rattle.pdu_fields.specs.Grammar.{◌>>=◌, word_at}
 use Rattle.pdu_bodies.specs.declared.pdu.Pdu.{Pdu}
 use Rattle.pdu_bodies.specs.declared.pdu.Body.{Body}
 use Rattle.pdu_bodies.specs.Bodies.{body_at}
-use Rattle.pdu_codec.specs.Pdu.{Fails, Gives, read_pdu}
+use Rattle.pdu_bodies.specs.Made.{Fails}
+use Rattle.pdu_codec.specs.Pdu.{Gives, read_pdu}
 
 abbrev pub with_body : List ℕ → Body → Pdu
 with_body octets body = record { status = word_at 8 octets; sequence = word_at 12 octets; body = body }

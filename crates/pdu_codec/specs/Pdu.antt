@@ -6,7 +6,6 @@ use Rattle.pdu_fields.specs.declared.fault.PduFault.{PduFault}
 use Rattle.pdu_fields.specs.declared.fault.PduFault.TheVariants as faults
 use Rattle.pdu_bodies.specs.declared.pdu.Pdu.{Pdu}
 use Rattle.pdu_fields.specs.Grammar.{word_at, ◌>>=◌}
-pub use Rattle.pdu_bodies.specs.Made.{Fails, IsMade}
 use Rattle.pdu_bodies.specs.Bodies.{command_in, body_octets, BodyFits, body_at}
 
 -- The octets of a PDU of a command with this body: command_length, command_id, command_status and sequence_number, then

@@ -10,6 +10,7 @@ use pdu_fields::PduFault;
 use pdu_tables::{Command, limits};
 use std::alloc::Global;
 
+/// The PDU that the octets are, or their first fault, with the clauses of which those of `decode` follow.
 #[tactic(auto, unfolding(crate::specs::Pdu::read_pdu))]
 fn pdu_of(alloc: Global, octets: &[u8]) -> Result<Pdu, PduFault>
     ensures exact { Gives result (read_pdu octets.now) }

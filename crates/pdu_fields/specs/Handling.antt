@@ -4,19 +4,5 @@ use Rattle.pdu_fields.specs.Grammar.{Contents, handling_parts}
 
 -- what stands in its fields
 abbrev pub handling_contents : HandlingOctets → Contents handling_parts
-handling_contents h = (
-  h.esm_class,
-  (
-    h.protocol_id,
-    (
-      h.priority_flag,
-      (
-        h.schedule_delivery_time.now,
-        (
-          h.validity_period.now,
-          (h.registered_delivery, (h.replace_if_present_flag, (h.data_coding, (h.sm_default_msg_id, tt)))),
-        ),
-      ),
-    ),
-  ),
-)
+handling_contents h =
+    (h.esm_class, (h.protocol_id, (h.priority_flag, (h.schedule_delivery_time.now, (h.validity_period.now, (h.registered_delivery, (h.replace_if_present_flag, (h.data_coding, (h.sm_default_msg_id, tt)))))))))

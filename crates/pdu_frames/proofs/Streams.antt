@@ -74,15 +74,8 @@ all_given [] old held run end = (append-nil old ∙ sym run, end)
 all_given (TakesIn octets ∷ calls) old held run end =
     let joined : run.0 ++ taken_in calls ≡ old ++ (octets ++ taken_in calls) = rw run.1 (append_assoc old octets (taken_in calls)) in
     subst (λ s. AreFrames s (given_out calls) held) joined (all_given calls run.0 held run.2 end)
-all_given (GivesOut frame ∷ calls) old held run end = (
-  run.1.0,
-  (
-    taken_in calls,
-    ap (λ s. s ++ taken_in calls) run.1.1,
-    subst
-        (λ s. AreFrames (s ++ taken_in calls) (given_out calls) held) run.1.2 (all_given calls run.0 held run.2 end),
-  ),
-)
+all_given (GivesOut frame ∷ calls) old held run end =
+    (run.1.0, (taken_in calls, ap (λ s. s ++ taken_in calls) run.1.1, subst (λ s. AreFrames (s ++ taken_in calls) (given_out calls) held) run.1.2 (all_given calls run.0 held run.2 end)))
 
 pub all_frames : AllFramesAreGiven
 all_frames calls held run end = all_given calls [] held run end

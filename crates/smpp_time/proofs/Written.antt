@@ -85,34 +85,8 @@ digits_above : (n : ℕ) → 0 < 48 + n
 digits_above n = omega arith
 
 all_above : (a b c d e f : ℕ) → AllByRecursion (λ octet. 0 < octet) (written a b c d e f)
-all_above a b c d e f = (
-  digits_above _,
-  (
-    digits_above _,
-    (
-      digits_above _,
-      (
-        digits_above _,
-        (
-          digits_above _,
-          (
-            digits_above _,
-            (
-              digits_above _,
-              (
-                digits_above _,
-                (
-                  digits_above _,
-                  (digits_above _, (digits_above _, (digits_above _, (omega arith, (omega arith, (omega arith, (omega arith, tt))))))),
-                ),
-              ),
-            ),
-          ),
-        ),
-      ),
-    ),
-  ),
-)
+all_above a b c d e f =
+    (digits_above _, (digits_above _, (digits_above _, (digits_above _, (digits_above _, (digits_above _, (digits_above _, (digits_above _, (digits_above _, (digits_above _, (digits_above _, (digits_above _, (omega arith, (omega arith, (omega arith, (omega arith, tt))))))))))))))))
 
 no_zero : (moment : ℕ) → All (λ octet. 0 < octet) (time_text moment)
 no_zero moment =

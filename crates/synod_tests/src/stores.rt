@@ -72,6 +72,7 @@ fn what_was_saved_is_loaded(rt: HostRuntime) -> Result<(), Fail> {
     Ok(())
 }
 
+// The faults of two saves, how many records are loaded then with the ballot that is promised in the first, and how many saves failed.
 type Seen = (
     (Option<StoreFault>, Option<StoreFault>),
     (usize, Option<u64>),

@@ -5,22 +5,8 @@ use Rattle.pdu_codec.proofs.writing.put_cancel.Goals as goal
 pub returns-clause-limits : goal.returns-clause-limits
 returns-clause-limits c =
     let source = c.put_framed.ensures.octets.1.1.1.0 in
-    let destination = c.put_framed.ensures.octets.1.1.1.1.1.0 in (
-      c.octets.ensures.text,
-      (
-        c.octets-2.ensures.text,
-        (
-          (source 1, refl),
-          (
-            (source 2, refl),
-            (
-              c.octets-3.ensures.text,
-              ((destination 1, refl), ((destination 2, refl), (c.octets-4.ensures.text, tt))),
-            ),
-          ),
-        ),
-      ),
-    )
+    let destination = c.put_framed.ensures.octets.1.1.1.1.1.0 in
+    (c.octets.ensures.text, (c.octets-2.ensures.text, ((source 1, refl), ((source 2, refl), (c.octets-3.ensures.text, ((destination 1, refl), ((destination 2, refl), (c.octets-4.ensures.text, tt))))))))
 
 pub returns-clause-ok : goal.returns-clause-ok
 returns-clause-ok c =

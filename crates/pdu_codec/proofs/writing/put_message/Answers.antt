@@ -7,52 +7,8 @@ returns-clause-limits c =
     let source = c.put_framed.ensures.octets.1.0 in
     let destination = c.put_framed.ensures.octets.1.1.1.0 in
     let first = c.put_framed.ensures.octets.1.1.1.1.1.0 in
-    let second = c.put_framed.ensures.octets.1.1.1.1.1.1.1.1.1.0 in (
-      c.octets.ensures.text,
-      (
-        (source 1, refl),
-        (
-          (source 2, refl),
-          (
-            c.octets-2.ensures.text,
-            (
-              (destination 1, refl),
-              (
-                (destination 2, refl),
-                (
-                  c.octets-3.ensures.text,
-                  (
-                    (first 1, refl),
-                    (
-                      (first 2, refl),
-                      (
-                        (first 3, refl),
-                        (
-                          c.octets-4.ensures.text,
-                          (
-                            c.octets-5.ensures.text,
-                            (
-                              (second 1, refl),
-                              (
-                                (second 2, refl),
-                                (
-                                  (second 3, refl),
-                                  ((second 4, refl), ((c.octets-short_message.ensures.short, refl), (c.octets-6.ensures.limits, tt))),
-                                ),
-                              ),
-                            ),
-                          ),
-                        ),
-                      ),
-                    ),
-                  ),
-                ),
-              ),
-            ),
-          ),
-        ),
-      ),
-    )
+    let second = c.put_framed.ensures.octets.1.1.1.1.1.1.1.1.1.0 in
+    (c.octets.ensures.text, ((source 1, refl), ((source 2, refl), (c.octets-2.ensures.text, ((destination 1, refl), ((destination 2, refl), (c.octets-3.ensures.text, ((first 1, refl), ((first 2, refl), ((first 3, refl), (c.octets-4.ensures.text, (c.octets-5.ensures.text, ((second 1, refl), ((second 2, refl), ((second 3, refl), ((second 4, refl), ((c.octets-short_message.ensures.short, refl), (c.octets-6.ensures.limits, tt))))))))))))))))))
 
 pub returns-clause-ok : goal.returns-clause-ok
 returns-clause-ok c =
