@@ -1,0 +1,23 @@
+-- What a node does with a vote that concerns it, or does not.
+use Rattle.std.specs.Prelude.{ℕ, Bool, ◌==◌, ◌||◌, not, List, [], None, if◌then◌else◌}
+use Rattle.mc_model.specs.message.Ids.{node_of}
+use Rattle.mc_model.specs.message.Decree.{Decree}
+use Rattle.mc_model.specs.synod.OneSlot.{Vote}
+use Rattle.mc_model.specs.synod.Packet.{Slot}
+use Rattle.mc_model.specs.node.Outputs.{Receipt}
+use Rattle.mc_model.specs.node.Setup.{Setup}
+use Rattle.node_model.specs.Answers.{receipts_of}
+use Rattle.node_model.specs.Kept.{Kept}
+use Rattle.node_model.specs.Outputs.{Stepped, leaves}
+use Rattle.node_model.specs.Packets.{on_voted, vote_concerns, was_given}
+
+-- of a vote in the slot of its chain
+abbrev pub id_concerns : Setup → Kept → ℕ → Bool
+id_concerns setup k id = not (node_of id == setup.node) || was_given k id
+
+abbrev pub voted_in : Setup → Kept → ℕ → Slot → Vote → Stepped
+voted_in setup k voter slot vote = if vote_concerns setup k slot vote then on_voted setup k voter slot vote else leaves k
+
+-- a receipt of a chain, if it is due
+abbrev pub receipt_if : Bool → ℕ → ℕ → List Decree → List Receipt
+receipt_if due node id chain = if due then receipts_of node id None chain else []
