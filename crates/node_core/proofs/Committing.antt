@@ -1,12 +1,12 @@
 -- What a node keeps once a step is saved.
 use Rattle.std.proofs.Common.{◌≡◌, suc, true, false, map, subst, ◌∙◌}
-use Rattle.node_core.specs.declared.input.Input.{Input}
-use Rattle.node_core.specs.declared.kept.Kept.{Kept as Holding}
-use Rattle.node_core.specs.declared.step.Next.{Next}
-use Rattle.node_core.specs.declared.step.Step.{Step}
-use Rattle.node_core.specs.Keeping.{filed_as, kept_of, records_of}
+use Rattle.node_parts.specs.declared.input.Input.{Input}
+use Rattle.node_kept.specs.declared.kept.Kept.{Kept as Holding}
+use Rattle.node_kept.specs.declared.step.Next.{Next}
+use Rattle.node_kept.specs.declared.step.Step.{Step}
+use Rattle.node_kept.specs.Keeping.{filed_as, kept_of, records_of}
+use Rattle.node_kept.specs.Steps.{IsInstalled, IsStepFor, kept_then}
 use Rattle.node_core.specs.Nodes.{HasTaken, Standing}
-use Rattle.node_core.specs.Steps.{IsInstalled, IsStepFor, kept_then}
 
 installed_so : (old new : Holding) (next : Next) → IsInstalled old next new → kept_of new ≡ kept_then old next
 installed_so old new next is = λ i. record {

@@ -18,18 +18,19 @@ use Rattle.shelf.proofs.Entries.{still_ascends}
 use Rattle.stable_store.specs.Stored.{AreSame}
 use Rattle.synod_acceptor.specs.Packets.{packet_of}
 use Rattle.synod_acceptor.specs.declared.packet.Packet.{Packet as Sent}
-use Rattle.node_core.specs.declared.input.Input.{Input}
-use Rattle.node_core.specs.declared.input.Input.TheVariants as given
-use Rattle.node_core.specs.declared.kept.Kept.{Kept as Holding}
+use Rattle.node_parts.specs.declared.input.Input.{Input}
+use Rattle.node_parts.specs.declared.input.Input.TheVariants as given
+use Rattle.node_kept.specs.declared.kept.Kept.{Kept as Holding}
+use Rattle.node_kept.specs.declared.stopped.Found.{Found}
+use Rattle.node_kept.specs.declared.stopped.Found.TheVariants.{After, Before}
+use Rattle.node_kept.specs.declared.stopped.Stopped.{Stopped}
+use Rattle.node_kept.specs.Keeping.{kept_of, records_of}
+use Rattle.node_kept.specs.Listing.{ListsRecorded}
+use Rattle.node_kept.proofs.Listing.{key_put, listed_of, was_recorded}
 use Rattle.node_core.specs.declared.life.Life.{Life}
-use Rattle.node_core.specs.declared.stopped.Found.{Found}
-use Rattle.node_core.specs.declared.stopped.Found.TheVariants.{After, Before}
-use Rattle.node_core.specs.declared.stopped.Stopped.{Stopped}
-use Rattle.node_core.specs.Keeping.{kept_of, records_of}
 use Rattle.node_core.specs.Nodes.{HasOpened, HasStopped, Seen, Standing}
-use Rattle.node_core.specs.Restarts.{KeepsAsTold, ListsRecorded, next_life}
+use Rattle.node_core.specs.Restarts.{KeepsAsTold, next_life}
 use Rattle.node_core.specs.Stops.{IsTold, IsToldOf, is_after, left_by}
-use Rattle.node_core.proofs.Listing.{key_put, listed_of, was_recorded}
 
 -- ---- a restart
 

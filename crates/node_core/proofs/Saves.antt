@@ -12,7 +12,7 @@ use Rattle.node_model.specs.Packets.{is_member}
 use Rattle.node_model.specs.Stepped.{saved_by, sender_of, stopped}
 use Rattle.node_model.proofs.Records.{same_record}
 use Rattle.mc_parts.proofs.Membership.{with_here}
-use Rattle.node_core.specs.Stops.{HasSaved}
+use Rattle.node_kept.specs.Finding.{HasSaved}
 
 -- these records are those that are kept
 abbrev Stays : Kept → Records → Type 0

@@ -13,18 +13,19 @@ use Rattle.synod_acceptor.specs.Packets.{packet_of}
 use Rattle.synod_acceptor.specs.Votes.{record_of, slot_recorded}
 use Rattle.synod_acceptor.specs.declared.packet.Packet.{Packet as Sent}
 use Rattle.synod_acceptor.specs.declared.record.Change.{Change}
-use Rattle.node_core.specs.declared.input.Input.{Input}
-use Rattle.node_core.specs.declared.input.Input.TheVariants as given
-use Rattle.node_core.specs.declared.kept.Kept.{Kept as Holding}
-use Rattle.node_core.specs.declared.step.Step.{Step}
-use Rattle.node_core.specs.declared.stopped.Found.{Found}
-use Rattle.node_core.specs.declared.stopped.Found.TheVariants.{After, Before}
-use Rattle.node_core.specs.declared.stopped.Stopped.{Stopped}
-use Rattle.node_core.specs.Keeping.{kept_of, records_of}
-use Rattle.node_core.specs.Messages.{changed_by}
-use Rattle.node_core.specs.Pendings.{IsPrepared}
-use Rattle.node_core.specs.Steps.{IsStepFor, input_of}
-use Rattle.node_core.specs.Stops.{HasSaved, IsFound, IsHalted, IsTold, IsUnfinished, is_after, left_by}
+use Rattle.node_parts.specs.declared.input.Input.{Input}
+use Rattle.node_parts.specs.declared.input.Input.TheVariants as given
+use Rattle.node_parts.specs.Messages.{changed_by}
+use Rattle.node_kept.specs.declared.kept.Kept.{Kept as Holding}
+use Rattle.node_kept.specs.declared.step.Step.{Step}
+use Rattle.node_kept.specs.declared.stopped.Found.{Found}
+use Rattle.node_kept.specs.declared.stopped.Found.TheVariants.{After, Before}
+use Rattle.node_kept.specs.declared.stopped.Stopped.{Stopped}
+use Rattle.node_kept.specs.Keeping.{kept_of, records_of}
+use Rattle.node_kept.specs.Preparing.{IsPrepared}
+use Rattle.node_kept.specs.Steps.{IsStepFor, input_of}
+use Rattle.node_kept.specs.Finding.{HasSaved, IsFound}
+use Rattle.node_core.specs.Stops.{IsHalted, IsTold, IsUnfinished, is_after, left_by}
 use Rattle.node_core.proofs.Saves.{saved_after, saved_before}
 use Rattle.node_core.proofs.Unsaved.{altered, saves_for}
 

@@ -8,16 +8,16 @@ use Rattle.mc_model.specs.synod.Acceptor.{Records}
 use Rattle.node_model.specs.Kept.{Held}
 use Rattle.synod_acceptor.specs.declared.packet.Packet.{Packet as Sent}
 use Rattle.synod_acceptor.specs.declared.record.Change.{Change}
-use Rattle.node_core.specs.declared.input.Input.{Input}
-use Rattle.node_core.specs.declared.kept.Kept.{Kept as Holding}
-use Rattle.node_core.specs.declared.message.Message.{Message as Filed}
-use Rattle.node_core.specs.declared.step.Step.{Step}
-use Rattle.node_core.specs.Keeping.{AreOf, AreOwn, records_of}
-use Rattle.node_core.specs.Messages.{changed_by}
+use Rattle.node_parts.specs.declared.input.Input.{Input}
+use Rattle.node_parts.specs.declared.message.Message.{Message as Filed}
+use Rattle.node_parts.specs.Messages.{changed_by}
+use Rattle.node_kept.specs.declared.kept.Kept.{Kept as Holding}
+use Rattle.node_kept.specs.declared.step.Step.{Step}
+use Rattle.node_kept.specs.Keeping.{AreOf, AreOwn, records_of}
+use Rattle.node_kept.specs.Preparing.{IsPrepared, packet_in}
+use Rattle.node_kept.specs.Queueing.{AreAsked}
+use Rattle.node_kept.specs.Steps.{AreOwnThen, IsInstalled}
 use Rattle.node_core.specs.Nodes.{IsStored}
-use Rattle.node_core.specs.Pendings.{IsPrepared, packet_in}
-use Rattle.node_core.specs.Queueing.{AreAsked}
-use Rattle.node_core.specs.Steps.{AreOwnThen, IsInstalled}
 use Rattle.node_core.specs.Stops.{IsUnfinished}
 use Rattle.node_core.proofs.Unsaved.{saves_for}
 

@@ -8,7 +8,6 @@ use Rattle.mc_model.specs.node.Setup.{Setup}
 use Rattle.node_model.specs.Attempts.{closed_by, concluded}
 use Rattle.node_model.specs.Kept.{Kept, message_at}
 use Rattle.node_model.specs.Outputs.{Stepped}
-use Rattle.node_model.specs.Proposer.{Prepared, Start, started}
 use Rattle.node_model.specs.Requests.{begun}
 use Rattle.node_model.specs.Rules.{Fitting, first_rule}
 use Rattle.node_model.specs.Starts.{take_for}
@@ -24,14 +23,14 @@ use Rattle.synod_acceptor.proofs.Slots.{is_same}
 use Rattle.synod_acceptor.specs.Votes.{record_of, slot_recorded}
 use Rattle.synod_acceptor.specs.declared.packet.Packet.{Packet as Sent}
 use Rattle.synod_acceptor.specs.declared.record.Change.{Change}
-use Rattle.node_core.specs.declared.input.Input.{Input}
-use Rattle.node_core.specs.declared.input.Input.TheVariants as given
-use Rattle.node_core.specs.declared.kept.Kept.{Kept as Holding}
-use Rattle.node_core.specs.declared.step.Step.{Step}
-use Rattle.node_core.specs.Keeping.{kept_of, records_of}
-use Rattle.node_core.specs.Messages.{changed_by}
-use Rattle.node_core.specs.Pendings.{IsPrepared}
-use Rattle.node_core.specs.Steps.{Alters, IsStep}
+use Rattle.node_parts.specs.declared.input.Input.{Input}
+use Rattle.node_parts.specs.declared.input.Input.TheVariants as given
+use Rattle.node_parts.specs.Messages.{changed_by}
+use Rattle.node_kept.specs.declared.kept.Kept.{Kept as Holding}
+use Rattle.node_kept.specs.declared.step.Step.{Step}
+use Rattle.node_kept.specs.Keeping.{kept_of, records_of}
+use Rattle.node_kept.specs.Preparing.{IsPrepared}
+use Rattle.node_kept.specs.Steps.{Alters, IsStep}
 
 -- ---- what leaves the records
 

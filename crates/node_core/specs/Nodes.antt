@@ -10,17 +10,17 @@ use Rattle.stable_store.specs.Stored.{AreSame, HasFailed}
 use Rattle.stable_store.specs.declared.fault.StoreFault.{StoreFault}
 use Rattle.stable_store.specs.declared.fault.StoreFault.TheVariants as faults
 use Rattle.synod_acceptor.specs.declared.packet.Packet.{Packet}
-use Rattle.node_core.specs.declared.fault.StepFault.{StepFault}
-use Rattle.node_core.specs.declared.fault.StepFault.TheVariants.{Broken}
-use Rattle.node_core.specs.declared.input.Input.{Input}
-use Rattle.node_core.specs.declared.input.Input.TheVariants as given
-use Rattle.node_core.specs.declared.kept.Kept.{Kept}
+use Rattle.node_parts.specs.declared.fault.StepFault.{StepFault}
+use Rattle.node_parts.specs.declared.fault.StepFault.TheVariants.{Broken}
+use Rattle.node_parts.specs.declared.input.Input.{Input}
+use Rattle.node_parts.specs.declared.input.Input.TheVariants as given
+use Rattle.node_parts.specs.declared.outputs.Outputs.{Outputs}
+use Rattle.node_kept.specs.declared.kept.Kept.{Kept}
+use Rattle.node_kept.specs.declared.stopped.Stopped.{Stopped}
+use Rattle.node_kept.specs.Keeping.{AreOwn, kept_of, records_of}
+use Rattle.node_kept.specs.Steps.{GrantsKnown, input_of, outputs_of, refused_by}
 use Rattle.node_core.specs.declared.life.Life.{Life}
-use Rattle.node_core.specs.declared.outputs.Outputs.{Outputs}
-use Rattle.node_core.specs.declared.stopped.Stopped.{Stopped}
-use Rattle.node_core.specs.Keeping.{AreOwn, kept_of, records_of}
 use Rattle.node_core.specs.Pendings.{Awaited}
-use Rattle.node_core.specs.Steps.{GrantsKnown, input_of, outputs_of, refused_by}
 use Rattle.node_core.specs.Stops.{IsUnfinished}
 
 -- what it keeps, whether a save failed, its store, the packet whose save failed since it opened, and what it tells of the save that failed

@@ -1,31 +1,22 @@
 -- A node that opens again, as the model's that starts anew.
 use Rattle.std.specs.Prelude.{◌≡◌, ℕ, suc, ◌+◌, Bool, Some}
-use Rattle.std.specs.Map.{keys_of}
-use Rattle.std.specs.Ordering.{nat_cmp}
-use Rattle.std.specs.List.Sorted.{IsStrictlySortedBy}
-use Rattle.mc_model.specs.synod.Lists.{In}
 use Rattle.mc_model.specs.synod.Acceptor.{Records}
 use Rattle.mc_model.specs.node.Input.{Crash, Restart}
 use Rattle.mc_model.specs.node.Setup.{Setup}
 use Rattle.node_model.specs.Kept.{Kept}
-use Rattle.node_model.specs.Recorded.{IsRecorded}
 use Rattle.node_model.specs.Stepped.{stepped}
 use Rattle.stable_store.specs.Stored.{AreSame}
 use Rattle.synod_acceptor.specs.Packets.{packet_of}
 use Rattle.synod_acceptor.specs.declared.packet.Packet.{Packet}
-use Rattle.node_core.specs.declared.input.Input.{Input}
-use Rattle.node_core.specs.declared.input.Input.TheVariants as given
-use Rattle.node_core.specs.declared.kept.Kept.{Kept as Holding}
+use Rattle.node_parts.specs.declared.input.Input.{Input}
+use Rattle.node_parts.specs.declared.input.Input.TheVariants as given
+use Rattle.node_kept.specs.declared.kept.Kept.{Kept as Holding}
+use Rattle.node_kept.specs.declared.stopped.Stopped.{Stopped}
+use Rattle.node_kept.specs.Keeping.{kept_of, records_of}
+use Rattle.node_kept.specs.Listing.{ListsRecorded}
 use Rattle.node_core.specs.declared.life.Life.{Life}
-use Rattle.node_core.specs.declared.stopped.Stopped.{Stopped}
-use Rattle.node_core.specs.Keeping.{kept_of, records_of}
 use Rattle.node_core.specs.Nodes.{HasOpened, HasStopped, Seen, Standing}
 use Rattle.node_core.specs.Stops.{IsTold, is_after}
-
--- each message of which there is a record is among those that are kept, by ascending ids
-pub record ListsRecorded (k : Kept) : Type 0 where
-  pub ascend : IsStrictlySortedBy nat_cmp (keys_of k.messages)
-  pub all : (id : ℕ) → IsRecorded k.records id → In id (keys_of k.messages)
 
 -- the incarnation after the one of what is kept, if so many are lost between
 abbrev pub next_life : Kept → ℕ → ℕ

@@ -1,17 +1,16 @@
 -- A stop in the save of a packet's step, and what a node tells of it.
 use Rattle.std.specs.Prelude.{◌≡◌, ◌↔◌, ◌⊎◌, Bool, true, false, Option, Some, None}
-use Rattle.mc_model.specs.synod.Packet.{Ask, Packet, Prepare, Promise, Propose, Refused, Tell, Voted}
-use Rattle.mc_model.specs.synod.Acceptor.{Records, after_vote}
+use Rattle.mc_model.specs.synod.Acceptor.{Records}
 use Rattle.mc_model.specs.node.Input.{Delivery}
 use Rattle.node_model.specs.Stepped.{stepped}
 use Rattle.stable_store.specs.Stored.{AreSame}
 use Rattle.synod_acceptor.specs.Packets.{packet_of}
 use Rattle.synod_acceptor.specs.declared.packet.Packet.{Packet as Sent}
-use Rattle.node_core.specs.declared.kept.Kept.{Kept as Holding}
-use Rattle.node_core.specs.declared.stopped.Found.{Found}
-use Rattle.node_core.specs.declared.stopped.Found.TheVariants.{After, Before}
-use Rattle.node_core.specs.declared.stopped.Stopped.{Stopped}
-use Rattle.node_core.specs.Keeping.{kept_of, records_of}
+use Rattle.node_kept.specs.declared.kept.Kept.{Kept as Holding}
+use Rattle.node_kept.specs.declared.stopped.Found.{Found}
+use Rattle.node_kept.specs.declared.stopped.Found.TheVariants.{After, Before}
+use Rattle.node_kept.specs.declared.stopped.Stopped.{Stopped}
+use Rattle.node_kept.specs.Keeping.{kept_of, records_of}
 
 -- the records that the step of a packet leaves
 abbrev pub left_by : Holding → Sent → Records
@@ -44,20 +43,3 @@ IsTold k stored (Some packet) (Some told) = IsToldOf k stored packet told
 abbrev pub is_after : Found → Bool
 is_after Before = false
 is_after After = true
-
--- ---- how it is decided
-
--- These records have what a packet asks to be saved: a promise at its ballot, or its vote.
-abbrev pub HasSaved : Records → Packet → Type 0
-HasSaved records (Prepare sender slot ballot) = (records slot).promised ≡ ballot
-HasSaved records (Propose sender slot vote) = records slot ≡ after_vote vote
-HasSaved records (Promise sender slot ballot report) = ⊥
-HasSaved records (Voted sender slot vote) = ⊥
-HasSaved records (Refused sender slot ballot promised) = ⊥
-HasSaved records (Ask sender id name) = ⊥
-HasSaved records (Tell sender name told) = ⊥
-
-abbrev pub IsFound : Records → Option Sent → Option Stopped → Type 0
-IsFound records None told = told ≡ None
-IsFound records (Some packet) None = ⊥
-IsFound records (Some packet) (Some told) = (told.packet ≡ packet) × ((told.found ≡ After) ↔ HasSaved records (packet_of packet))

@@ -2,30 +2,26 @@
 
 ghost use Rattle.std.specs.Prelude.{◌≡◌, ◌≢◌, ◌↔◌, ◌⊎◌, None, true, false, IfOk, IfErr, IsErrOf, IsOk, OnErr, OnOk, ◌+◌, ◌≤◌};
 ghost use Rattle.mc_model.specs.message.Ids.{IsIncarnation, IsNode};
-ghost use Rattle.node_core.specs.declared.fault.StepFault.TheVariants.{Broken, Device, Memory};
+ghost use Rattle.node_parts.specs.declared.fault.StepFault.TheVariants.{Broken, Device, Memory};
 ghost use Rattle.std.specs.Option.{option_copied};
 ghost use Rattle.stable_store.specs.Stored.{AreSame, HasFailed};
-ghost use Rattle.node_core.specs.Idling.{FindsNothing};
-ghost use Rattle.node_core.specs.Keeping.{kept_of, records_of};
-ghost use Rattle.node_core.specs.Messages.{changed_by};
-ghost use Rattle.node_core.specs.Restarts.{ListsRecorded};
-ghost use Rattle.node_core.specs.Setups.{IsSetup};
-ghost use Rattle.node_core.specs.Steps.{IsFault};
+ghost use Rattle.node_parts.specs.Messages.{changed_by};
+ghost use Rattle.node_kept.specs.Idling.{FindsNothing};
+ghost use Rattle.node_kept.specs.Keeping.{kept_of, records_of};
+ghost use Rattle.node_kept.specs.Listing.{ListsRecorded};
+ghost use Rattle.node_kept.specs.Setups.{IsSetup};
+ghost use Rattle.node_kept.specs.Steps.{IsFault};
+ghost use Rattle.node_kept.specs.Preparing.{packet_in};
 ghost use Rattle.node_core.specs.Stops.{IsTold};
-ghost use Rattle.node_core.specs.Pendings.{packet_in};
 ghost use Rattle.node_core.specs.Permits.{is_life_of};
 ghost use Rattle.node_core.specs.Nodes.{HasOpened, HasStopped, HasTaken, IsAwaited, IsCaused, IsLeft, IsLifeOf, IsStored, IsUnmoved, breaks, fault_in, seen};
 
-use crate::fault::StepFault;
-use crate::input::Input;
-use crate::kept::Kept;
 use crate::life::Life;
 use crate::open::begin;
-use crate::outputs::Outputs;
 use crate::pending::Pending;
-use crate::step::{Foreseen, Step};
-use crate::stopped::{Stopped, told};
 use mc_types::Moment;
+use node_kept::{Foreseen, Kept, Step, Stopped, told};
+use node_parts::{Input, Outputs, StepFault};
 use pdu_codec::Text;
 use stable_store::{StableStore, StoreFault};
 use std::marker::Model;
@@ -52,8 +48,8 @@ impl<S: StableStore> Model for Node<S> {
 
     ghost Value = { Standing S };
 
-    ghost use Rattle.node_core.specs.Idling.{IsQuiet};
-    ghost use Rattle.node_core.specs.Keeping.{kept_of};
+    ghost use Rattle.node_kept.specs.Idling.{IsQuiet};
+    ghost use Rattle.node_kept.specs.Keeping.{kept_of};
     ghost use Rattle.node_core.specs.Nodes.{IsStored};
 
     ghost view = { λ n. record {
@@ -171,7 +167,7 @@ impl<S: StableStore> Node<S> {
     pub fn is_life(&self, life: &Life) -> bool
         ensures { result ≡ is_life_of self.now life.now }
     {
-        life.node() == self.kept.setup().node && life.incarnation() == self.kept.incarnation()
+        life.node() == self.kept.setup().node() && life.incarnation() == self.kept.incarnation()
     }
 
     /// Opens the node again over what its store has, in the incarnation after the last one that is stored, which is raised last: it
@@ -196,7 +192,7 @@ impl<S: StableStore> Node<S> {
                 self.kept = kept;
                 self.broken = false;
                 self.idle = None;
-                Ok(Life::of(setup.node, self.kept.incarnation()))
+                Ok(Life::of(setup.node(), self.kept.incarnation()))
             }
             Err(fault) => {
                 self.broken = self.broken || breaks(fault);

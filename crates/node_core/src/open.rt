@@ -2,14 +2,13 @@
 
 ghost use Rattle.std.specs.Prelude.{◌≡◌, ◌+◌, None, IfOk, IfErr, OnOk};
 ghost use Rattle.stable_store.specs.Stored.{AreSame};
-ghost use Rattle.node_core.specs.Keeping.{IsOpen};
+ghost use Rattle.node_kept.specs.Keeping.{IsOpen};
 ghost use Rattle.node_core.specs.Nodes.{HasOpened, IsCaused, IsRaised};
 
-use crate::kept::Kept;
 use crate::life::Life;
 use crate::node::Node;
-use crate::setup::Setup;
 use mc_types::Incarnation;
+use node_kept::{Kept, Setup};
 use stable_store::{StableStore, StoreFault};
 use std::alloc::Global;
 
@@ -32,7 +31,7 @@ pub fn open_node<S: StableStore>(
 {
     match begin(alloc, &mut store, setup) {
         Ok(kept) => {
-            let life = Life::of(setup.node, kept.incarnation());
+            let life = Life::of(setup.node(), kept.incarnation());
             Ok((Node::make(store, kept), life))
         }
         Err(fault) => Err((fault, store)),

@@ -2,13 +2,11 @@
 
 ghost use Rattle.std.specs.Prelude.{◌≡◌};
 ghost use Rattle.node_model.specs.Stepped.{stepped};
-ghost use Rattle.node_core.specs.Keeping.{kept_of};
-ghost use Rattle.node_core.specs.Steps.{input_of, outputs_of};
+ghost use Rattle.node_kept.specs.Keeping.{kept_of};
+ghost use Rattle.node_kept.specs.Steps.{input_of, outputs_of};
 
-use crate::input::Input;
-use crate::kept::Kept;
-use crate::outputs::Outputs;
-use crate::step::Foreseen;
+use node_kept::{Foreseen, Kept};
+use node_parts::{Input, Outputs};
 use std::marker::Model;
 use std::snapshot::Snapshot;
 use synod_acceptor::Packet;

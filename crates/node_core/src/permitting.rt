@@ -2,23 +2,21 @@
 
 ghost use Rattle.std.specs.Prelude.{◌≡◌, ◌↔◌, false, true, None, Some, IfErr, IfOk, IsErrOf, IsSome, OnErr, OnOk};
 ghost use Rattle.delivery.specs.declared.outcome.Outcome.{Outcome as OutcomeValue};
-ghost use Rattle.node_core.specs.declared.fault.StepFault.TheVariants.{Memory};
-ghost use Rattle.node_core.specs.declared.input.Input.TheVariants as given;
+ghost use Rattle.node_parts.specs.declared.fault.StepFault.TheVariants.{Memory};
+ghost use Rattle.node_parts.specs.declared.input.Input.TheVariants as given;
 ghost use Rattle.node_model.specs.Granted.{known_slot};
-ghost use Rattle.node_core.specs.Keeping.{kept_of};
+ghost use Rattle.node_kept.specs.Keeping.{kept_of};
+ghost use Rattle.node_kept.specs.Steps.{IsFault, outputs_of};
 ghost use Rattle.node_core.specs.Nodes.{HasTaken, IsAwaited, fault_in};
 ghost use Rattle.node_core.specs.Permits.{HasTakenUnder, IsAnswered, IsGrant, IsHandedBack, fault_under, is_life_of};
-ghost use Rattle.node_core.specs.Steps.{IsFault, outputs_of};
 
-use crate::fault::StepFault;
-use crate::input::Input;
 use crate::life::Life;
 use crate::node::Node;
-use crate::outputs::Outputs;
 use crate::pending::Pending;
 use crate::permit::Permit;
 use delivery::Outcome;
 use mc_types::{MsgId, Slot};
+use node_parts::{Input, Outputs, StepFault};
 use stable_store::StableStore;
 
 impl<S: StableStore> Node<S> {

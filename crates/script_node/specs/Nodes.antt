@@ -3,7 +3,7 @@ use Rattle.std.specs.Prelude.{List, map}
 use Rattle.stable_store.specs.Stored.{Listed}
 use Rattle.synod_acceptor.specs.Packets.{packet_of}
 use Rattle.synod_acceptor.specs.declared.packet.Packet.{Packet}
-use Rattle.node_core.specs.Keeping.{kept_of}
+use Rattle.node_kept.specs.Keeping.{kept_of}
 use Rattle.node_core.specs.Nodes.{Standing}
 use Rattle.script_text.specs.Node.{Node}
 

@@ -3,7 +3,7 @@
 ghost use Rattle.std.specs.Prelude.{◌≡◌, ◌++◌, [], map, None, Some, true, IfOk, IsSome, OnOk, option_map};
 ghost use Rattle.delivery.specs.Kept.{outcome_kept};
 ghost use Rattle.mc_model.specs.node.Input.{Delivery as Delivered};
-ghost use Rattle.node_core.specs.Steps.{input_of, refused_by};
+ghost use Rattle.node_kept.specs.Steps.{input_of, refused_by};
 ghost use Rattle.node_core.specs.Stops.{is_after};
 ghost use Rattle.node_model.specs.Stepped.{stopped};
 ghost use Rattle.script_node.specs.Nodes.{node_of};

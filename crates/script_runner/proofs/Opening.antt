@@ -3,7 +3,7 @@ use Rattle.std.proofs.Common.{◌≡◌, ℕ, zero, suc, ◌+◌, ◌≤◌, Lis
 use Rattle.std.specs.Prelude.{false, slice_get}
 use Rattle.std.specs.List.{range_with_len}
 use Rattle.std.proofs.lemmas.List.FromFn.{length-map-range_with_len}
-use Rattle.node_core.specs.Setups.{setup_of as setup_by}
+use Rattle.node_kept.specs.Setups.{setup_of as setup_by}
 use Rattle.synod_acceptor.specs.Packets.{packet_of as packet_by}
 use Rattle.script_site.specs.Sites.{runner_of}
 use Rattle.script_site.specs.declared.site.Site.{Site}

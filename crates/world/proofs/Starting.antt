@@ -11,10 +11,10 @@ use Rattle.node_runs.proofs.Running.{opened_so}
 use Rattle.synod_acceptor.specs.Packets.{packet_of}
 use Rattle.synod_acceptor.specs.Records.{record_at}
 use Rattle.synod_acceptor.specs.declared.packet.Packet.{Packet}
+use Rattle.node_kept.specs.Keeping.{kept_of}
+use Rattle.node_kept.specs.Setups.{setup_of}
 use Rattle.node_core.specs.declared.life.Life.{Life}
-use Rattle.node_core.specs.Keeping.{kept_of}
 use Rattle.node_core.specs.Nodes.{HasOpened}
-use Rattle.node_core.specs.Setups.{setup_of}
 use Rattle.sim_net.specs.Network.{numbered}
 use Rattle.world.specs.Members.{AreOpened, IsOpened}
 use Rattle.world.specs.Runs.{IsAt, IsMember, IsSomewhere, StandsAs, cluster_with}

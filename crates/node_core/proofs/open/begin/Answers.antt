@@ -1,7 +1,7 @@
 use Rattle.std.proofs.Common.{◌≡◌, ap, subst, ◌∙◌, ◌+◌, ℕ}
 use Rattle.synod_acceptor.specs.Records.{entries_of, record_at}
-use Rattle.node_core.specs.Keeping.{IsOpen}
-use Rattle.node_core.proofs.Opening.{open_over}
+use Rattle.node_kept.specs.Keeping.{IsOpen}
+use Rattle.node_kept.proofs.Opening.{open_over}
 use Rattle.node_core.proofs.open.begin.Goals as goal
 
 pub returns-clause-ok : goal.returns-clause-ok

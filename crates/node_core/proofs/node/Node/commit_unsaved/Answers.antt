@@ -1,10 +1,10 @@
 use Rattle.std.proofs.Common.{◌≡◌, refl, sym, ap, subst, ◌∙◌, Bool, false}
 use Rattle.mc_model.specs.node.Setup.{Setup}
 use Rattle.node_model.specs.Kept.{Kept}
-use Rattle.node_core.specs.declared.input.Input.{Input}
-use Rattle.node_core.specs.declared.kept.Kept.{Kept as Holding}
-use Rattle.node_core.specs.Idling.{IsQuiet, IsQuietFor}
-use Rattle.node_core.specs.Keeping.{kept_of}
+use Rattle.node_parts.specs.declared.input.Input.{Input}
+use Rattle.node_kept.specs.declared.kept.Kept.{Kept as Holding}
+use Rattle.node_kept.specs.Idling.{IsQuiet, IsQuietFor}
+use Rattle.node_kept.specs.Keeping.{kept_of}
 use Rattle.node_core.specs.Nodes.{HasTaken, IsStored, Standing}
 use Rattle.node_core.specs.Pendings.{Awaited}
 use Rattle.node_core.proofs.Committing.{taken}

@@ -3,10 +3,11 @@ use Rattle.std.proofs.Math.Path.{fun_ext}
 use Rattle.mc_model.specs.node.Setup.{Setup}
 use Rattle.mc_model.specs.synod.Acceptor.{Records}
 use Rattle.synod_acceptor.specs.declared.packet.Packet.{Packet as Sent}
-use Rattle.node_core.specs.Keeping.{IsOpen, records_of}
-use Rattle.node_core.specs.declared.kept.Kept.{Kept}
+use Rattle.node_kept.specs.Keeping.{IsOpen, records_of}
+use Rattle.node_kept.specs.declared.kept.Kept.{Kept}
+use Rattle.node_kept.specs.Finding.{IsFound}
 use Rattle.node_core.specs.Nodes.{HasOpened, IsStored, Standing}
-use Rattle.node_core.specs.Stops.{IsFound, IsTold}
+use Rattle.node_core.specs.Stops.{IsTold}
 use Rattle.node_core.proofs.Opening.{opened}
 use Rattle.node_core.proofs.Stopping.{tells}
 use Rattle.node_core.proofs.node.Node.reopen.Goals.{then-self, else-self}
@@ -25,7 +26,7 @@ returns-in-Ok-clause-ok g c =
     let records = g.S.StableStore.records c.self.inside.store in
     let starts = g.S.StableStore.started c.self.inside.store + 1 in
     let setup = c.self.inside.kept.setup in
-    let number = ap (λ (s : Setup). s.node) (c.setup.view_is ∙ c.setup-setup.ensures) in
+    let number = c.node.ensures ∙ ap (λ (s : Setup). s.node) c.setup-setup.ensures in
     subst (λ (old : Standing g.row.S.Denot). HasOpened old.kept.setup (g.S.StableStore.records old.store)
     (g.S.StableStore.started old.store + 1) new c.of.result)
     c.self.view_is

@@ -1,8 +1,8 @@
 use Rattle.std.proofs.Common.{ap, ◌∙◌}
 use Rattle.node_model.specs.Stepped.{stepped}
-use Rattle.node_core.specs.Keeping.{kept_of}
+use Rattle.node_kept.specs.Keeping.{kept_of}
+use Rattle.node_kept.specs.Steps.{input_of}
 use Rattle.node_core.specs.Pendings.{Awaited}
-use Rattle.node_core.specs.Steps.{input_of}
 use Rattle.node_core.proofs.pending.Pending.outputs.Goals as goal
 
 pub returns : goal.returns

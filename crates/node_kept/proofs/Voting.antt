@@ -1,0 +1,63 @@
+-- A vote that is told, and what becomes known by it, are taken in as in the model.
+use Rattle.std.proofs.Common.{◌≡◌, ℕ, Bool, true, false, refl, sym, ap, subst, ◌∙◌}
+use Rattle.std.specs.Prelude.{◌&&◌, if◌then◌else◌}
+use Rattle.node_model.specs.Kept.{message_at, with_message}
+use Rattle.node_model.specs.Learner.{heard, makes_known}
+use Rattle.node_model.specs.Message.{Message}
+use Rattle.node_model.specs.Outputs.{nothing, Stepped, leaves}
+use Rattle.node_model.specs.Packets.{known_then, on_known, on_voted, vote_concerns}
+use Rattle.synod_acceptor.proofs.Slots.{is_same}
+use Rattle.synod_acceptor.specs.Votes.{slot_in, vote_of}
+use Rattle.synod_acceptor.specs.declared.vote.Vote.{Vote as Cast}
+use Rattle.synod_learner.specs.Hearing.{known_if}
+use Rattle.node_parts.specs.declared.message.Message.{Message as Filed}
+use Rattle.node_parts.specs.Messages.{IsHeard, message_of}
+use Rattle.node_kept.specs.declared.kept.Kept.{Kept as Holding}
+use Rattle.node_kept.specs.declared.step.Step.{Step}
+use Rattle.node_kept.specs.Keeping.{AreOwn, IsAs, IsTaken, kept_of}
+use Rattle.node_kept.specs.Steps.{IsLeft, IsStep}
+use Rattle.node_kept.specs.Voting.{id_concerns, voted_in}
+use Rattle.node_kept.proofs.Leaving.{as_changed, left}
+
+-- ---- whether it concerns the node
+
+concerns : (k : Holding) (vote : Cast) (test : Bool) → id_concerns k.setup (kept_of k) vote.chain.id ≡ test →
+    vote_concerns k.setup (kept_of k) (slot_in vote) (vote_of vote) ≡ test
+concerns k vote test is = ap (λ (b : Bool). b && id_concerns k.setup (kept_of k) vote.chain.id) (is_same (slot_in vote) (slot_in vote) refl) ∙ is
+
+module _ (k : Holding) (sender : ℕ) (vote : Cast) (taken new : Filed) (grows : Bool) (step : Step) (own : AreOwn k)
+    (test : id_concerns k.setup (kept_of k) vote.chain.id ≡ true) (is_taken : IsTaken k vote.chain.id taken)
+    (is_heard : IsHeard taken sender vote new grows) where
+  abbrev id : ℕ
+  id = vote.chain.id
+
+  abbrev m : Message
+  m = heard (message_at (kept_of k) id) sender (vote_of vote)
+
+  message_is : message_of id new ≡ known_if grows m vote.chain.decrees
+  message_is = is_heard.message ∙ ap (λ (n : Message). known_if grows (heard n sender (vote_of vote)) vote.chain.decrees) is_taken.message
+
+  decides : grows ≡ makes_known k.setup.nodes m (vote_of vote)
+  decides = is_heard.decides ∙ (λ i. makes_known ((is_taken.own own).learner i) (heard (is_taken.message i) sender (vote_of vote)) (vote_of vote))
+
+  abbrev heard_if : Bool → Stepped
+  heard_if b = if b then on_known k.setup (kept_of k) id m vote.chain.decrees else leaves (with_message (kept_of k) id m)
+
+  voted_is : heard_if grows ≡ voted_in k.setup (kept_of k) sender (slot_in vote) (vote_of vote)
+  voted_is =
+      ap heard_if decides
+      ∙ sym (ap (λ (b : Bool). if b then on_voted k.setup (kept_of k) sender (slot_in vote) (vote_of vote) else leaves (kept_of k)) (concerns k vote true test))
+
+  pub voted_only : grows ≡ false → IsLeft k id new nothing step → IsStep k (voted_in k.setup (kept_of k) sender (slot_in vote) (vote_of vote)) step
+  voted_only not_known is_left =
+      subst (λ (s : Stepped). IsStep k s step) (ap heard_if (sym not_known) ∙ voted_is)
+      (left k id taken new m nothing step is_taken is_heard.same (message_is ∙ ap (λ (b : Bool). known_if b m vote.chain.decrees) not_known) is_left)
+
+  pub known_as : grows ≡ true → IsAs k id new (known_then m vote.chain.decrees)
+  known_as is_known =
+      as_changed k id taken new (message_at (kept_of k) id) (known_then m vote.chain.decrees) is_taken is_heard.same
+      (message_is ∙ ap (λ (b : Bool). known_if b m vote.chain.decrees) is_known)
+
+  pub voted_known : grows ≡ true → IsStep k (on_known k.setup (kept_of k) id m vote.chain.decrees) step →
+      IsStep k (voted_in k.setup (kept_of k) sender (slot_in vote) (vote_of vote)) step
+  voted_known is_known is = subst (λ (s : Stepped). IsStep k s step) (ap heard_if (sym is_known) ∙ voted_is) is

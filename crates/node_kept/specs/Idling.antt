@@ -1,0 +1,52 @@
+-- A tick that finds nothing due.
+use Rattle.std.specs.Prelude.{◌≡◌, ℕ, max, Bool, false, IfSome, List, [], Option, None}
+use Rattle.std.specs.Global.{Vec}
+use Rattle.mc_model.specs.synod.Lists.{In}
+use Rattle.mc_model.specs.node.Setup.{Setup}
+use Rattle.node_model.specs.Kept.{Held, Kept}
+use Rattle.node_model.specs.Outputs.{leaves}
+use Rattle.node_model.specs.Stepped.{stepped}
+use Rattle.node_model.specs.Requests.{is_untold}
+use Rattle.node_model.specs.Rules.{first_rule}
+use Rattle.node_model.specs.Ticks.{ids_of, is_late, on_tick, ticked}
+use Rattle.delivery.specs.Targets.{is_up}
+use Rattle.node_parts.specs.declared.input.Input.{Input}
+use Rattle.node_parts.specs.declared.input.Input.TheVariants.{Answered, Grant, Packet, Request, Tick}
+use Rattle.node_kept.specs.declared.kept.Kept.{Kept as Holding}
+use Rattle.node_kept.specs.declared.step.Step.{Step}
+use Rattle.node_kept.specs.Keeping.{kept_of}
+use Rattle.node_kept.specs.Steps.{input_of}
+
+-- no rule fits a message that is kept or asked of
+abbrev pub NoneFits : Setup → Kept → ℕ → (List ℕ → Bool) → Type 0
+NoneFits setup k clock up = (id : ℕ) → In id (ids_of (ticked k clock)) → first_rule setup (ticked k clock) up id ≡ None
+
+-- at a clock: no request waited too long, a majority told to each that asks, and no rule fits
+pub record IsIdle (setup : Setup) (k : Kept) (clock : ℕ) (up : List ℕ → Bool) : Type 0 where
+  pub timely : (h : Held) → In h k.held → is_late clock h ≡ false
+  pub told : (h : Held) → In h k.held → is_untold setup.nodes h ≡ false
+  pub unruled : NoneFits setup k clock up
+
+-- what comes is a tick that finds nothing due
+abbrev pub FindsNothing : Setup → Kept → Input → Type 0
+FindsNothing setup k (Packet packet) = ⊥
+FindsNothing setup k (Request account request) = ⊥
+FindsNothing setup k (Grant id) = ⊥
+FindsNothing setup k (Answered slot outcome) = ⊥
+FindsNothing setup k (Tick moment up) = IsIdle setup k (max k.clock moment) (is_up up.items)
+
+-- ---- one after another
+
+-- a step of a tick that keeps each message, but for its round, and gives nothing out
+pub record IsStill (step : Step) : Type 0 where
+  pub messages : step.next.messages.items ≡ []
+  pub packets : step.outputs.packets.items ≡ []
+  pub replies : step.outputs.replies.items ≡ []
+
+-- with these accounts, if they are noted, a tick at the clock of a node that keeps this changes nothing and gives nothing out
+abbrev pub IsQuiet : Setup → Kept → Option (Vec (List ℕ)) → Type 0
+IsQuiet setup k idle = IfSome idle (λ up. on_tick setup k k.clock (is_up up.items) ≡ leaves k)
+
+-- so it is after the step for this input
+abbrev pub IsQuietFor : Holding → Input → Option (Vec (List ℕ)) → Type 0
+IsQuietFor k input idle = IsQuiet k.setup (stepped k.setup (kept_of k) (input_of k.setup (kept_of k) input)).kept idle

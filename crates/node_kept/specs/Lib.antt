@@ -1,0 +1,14 @@
+pub mod Setups
+pub mod Queueing
+pub mod Deleting
+pub mod Keeping
+pub mod Listing
+pub mod Steps
+pub mod Preparing
+pub mod Finding
+pub mod Voting
+pub mod Telling
+pub mod Arriving
+pub mod Ticking
+pub mod Walking
+pub mod Idling

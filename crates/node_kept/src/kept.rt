@@ -1,0 +1,591 @@
+//! What a node keeps.
+
+ghost use Rattle.std.specs.Prelude.{◌≡◌, ℕ, suc, ◌≤◌, ◌&&◌, length, [], None, IfErr, IfOk, IsOk, OnOk, not, option_map, false};
+ghost use Rattle.std.specs.Option.{option_copied};
+ghost use Rattle.mc_model.specs.node.Setup.{Setup as SetupValue};
+ghost use Rattle.mc_model.specs.synod.Acceptor.{Records};
+ghost use Rattle.node_model.specs.Acceptor.{told_of};
+ghost use Rattle.fate_chain.specs.Kinds.{final_of};
+ghost use Rattle.node_model.specs.Answers.{is_asked};
+ghost use Rattle.node_model.specs.Outputs.{leaves};
+ghost use Rattle.mc_model.specs.message.Ids.{IsId};
+ghost use Rattle.mc_model.specs.node.Room.{is_busy, last_ticket};
+ghost use Rattle.node_model.specs.Kept.{message_at};
+ghost use Rattle.node_model.specs.Proposer.{is_own_ballot, runs_at};
+ghost use Rattle.node_model.specs.Packets.{is_member, on_ask, on_packet, on_prepare, on_promise, on_propose, on_refused};
+ghost use Rattle.synod_acceptor.specs.Packets.{packet_of};
+ghost use Rattle.shelf.specs.Shelved.{value_at};
+ghost use Rattle.synod_acceptor.specs.Records.{entries_of, record_at};
+ghost use Rattle.synod_acceptor.specs.Votes.{report_of, slot_in, slot_reported, told_vote, vote_of};
+ghost use Rattle.node_parts.specs.Lists.{listed};
+ghost use Rattle.node_kept.specs.Idling.{FindsNothing, IsQuiet, IsQuietFor};
+ghost use Rattle.node_kept.specs.Keeping.{AreOwn, IsFiled, IsOpen, IsTaken, kept_of};
+ghost use Rattle.node_kept.specs.Listing.{ListsRecorded};
+ghost use Rattle.node_kept.specs.Queueing.{HasPlace, requeued};
+ghost use Rattle.node_kept.specs.declared.queue_change.QueueChange.TheVariants.{Same};
+ghost use Rattle.requests.specs.Waiting.{held_in};
+ghost use Rattle.node_kept.specs.Voting.{id_concerns, receipt_if, voted_in};
+ghost use Rattle.node_kept.specs.Preparing.{IsPrepared};
+ghost use Rattle.node_kept.specs.Steps.{HasRoom, IsAnswer, IsFault, IsInstalled, IsLeft, IsNext, IsStep, entries_after, giving, refused_by, rested_if};
+ghost use Rattle.node_model.specs.Reported.{receipt_of};
+
+use crate::queue_change::QueueChange;
+use crate::setup::Setup;
+use crate::step::{Foreseen, Next, Put, Step};
+use fate_chain::{Author, Chain, Final, Submission};
+use mc_types::{Ballot, Incarnation, Moment, MsgId, NodeNo, Slot};
+use node_parts::{Input, Message, MessageShelf, Outputs, StepFault, sender};
+use pdu_codec::Text;
+use requests::Queue;
+use rules::Standpoint;
+use std::alloc::{AllocError, Global};
+use synod_acceptor::{Name, Packet, Record, Report, Verdict, Vote};
+
+/// What a node keeps in an incarnation: its clock, the serial of its next message, how many tickets were given, the requests that wait,
+/// and what it knows of each message of which it heard.
+#[derive(Drop)]
+pub struct Kept {
+    pub(crate) alloc: Global,
+    pub(crate) setup: Setup,
+    incarnation: Incarnation,
+    pub(crate) clock: Moment,
+    serial: u32,
+    given: u64,
+    pub(crate) queue: Queue,
+    pub(crate) messages: MessageShelf,
+}
+
+impl Kept {
+    /// What a node keeps that opens in an incarnation over these records; of several of a slot the first counts.
+    pub fn open(
+        alloc: Global,
+        setup: Setup,
+        incarnation: Incarnation,
+        mut records: Vec<Record>,
+    ) -> Result<Kept, AllocError>
+        ensures { IfOk result (IsOpen setup incarnation (record_at (entries_of records.items))) }
+    {
+        let serial = setup.first_serial;
+        let mut kept = Kept {
+            alloc,
+            setup,
+            incarnation,
+            clock: Moment::least(),
+            serial,
+            given: 0,
+            queue: Queue::make(alloc)?,
+            messages: MessageShelf::empty(alloc),
+        };
+        while let Some(stored) = records.pop() {
+            kept.file(stored)?;
+        }
+        Ok(kept)
+    }
+
+    /// Begins in this incarnation, of a node that opened and took no step yet. It takes no memory.
+    pub fn begin(&mut self, incarnation: Incarnation)
+        ensures { (with : SetupValue) (starts : ℕ) (records : Records) → IsOpen with starts records self.old → IsOpen with incarnation records self.new }
+    {
+        self.incarnation = incarnation;
+        let me = self.author();
+        self.messages.renew(me);
+    }
+
+    /// What a proof takes of its messages: each of which there is a record is among them. The call does nothing.
+    pub fn lists(&self)
+        ensures { ListsRecorded (kept_of self.now) }
+    {
+        self.messages.ascends();
+    }
+
+    /// Takes in a record of its store.
+    fn file(&mut self, stored: Record) -> Result<(), AllocError>
+        ensures { OnOk result (IsFiled self.old stored self.new) }
+    {
+        // What the proof takes of the record; the call does nothing.
+        stored.promises();
+        let id = stored.slot().id;
+        let mut message = self.taken(id)?;
+        message.file(stored)?;
+        let next = self.next(id, message)?;
+        self.install(next);
+        Ok(())
+    }
+
+    /// The step that an input leads to, of which `idle` has the accounts with which a tick at this clock does nothing, if that is known, and
+    /// the packet that came, if one did. It changes nothing, and copies what is kept of the input's message alone, or of those that a tick
+    /// does not leave as they are. A refusal comes before any memory is taken, and a tick that finds nothing due takes none.
+    pub fn step(
+        &self,
+        input: Input,
+        idle: &Option<Vec<Text<16>>>,
+    ) -> Result<(Foreseen, Option<Packet>), StepFault>
+        requires own { AreOwn self.now }
+        requires idle { IsQuiet self.now.setup (kept_of self.now) idle.now }
+        ensures ok { IfOk result (λ prepared. IsPrepared self.now input prepared.0.step prepared.1) }
+        ensures quiet { IfOk result (λ prepared. IsQuietFor self.now input prepared.0.idle) }
+        ensures faults { IfErr result (IsFault (refused_by self.now.setup (kept_of self.now) input)) }
+        ensures idle { FindsNothing self.now.setup (kept_of self.now) input → IsOk result }
+    {
+        match input {
+            Input::Packet(packet) => {
+                let step = self.on_packet(&packet)?;
+                Ok((alone(step), Some(packet)))
+            }
+            Input::Request(account, request) => {
+                let step = self.on_request(&account, request)?;
+                Ok((alone(step), None))
+            }
+            Input::Grant(id) => {
+                let step = self.on_grant(id)?;
+                Ok((alone(step), None))
+            }
+            Input::Answered(slot, outcome) => {
+                let step = self.on_answered(slot, outcome)?;
+                Ok((alone(step), None))
+            }
+            Input::Tick(moment, up) => {
+                let foreseen = self.tick(moment, up, idle)?;
+                Ok((foreseen, None))
+            }
+        }
+    }
+
+    /// The step that a packet leads to. An `Err` is want of memory.
+    fn on_packet(&self, packet: &Packet) -> Result<Step, AllocError>
+        requires { AreOwn self.now }
+        ensures { IfOk result (IsStep self.now (on_packet self.now.setup (kept_of self.now) (packet_of packet.now))) }
+    {
+        if !self.is_member(sender(packet)) {
+            return Ok(self.same());
+        }
+        match packet {
+            Packet::Prepare { slot, ballot, .. } => self.on_prepare(*slot, *ballot),
+            Packet::Propose { vote, .. } => self.on_propose(vote),
+            Packet::Ask { id, name, .. } => self.on_ask(*id, *name),
+            Packet::Promise {
+                from,
+                ballot,
+                report,
+            } => self.on_promise(*from, *ballot, report),
+            Packet::Refused {
+                slot,
+                ballot,
+                promised,
+                ..
+            } => self.on_refused(*slot, *ballot, *promised),
+            Packet::Voted { from, vote } => self.on_voted(*from, vote),
+            Packet::Tell { from, name, told } => self.on_tell(*from, *name, told.as_ref()),
+        }
+    }
+
+    /// Keeps what is to be kept after a step; there is room for it. It takes no memory.
+    pub fn install(&mut self, next: Next)
+        requires room { HasRoom self.old.messages next }
+        requires place { HasPlace self.old.queue next.queue }
+        ensures { IsInstalled self.old next self.new }
+    {
+        let Next {
+            clock,
+            serial,
+            given,
+            drops_rounds,
+            queue,
+            messages,
+            room,
+        } = next;
+        self.clock = clock;
+        self.serial = serial;
+        self.given = given;
+        if let Some(room) = room {
+            self.messages.make_room(room);
+        }
+        requeue(&mut self.queue, queue, self.setup.nodes);
+        rest_if(&mut self.messages, drops_rounds);
+        put_each(&mut self.messages, messages);
+    }
+
+    /// Whether the node is one of the cluster.
+    fn is_member(&self, node: NodeNo) -> bool
+        ensures { result ≡ is_member self.now.setup node }
+    {
+        node.number() <= self.setup.nodes
+    }
+
+    /// A step that does nothing.
+    pub(crate) fn same(&self) -> Step
+        ensures step { IsStep self.now (leaves (kept_of self.now)) result }
+        ensures ticket { result.outputs.ticket ≡ None }
+        ensures refused { result.outputs.refused ≡ None }
+        ensures packets { result.outputs.packets.items ≡ [] }
+        ensures replies { result.outputs.replies.items ≡ [] }
+        ensures receipts { result.outputs.receipts.items ≡ [] }
+        ensures change { result.change ≡ None }
+    {
+        Step {
+            outputs: Outputs::nothing(self.alloc),
+            change: None,
+            next: self.unchanged(),
+        }
+    }
+
+    /// What is kept is to stay as it is.
+    pub(crate) fn unchanged(&self) -> Next
+        ensures clock { result.clock ≡ self.now.clock }
+        ensures serial { result.serial ≡ self.now.serial }
+        ensures given { result.given ≡ self.now.given }
+        ensures drops { result.drops_rounds ≡ false }
+        ensures queue { result.queue ≡ Same }
+        ensures messages { result.messages.items ≡ [] }
+        ensures room { result.room ≡ None }
+    {
+        Next {
+            clock: self.clock,
+            serial: self.serial,
+            given: self.given,
+            drops_rounds: false,
+            queue: QueueChange::Same,
+            messages: Vec::new(self.alloc),
+            room: None,
+        }
+    }
+
+    /// What it does with a Prepare.
+    fn on_prepare(&self, slot: Slot, ballot: Ballot) -> Result<Step, AllocError>
+        ensures { IfOk result (IsStep self.now (on_prepare self.now.setup (kept_of self.now) slot ballot)) }
+    {
+        let id = slot.id;
+        let mut message = self.taken(id)?;
+        let verdict = message.promise(self.node(), slot, ballot)?;
+        self.answer(id, message, verdict)
+    }
+
+    /// What it does with a Propose.
+    fn on_propose(&self, vote: &Vote) -> Result<Step, AllocError>
+        ensures { IfOk result (IsStep self.now (on_propose self.now.setup (kept_of self.now) (slot_in vote.now) (vote_of vote.now))) }
+    {
+        let id = vote.chain.id();
+        let mut message = self.taken(id)?;
+        let verdict = message.vote(self.node(), vote)?;
+        self.answer(id, message, verdict)
+    }
+
+    /// What it does with a question.
+    fn on_ask(&self, id: MsgId, name: Name) -> Result<Step, AllocError>
+        ensures { IfOk result (IsStep self.now (on_ask self.now.setup (kept_of self.now) id name)) }
+    {
+        let told = match self.told(id) {
+            Some(vote) => Some(vote.copy()?),
+            None => None,
+        };
+        let mut step = self.same();
+        step.outputs.packets.push(Packet::Tell {
+            from: self.setup.node,
+            name,
+            told,
+        })?;
+        Ok(step)
+    }
+
+    /// What it does with a promise.
+    fn on_promise(&self, from: NodeNo, ballot: Ballot, report: &Report) -> Result<Step, AllocError>
+        requires { AreOwn self.now }
+        ensures { IfOk result (IsStep self.now (on_promise self.now.setup (kept_of self.now) from (slot_reported report.now) ballot (report_of report.now))) }
+    {
+        let slot = report.slot();
+        let id = slot.id;
+        if !self.runs_at(id, slot, ballot) {
+            return Ok(self.same());
+        }
+        let mut message = self.taken(id)?;
+        let packet = message.promised_by(from, ballot, report)?;
+        self.leave(id, message, packet, None)
+    }
+
+    /// Whether a round of this slot, of the message of this id, runs at this ballot. It takes no memory.
+    fn runs_at(&self, id: MsgId, slot: Slot, ballot: Ballot) -> bool
+        ensures { result ≡ runs_at (message_at (kept_of self.now) id).round slot ballot }
+    {
+        match self.find(id) {
+            Some(message) => message.runs_at(slot, ballot),
+            None => false,
+        }
+    }
+
+    /// What it does with a vote that is told.
+    fn on_voted(&self, from: NodeNo, vote: &Vote) -> Result<Step, AllocError>
+        requires { AreOwn self.now }
+        ensures { IfOk result (IsStep self.now (voted_in self.now.setup (kept_of self.now) from (slot_in vote.now) (vote_of vote.now))) }
+    {
+        let id = vote.chain.id();
+        if !self.concerns(id) {
+            return Ok(self.same());
+        }
+        let mut message = self.taken(id)?;
+        let had_fate = message.has_fate(id);
+        if !message.heard(from, vote)? {
+            return self.leave(id, message, None, None);
+        }
+        self.learned(message, had_fate, &vote.chain)
+    }
+
+    /// Whether votes on the message of an id concern it: of its own messages only those that it has taken do.
+    fn concerns(&self, id: MsgId) -> bool
+        ensures { result ≡ id_concerns self.now.setup (kept_of self.now) id }
+    {
+        id.node() != self.setup.node
+            || id.incarnation() < self.incarnation
+            || (id.incarnation() == self.incarnation && id.serial() < self.serial)
+    }
+
+    /// The chain, once more, if it has the first final state that is known of its message, and this node is to write a receipt of that.
+    pub(crate) fn receipt(&self, had_fate: bool, chain: &Chain) -> Result<Option<Chain>, AllocError>
+        ensures { IfOk result (λ receipt. listed (option_map receipt_of receipt)
+            ≡ receipt_if (not had_fate) self.now.setup.node chain.now.id chain.now.decrees) }
+    {
+        if had_fate {
+            return Ok(None);
+        }
+        let Some(last) = chain.fate() else {
+            return Ok(None);
+        };
+        if chain.id().node() != self.node() || !is_asked(last, chain.submission()) {
+            return Ok(None);
+        }
+        Ok(Some(chain.copy()?))
+    }
+
+    /// What it does with a refusal.
+    fn on_refused(&self, slot: Slot, ballot: Ballot, promised: Ballot) -> Result<Step, AllocError>
+        requires { AreOwn self.now }
+        ensures { IfOk result (IsStep self.now (on_refused self.now.setup (kept_of self.now) slot ballot promised)) }
+    {
+        if !self.is_own(ballot) {
+            return Ok(self.same());
+        }
+        let id = slot.id;
+        let mut message = self.taken(id)?;
+        message.refused(slot, ballot, promised);
+        self.leave(id, message, None, None)
+    }
+
+    /// Whether the ballot is one of its own, of this incarnation.
+    fn is_own(&self, ballot: Ballot) -> bool
+        ensures { result ≡ is_own_ballot self.now.setup (kept_of self.now) ballot }
+    {
+        ballot.node() == self.setup.node && ballot.incarnation() == self.incarnation
+    }
+
+    /// The vote at the highest place of a message at which it voted; none if it did not. It takes no memory.
+    fn told(&self, id: MsgId) -> Option<&Vote>
+        ensures { told_vote (option_copied result) ≡ told_of (kept_of self.now).records id }
+    {
+        self.find(id)?.told(id)
+    }
+
+    /// A copy of what is kept of a message.
+    pub(crate) fn taken(&self, id: MsgId) -> Result<Message, AllocError>
+        ensures { IfOk result (IsTaken self.now id) }
+    {
+        match self.find(id) {
+            Some(message) => message.copy(),
+            None => Ok(Message::fresh(self.alloc, self.author(), self.nodes())),
+        }
+    }
+
+    /// What is kept of a message; none if it was never heard of. It takes no memory.
+    pub(crate) fn find(&self, id: MsgId) -> Option<&Message>
+        ensures value { option_copied result ≡ value_at self.now.messages.entries id }
+        ensures named { IsId id }
+    {
+        // For the proof alone: the number is an id.
+        id.number();
+        self.messages.get(id)
+    }
+
+    /// Where its memory comes from.
+    pub fn alloc(&self) -> Global
+        ensures { result ≡ self.now.alloc }
+    {
+        self.alloc
+    }
+
+    /// With what it is set up.
+    pub fn setup(&self) -> Setup
+        ensures { result ≡ self.now.setup }
+    {
+        self.setup
+    }
+
+    /// Its clock.
+    pub fn clock(&self) -> Moment
+        ensures { result ≡ self.now.clock }
+    {
+        self.clock
+    }
+
+    /// The serial of its next message, 100000 if none is left.
+    pub(crate) fn serial(&self) -> u32
+        ensures { result ≡ self.now.serial }
+    {
+        self.serial
+    }
+
+    /// Whether no request more may wait: 1,000 wait, or no ticket is left.
+    pub(crate) fn is_busy(&self) -> bool
+        ensures { result ≡ is_busy (length self.now.queue) (suc self.now.given) }
+    {
+        self.queue.is_full() || self.given == u64::MAX
+    }
+
+    /// The ticket of the next request, if one is left.
+    pub(crate) fn next_ticket(&self) -> u64
+        requires { suc self.now.given ≤ last_ticket }
+        ensures { result ≡ suc self.now.given }
+    {
+        self.given + 1
+    }
+
+    /// The incarnation.
+    pub fn incarnation(&self) -> Incarnation
+        ensures { result ≡ self.now.incarnation }
+    {
+        self.incarnation
+    }
+
+    /// By whom its decrees are, and its clock.
+    pub(crate) fn standpoint(&self) -> Standpoint
+        ensures node { result.author.node ≡ self.now.setup.node }
+        ensures incarnation { result.author.incarnation ≡ self.now.incarnation }
+        ensures clock { result.clock ≡ self.now.clock }
+    {
+        Standpoint {
+            author: self.author(),
+            clock: self.clock,
+        }
+    }
+
+    /// By whom its decrees are.
+    pub(crate) fn author(&self) -> Author
+        ensures node { result.node ≡ self.now.setup.node }
+        ensures incarnation { result.incarnation ≡ self.now.incarnation }
+    {
+        Author {
+            node: self.setup.node,
+            incarnation: self.incarnation,
+        }
+    }
+
+    /// How many nodes the cluster has.
+    pub(crate) fn nodes(&self) -> u8
+        ensures { result ≡ self.now.setup.nodes }
+    {
+        self.setup.nodes
+    }
+
+    /// Its number.
+    pub(crate) fn node(&self) -> NodeNo
+        ensures { result ≡ self.now.setup.node }
+    {
+        self.setup.node
+    }
+
+    /// The step that answers by a verdict and keeps this message under the id.
+    fn answer(&self, id: MsgId, message: Message, verdict: Verdict) -> Result<Step, AllocError>
+        ensures { IfOk result (IsAnswer self.now id message verdict) }
+    {
+        let next = self.next(id, message)?;
+        let outputs = Outputs::of(self.alloc, Some(verdict.answer), None)?;
+        Ok(Step {
+            outputs,
+            change: verdict.change,
+            next,
+        })
+    }
+
+    /// The step that sends this packet and writes this receipt, as far as there are any, and keeps this message under the id.
+    pub(crate) fn leave(
+        &self,
+        id: MsgId,
+        message: Message,
+        packet: Option<Packet>,
+        receipt: Option<Chain>,
+    ) -> Result<Step, AllocError>
+        ensures { IfOk result (IsLeft self.now id message (giving (listed (option_map packet_of packet)) (listed (option_map receipt_of receipt)))) }
+    {
+        let next = self.next(id, message)?;
+        let outputs = Outputs::of(self.alloc, packet, receipt)?;
+        Ok(Step {
+            outputs,
+            change: None,
+            next,
+        })
+    }
+
+    /// This message is to take the place of what is kept of the id, and nothing else changes.
+    pub(crate) fn next(&self, id: MsgId, message: Message) -> Result<Next, AllocError>
+        ensures { IfOk result (IsNext self.now id message) }
+    {
+        let mut next = self.unchanged();
+        let message = Box::new(self.alloc, message)?;
+        next.messages.push(Put { id, message })?;
+        next.room = Some(self.messages.room(self.alloc, 1)?);
+        Ok(next)
+    }
+}
+
+/// A step after which it is not known if a tick does anything.
+fn alone(step: Step) -> Foreseen
+    ensures step { result.step ≡ step }
+    ensures idle { result.idle ≡ None }
+{
+    Foreseen { step, idle: None }
+}
+
+/// Makes of the requests that wait what a step makes of them. It takes no memory.
+fn requeue(queue: &mut Queue, change: QueueChange, nodes: u8)
+    requires { HasPlace queue.old change }
+    ensures { held_in queue.new ≡ requeued nodes (held_in queue.old) change }
+{
+    match change {
+        QueueChange::Same => {}
+        QueueChange::Push(held) => queue.push(held),
+        QueueChange::Replace(held) => queue.replace(held),
+        QueueChange::Remove(ticket) => queue.remove(ticket),
+        QueueChange::Settle(chain) => queue.settle(nodes, &chain),
+        QueueChange::Expire(clock) => queue.expire(clock),
+    }
+}
+
+/// Ends the round of each message, if rounds end. It takes no memory.
+fn rest_if(kept: &mut MessageShelf, ends: bool)
+    ensures entries { kept.new.entries ≡ rested_if ends kept.old.entries }
+    ensures room { kept.new.room ≡ kept.old.room }
+    ensures listings { kept.new.listings ≡ kept.old.listings }
+{
+    if ends {
+        kept.rest();
+    }
+}
+
+/// Puts messages in the places of what was kept of their ids, the last of them first; there is room for them. It takes no memory.
+fn put_each(kept: &mut MessageShelf, mut messages: Vec<Put>)
+    requires room { length messages.items ≤ kept.old.room }
+    requires listings { length messages.items ≤ kept.old.listings }
+    ensures { kept.new.entries ≡ entries_after kept.old.entries messages.items }
+{
+    while let Some(put) = messages.pop() {
+        kept.put(put.id, put.message);
+    }
+}
+
+/// Whether a receipt of this final state was asked for: of every one, or of every one but DELIVERED (SMPP 3.4, section 5.2.17).
+fn is_asked(last: Final, taken: &Submission) -> bool
+    ensures { result ≡ is_asked (final_of last) taken.now }
+{
+    match taken.registered_delivery % 4 {
+        1 => true,
+        2 => last != Final::Delivered,
+        _ => false,
+    }
+}

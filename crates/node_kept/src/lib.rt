@@ -1,0 +1,22 @@
+//! What a node keeps, and what each step makes of it.
+#![tactic(auto)]
+
+mod arriving;
+mod granting;
+mod kept;
+mod learning;
+mod queue_change;
+mod requesting;
+mod setup;
+mod step;
+mod stopped;
+mod telling;
+mod ticking;
+mod turn_list;
+mod walk;
+
+pub use kept::Kept;
+pub use queue_change::QueueChange;
+pub use setup::Setup;
+pub use step::{Foreseen, Next, Put, Step};
+pub use stopped::{Found, Stopped, told};

@@ -1,0 +1,42 @@
+//! A step that is prepared.
+
+use crate::queue_change::QueueChange;
+use mc_types::{Moment, MsgId};
+use node_parts::{Message, MessageRoom, Outputs};
+use pdu_codec::Text;
+use synod_acceptor::Change;
+
+/// A message that takes the place of what is kept of its id.
+#[derive(Drop)]
+pub struct Put {
+    pub id: MsgId,
+    pub message: Box<Message>,
+}
+
+/// What is kept after a step: the clock, the serial of the next message, how many tickets are given, whether all rounds end, what becomes of the requests that wait, and then
+/// each message that is not kept as it was, with room for them, if room is wanted. Of several messages of an id the first counts.
+#[derive(Drop)]
+pub struct Next {
+    pub clock: Moment,
+    pub serial: u32,
+    pub given: u64,
+    pub drops_rounds: bool,
+    pub queue: QueueChange,
+    pub messages: Vec<Put>,
+    pub room: Option<MessageRoom>,
+}
+
+/// What a step gives out, the change that is saved before, if any, and what is kept after it.
+#[derive(Drop)]
+pub struct Step {
+    pub outputs: Outputs,
+    pub change: Option<Change>,
+    pub next: Next,
+}
+
+/// A step, and the accounts with which a tick does nothing after it, if that is known.
+#[derive(Drop)]
+pub struct Foreseen {
+    pub step: Step,
+    pub idle: Option<Vec<Text<16>>>,
+}

@@ -1,0 +1,28 @@
+//! Where a tick stands.
+
+ghost use Rattle.std.specs.Prelude.{◌≡◌};
+ghost use Rattle.node_kept.specs.Walking.{next_of};
+
+use mc_types::MsgId;
+
+/// Where a tick stands that goes over the messages that are live and those of which requests ask, by ascending ids: all messages of ids below
+/// `from` were looked at or are settled. `live` is the first other one that is live, `asked` the first other one of which a request asks.
+#[derive(Clone, Copy)]
+pub struct Walk {
+    pub from: u64,
+    pub live: Option<MsgId>,
+    pub asked: Option<MsgId>,
+}
+
+impl Walk {
+    /// The id of its next message; none if none is left.
+    pub fn next(&self) -> Option<MsgId>
+        ensures { result ≡ next_of self.now.live self.now.asked }
+    {
+        match (self.live, self.asked) {
+            (Some(live), Some(asked)) if asked.number() < live.number() => Some(asked),
+            (Some(live), _) => Some(live),
+            (None, asked) => asked,
+        }
+    }
+}

@@ -1,0 +1,10 @@
+pub mod Attempting
+pub mod Starting
+pub mod Told
+pub mod Hearing
+pub mod Ticks
+pub mod Turns
+pub mod Decided
+pub mod Rising
+pub mod IdLists
+pub mod Living

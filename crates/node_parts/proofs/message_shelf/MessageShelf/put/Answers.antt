@@ -1,0 +1,44 @@
+use Rattle.std.proofs.Common.{◌≡◌, ◌<◌, ◌≤◌, ◌-◌, ◌+◌, ℕ, List, length, sym, ap, subst, arith}
+use Rattle.std.specs.Box.{box_value}
+use Rattle.std.specs.BTreeSet.{insert_key}
+use Rattle.std.specs.List.Sorted.{IsStrictlySortedBy}
+use Rattle.std.specs.Map.{keys_of}
+use Rattle.std.specs.Ordering.{nat_cmp}
+use Rattle.std.specs.Vec.{vec_capacity}
+use Rattle.shelf.specs.Shelved.{with_value}
+use Rattle.node_parts.specs.declared.message.Message.{Message as Filed}
+use Rattle.node_parts.specs.Living.{AreListed}
+use Rattle.node_parts.proofs.Living.{listed_put, listings_left, room_to_list}
+use Rattle.node_parts.proofs.message_shelf.MessageShelf.put.Goals as goal
+
+pub enlist-requires-clause-room : goal.enlist-requires-clause-room
+enlist-requires-clause-room c =
+    let entries = c.self.inside.shelf.entries in
+    let cap = vec_capacity c.self.inside.live in
+    let more : 0 < cap - length entries = rw (← c.self.view_is) at c.requires.listings in
+    let put : c.put.new.self.entries ≡ with_value entries c.args.id (box_value c.args.message) = rw c.number.ensures.value at c.put.ensures.entries in
+    room_to_list entries c.self.inside.live.items cap c.args.id (box_value c.args.message) c.self.invariant more
+    (subst (λ (es : List (ℕ × Filed)). IsStrictlySortedBy nat_cmp (keys_of es)) put c.at.ensures.ascends)
+
+pub invariant_of-self : goal.invariant_of-self
+invariant_of-self c =
+    let entries = c.self.inside.shelf.entries in
+    let cap = vec_capacity c.self.inside.live in
+    let more : 0 < cap - length entries = rw (← c.self.view_is) at c.requires.listings in
+    let put : c.put.new.self.entries ≡ with_value entries c.args.id (box_value c.args.message) = rw c.number.ensures.value at c.put.ensures.entries in
+    subst (λ (n : ℕ). AreListed c.put.new.self.entries c.enlist.new.ids.items n) (sym c.enlist.ensures.capacity)
+    (subst (λ (ids : List ℕ). AreListed c.put.new.self.entries ids cap) (sym c.enlist.ensures.ids)
+    (subst (λ (es : List (ℕ × Filed)). AreListed es (insert_key nat_cmp c.self.inside.live.items c.args.id) cap) (sym put)
+    (listed_put entries c.self.inside.live.items cap c.args.id (box_value c.args.message) c.self.invariant more)))
+
+pub returns-clause-listings : goal.returns-clause-listings
+returns-clause-listings c =
+    let entries = c.self.inside.shelf.entries in
+    let cap = vec_capacity c.self.inside.live in
+    let put : c.put.new.self.entries ≡ with_value entries c.args.id (box_value c.args.message) = rw c.number.ensures.value at c.put.ensures.entries in
+    let left : cap - length entries ≤ (cap - length c.put.new.self.entries) + 1 =
+    subst (λ (es : List (ℕ × Filed)). cap - length entries ≤ (cap - length es) + 1) (sym put)
+    (listings_left entries cap c.args.id (box_value c.args.message)) in
+    let same = c.enlist.ensures.capacity in
+    let view : c.args.self.now.listings ≡ cap - length entries = sym (ap (λ s. s.listings) c.self.view_is) in
+    omega (arith, left, same, view)

@@ -1,0 +1,26 @@
+//! What a node is made of: what it keeps of one message, the shelf of its messages, and what comes to it and goes out.
+#![tactic(auto)]
+
+mod attempts;
+mod copies;
+mod fault;
+mod grant_refusal;
+mod input;
+mod message;
+mod message_room;
+mod message_shelf;
+mod outputs;
+mod renewal;
+mod round_drop;
+mod ruling;
+mod turn;
+
+pub use fault::StepFault;
+pub use grant_refusal::GrantRefusal;
+pub use input::{Input, sender};
+pub use message::Message;
+pub use message_room::MessageRoom;
+pub use message_shelf::MessageShelf;
+pub use outputs::Outputs;
+pub use ruling::Ruling;
+pub use turn::Turn;
