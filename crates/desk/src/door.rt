@@ -1,6 +1,6 @@
 //! What is looked at when a request comes: what is refused at once, and what waits.
 
-ghost use Rattle.std.specs.Prelude.{◌≡◌, ◌≤◌, ℕ, false, true, Ok, IfOk, OnOk};
+ghost use Rattle.std.specs.Prelude.{◌≡◌, ◌≤◌, ℕ, false, true, Ok, IfOk, IsOk, OnErr, OnOk};
 ghost use Rattle.desk.specs.Desk.{fields_refusal, submission_of};
 ghost use Rattle.mc_types.specs.Texts.{id_in};
 ghost use Rattle.desk.specs.declared.request.Request.TheVariants as requests;
@@ -54,13 +54,15 @@ impl Door {
     ghost use Rattle.desk.specs.Times.{AreToCome, times_of};
     ghost use Rattle.desk.specs.Desk.{submit_judged, with_room};
 
-    /// What waits of a request of an account, or the status with which it is refused at once. An outer `Err` is want of memory.
+    /// What waits of a request of an account, or the status with which it is refused at once. An outer `Err` is want of memory,
+    /// which only a request needs that is not refused.
     pub fn admit(
         &self,
         account: &Text<16>,
         request: Request,
     ) -> Result<Result<Admitted, Status>, AllocError>
         ensures admitted { IfOk result (λ judged. (next : ℕ) → asked_as next judged ≡ admitted self.now next account.now request) }
+        ensures memory { OnErr result ((next : ℕ) → IsOk (admitted self.now next account.now request)) }
         ensures waits { IfOk result (λ judged. IfOk judged (MayWait self.now)) }
     {
         match request {
@@ -78,6 +80,7 @@ impl Door {
         target: Option<Text<16>>,
     ) -> Result<Result<Admitted, Status>, AllocError>
         ensures admitted { IfOk result (λ judged. (next : ℕ) → asked_as next judged ≡ submitted_as self.now next account.now message target) }
+        ensures memory { OnErr result ((next : ℕ) → IsOk (submitted_as self.now next account.now message target)) }
         ensures waits { IfOk result (λ judged. IfOk judged (MayWait self.now)) }
     {
         let Some(target) = target else {
@@ -99,6 +102,7 @@ impl Door {
         query: Query,
     ) -> Result<Result<Admitted, Status>, AllocError>
         ensures admitted { IfOk result (λ judged. (next : ℕ) → asked_as next judged ≡ admitted self.now next account.now (requests.Ask query)) }
+        ensures memory { OnErr result ((next : ℕ) → IsOk (admitted self.now next account.now (requests.Ask query))) }
         ensures waits { IfOk result (λ judged. IfOk judged (MayWait self.now)) }
     {
         let id = match self.about(&query.message_id) {
@@ -120,6 +124,7 @@ impl Door {
         cancel: Cancel,
     ) -> Result<Result<Admitted, Status>, AllocError>
         ensures admitted { IfOk result (λ judged. (next : ℕ) → asked_as next judged ≡ admitted self.now next account.now (requests.Cancel cancel)) }
+        ensures memory { OnErr result ((next : ℕ) → IsOk (admitted self.now next account.now (requests.Cancel cancel))) }
         ensures waits { IfOk result (λ judged. IfOk judged (MayWait self.now)) }
     {
         if cancel.message_id.is_empty() {

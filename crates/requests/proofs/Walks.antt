@@ -1,13 +1,13 @@
 -- What is done with all that wait, one after another.
 use Rattle.std.proofs.Common.{◌≡◌, ℕ, zero, suc, ◌+◌, ◌<◌, ◌≤◌, ◌++◌, Bool, true, false, cond, List, [], ◌∷◌, map, length, take, drop, set}
 use Rattle.std.proofs.Common.{get_or, option_map, Option, Some, None, refl, sym, ap, subst, ◌∙◌, arith}
-use Rattle.std.specs.Prelude.{◌==◌, ◌||◌, Err, Ok, OnErr, Result, filter, nat_lt}
+use Rattle.std.specs.Prelude.{◌==◌, ◌||◌, Err, IsSome, Ok, OnErr, Result, filter, nat_lt, not}
 use Rattle.std.specs.List.{list_any, position, position_or_len}
 use Rattle.std.proofs.lemmas.Bool.{eqb-true, ltb-false}
 use Rattle.std.proofs.lemmas.List.Sums.{fails_before_first}
 use Rattle.std.specs.Global.{Box}
 use Rattle.std.specs.Box.{box_value}
-use Rattle.std.specs.Option.{option_to_list}
+use Rattle.std.specs.Option.{is_none, option_to_list}
 use Rattle.std.proofs.lemmas.List.{append_assoc, append-nil, drop_more, drop-set-lt, map-append, take_more, take_more_set}
 use Rattle.mc_model.specs.node.Outputs.{Reply}
 use Rattle.mc_model.specs.node.Replies.{Answer}
@@ -52,6 +52,13 @@ replied_is items (Some reply) h (Some answer) rest same =
     ap (λ (all : List Reply). all ++ rest) (map-append reply_given items (reply ∷ []))
     ∙ append_assoc (map reply_given items) (reply_given reply ∷ []) rest
     ∙ ap (λ (r : Reply). map reply_given items ++ r ∷ rest) given
+
+-- a reply is there, so there is an answer
+pub answered_if : (h : Held) (answer : Option Answer) (reply : Option Sent) → option_map reply_given reply ≡ reply_with h answer → IsSome reply →
+    not (is_none answer) ≡ true
+answered_if h answer None same there = absurd (cc)
+answered_if h None (Some reply) same there = absurd (cc)
+answered_if h (Some answer) (Some reply) same there = refl
 
 -- ---- each is changed
 

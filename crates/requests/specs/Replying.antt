@@ -1,5 +1,5 @@
 -- The answers of the code, as the model's (own).
-use Rattle.std.specs.Prelude.{ℕ, List, Option, option_map}
+use Rattle.std.specs.Prelude.{ℕ, List, Option, Some, None, option_map}
 use Rattle.mc_model.specs.message.Decree.{Decree}
 use Rattle.mc_model.specs.node.Replies.{Accepted, Answer, Kept, NotMatched, NotOwner, Removed, Shown, TooLate, Unknown}
 use Rattle.mc_model.specs.node.Outputs.{Reply}
@@ -33,6 +33,18 @@ answer_with chain verdict.Removed = Removed chain
 answer_with chain verdict.Kept = Kept chain
 answer_with chain verdict.NotOwner = NotOwner
 answer_with chain verdict.NotMatched = NotMatched chain
+
+-- an answer is there, and shows a chain
+abbrev pub ShowsChain : Option Answer → Type 0
+ShowsChain None = ⊥
+ShowsChain (Some Accepted) = ⊥
+ShowsChain (Some (Shown chain)) = Unit {0}
+ShowsChain (Some (Removed chain)) = Unit {0}
+ShowsChain (Some (Kept chain)) = Unit {0}
+ShowsChain (Some NotOwner) = ⊥
+ShowsChain (Some (NotMatched chain)) = Unit {0}
+ShowsChain (Some Unknown) = ⊥
+ShowsChain (Some TooLate) = ⊥
 
 -- ---- the reply to a request, if it has an answer
 

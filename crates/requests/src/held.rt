@@ -1,6 +1,6 @@
 //! Requests that wait.
 
-ghost use Rattle.std.specs.Prelude.{◌≡◌, ◌&&◌, ◌||◌, None, Some, IfOk, IfSome, OnErr, OnOk, false, option_map, if◌then◌else◌};
+ghost use Rattle.std.specs.Prelude.{◌≡◌, ◌&&◌, ◌||◌, None, Some, IfOk, IfSome, IsTrue, OnErr, OnOk, false, option_map, if◌then◌else◌};
 ghost use Rattle.std.specs.Option.{option_copied};
 ghost use Rattle.mc_model.specs.message.Chain.{taken_in};
 ghost use Rattle.mc_model.specs.message.Submission.{Submission as SubmissionValue};
@@ -15,9 +15,10 @@ ghost use Rattle.node_model.specs.Ticks.{is_late, late_reply};
 ghost use Rattle.synod_acceptor.specs.Packets.{packet_of};
 ghost use Rattle.synod_acceptor.specs.Votes.{told_vote};
 ghost use Rattle.requests.specs.Questions.{question_by};
-ghost use Rattle.requests.specs.Replying.{answer_given, answer_with, reply_given, reply_to, reply_with};
+ghost use Rattle.requests.specs.Replying.{ShowsChain, answer_given, answer_with, reply_given, reply_to, reply_with};
+ghost use Rattle.requests.specs.Queues.{is_answered};
 ghost use Rattle.requests.specs.Submits.{IsNumberedBy, begun_of, start_of};
-ghost use Rattle.requests.specs.Tops.{over, shown_by, told_by_most};
+ghost use Rattle.requests.specs.Tops.{Passes, over, shown_by, told_by_most};
 ghost use Rattle.requests.specs.Waiting.{IsSince, held_of, known_of, request_of};
 
 use crate::answer::{Answer, Reply};
@@ -113,6 +114,7 @@ impl Held {
     pub fn hear(&mut self, from: NodeNo, told: Option<&Vote>) -> Result<(), AllocError>
         ensures ok { OnOk result (held_of self.new ≡ told_by (held_of self.old) from (told_vote (option_copied told.entry))) }
         ensures err { OnErr result (self.new ≡ self.old) }
+        ensures memory { OnErr result (Passes (held_of self.old).top (told_vote (option_copied told.entry))) }
     {
         let higher = self.higher_copy(told)?;
         raise(&mut self.top, higher);
@@ -122,8 +124,9 @@ impl Held {
 
     /// A copy of the vote that is told, if it is higher than what was told before.
     fn higher_copy(&self, told: Option<&Vote>) -> Result<Option<Vote>, AllocError>
-        ensures { IfOk result (λ copy. higher_top (held_of self.now).top (told_vote (option_copied told.entry))
+        ensures copy { IfOk result (λ copy. higher_top (held_of self.now).top (told_vote (option_copied told.entry))
             ≡ over (told_vote copy) (held_of self.now).top) }
+        ensures memory { OnErr result (Passes (held_of self.now).top (told_vote (option_copied told.entry))) }
     {
         let Some(vote) = told else {
             return Ok(None);
@@ -200,7 +203,8 @@ impl Held {
     /// What it is answered by what is known of its message; nothing if it still waits. An `Err` is want of memory, which only the
     /// copy of a chain needs.
     pub fn answer(&self, nodes: u8, known: Option<&Chain>) -> Result<Option<Answer>, AllocError>
-        ensures { IfOk result (λ answer. option_map answer_given answer ≡ answer_to nodes (known_of (option_copied known.entry)) (held_of self.now)) }
+        ensures answer { IfOk result (λ answer. option_map answer_given answer ≡ answer_to nodes (known_of (option_copied known.entry)) (held_of self.now)) }
+        ensures memory { OnErr result (ShowsChain (answer_to nodes (known_of (option_copied known.entry)) (held_of self.now))) }
     {
         let Some(chain) = known else {
             return Ok(self.answer_unheard(nodes));
@@ -245,10 +249,11 @@ impl Held {
     }
 
     /// The reply to it once this chain is known, by which a cancel_sm may be settled; none if it still waits then. An `Err` is want
-    /// of memory.
+    /// of memory, which only a reply needs.
     pub(crate) fn reply(&self, nodes: u8, chain: &Chain) -> Result<Option<Reply>, AllocError>
-        ensures { IfOk result (λ reply. option_map reply_given reply
+        ensures reply { IfOk result (λ reply. option_map reply_given reply
             ≡ reply_to nodes (Some chain.now.decrees) chain.now.id (settled_for nodes chain.now.id chain.now.decrees (held_of self.now))) }
+        ensures memory { OnErr result (IsTrue (is_answered nodes chain.now.id chain.now.decrees (held_of self.now))) }
     {
         if self.id() != chain.id() {
             return Ok(None);

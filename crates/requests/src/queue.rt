@@ -20,7 +20,7 @@ ghost use Rattle.node_model.specs.Ticks.{is_late, late_reply};
 ghost use Rattle.synod_acceptor.specs.Packets.{packet_of};
 ghost use Rattle.synod_acceptor.specs.Votes.{told_vote};
 ghost use Rattle.requests.specs.Questions.{question_by};
-ghost use Rattle.requests.specs.Queues.{IsAbove, timely};
+ghost use Rattle.requests.specs.Queues.{IsAbove, timely, is_answered};
 ghost use Rattle.requests.specs.Numbers.{IsLeastFrom, ids_in};
 ghost use Rattle.requests.specs.Replying.{reply_given};
 ghost use Rattle.requests.specs.Submits.{AreNumberedBy, start_of};
@@ -116,10 +116,11 @@ impl Queue {
     }
 
     /// The replies once this chain is known, which may settle a cancel_sm of its message first, by ascending tickets. An `Err` is
-    /// want of memory.
+    /// want of memory, which only those need that have an answer then.
     pub fn replies(&self, nodes: u8, chain: &Chain) -> Result<Vec<Reply>, AllocError>
-        ensures { IfOk result (λ replies. map reply_given replies.items
+        ensures replies { IfOk result (λ replies. map reply_given replies.items
             ≡ replies_to nodes (Some chain.now.decrees) chain.now.id (map (settled_for nodes chain.now.id chain.now.decrees) (held_in self.now))) }
+        ensures memory { OnErr result (IsTrue (list_any (is_answered nodes chain.now.id chain.now.decrees) (held_in self.now))) }
     {
         replies(*self.held.allocator(), &self.held, nodes, chain)
     }

@@ -1,13 +1,13 @@
 //! What is told of a message.
 
-ghost use Rattle.std.specs.Prelude.{◌≡◌, Some, pred, length, nat_le, if◌then◌else◌};
+ghost use Rattle.std.specs.Prelude.{◌≡◌, ◌↔◌, IsTrue, Some, pred, length, nat_le, if◌then◌else◌};
 ghost use Rattle.std.specs.Option.{option_copied};
 ghost use Rattle.node_model.specs.Requests.{higher_top, is_higher, is_reached};
 ghost use Rattle.node_model.specs.Sets.{is_majority};
 ghost use Rattle.mc_types.specs.Nodes.{has};
 ghost use Rattle.synod_acceptor.specs.Votes.{slot_in, told_vote, vote_of};
 ghost use Rattle.mc_model.specs.synod.Packet.{top_at};
-ghost use Rattle.requests.specs.Tops.{over};
+ghost use Rattle.requests.specs.Tops.{Passes, over};
 ghost use Rattle.requests.specs.Waiting.{known_of};
 
 use fate_chain::Chain;
@@ -29,7 +29,8 @@ pub(crate) fn higher<'a>(top: Option<&'a Vote>, told: Option<&'a Vote>) -> Optio
 
 /// Whether a vote is higher than the one so far, if there is one.
 pub(crate) fn passes(vote: &Vote, top: Option<&Vote>) -> bool
-    ensures { higher_top (told_vote (option_copied top.entry)) (told_vote (Some vote.now))
+    ensures passes { IsTrue result ↔ Passes (told_vote (option_copied top.entry)) (told_vote (Some vote.now)) }
+    ensures higher { higher_top (told_vote (option_copied top.entry)) (told_vote (Some vote.now))
         ≡ (if result then told_vote (Some vote.now) else told_vote (option_copied top.entry)) }
 {
     match top {

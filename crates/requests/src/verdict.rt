@@ -1,11 +1,11 @@
 //! What a request is answered by what is known.
 
-ghost use Rattle.std.specs.Prelude.{◌≡◌, List, Some, IfOk, option_map};
+ghost use Rattle.std.specs.Prelude.{◌≡◌, List, Some, IfOk, OnErr, option_map};
 ghost use Rattle.mc_model.specs.message.Chain.{taken_in};
 ghost use Rattle.mc_model.specs.message.Decree.{Decree};
 ghost use Rattle.node_model.specs.Answers.{answer_by, cancel_answer, cancel_decided, is_match, is_owner, query_shown};
 ghost use Rattle.fate_chain.specs.Kinds.{kind_of};
-ghost use Rattle.requests.specs.Replying.{answer_given, answer_with};
+ghost use Rattle.requests.specs.Replying.{ShowsChain, answer_given, answer_with};
 ghost use Rattle.requests.specs.Waiting.{request_of};
 
 use crate::answer::Answer;
@@ -64,9 +64,10 @@ impl Verdict {
         }
     }
 
-    /// The answer, with the chain by which it is.
+    /// The answer, with the chain by which it is. An `Err` is want of memory, which only an answer that shows the chain needs.
     pub(crate) fn answer(self, chain: &Chain) -> Result<Answer, AllocError>
-        ensures { IfOk result (λ answer. answer_given answer ≡ answer_with chain.now.decrees self) }
+        ensures answer { IfOk result (λ answer. answer_given answer ≡ answer_with chain.now.decrees self) }
+        ensures memory { OnErr result (ShowsChain (Some (answer_with chain.now.decrees self))) }
     {
         match self {
             Verdict::Accepted => Ok(Answer::Accepted),

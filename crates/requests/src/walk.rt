@@ -1,6 +1,6 @@
 //! What is done with all that wait, one after another.
 
-ghost use Rattle.std.specs.Prelude.{◌≡◌, ◌==◌, ◌++◌, None, Some, filter, map, not, option_map, IfOk, IsTrue, OnErr, OnOk};
+ghost use Rattle.std.specs.Prelude.{◌≡◌, ◌==◌, ◌++◌, None, Some, filter, map, not, option_map, IfOk, IsSome, IsTrue, OnErr, OnOk};
 ghost use Rattle.std.specs.Box.{box_value};
 ghost use Rattle.std.specs.List.{list_any, position};
 ghost use Rattle.std.specs.Option.{option_copied, option_to_list};
@@ -16,7 +16,7 @@ ghost use Rattle.node_model.specs.Ticks.{is_late, late_reply};
 ghost use Rattle.synod_acceptor.specs.Packets.{packet_of};
 ghost use Rattle.synod_acceptor.specs.Votes.{told_vote};
 ghost use Rattle.requests.specs.Questions.{question_by};
-ghost use Rattle.requests.specs.Queues.{Ascend, boxed_in, timely};
+ghost use Rattle.requests.specs.Queues.{Ascend, boxed_in, is_answered, timely};
 ghost use Rattle.requests.specs.Numbers.{least_of, lesser_from};
 ghost use Rattle.requests.specs.Replying.{reply_given};
 ghost use Rattle.requests.specs.Submits.{first_begun};
@@ -75,8 +75,9 @@ pub(crate) fn replies(
     nodes: u8,
     chain: &Chain,
 ) -> Result<Vec<Reply>, AllocError>
-    ensures { IfOk result (λ replies. map reply_given replies.items ≡ replies_to nodes (Some chain.now.decrees) chain.now.id
+    ensures replies { IfOk result (λ replies. map reply_given replies.items ≡ replies_to nodes (Some chain.now.decrees) chain.now.id
         (map (settled_for nodes chain.now.id chain.now.decrees) (boxed_in held.now))) }
+    ensures memory { OnErr result (IsTrue (list_any (is_answered nodes chain.now.id chain.now.decrees) (boxed_in held.now))) }
 {
     let mut replies = Vec::new(alloc);
     for one in held {
@@ -87,7 +88,8 @@ pub(crate) fn replies(
 
 /// Puts a reply after the others, if there is one.
 fn put(replies: &mut Vec<Reply>, reply: Option<Reply>) -> Result<(), AllocError>
-    ensures { OnOk result (replies.new.items ≡ replies.old.items ++ option_to_list reply) }
+    ensures memory { OnErr result (IsSome reply) }
+    ensures replies { OnOk result (replies.new.items ≡ replies.old.items ++ option_to_list reply) }
 {
     if let Some(reply) = reply {
         replies.push(reply)?;

@@ -50,6 +50,14 @@ refusal_body requests.CancelSm = CancelSmResp
 refusal_body requests.Unbind = UnbindResp
 refusal_body requests.EnquireLink = EnquireLinkResp
 
+-- it answers a bind that succeeds
+abbrev pub AnswersBind : Response → Type 0
+AnswersBind (Nack status) = ⊥
+AnswersBind (Refused request status) = ⊥
+AnswersBind (Bound role version) = Unit {0}
+AnswersBind Unbound = ⊥
+AnswersBind Linked = ⊥
+
 -- What a bind is answered that succeeds: the centre's system_id, and, if the ESME knows optional parameters, the
 -- sc_interface_version 0x34 (SMPP 3.4, 4.1.2 and 5.3.2.25).
 abbrev pub bound_answer : List ℕ → ℕ → BindAnswer

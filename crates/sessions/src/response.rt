@@ -1,8 +1,8 @@
 //! What goes out on a session in answer to a PDU, and the PDU that it is.
 
-ghost use Rattle.std.specs.Prelude.{◌≡◌, IfOk};
+ghost use Rattle.std.specs.Prelude.{◌≡◌, IfOk, OnErr};
 ghost use Rattle.pdu_codec.specs.Pdu.{octets_of};
-ghost use Rattle.sessions.specs.Responses.{pdu_of, pdu_with, bound_answer, bound_body};
+ghost use Rattle.sessions.specs.Responses.{AnswersBind, pdu_of, pdu_with, bound_answer, bound_body};
 
 use crate::requested::Requested;
 use accounts::Role;
@@ -44,9 +44,10 @@ impl Outgoing {
         encoded(alloc, self.pdu(alloc, system_id)?)
     }
 
-    /// Its PDU. The centre has this system_id. An `Err` is want of memory, which only a session that was bound needs.
+    /// Its PDU. The centre has this system_id. An `Err` is want of memory, which only the answer to a bind that succeeds needs.
     pub fn pdu(self, alloc: Global, system_id: &Text<16>) -> Result<Pdu, AllocError>
-        ensures { IfOk result (λ pdu. pdu ≡ pdu_of system_id.now self) }
+        ensures pdu { IfOk result (λ pdu. pdu ≡ pdu_of system_id.now self) }
+        ensures memory { OnErr result (AnswersBind self.response) }
     {
         match self.response {
             Response::Nack(status) => Ok(pdu_with(status, self.sequence, Body::GenericNack)),

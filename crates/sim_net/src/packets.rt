@@ -66,10 +66,12 @@ impl Packets {
         self.sent.get(place as usize)
     }
 
-    /// Makes room for so many more packets, for twice as many as there are at least, if there is no room for them. It changes nothing; an
+    /// Makes room for so many more packets, and for as many as there are at least, if there is no room for them. It changes nothing; an
     /// `Err` is want of memory.
     pub fn make_room(&mut self, more: usize) -> Result<(), AllocError>
         ensures room { OnOk result (more ≤ self.new.room) }
+        ensures grows { self.old.room < more → OnOk result (length self.old.sent ≤ self.new.room) }
+        ensures enough { more ≤ self.old.room → self.new.room ≡ self.old.room }
         ensures memory { OnErr result (self.old.room < more) }
         ensures sent { self.new.sent ≡ self.old.sent }
     {

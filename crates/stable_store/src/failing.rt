@@ -1,6 +1,6 @@
 //! A store whose device fails, for tests.
 
-ghost use Rattle.std.specs.Prelude.{◌≡◌, ◌↔◌, false, IsTrue};
+ghost use Rattle.std.specs.Prelude.{◌≡◌, ◌≤◌, ◌↔◌, ◌⊎◌, ◌-◌, false, IfErr, IsErr, IsErrOf, IsTrue, OnErr, OnOk};
 
 use crate::fault::StoreFault;
 use crate::list::ListStore;
@@ -58,6 +58,9 @@ impl FailingStore {
 
 impl StableStore for FailingStore {
     ghost use Rattle.synod_acceptor.specs.Records.{record_at};
+    ghost use Rattle.stable_store.specs.Stored.{AreSame, HasFailed, saved};
+    ghost use Rattle.stable_store.specs.declared.failing.Found.TheVariants.{After, Before};
+    ghost use Rattle.stable_store.specs.declared.fault.StoreFault.TheVariants.{Device, Memory};
 
     ghost records = { λ s. record_at s.store.entries };
 
@@ -71,7 +74,26 @@ impl StableStore for FailingStore {
         self.store.load()
     }
 
-    fn save(&mut self, change: &Change) -> Result<(), StoreFault> {
+    /// The save of its number, counted from 1, fails, and no other; it leaves what was found.
+    fn save(&mut self, change: &Change) -> Result<(), StoreFault>
+        ensures ok { OnOk result (AreSame (record_at self.new.store.entries) (saved change.now self.old.store.entries)) }
+        ensures memory { IsErrOf result Memory → AreSame (record_at self.new.store.entries) (record_at self.old.store.entries) }
+        ensures device { IsErrOf result Device → HasFailed self.old.failed self.new.failed }
+        ensures stopped { OnErr result (AreSame (record_at self.new.store.entries) (record_at self.old.store.entries)
+            ⊎ AreSame (record_at self.new.store.entries) (saved change.now self.old.store.entries)) }
+        ensures started { self.new.store.started ≡ self.old.store.started }
+        ensures rises { self.old.failed ≤ self.new.failed }
+        ensures faults { IfErr result (λ fault. (fault ≡ Device) ⊎ (fault ≡ Memory)) }
+        ensures fails { self.old.fails_in ≡ 1 → IsErr result }
+        ensures fails_alone { IsErrOf result Device → (self.old.fails_in ≡ 1) × (self.new.fails_in ≡ 0) }
+        ensures wants { IsErrOf result Memory → self.old.fails_in ≡ 1 → self.old.found ≡ After }
+        ensures before { IsErrOf result Device → self.old.found ≡ Before →
+            AreSame (record_at self.new.store.entries) (record_at self.old.store.entries) }
+        ensures after { IsErrOf result Device → self.old.found ≡ After →
+            AreSame (record_at self.new.store.entries) (saved change.now self.old.store.entries) }
+        ensures counts { OnOk result (self.new.fails_in ≡ self.old.fails_in - 1) }
+        ensures waits { IsErrOf result Memory → self.new.fails_in ≡ self.old.fails_in }
+    {
         if !self.fails_next() {
             self.store.save(change)?;
             self.fails_in = self.fails_in.saturating_sub(1);

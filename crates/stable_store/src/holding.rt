@@ -1,6 +1,6 @@
 //! A store that holds a save up, for tests.
 
-ghost use Rattle.std.specs.Prelude.{◌≡◌, false};
+ghost use Rattle.std.specs.Prelude.{◌≡◌, ◌≢◌, ◌+◌, ◌-◌, ◌^◌, ◌⊎◌, ℕ, min, false, IfErr, IsErrOf, OnErr, OnOk};
 
 use crate::fault::StoreFault;
 use crate::list::ListStore;
@@ -10,7 +10,12 @@ use synod_acceptor::{Change, Record};
 
 /// What holds a save up: it returns when the save may go on.
 pub trait Hold {
-    fn hold(&mut self);
+    /// How often it was asked to hold a save up.
+    ghost held: { Self → ℕ };
+
+    /// Holds a save up. It is asked at most 2^64 - 1 times.
+    fn hold(&mut self)
+        ensures { held self.new ≡ min (held self.old + 1) (2 ^ 64 - 1) };
 }
 
 /// A store of which one save is held up.
@@ -38,6 +43,8 @@ impl<H: Hold> HoldingStore<H> {
 
 impl<H: Hold> StableStore for HoldingStore<H> {
     ghost use Rattle.synod_acceptor.specs.Records.{record_at};
+    ghost use Rattle.stable_store.specs.Stored.{AreSame, saved};
+    ghost use Rattle.stable_store.specs.declared.fault.StoreFault.TheVariants.{Memory};
 
     ghost records = { λ s. record_at s.store.entries };
 
@@ -51,7 +58,18 @@ impl<H: Hold> StableStore for HoldingStore<H> {
         self.store.load()
     }
 
-    fn save(&mut self, change: &Change) -> Result<(), StoreFault> {
+    /// The save of its number, counted from 1, is held up, and no other.
+    fn save(&mut self, change: &Change) -> Result<(), StoreFault>
+        ensures ok { OnOk result (AreSame (record_at self.new.store.entries) (saved change.now self.old.store.entries)) }
+        ensures memory { IsErrOf result Memory → AreSame (record_at self.new.store.entries) (record_at self.old.store.entries) }
+        ensures stopped { OnErr result (AreSame (record_at self.new.store.entries) (record_at self.old.store.entries)
+            ⊎ AreSame (record_at self.new.store.entries) (saved change.now self.old.store.entries)) }
+        ensures started { self.new.store.started ≡ self.old.store.started }
+        ensures faults { IfErr result (λ fault. fault ≡ Memory) }
+        ensures holds { self.old.holds_in ≡ 1 → H.held self.new.hold ≡ min (H.held self.old.hold + 1) (2 ^ 64 - 1) }
+        ensures holds_alone { self.old.holds_in ≢ 1 → self.new.hold ≡ self.old.hold }
+        ensures counts { self.new.holds_in ≡ self.old.holds_in - 1 }
+    {
         if self.holds_in == 1 {
             self.hold.hold();
         }

@@ -1,6 +1,6 @@
 //! The acceptor.
 
-ghost use Rattle.std.specs.Prelude.{◌≡◌, ◌<◌, ◌≤◌, ◌↔◌, Some, None, option_map, IfOk, IfSome, IsTrue, OnOk, OnErr};
+ghost use Rattle.std.specs.Prelude.{◌≡◌, ◌<◌, ◌≤◌, ◌↔◌, Some, None, option_map, IfOk, IfSome, IsSome, IsTrue, OnOk, OnErr};
 ghost use Rattle.std.specs.Option.{option_copied};
 ghost use Rattle.mc_model.specs.synod.Packet.{Slot as SlotValue};
 ghost use Rattle.mc_model.specs.synod.Acceptor.{blank, with_record};
@@ -95,6 +95,7 @@ impl Acceptor {
         ensures change { IfOk result (λ verdict. Changes slot (record_at self.now slot)
             (prepare_judged node slot ballot (record_at self.now slot)).after verdict.change) }
         ensures memory { OnErr result ((record_at self.now slot).promised < ballot) }
+        ensures votes { OnErr result (IsSome (record_at self.now slot).vote) }
     {
         let Some(record) = self.record(slot) else {
             return Ok(promise(node, ballot, Report::Nothing(slot), Report::Nothing(slot)));

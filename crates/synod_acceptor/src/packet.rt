@@ -1,6 +1,7 @@
 //! What nodes send to one another.
 
-ghost use Rattle.std.specs.Prelude.{◌≡◌, IfOk};
+ghost use Rattle.std.specs.Prelude.{◌≡◌, IfOk, IsSome, OnErr};
+ghost use Rattle.synod_acceptor.specs.Packets.{CarriesVote, packet_of};
 
 use crate::vote::{Report, Vote};
 use mc_types::{Ballot, Incarnation, MsgId, NodeNo, Slot};
@@ -73,9 +74,10 @@ pub enum Packet {
 }
 
 impl Packet {
-    /// The same packet once more. An `Err` is want of memory, which votes need.
+    /// The same packet once more. An `Err` is want of memory, which only a packet that carries a vote needs.
     pub fn copy(&self) -> Result<Packet, AllocError>
-        ensures { IfOk result (λ copy. copy ≡ self.now) }
+        ensures copy { IfOk result (λ copy. copy ≡ self.now) }
+        ensures memory { OnErr result (CarriesVote (packet_of self.now)) }
     {
         match self {
             Packet::Prepare { from, slot, ballot } => Ok(Packet::Prepare {
@@ -127,7 +129,8 @@ impl Packet {
 
 /// The same vote once more, if there is one.
 fn told_copied(told: &Option<Vote>) -> Result<Option<Vote>, AllocError>
-    ensures { IfOk result (λ copy. copy ≡ told.now) }
+    ensures copy { IfOk result (λ copy. copy ≡ told.now) }
+    ensures memory { OnErr result (IsSome told.now) }
 {
     match told {
         Some(vote) => Ok(Some(vote.copy()?)),

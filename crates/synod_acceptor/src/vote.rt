@@ -1,6 +1,6 @@
 //! Votes, and what is reported of them.
 
-ghost use Rattle.std.specs.Prelude.{◌≡◌, ◌<◌, ◌⊎◌, ◌↔◌, None, IfOk, IsTrue};
+ghost use Rattle.std.specs.Prelude.{◌≡◌, ◌<◌, ◌⊎◌, ◌↔◌, None, IfOk, IsSome, IsTrue, OnErr};
 ghost use Rattle.node_model.specs.Message.{most_places};
 ghost use Rattle.synod_acceptor.specs.Votes.{report_of, slot_in, slot_reported};
 
@@ -66,7 +66,8 @@ impl Report {
 
     /// The same report once more. It takes memory only for a vote.
     pub fn copy(&self) -> Result<Report, AllocError>
-        ensures { IfOk result (λ report. report ≡ self.now) }
+        ensures copy { IfOk result (λ report. report ≡ self.now) }
+        ensures memory { OnErr result (IsSome (report_of self.now)) }
     {
         match self {
             Report::Nothing(slot) => Ok(Report::Nothing(*slot)),
