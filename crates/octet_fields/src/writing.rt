@@ -1,13 +1,12 @@
-//! Fields after octets. An `Err` is want of memory: the octets that were there are there still, and some may follow them.
+//! Fields after octets. An `Err` is want of memory: then no octet follows those that were there.
 
 ghost use Rattle.std.specs.Prelude.{◌≡◌, ◌<◌, ◌≤◌, ◌+◌, ◌^◌, ◌++◌, ◌∷◌, [], length, vec_capacity, OnOk, OnErr};
 ghost use Rattle.std.specs.Int.{w16, to_be_bytes};
-ghost use Rattle.std.specs.Io.{StartsWith};
 ghost use Rattle.octet_fields.specs.Texts.{IsOctets, AreOctets, joined};
 
 use std::alloc::AllocError;
 
-/// Octets, as they are. At an `Err` none of them follows.
+/// Octets, as they are.
 pub fn put_octets(out: &mut Vec<u8>, octets: &[u8]) -> Result<(), AllocError>
     ensures ok { OnOk result (out.new.items ≡ out.old.items ++ octets.now) }
     ensures err { OnErr result (out.new.items ≡ out.old.items) }
@@ -20,11 +19,9 @@ pub fn put_octets(out: &mut Vec<u8>, octets: &[u8]) -> Result<(), AllocError>
 pub fn put_counted(out: &mut Vec<u8>, octets: &[u8]) -> Result<(), AllocError>
     requires { length octets.now < 2 ^ 8 }
     ensures ok { OnOk result (out.new.items ≡ out.old.items ++ (length octets.now ∷ octets.now)) }
-    ensures err { OnErr result (StartsWith out.new.items out.old.items) }
+    ensures err { OnErr result (out.new.items ≡ out.old.items) }
 {
-    out.push(octets.len() as u8)?;
-    out.extend_from_slice(octets)?;
-    Ok(())
+    put_both(out, &[octets.len() as u8], octets)
 }
 
 /// Octets after their number, which has two octets.
@@ -32,10 +29,20 @@ pub fn put_long_counted(out: &mut Vec<u8>, octets: &[u8]) -> Result<(), AllocErr
     requires { length octets.now < 2 ^ 16 }
     ensures ok { OnOk result (out.new.items
         ≡ out.old.items ++ (to_be_bytes w16 (length octets.now) ++ octets.now)) }
-    ensures err { OnErr result (StartsWith out.new.items out.old.items) }
+    ensures err { OnErr result (out.new.items ≡ out.old.items) }
 {
-    out.extend_from_slice(&(octets.len() as u16).to_be_bytes())?;
-    out.extend_from_slice(octets)?;
+    put_both(out, &(octets.len() as u16).to_be_bytes(), octets)
+}
+
+/// A number and the octets after it, both or none.
+fn put_both(out: &mut Vec<u8>, number: &[u8], octets: &[u8]) -> Result<(), AllocError>
+    requires { length number.now + length octets.now < 2 ^ 64 }
+    ensures ok { OnOk result (out.new.items ≡ out.old.items ++ (number.now ++ octets.now)) }
+    ensures err { OnErr result (out.new.items ≡ out.old.items) }
+{
+    out.reserve(number.len() + octets.len())?;
+    out.extend_from_slice(number).unwrap();
+    out.extend_from_slice(octets).unwrap();
     Ok(())
 }
 
