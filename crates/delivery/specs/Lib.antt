@@ -1,3 +1,4 @@
+pub use Rattle.fate_chain.specs.States
 pub mod Targets
 pub mod Due
 pub mod Kept

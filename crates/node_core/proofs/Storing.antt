@@ -3,7 +3,7 @@ use Rattle.std.proofs.Common.{◌≡◌, ◌≤◌, ℕ, suc, false, List, Optio
 use Rattle.std.specs.Prelude.{is_some}
 use Rattle.std.proofs.lemmas.Bool.{true≢false}
 use Rattle.mc_model.specs.node.Setup.{Setup}
-use Rattle.requests.specs.Waiting.{held_in}
+use Rattle.node_kept.specs.Waiting.{held_in}
 use Rattle.mc_model.specs.synod.Acceptor.{Records}
 use Rattle.node_model.specs.Kept.{Held}
 use Rattle.synod_acceptor.specs.declared.packet.Packet.{Packet as Sent}

@@ -16,8 +16,8 @@ use Rattle.node_model.specs.Ticks.{given_up, ids_of, ruled, ruled_each, ticked, 
 use Rattle.node_model.proofs.Stops.{started_leaves}
 use Rattle.pdu_tables.specs.declared.status.Status.{Status}
 use Rattle.delivery.specs.Kept.{outcome_kept}
-use Rattle.desk.specs.Admissions.{admitted}
-use Rattle.desk.specs.Arrivals.{door_at, judged_as, next_id}
+use Rattle.node_kept.specs.Admissions.{admitted}
+use Rattle.node_kept.specs.Arrivals.{door_at, judged_as, next_id}
 use Rattle.delivery.specs.Targets.{is_up}
 use Rattle.synod_acceptor.proofs.Slots.{is_same}
 use Rattle.synod_acceptor.specs.Votes.{record_of, slot_recorded}

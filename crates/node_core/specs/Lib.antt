@@ -1,3 +1,13 @@
+pub use Rattle.node_parts.specs.Attempting
+pub use Rattle.node_parts.specs.declared.fault.StepFault
+pub use Rattle.node_parts.specs.declared.input.Input
+pub use Rattle.node_parts.specs.declared.outputs.Outputs
+pub use Rattle.node_kept.specs.Keeping
+pub use Rattle.node_kept.specs.Listing
+pub use Rattle.node_kept.specs.Setups
+pub use Rattle.node_kept.specs.Steps
+pub use Rattle.node_kept.specs.declared.kept.Kept
+pub use Rattle.node_kept.specs.declared.stopped.Found
 pub mod Pendings
 pub mod Stops
 pub mod Nodes

@@ -20,9 +20,9 @@ use Rattle.synod_acceptor.specs.Verdicts.{Changes}
 use Rattle.synod_acceptor.specs.Votes.{record_of}
 use Rattle.synod_acceptor.specs.declared.acceptor.Verdict.{Verdict}
 use Rattle.synod_acceptor.specs.declared.record.Change.{Change}
-use Rattle.synod_learner.specs.Counts.{Learned}
-use Rattle.synod_proposer.specs.Proposing.{Proposing}
-use Rattle.synod_learner.specs.Hearing.{message_in}
+use Rattle.node_parts.specs.Counts.{Learned}
+use Rattle.node_parts.specs.Proposing.{Proposing}
+use Rattle.node_parts.specs.Hearing.{message_in}
 use Rattle.node_parts.specs.declared.attempts.Attempts.{Attempts}
 use Rattle.node_parts.specs.Attempting.{IsBacked, granted_in}
 use Rattle.node_parts.specs.declared.message.Message.{Message as Filed}

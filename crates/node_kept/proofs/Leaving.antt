@@ -20,7 +20,7 @@ use Rattle.synod_acceptor.specs.Records.{record_at}
 use Rattle.synod_acceptor.specs.declared.packet.Packet.{Packet as Cast}
 use Rattle.synod_acceptor.specs.declared.record.Change.{Change}
 use Rattle.shelf.specs.Shelved.{with_value}
-use Rattle.synod_proposer.specs.Proposing.{counted_in, is_own, proposed_in}
+use Rattle.node_parts.specs.Proposing.{counted_in, is_own, proposed_in}
 use Rattle.node_parts.specs.declared.message.Message.{Message as Filed}
 use Rattle.node_parts.specs.Messages.{IsOfSame, IsPromised, IsRefused, changed_by, message_of}
 use Rattle.node_parts.specs.Lists.{listed}

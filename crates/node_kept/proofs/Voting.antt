@@ -9,7 +9,7 @@ use Rattle.node_model.specs.Packets.{known_then, on_known, on_voted, vote_concer
 use Rattle.synod_acceptor.proofs.Slots.{is_same}
 use Rattle.synod_acceptor.specs.Votes.{slot_in, vote_of}
 use Rattle.synod_acceptor.specs.declared.vote.Vote.{Vote as Cast}
-use Rattle.synod_learner.specs.Hearing.{known_if}
+use Rattle.node_parts.specs.Hearing.{known_if}
 use Rattle.node_parts.specs.declared.message.Message.{Message as Filed}
 use Rattle.node_parts.specs.Messages.{IsHeard, message_of}
 use Rattle.node_kept.specs.declared.kept.Kept.{Kept as Holding}

@@ -1,3 +1,6 @@
+pub use Rattle.synod_learner.specs.Counts
+pub use Rattle.synod_learner.specs.Hearing
+pub use Rattle.synod_proposer.specs.Proposing
 pub mod Lists
 pub mod Copies
 pub mod Attempting

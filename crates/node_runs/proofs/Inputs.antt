@@ -20,13 +20,13 @@ use Rattle.delivery.specs.Kept.{outcome_kept}
 use Rattle.synod_acceptor.specs.Packets.{packet_of}
 use Rattle.arrival_laws.proofs.Asking.{request_comes}
 use Rattle.arrival_laws.proofs.Attempts.{grant_comes, outcome_comes}
-use Rattle.node_parts.specs.declared.fault.StepFault.{StepFault}
-use Rattle.node_parts.specs.declared.fault.StepFault.TheVariants as faults
-use Rattle.node_parts.specs.declared.input.Input.{Input}
-use Rattle.node_parts.specs.declared.input.Input.TheVariants as given
-use Rattle.node_parts.specs.Attempting.{reason_of}
-use Rattle.node_kept.specs.Keeping.{kept_of}
-use Rattle.node_kept.specs.Steps.{IsFault, refused_by}
+use Rattle.node_core.specs.StepFault.{StepFault}
+use Rattle.node_core.specs.StepFault.TheVariants as faults
+use Rattle.node_core.specs.Input.{Input}
+use Rattle.node_core.specs.Input.TheVariants as given
+use Rattle.node_core.specs.Attempting.{reason_of}
+use Rattle.node_core.specs.Keeping.{kept_of}
+use Rattle.node_core.specs.Steps.{IsFault, refused_by}
 use Rattle.node_core.specs.Nodes.{HasStopped, IsUnmoved, Seen, Standing}
 use Rattle.node_runs.specs.Runs.{IsLeftBy, IsSound, may_come_to}
 

@@ -19,10 +19,10 @@ use Rattle.node_laws.proofs.WholeSteps.{whole_runs}
 use Rattle.stable_store.specs.Stored.{AreSame}
 use Rattle.synod_acceptor.specs.Packets.{packet_of}
 use Rattle.synod_acceptor.specs.declared.packet.Packet.{Packet}
-use Rattle.node_parts.specs.declared.input.Input.{Input as Given}
-use Rattle.node_parts.specs.declared.outputs.Outputs.{Outputs as Sent}
-use Rattle.node_kept.specs.Keeping.{kept_of}
-use Rattle.node_kept.specs.Steps.{input_of}
+use Rattle.node_core.specs.Input.{Input as Given}
+use Rattle.node_core.specs.Outputs.{Outputs as Sent}
+use Rattle.node_core.specs.Keeping.{kept_of}
+use Rattle.node_core.specs.Steps.{input_of}
 use Rattle.node_core.specs.Nodes.{HasOpened, Standing}
 use Rattle.node_core.specs.Restarts.{next_life}
 use Rattle.node_core.proofs.Restarts.{as_restarted, crash_is, stop_lists}

@@ -15,14 +15,14 @@ use Rattle.stable_store.specs.Stored.{AreSame}
 use Rattle.synod_acceptor.specs.Packets.{packet_of}
 use Rattle.synod_acceptor.specs.declared.packet.Packet.{Packet}
 use Rattle.delivery.specs.Kept.{outcome_kept}
-use Rattle.node_parts.specs.declared.fault.StepFault.{StepFault}
-use Rattle.node_parts.specs.declared.fault.StepFault.TheVariants as faults
-use Rattle.node_parts.specs.declared.input.Input.{Input as Given}
-use Rattle.node_parts.specs.declared.input.Input.TheVariants as given
-use Rattle.node_parts.specs.declared.outputs.Outputs.{Outputs as Sent}
-use Rattle.node_kept.specs.Keeping.{kept_of}
-use Rattle.node_kept.specs.Listing.{ListsRecorded}
-use Rattle.node_kept.specs.Steps.{input_of, outputs_of}
+use Rattle.node_core.specs.StepFault.{StepFault}
+use Rattle.node_core.specs.StepFault.TheVariants as faults
+use Rattle.node_core.specs.Input.{Input as Given}
+use Rattle.node_core.specs.Input.TheVariants as given
+use Rattle.node_core.specs.Outputs.{Outputs as Sent}
+use Rattle.node_core.specs.Keeping.{kept_of}
+use Rattle.node_core.specs.Listing.{ListsRecorded}
+use Rattle.node_core.specs.Steps.{input_of, outputs_of}
 use Rattle.node_core.specs.declared.life.Life.{Life}
 use Rattle.node_core.specs.Nodes.{HasOpened, HasStopped, HasTaken, IsUnmoved, Seen, Standing}
 use Rattle.node_core.specs.Restarts.{next_life}

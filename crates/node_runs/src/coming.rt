@@ -5,9 +5,9 @@ ghost use Rattle.mc_model.specs.message.Chain.{IsPermitted};
 ghost use Rattle.node_model.specs.Message.{most_places};
 ghost use Rattle.node_laws.specs.Steps.{IsWellMade};
 ghost use Rattle.synod_acceptor.specs.Packets.{packet_of};
-ghost use Rattle.node_parts.specs.declared.fault.StepFault.TheVariants.{Broken, Device, Memory};
-ghost use Rattle.node_kept.specs.Keeping.{kept_of};
-ghost use Rattle.node_kept.specs.Steps.{IsFault, refused_by};
+ghost use Rattle.node_core.specs.StepFault.TheVariants.{Broken, Device, Memory};
+ghost use Rattle.node_core.specs.Keeping.{kept_of};
+ghost use Rattle.node_core.specs.Steps.{IsFault, refused_by};
 ghost use Rattle.node_core.specs.Nodes.{fault_in, seen};
 ghost use Rattle.node_runs.specs.Runs.{Happens, IsLeftBy, IsSound, Takes, may_come_to};
 

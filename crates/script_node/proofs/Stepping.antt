@@ -7,7 +7,7 @@ use Rattle.mc_model.specs.node.Input.{Restart}
 use Rattle.node_model.specs.Stepped.{stepped}
 use Rattle.synod_acceptor.specs.Packets.{packet_of}
 use Rattle.synod_acceptor.specs.declared.packet.Packet.{Packet}
-use Rattle.node_kept.specs.Keeping.{kept_of}
+use Rattle.world.specs.Keeping.{kept_of}
 use Rattle.world.specs.Members.{HasRestarted}
 use Rattle.world.specs.Runs.{StandsAs}
 use Rattle.world.specs.Scenes.{Placed}

@@ -3,8 +3,8 @@ use Rattle.std.specs.Prelude.{List, map}
 use Rattle.stable_store.specs.Stored.{Listed}
 use Rattle.synod_acceptor.specs.Packets.{packet_of}
 use Rattle.synod_acceptor.specs.declared.packet.Packet.{Packet}
-use Rattle.node_kept.specs.Keeping.{kept_of}
-use Rattle.node_core.specs.Nodes.{Standing}
+use Rattle.world.specs.Keeping.{kept_of}
+use Rattle.world.specs.Nodes.{Standing}
 use Rattle.script_text.specs.Node.{Node}
 
 -- a node that is up, and what it sent since its packets were taken from it, the oldest first

@@ -5,7 +5,7 @@ use Rattle.mc_model.specs.node.Setup.{Setup}
 use Rattle.node_model.specs.Kept.{Kept}
 use Rattle.node_model.specs.Stepped.{stepped}
 use Rattle.stable_store.specs.Stored.{Listed}
-use Rattle.node_core.specs.Nodes.{Standing}
+use Rattle.world.specs.Nodes.{Standing}
 use Rattle.script_text.specs.Node.{Node, step_at, with_step}
 use Rattle.script_text.specs.Runner.{last_incarnation}
 use Rattle.world.specs.Runs.{IsDown}

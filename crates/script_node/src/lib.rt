@@ -6,3 +6,4 @@ mod stopped_node;
 
 pub use node::{Granting, ScriptNode};
 pub use stopped_node::{Restarted, StoppedNode};
+pub use world::Given;

@@ -26,7 +26,7 @@ pub enum Restarted {
 
 impl Model for StoppedNode {
     ghost use Rattle.std.specs.Prelude.{◌≡◌, false};
-    ghost use Rattle.node_core.specs.Nodes.{Standing};
+    ghost use Rattle.world.specs.Nodes.{Standing};
     ghost use Rattle.stable_store.specs.Stored.{Listed};
 
     ghost Value = { Standing Listed };

@@ -3,7 +3,7 @@ use Rattle.std.proofs.Common.{◌≡◌, ℕ, zero, suc, ◌+◌, ◌≤◌, Lis
 use Rattle.std.specs.Prelude.{false, slice_get}
 use Rattle.std.specs.List.{range_with_len}
 use Rattle.std.proofs.lemmas.List.FromFn.{length-map-range_with_len}
-use Rattle.node_kept.specs.Setups.{setup_of as setup_by}
+use Rattle.node_core.specs.Setups.{setup_of as setup_by}
 use Rattle.synod_acceptor.specs.Packets.{packet_of as packet_by}
 use Rattle.script_site.specs.Sites.{runner_of}
 use Rattle.script_site.specs.declared.site.Site.{Site}
@@ -11,7 +11,7 @@ use Rattle.script_text.specs.Node.{opened_by}
 use Rattle.script_text.specs.Runner.{Runner, runner_opened}
 use Rattle.script_text.specs.Settings.{Settings}
 use Rattle.script_world.specs.World.{opened, setup_of}
-use Rattle.world.proofs.Starting.{get_push}
+use Rattle.sim_net.proofs.Growing.{get_push}
 use Rattle.script_runner.specs.Arrivals.{came_in}
 use Rattle.script_runner.specs.Centres.{AreOpened, IsWorld}
 use Rattle.script_runner.specs.Stations.{Stands}

@@ -8,9 +8,9 @@ use Rattle.mc_model.specs.synod.Packet.{Packet}
 use Rattle.node_core.specs.Nodes.{Standing}
 use Rattle.node_model.specs.Kept.{Kept}
 use Rattle.node_model.specs.Outputs.{Stepped, leaves}
-use Rattle.script_node.specs.Nodes.{Running, node_of}
-use Rattle.script_node.specs.Stops.{StartsAnew}
-use Rattle.script_node.specs.declared.stopped_node.Restarted.TheVariants.{Up as Begun, Down as Still}
+use Rattle.script_site.specs.Nodes.{Running, node_of}
+use Rattle.script_site.specs.Stops.{StartsAnew}
+use Rattle.script_site.specs.Restarted.TheVariants.{Up as Begun, Down as Still}
 use Rattle.sessions.specs.Session.{Session}
 use Rattle.stable_store.specs.Stored.{Listed}
 use Rattle.script_site.specs.Sites.{IsDone, runner_of}

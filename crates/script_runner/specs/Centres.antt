@@ -1,7 +1,7 @@
 -- The centre, as the world of a script.
 use Rattle.std.specs.Prelude.{◌≡◌, ℕ, ◌+◌, ◌<◌, ◌≤◌, ◌++◌, List, length, map, slice_get, slice_set, option_map, Option, Some, None}
 use Rattle.synod_acceptor.specs.Packets.{packet_of as packet_by}
-use Rattle.node_kept.specs.Setups.{setup_of as setup_by}
+use Rattle.node_core.specs.Setups.{setup_of as setup_by}
 use Rattle.script_text.specs.Node.{opened_by}
 use Rattle.script_text.specs.Runner.{Runner, runner_opened}
 use Rattle.script_text.specs.Settings.{Settings}

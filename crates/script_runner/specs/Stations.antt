@@ -5,7 +5,7 @@ use Rattle.stable_store.specs.Stored.{Listed}
 use Rattle.node_core.specs.Nodes.{Standing}
 use Rattle.synod_acceptor.specs.Packets.{packet_of}
 use Rattle.synod_acceptor.specs.declared.packet.Packet.{Packet as Sent}
-use Rattle.script_node.specs.Stops.{IsStopped}
+use Rattle.script_site.specs.Stops.{IsStopped}
 use Rattle.script_site.specs.Sites.{runner_of}
 use Rattle.script_text.specs.Prints.{declined_line, text_at}
 use Rattle.script_text.specs.Runner.{Acted, Runner, given_out, on_restart}

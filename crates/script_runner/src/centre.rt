@@ -16,7 +16,7 @@ use crate::station::{DOWN, Station};
 use config::Config;
 use mc_types::{Moment, MsgId, NodeNo, NodeSet};
 use node_core::{Found, Setup, sender};
-use script_sessions::{write_declined, write_unsettled};
+use script_site::{write_declined, write_unsettled};
 use script_site::Site;
 use sim_net::Packets;
 use std::alloc::{AllocError, Global};

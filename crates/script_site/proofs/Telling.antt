@@ -18,7 +18,7 @@ use Rattle.script_sessions.specs.Posting.{IsPosted}
 use Rattle.node_model.specs.Reported.{receipt_of}
 use Rattle.script_sessions.specs.Told.{AreTold}
 use Rattle.script_node.specs.Steps.{HasGiven, HasReplied}
-use Rattle.world.specs.declared.given.Given.{Given}
+use Rattle.script_node.specs.Given.{Given}
 use Rattle.script_site.specs.Sites.{IsDone, comes_to, replies_to, tells}
 
 module _ (home : ℕ) where

@@ -4,4 +4,6 @@
 mod serve;
 mod site;
 
+pub use script_node::{Restarted, StoppedNode};
+pub use script_sessions::{write_declined, write_unsettled};
 pub use site::Site;

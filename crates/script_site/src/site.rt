@@ -23,7 +23,7 @@ use sessions::{Delivery, Session};
 use sim_net::Packets;
 use std::alloc::{AllocError, Global};
 use synod_acceptor::Packet;
-use world::Given;
+use script_node::Given;
 
 /// The number with which a restart is refused once the last incarnation has begun.
 const NO_INCARNATION: u8 = 6;

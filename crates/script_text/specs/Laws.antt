@@ -13,7 +13,7 @@ use Rattle.pdu_tables.specs.declared.status.Status.TheVariants as statuses
 use Rattle.pdu_bodies.specs.declared.pdu.Body.TheVariants.{QuerySmResp, CancelSmResp}
 use Rattle.pdu_bodies.specs.declared.pdu.Pdu.{Pdu}
 use Rattle.pdu_bodies.specs.declared.pdu.QueryAnswer.{QueryAnswer}
-use Rattle.fate_chain.specs.States.{final_code}
+use Rattle.delivery.specs.States.{final_code}
 use Rattle.receipts.specs.Texts.{Report}
 use Rattle.script_text.specs.Settings.{Settings}
 use Rattle.script_text.specs.Node.{Node}

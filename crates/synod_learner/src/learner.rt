@@ -11,7 +11,7 @@ ghost use Rattle.synod_learner.specs.Counts.{AreOfOthers, Grows, IsChainPlace, I
 ghost use Rattle.synod_learner.specs.Hearing.{HasHeard, IsShorter, MakesKnown, known_if, message_in};
 
 use crate::tally::{Tally, tally_of};
-use fate_chain::Chain;
+use synod_acceptor::Chain;
 use mc_types::{MsgId, NodeNo, NodeSet};
 use std::alloc::{AllocError, Global};
 use std::marker::Model;

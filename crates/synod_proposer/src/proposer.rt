@@ -11,7 +11,7 @@ ghost use Rattle.synod_proposer.specs.Proposing.{IsOfSame, as_round, counted_in,
 
 use crate::fault::ProposerFault;
 use crate::round::Round;
-use fate_chain::{Author, Chain};
+use synod_acceptor::{Author, Chain};
 use mc_types::{Ballot, NodeNo, Slot};
 use std::alloc::AllocError;
 use std::marker::Model;

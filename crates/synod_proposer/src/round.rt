@@ -9,7 +9,7 @@ ghost use Rattle.synod_acceptor.specs.Votes.{report_of, slot_in, slot_reported, 
 ghost use Rattle.synod_proposer.specs.Proposing.{IsCounted, IsFresh, Offers, as_round, over};
 ghost use Rattle.synod_proposer.specs.Rounds.{IsIn, votes_of};
 
-use fate_chain::Chain;
+use synod_acceptor::Chain;
 use mc_types::{Ballot, NodeNo, NodeSet, Slot};
 use std::alloc::AllocError;
 use std::marker::Model;

@@ -12,12 +12,12 @@ use Rattle.node_model.specs.Granted.{is_open}
 use Rattle.node_laws.specs.Clusters.{KeptCluster, NodeInput, comes_to, kept_reached}
 use Rattle.synod_acceptor.specs.Packets.{packet_of}
 use Rattle.synod_acceptor.specs.declared.packet.Packet.{Packet as Sent}
-use Rattle.node_parts.specs.declared.fault.StepFault.{StepFault}
-use Rattle.node_parts.specs.declared.fault.StepFault.TheVariants as causes
-use Rattle.node_parts.specs.declared.input.Input.{Input as Given}
-use Rattle.node_parts.specs.declared.input.Input.TheVariants as given
-use Rattle.node_parts.specs.Attempting.{reason_of}
-use Rattle.node_kept.specs.Steps.{IsFault as IsStepFault, input_of, refused_by}
+use Rattle.node_core.specs.StepFault.{StepFault}
+use Rattle.node_core.specs.StepFault.TheVariants as causes
+use Rattle.node_core.specs.Input.{Input as Given}
+use Rattle.node_core.specs.Input.TheVariants as given
+use Rattle.node_core.specs.Attempting.{reason_of}
+use Rattle.node_core.specs.Steps.{IsFault as IsStepFault, input_of, refused_by}
 use Rattle.sim_net.specs.Network.{numbered}
 use Rattle.sim_net.proofs.Numbers.{has_number, map_length, none_given, some_given}
 use Rattle.world.specs.declared.fault.WorldFault.{WorldFault}

@@ -17,8 +17,8 @@ use Rattle.node_laws.specs.Clusters.{KeptCluster, NodeInput, comes_to, kept_reac
 use Rattle.node_laws.specs.Runs.{IsOneOf}
 use Rattle.synod_acceptor.specs.Packets.{packet_of}
 use Rattle.synod_acceptor.specs.declared.packet.Packet.{Packet as Sent}
-use Rattle.node_kept.specs.declared.stopped.Found.{Found}
-use Rattle.node_kept.specs.Keeping.{kept_of}
+use Rattle.node_core.specs.Found.{Found}
+use Rattle.node_core.specs.Keeping.{kept_of}
 use Rattle.node_core.specs.Stops.{is_after}
 use Rattle.node_core.proofs.Restarts.{crash_is}
 use Rattle.sim_net.specs.Network.{numbered}

@@ -4,7 +4,7 @@ use Rattle.std.specs.List.{slice_get}
 use Rattle.std.proofs.Math.ListN.{set}
 use Rattle.std.proofs.lemmas.List.{length-set}
 use Rattle.std.proofs.lemmas.Option.{get_or_from_slice_get, slice_get-get_or}
-use Rattle.node_parts.specs.declared.input.Input.{Input}
+use Rattle.node_core.specs.Input.{Input}
 use Rattle.sim_net.proofs.Numbers.{set_get}
 use Rattle.world.specs.declared.given.Given.{Given}
 use Rattle.world.specs.Members.{HasTaken, IsSentIn, IsUnmoved, Keeps}

@@ -6,9 +6,9 @@ use Rattle.mc_model.specs.node.Setup.{Setup}
 use Rattle.node_laws.specs.Runs.{IsOneOf}
 use Rattle.stable_store.specs.Stored.{Listed}
 use Rattle.synod_acceptor.specs.Packets.{packet_of}
-use Rattle.node_parts.specs.declared.outputs.Outputs.{Outputs as Sent}
-use Rattle.node_kept.specs.Setups.{IsSetup}
-use Rattle.node_kept.specs.Steps.{outputs_of}
+use Rattle.node_core.specs.Outputs.{Outputs as Sent}
+use Rattle.node_core.specs.Setups.{IsSetup}
+use Rattle.node_core.specs.Steps.{outputs_of}
 use Rattle.node_core.specs.declared.life.Life.{Life}
 use Rattle.node_core.specs.Nodes.{IsLifeOf, Standing}
 use Rattle.sim_net.proofs.Numbers.{map_length}

@@ -11,10 +11,11 @@ use Rattle.node_runs.proofs.Running.{opened_so}
 use Rattle.synod_acceptor.specs.Packets.{packet_of}
 use Rattle.synod_acceptor.specs.Records.{record_at}
 use Rattle.synod_acceptor.specs.declared.packet.Packet.{Packet}
-use Rattle.node_kept.specs.Keeping.{kept_of}
-use Rattle.node_kept.specs.Setups.{setup_of}
+use Rattle.node_core.specs.Keeping.{kept_of}
+use Rattle.node_core.specs.Setups.{setup_of}
 use Rattle.node_core.specs.declared.life.Life.{Life}
 use Rattle.node_core.specs.Nodes.{HasOpened}
+use Rattle.sim_net.proofs.Growing.{get_push}
 use Rattle.sim_net.specs.Network.{numbered}
 use Rattle.world.specs.Members.{AreOpened, IsOpened}
 use Rattle.world.specs.Runs.{IsAt, IsMember, IsSomewhere, StandsAs, cluster_with}
@@ -32,18 +33,6 @@ is_opened setup entries started m life new never up opened = record {
     opened = subst (λ (n : ℕ). HasOpened setup (record_at entries) n m.node life) (omega (arith, never)) opened;
   });
 }
-
-some_is : {A : Type 0} {a b : A} → Some a ≡ Some b → a ≡ b
-some_is same = cc
-
-pub get_push : {A : Type 0} (xs : List A) (k : ℕ) (x y : A) → slice_get (xs ++ x ∷ []) k ≡ Some y → ((k ≡ length xs) × (y ≡ x)) ⊎ (slice_get xs k ≡ Some y)
-get_push [] zero x y is = inl (refl, sym (some_is is))
-get_push [] (suc k) x y is = absurd cc
-get_push (z ∷ xs) zero x y is = inr is
-get_push (z ∷ xs) (suc k) x y is = elim (get_push xs k x y is) [
-  | inl both ↦ inl (ap suc both.0, both.1)
-  | inr before ↦ inr before
-]
 
 pub pushed : (nodes serial validity count : ℕ) (members : List Placed) (m : Placed) (after : List Placed) → AreOpened nodes serial validity count members →
     IsOpened (setup_of (count + 1) nodes serial validity) m → after ≡ members ++ m ∷ [] → AreOpened nodes serial validity (count + 1) after

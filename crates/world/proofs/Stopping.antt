@@ -15,10 +15,10 @@ use Rattle.stable_store.specs.Stored.{AreSame, Listed}
 use Rattle.synod_acceptor.specs.Packets.{packet_of}
 use Rattle.synod_acceptor.specs.Records.{record_at}
 use Rattle.synod_acceptor.specs.declared.packet.Packet.{Packet}
-use Rattle.node_parts.specs.declared.input.Input.{Input}
-use Rattle.node_parts.specs.declared.input.Input.TheVariants as inputs
-use Rattle.node_kept.specs.Keeping.{kept_of}
-use Rattle.node_kept.specs.Listing.{ListsRecorded}
+use Rattle.node_core.specs.Input.{Input}
+use Rattle.node_core.specs.Input.TheVariants as inputs
+use Rattle.node_core.specs.Keeping.{kept_of}
+use Rattle.node_core.specs.Listing.{ListsRecorded}
 use Rattle.node_core.specs.declared.life.Life.{Life}
 use Rattle.node_core.specs.Nodes.{HasOpened, Standing}
 use Rattle.node_core.specs.Restarts.{next_life}

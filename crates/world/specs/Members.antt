@@ -16,14 +16,14 @@ use Rattle.stable_store.specs.declared.fault.StoreFault.TheVariants as stores
 use Rattle.synod_acceptor.specs.Packets.{packet_of}
 use Rattle.synod_acceptor.specs.Records.{record_at}
 use Rattle.synod_acceptor.specs.declared.packet.Packet.{Packet}
-use Rattle.node_parts.specs.declared.fault.StepFault.{StepFault}
-use Rattle.node_parts.specs.declared.fault.StepFault.TheVariants as steps
-use Rattle.node_parts.specs.declared.input.Input.{Input}
-use Rattle.node_parts.specs.declared.input.Input.TheVariants as inputs
-use Rattle.node_kept.specs.Keeping.{kept_of}
-use Rattle.node_kept.specs.Listing.{ListsRecorded}
-use Rattle.node_kept.specs.Setups.{setup_of}
-use Rattle.node_kept.specs.Steps.{GrantsKnown, IsFault as IsStepFault, input_of, refused_by}
+use Rattle.node_core.specs.StepFault.{StepFault}
+use Rattle.node_core.specs.StepFault.TheVariants as steps
+use Rattle.node_core.specs.Input.{Input}
+use Rattle.node_core.specs.Input.TheVariants as inputs
+use Rattle.node_core.specs.Keeping.{kept_of}
+use Rattle.node_core.specs.Listing.{ListsRecorded}
+use Rattle.node_core.specs.Setups.{setup_of}
+use Rattle.node_core.specs.Steps.{GrantsKnown, IsFault as IsStepFault, input_of, refused_by}
 use Rattle.node_core.specs.declared.life.Life.{Life}
 use Rattle.node_core.specs.Nodes.{IsLifeOf, Standing}
 use Rattle.node_runs.specs.Runs.{may_come_to}

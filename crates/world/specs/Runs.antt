@@ -20,10 +20,10 @@ use Rattle.requests.specs.Replying.{reply_given}
 use Rattle.stable_store.specs.Stored.{AreSame, Listed}
 use Rattle.synod_acceptor.specs.Packets.{packet_of}
 use Rattle.synod_acceptor.specs.Records.{record_at}
-use Rattle.node_parts.specs.Attempting.{reason_of}
-use Rattle.node_kept.specs.Keeping.{kept_of}
-use Rattle.node_kept.specs.Listing.{ListsRecorded}
-use Rattle.node_kept.specs.Steps.{granted_of}
+use Rattle.node_core.specs.Attempting.{reason_of}
+use Rattle.node_core.specs.Keeping.{kept_of}
+use Rattle.node_core.specs.Listing.{ListsRecorded}
+use Rattle.node_core.specs.Steps.{granted_of}
 use Rattle.node_core.specs.Nodes.{Standing}
 use Rattle.node_core.specs.Stops.{is_after}
 use Rattle.sim_net.specs.Network.{numbered}

@@ -1,7 +1,7 @@
 //! What a step gives out.
 
 ghost use Rattle.std.specs.Prelude.{◌≡◌, ◌++◌, ◌≤◌, length};
-ghost use Rattle.node_kept.specs.Steps.{outputs_of};
+ghost use Rattle.node_core.specs.Steps.{outputs_of};
 ghost use Rattle.node_model.specs.Outputs.{nothing};
 ghost use Rattle.world.specs.Runs.{IsGiven};
 

@@ -1,9 +1,9 @@
 //! One node of a world.
 
 ghost use Rattle.std.specs.Prelude.{◌≡◌, ◌↔◌, ◌⊎◌, ◌≤◌, true, IfErr, IfOk, IsErrOf, OnErr, OnOk};
-ghost use Rattle.node_parts.specs.declared.fault.StepFault.TheVariants.{Memory};
-ghost use Rattle.node_kept.specs.Keeping.{kept_of};
-ghost use Rattle.node_kept.specs.Steps.{IsFault, refused_by};
+ghost use Rattle.node_core.specs.StepFault.TheVariants.{Memory};
+ghost use Rattle.node_core.specs.Keeping.{kept_of};
+ghost use Rattle.node_core.specs.Steps.{IsFault, refused_by};
 ghost use Rattle.node_core.specs.Nodes.{HasTaken};
 ghost use Rattle.node_core.specs.Stops.{is_after};
 ghost use Rattle.stable_store.specs.declared.fault.StoreFault.TheVariants as stores;

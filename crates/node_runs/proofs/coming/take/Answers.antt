@@ -1,5 +1,5 @@
 use Rattle.std.proofs.Common.{subst}
-use Rattle.node_parts.specs.declared.input.Input.{Input}
+use Rattle.node_core.specs.Input.{Input}
 use Rattle.node_core.specs.Nodes.{HasStopped, seen}
 use Rattle.node_runs.proofs.Inputs.{take_faults, take_left}
 use Rattle.node_runs.proofs.coming.take.Goals as goal

@@ -1,6 +1,6 @@
 use Rattle.std.proofs.Common.{subst}
-use Rattle.script_node.specs.Stops.{StartsAnew}
-use Rattle.script_node.specs.declared.stopped_node.Restarted.{Restarted}
+use Rattle.script_site.specs.Stops.{StartsAnew}
+use Rattle.script_site.specs.Restarted.{Restarted}
 use Rattle.script_runner.proofs.Stationing.{begun_down, stays_down}
 use Rattle.script_runner.proofs.station.Station.restart.Goals as goal
 

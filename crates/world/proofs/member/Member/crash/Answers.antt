@@ -1,5 +1,5 @@
 use Rattle.std.proofs.Common.{true, false, refl, sym, subst}
-use Rattle.node_kept.specs.declared.stopped.Found.{Found}
+use Rattle.node_core.specs.Found.{Found}
 use Rattle.node_core.specs.Stops.{is_after}
 use Rattle.world.specs.Members.{HasCrashed, HasSaved}
 use Rattle.world.specs.Scenes.{Placed}

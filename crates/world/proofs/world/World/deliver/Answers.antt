@@ -1,7 +1,7 @@
 use Rattle.std.proofs.Common.{Result, Ok, Err, inr}
 use Rattle.std.specs.Prelude.{IfErr}
-use Rattle.node_parts.specs.declared.input.Input.{Input}
-use Rattle.node_parts.specs.declared.input.Input.TheVariants as given
+use Rattle.node_core.specs.Input.{Input}
+use Rattle.node_core.specs.Input.TheVariants as given
 use Rattle.world.specs.declared.fault.WorldFault.{WorldFault}
 use Rattle.world.specs.declared.given.Given.{Given}
 use Rattle.world.specs.Members.{DoesNotTake, RefusesTo}
