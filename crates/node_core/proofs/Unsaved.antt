@@ -1,6 +1,6 @@
 -- Only the step of a packet changes a record.
 use Rattle.std.proofs.Common.{◌≡◌, ◌≢◌, ℕ, pred, Bool, List, [], ◌∷◌, Option, Some, None, refl, sym, ap, subst, ◌∙◌}
-use Rattle.std.specs.Prelude.{Result, Ok, Err, max, if◌then◌else◌}
+use Rattle.std.specs.Prelude.{IsSome, Result, Ok, Err, max, if◌then◌else◌}
 use Rattle.mc_model.specs.synod.Packet.{Slot}
 use Rattle.mc_model.specs.node.Actor.{Request, id_in}
 use Rattle.mc_model.specs.node.FirstRule.{Close, Delete, Expire, Follow, GiveUp, Lose, Rule, Take, Try, Undeliver}
@@ -29,7 +29,7 @@ use Rattle.node_parts.specs.Messages.{changed_by}
 use Rattle.node_kept.specs.declared.kept.Kept.{Kept as Holding}
 use Rattle.node_kept.specs.declared.step.Step.{Step}
 use Rattle.node_kept.specs.Keeping.{kept_of, records_of}
-use Rattle.node_kept.specs.Preparing.{IsPrepared}
+use Rattle.node_kept.specs.Preparing.{IsPrepared, packet_in}
 use Rattle.node_kept.specs.Steps.{Alters, IsStep}
 
 -- ---- what leaves the records
@@ -97,3 +97,14 @@ saves_for k (given.Answered slot outcome) step unfinished change is some =
 saves_for k (given.Tick moment up) step unfinished change is some =
     let kept = ticked (kept_of k) (max k.clock moment) in
     absurd (altered k _ step change is.is.is some (λ slot. ap (λ records. records slot) (each_leaves k.setup (is_up up.items) (ids_of kept) kept)))
+
+-- a step that is to be saved is that of a packet
+pub saved_for : (k : Holding) (input came : Input) (step : Step) (packet : Option Sent) → came ≡ input → IsPrepared k came step packet →
+    step.change ≢ None → IsSome (packet_in input)
+saved_for k input came step packet same prepared some = subst (λ (i : Input). IsSome (packet_in i)) same (by_change step.change refl)
+  where
+    by_change : (change : Option Change) → step.change ≡ change → IsSome (packet_in came)
+    by_change None is = absurd (some is)
+    by_change (Some change) is =
+        let from = saves_for k came step packet change prepared is in
+        subst (λ (i : Input). IsSome (packet_in i)) (sym from.came) refl

@@ -1,6 +1,6 @@
 //! One node.
 
-ghost use Rattle.std.specs.Prelude.{◌≡◌, ◌≢◌, ◌↔◌, ◌⊎◌, None, true, false, IfOk, IfErr, IsErrOf, IsOk, OnErr, OnOk, ◌+◌, ◌≤◌};
+ghost use Rattle.std.specs.Prelude.{◌≡◌, ◌≢◌, ◌↔◌, ◌⊎◌, None, true, false, IfOk, IfErr, IsErrOf, IsOk, IsSome, OnErr, OnOk, ◌+◌, ◌≤◌};
 ghost use Rattle.mc_model.specs.message.Ids.{IsIncarnation, IsNode};
 ghost use Rattle.node_parts.specs.declared.fault.StepFault.TheVariants.{Broken, Device, Memory};
 ghost use Rattle.std.specs.Option.{option_copied};
@@ -117,6 +117,7 @@ impl<S: StableStore> Node<S> {
         ensures memory { IsErrOf result Memory → IsUnmoved (seen S.records S.started self.old) (seen S.records S.started self.new) }
         ensures device { IsErrOf result Device → HasStopped (seen S.records S.started self.old) pending.input (seen S.records S.started self.new) }
         ensures faults { IfErr result (λ fault. (fault ≡ Broken) ⊎ (fault ≡ Device) ⊎ (fault ≡ Memory)) }
+        ensures wants { IsErrOf result Memory → IsSome (packet_in pending.input) }
         ensures rose { IsErrOf result Device → HasFailed (S.failed self.old.store) (S.failed self.new.store) }
         ensures started { S.started self.new.store ≡ S.started self.old.store }
     {
@@ -247,9 +248,10 @@ impl<S: StableStore> Node<S> {
         self.kept.incarnation().number();
     }
 
-    /// The store, once the node is done with.
+    /// The store, once the node is done with: it is the one that the node has, as its last save left it.
     pub fn into_store(self) -> S
-        ensures { self.broken ≡ false → AreSame (S.records result) (records_of self.kept.messages.entries) }
+        ensures store { result ≡ self.store }
+        ensures saved { self.broken ≡ false → AreSame (S.records result) (records_of self.kept.messages.entries) }
     {
         self.store
     }

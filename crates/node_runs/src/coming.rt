@@ -23,7 +23,7 @@ use synod_acceptor::Packet;
 pub fn take<S: StableStore>(node: &mut Node<S>, input: Input) -> Result<Outputs, StepFault>
     ensures ok { IfOk result (λ outputs. Happens S.records node.old (Takes input outputs) node.new) }
     ensures broken { IsErrOf result Broken ↔ (node.old.broken ≡ true) }
-    ensures faults { IfErr result (λ fault. (fault ≡ Device) ⊎ (fault ≡ Memory) ⊎ IsFault (fault_in node.old input) fault) }
+    ensures faults { IfErr result (λ fault. ((fault ≡ Device) × (fault_in node.old input ≡ None)) ⊎ IsFault (fault_in node.old input) fault) }
     ensures left { IfErr result (λ fault. IsLeftBy fault (seen S.records S.started node.old) input (seen S.records S.started node.new)) }
 {
     may_come(node, &input);
