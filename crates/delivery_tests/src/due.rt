@@ -1,69 +1,102 @@
 //! What is due.
 
 use crate::chains::*;
+use crate::same::assert_same;
 use delivery::{DueDecree, due};
 use mc_types::Moment;
 use std::alloc::Global;
-use std::test::Fail;
+use std::process::Abort;
+
+/// The decrees on the message, how long after it was taken, whether its target is up, and what is due.
+type Row<'a> = (&'a [Step], u32, bool, Option<DueDecree>);
 
 /// What is due for the message after these decrees, so long after it was taken, its target being up or not.
-fn found(alloc: Global, steps: &[Step], after: u32, up: bool) -> Result<Option<DueDecree>, Fail> {
-    let now = Moment::make(TAKEN.saturating_add(after))?;
-    let chain = chain(alloc, 1, steps)?;
-    Ok(due(&chain, now, up))
+fn found(
+    rt: &impl Abort,
+    alloc: Global,
+    steps: &[Step],
+    after: u32,
+    up: bool,
+) -> Option<DueDecree> {
+    let now = Moment::make(TAKEN.saturating_add(after)).expect(rt, "a moment");
+    let chain = chain(rt, alloc, 1, steps);
+    let found = due(&chain, now, up);
+    drop(chain);
+    found
+}
+
+fn assert_due(rt: &impl Abort, alloc: Global, rows: &[Row<'_>]) {
+    for (number, (steps, after, up, due)) in rows.iter().enumerate() {
+        let found = found(rt, alloc, steps, *after, *up);
+        assert_same(rt, &(number, found), &(number, *due));
+    }
 }
 
 #[test]
-fn a_message_is_attempted_at_once(rt: HostRuntime) -> Result<(), Fail> {
+fn a_message_is_attempted_at_once(rt: HostRuntime) {
     let first = Some(DueDecree::Attempt(1));
     let expired = Some(DueDecree::Expired);
-    assert_eq!(rt; found(rt.alloc(), &[], 0, true)?, first);
-    assert_eq!(rt; found(rt.alloc(), &[], 0, false)?, None);
-    assert_eq!(rt; found(rt.alloc(), &[], 259199, true)?, first);
-    assert_eq!(rt; found(rt.alloc(), &[], 259200, true)?, expired);
-    assert_eq!(rt; found(rt.alloc(), &[], 259200, false)?, expired);
-    Ok(())
+    assert_due(
+        &rt,
+        rt.alloc(),
+        &[
+            (&[], 0, true, first),
+            (&[], 0, false, None),
+            (&[], 259199, true, first),
+            (&[], 259200, true, expired),
+            (&[], 259200, false, expired),
+        ],
+    );
 }
 
-#[test]
-fn attempts_come_later_and_later(rt: HostRuntime) -> Result<(), Fail> {
-    // The number of the next attempt, how many decrees are there, and when it comes.
-    let attempts = [
-        (2, 2, 60u32),
-        (3, 4, 180),
-        (4, 6, 360),
-        (5, 8, 600),
-        (6, 10, 900),
-        (7, 12, 1260),
-        (8, 14, 1680),
+/// That the attempt of this number comes after so many decrees at this moment, and not before, if the target is up.
+fn assert_next(rt: &impl Abort, alloc: Global, number: u8, decrees: usize, after: u32) {
+    let steps = FAILURES.get(..decrees).expect(rt, "failures");
+    let rows = [
+        (steps, after.saturating_sub(1), true, None),
+        (steps, after, true, Some(DueDecree::Attempt(number))),
+        (steps, after, false, None),
     ];
-    for (number, decrees, after) in attempts {
-        let steps = FAILURES.get(..decrees).ok_or("failures")?;
-        let next = Some(DueDecree::Attempt(number));
-        let before = u32::saturating_sub(after, 1);
-        assert_eq!(rt; found(rt.alloc(), steps, before, true)?, None);
-        assert_eq!(rt; found(rt.alloc(), steps, after, true)?, next);
-        assert_eq!(rt; found(rt.alloc(), steps, after, false)?, None);
-    }
-    Ok(())
+    assert_due(rt, alloc, &rows);
 }
 
 #[test]
-fn there_is_no_ninth_attempt(rt: HostRuntime) -> Result<(), Fail> {
+fn attempts_come_later_and_later(rt: HostRuntime) {
+    assert_next(&rt, rt.alloc(), 2, 2, 60);
+    assert_next(&rt, rt.alloc(), 3, 4, 180);
+    assert_next(&rt, rt.alloc(), 4, 6, 360);
+    assert_next(&rt, rt.alloc(), 5, 8, 600);
+    assert_next(&rt, rt.alloc(), 6, 10, 900);
+    assert_next(&rt, rt.alloc(), 7, 12, 1260);
+    assert_next(&rt, rt.alloc(), 8, 14, 1680);
+}
+
+#[test]
+fn there_is_no_ninth_attempt(rt: HostRuntime) {
     let undeliverable = Some(DueDecree::Undeliverable);
     let expired = Some(DueDecree::Expired);
-    assert_eq!(rt; found(rt.alloc(), &FAILURES, 1680, true)?, undeliverable);
-    assert_eq!(rt; found(rt.alloc(), &FAILURES, 1680, false)?, undeliverable);
-    assert_eq!(rt; found(rt.alloc(), &FAILURES, 259200, true)?, expired);
-    Ok(())
+    assert_due(
+        &rt,
+        rt.alloc(),
+        &[
+            (&FAILURES, 1680, true, undeliverable),
+            (&FAILURES, 1680, false, undeliverable),
+            (&FAILURES, 259200, true, expired),
+        ],
+    );
 }
 
 #[test]
-fn an_open_attempt_waits_for_its_outcome(rt: HostRuntime) -> Result<(), Fail> {
+fn an_open_attempt_waits_for_its_outcome(rt: HostRuntime) {
     let open = [Step::Attempt(0, 1)];
-    assert_eq!(rt; found(rt.alloc(), &open, 60, true)?, None);
-    assert_eq!(rt; found(rt.alloc(), &open, 259200, true)?, None);
     let ended = [Step::Attempt(0, 1), Step::Fate(0, DELIVERED, 0)];
-    assert_eq!(rt; found(rt.alloc(), &ended, 259200, true)?, None);
-    Ok(())
+    assert_due(
+        &rt,
+        rt.alloc(),
+        &[
+            (&open, 60, true, None),
+            (&open, 259200, true, None),
+            (&ended, 259200, true, None),
+        ],
+    );
 }
