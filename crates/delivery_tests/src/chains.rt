@@ -101,3 +101,12 @@ pub const DELETED: u8 = 4;
 pub const UNDELIVERABLE: u8 = 5;
 
 pub const REJECTED: u8 = 8;
+
+/// The decrees by which a message comes to a final state. Those to UNDELIVERABLE are above.
+pub const TO_DELIVERED: &[Step] = &[Step::Attempt(0, 1), Step::Fate(0, DELIVERED, 0)];
+
+pub const TO_EXPIRED: &[Step] = &[Step::Fate(259200, EXPIRED, 0)];
+
+pub const TO_DELETED: &[Step] = &[Step::Fate(0, DELETED, 0)];
+
+pub const TO_REJECTED: &[Step] = &[Step::Attempt(0, 1), Step::Fate(0, REJECTED, 102)];

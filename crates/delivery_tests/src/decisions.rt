@@ -150,31 +150,24 @@ fn an_attempt_is_closed_lost_or_given_up(rt: HostRuntime) {
 
 #[test]
 fn a_message_that_waits_is_deleted_before_it_is_attempted(rt: HostRuntime) {
+    let alloc = rt.alloc();
     let first = Some(Due::Decree(DueDecree::Attempt(1)));
-    assert_decided(
-        &rt,
-        rt.alloc(),
-        &[],
-        &[
-            (1, Asked::Due(Done::Nothing, false, Up::Sme1), first),
-            (
-                1,
-                Asked::Due(Done::Nothing, true, Up::Sme1),
-                Some(Due::Delete),
-            ),
-            (1, Asked::Deletion(true), Some(Due::Delete)),
-            (1, Asked::Deletion(false), None),
-        ],
-    );
-    assert_decided(
-        &rt,
-        rt.alloc(),
-        &OPEN,
-        &[
-            (1, Asked::Due(Done::Nothing, true, Up::Sme1), None),
-            (1, Asked::Deletion(true), None),
-        ],
-    );
+    let on_taken = [
+        (1, Asked::Due(Done::Nothing, false, Up::Sme1), first),
+        (
+            1,
+            Asked::Due(Done::Nothing, true, Up::Sme1),
+            Some(Due::Delete),
+        ),
+        (1, Asked::Deletion(true), Some(Due::Delete)),
+        (1, Asked::Deletion(false), None),
+    ];
+    let on_open = [
+        (1, Asked::Due(Done::Nothing, true, Up::Sme1), None),
+        (1, Asked::Deletion(true), None),
+    ];
+    assert_decided(&rt, alloc, &[], &on_taken);
+    assert_decided(&rt, alloc, &OPEN, &on_open);
 }
 
 /// The final state in which a chain ends, its error, and how many seconds after the message was taken.
@@ -204,12 +197,13 @@ fn deleted(rt: &impl Abort, alloc: Global, steps: &[Step]) -> Option<(Final, u16
 
 #[test]
 fn a_decree_is_not_before_the_newest(rt: HostRuntime) {
+    let alloc = rt.alloc();
     let early = [Step::Attempt(0, 1), Step::Failed(30, 100)];
     let late = [Step::Attempt(0, 1), Step::Failed(90, 100)];
-    let early = deleted(&rt, rt.alloc(), &early);
-    let late = deleted(&rt, rt.alloc(), &late);
-    assert_same(&rt, &early, &Some((Final::Deleted, 0, 60)));
-    assert_same(&rt, &late, &Some((Final::Deleted, 0, 90)));
+    let early = deleted(&rt, alloc, &early);
+    let late = deleted(&rt, alloc, &late);
+    let wanted = (Some((Final::Deleted, 0, 60)), Some((Final::Deleted, 0, 90)));
+    assert_same(&rt, &(early, late), &wanted);
 }
 
 #[test]
@@ -234,9 +228,10 @@ fn failure_of(kind: Kind) -> Option<u16> {
 
 #[test]
 fn a_vote_beyond_what_is_known_is_followed(rt: HostRuntime) {
-    let taken = chain(&rt, rt.alloc(), 1, &[]);
-    let open = chain(&rt, rt.alloc(), 1, &OPEN);
-    let vote = vote(&rt, rt.alloc());
+    let alloc = rt.alloc();
+    let taken = chain(&rt, alloc, 1, &[]);
+    let open = chain(&rt, alloc, 1, &OPEN);
+    let vote = vote(&rt, alloc);
     let places = places(&taken, &open, &vote);
     drop(vote);
     drop(open);

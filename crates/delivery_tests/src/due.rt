@@ -10,6 +10,14 @@ use std::process::Abort;
 /// The decrees on the message, how long after it was taken, whether its target is up, and what is due.
 type Row<'a> = (&'a [Step], u32, bool, Option<DueDecree>);
 
+const FIRST: &[Row<'static>] = &[
+    (&[], 0, true, Some(DueDecree::Attempt(1))),
+    (&[], 0, false, None),
+    (&[], 259199, true, Some(DueDecree::Attempt(1))),
+    (&[], 259200, true, Some(DueDecree::Expired)),
+    (&[], 259200, false, Some(DueDecree::Expired)),
+];
+
 /// What is due for the message after these decrees, so long after it was taken, its target being up or not.
 fn found(
     rt: &impl Abort,
@@ -34,19 +42,7 @@ fn assert_due(rt: &impl Abort, alloc: Global, rows: &[Row<'_>]) {
 
 #[test]
 fn a_message_is_attempted_at_once(rt: HostRuntime) {
-    let first = Some(DueDecree::Attempt(1));
-    let expired = Some(DueDecree::Expired);
-    assert_due(
-        &rt,
-        rt.alloc(),
-        &[
-            (&[], 0, true, first),
-            (&[], 0, false, None),
-            (&[], 259199, true, first),
-            (&[], 259200, true, expired),
-            (&[], 259200, false, expired),
-        ],
-    );
+    assert_due(&rt, rt.alloc(), FIRST);
 }
 
 /// That the attempt of this number comes after so many decrees at this moment, and not before, if the target is up.
@@ -62,41 +58,34 @@ fn assert_next(rt: &impl Abort, alloc: Global, number: u8, decrees: usize, after
 
 #[test]
 fn attempts_come_later_and_later(rt: HostRuntime) {
-    assert_next(&rt, rt.alloc(), 2, 2, 60);
-    assert_next(&rt, rt.alloc(), 3, 4, 180);
-    assert_next(&rt, rt.alloc(), 4, 6, 360);
-    assert_next(&rt, rt.alloc(), 5, 8, 600);
-    assert_next(&rt, rt.alloc(), 6, 10, 900);
-    assert_next(&rt, rt.alloc(), 7, 12, 1260);
-    assert_next(&rt, rt.alloc(), 8, 14, 1680);
+    let alloc = rt.alloc();
+    assert_next(&rt, alloc, 2, 2, 60);
+    assert_next(&rt, alloc, 3, 4, 180);
+    assert_next(&rt, alloc, 4, 6, 360);
+    assert_next(&rt, alloc, 5, 8, 600);
+    assert_next(&rt, alloc, 6, 10, 900);
+    assert_next(&rt, alloc, 7, 12, 1260);
+    assert_next(&rt, alloc, 8, 14, 1680);
 }
+
+const NO_NINTH: &[Row<'static>] = &[
+    (&FAILURES, 1680, true, Some(DueDecree::Undeliverable)),
+    (&FAILURES, 1680, false, Some(DueDecree::Undeliverable)),
+    (&FAILURES, 259200, true, Some(DueDecree::Expired)),
+];
 
 #[test]
 fn there_is_no_ninth_attempt(rt: HostRuntime) {
-    let undeliverable = Some(DueDecree::Undeliverable);
-    let expired = Some(DueDecree::Expired);
-    assert_due(
-        &rt,
-        rt.alloc(),
-        &[
-            (&FAILURES, 1680, true, undeliverable),
-            (&FAILURES, 1680, false, undeliverable),
-            (&FAILURES, 259200, true, expired),
-        ],
-    );
+    assert_due(&rt, rt.alloc(), NO_NINTH);
 }
+
+const NOTHING: &[Row<'static>] = &[
+    (&[Step::Attempt(0, 1)], 60, true, None),
+    (&[Step::Attempt(0, 1)], 259200, true, None),
+    (TO_DELIVERED, 259200, true, None),
+];
 
 #[test]
 fn an_open_attempt_waits_for_its_outcome(rt: HostRuntime) {
-    let open = [Step::Attempt(0, 1)];
-    let ended = [Step::Attempt(0, 1), Step::Fate(0, DELIVERED, 0)];
-    assert_due(
-        &rt,
-        rt.alloc(),
-        &[
-            (&open, 60, true, None),
-            (&open, 259200, true, None),
-            (&ended, 259200, true, None),
-        ],
-    );
+    assert_due(&rt, rt.alloc(), NOTHING);
 }

@@ -55,50 +55,46 @@ fn assert_told(rt: &impl Abort, sent: Sent, rows: &[(u32, Told)]) {
     }
 }
 
+const CONCLUDES: &[(u32, Told)] = &[
+    (0, Some((Some(Final::Delivered), 0))),
+    (0x65, Some((Some(Final::Undeliverable), 101))),
+    (0x66, Some((Some(Final::Rejected), 102))),
+    (0x64, Some((None, 100))),
+];
+
 #[test]
 fn a_response_concludes_the_message(rt: HostRuntime) {
-    assert_told(
-        &rt,
-        Sent::DeliverSmResp,
-        &[
-            (0, Some((Some(Final::Delivered), 0))),
-            (0x65, Some((Some(Final::Undeliverable), 101))),
-            (0x66, Some((Some(Final::Rejected), 102))),
-            (0x64, Some((None, 100))),
-        ],
-    );
+    assert_told(&rt, Sent::DeliverSmResp, CONCLUDES);
 }
+
+const FAILS: &[(u32, Told)] = &[
+    (0x64, Some((None, 100))),
+    (900, Some((None, 900))),
+    (0x400, Some((None, 900))),
+    (0xffff_ffff, Some((None, 900))),
+    (0, Some((Some(Final::Delivered), 0))),
+];
 
 #[test]
 fn any_other_status_is_a_failure(rt: HostRuntime) {
-    assert_told(
-        &rt,
-        Sent::DeliverSmResp,
-        &[
-            (0x64, Some((None, 100))),
-            (900, Some((None, 900))),
-            (0x400, Some((None, 900))),
-            (0xffff_ffff, Some((None, 900))),
-            (0, Some((Some(Final::Delivered), 0))),
-        ],
-    );
+    assert_told(&rt, Sent::DeliverSmResp, FAILS);
 }
+
+const NACKED: &[(u32, Told)] = &[(0, Some((None, 0))), (0x65, Some((None, 101)))];
 
 #[test]
 fn a_generic_nack_is_a_failure(rt: HostRuntime) {
-    assert_told(
-        &rt,
-        Sent::GenericNack,
-        &[(0, Some((None, 0))), (0x65, Some((None, 101)))],
-    );
+    assert_told(&rt, Sent::GenericNack, NACKED);
     let unanswered = told_in(&rt, Some(Outcome::unanswered()));
     assert_same(&rt, &unanswered, &Some((None, 997)));
 }
 
+const NOTHING: &[(u32, Told)] = &[(0, None)];
+
 #[test]
 fn other_pdus_tell_nothing(rt: HostRuntime) {
-    assert_told(&rt, Sent::CancelSmResp, &[(0, None)]);
-    assert_told(&rt, Sent::SubmitSmResp, &[(0, None)]);
+    assert_told(&rt, Sent::CancelSmResp, NOTHING);
+    assert_told(&rt, Sent::SubmitSmResp, NOTHING);
     let told_another = told_by(&rt, 8, 0, Sent::DeliverSmResp);
     assert_same(&rt, &told_another, &None);
 }

@@ -66,30 +66,28 @@ fn an_attempt_is_delivered(rt: HostRuntime) {
 
 #[test]
 fn what_is_no_attempt_is_not_delivered(rt: HostRuntime) {
-    let taken = delivery_refused(&rt, rt.alloc(), &[]);
-    let failed = delivery_refused(&rt, rt.alloc(), &FAILURES);
-    assert_same(&rt, &taken, &Some(DeliverFault::NoAttempt));
-    assert_same(&rt, &failed, &Some(DeliverFault::NoAttempt));
+    let alloc = rt.alloc();
+    let taken = delivery_refused(&rt, alloc, &[]);
+    let failed = delivery_refused(&rt, alloc, &FAILURES);
+    let refused = Some(DeliverFault::NoAttempt);
+    assert_same(&rt, &(taken, failed), &(refused, refused));
 }
 
 #[test]
 fn a_receipt_of_each_final_state_goes_back(rt: HostRuntime) {
-    let delivered = [Step::Attempt(0, 1), Step::Fate(0, DELIVERED, 0)];
-    let expired = [Step::Fate(259200, EXPIRED, 0)];
-    let deleted = [Step::Fate(0, DELETED, 0)];
-    let rejected = [Step::Attempt(0, 1), Step::Fate(0, REJECTED, 102)];
-    assert_receipt(&rt, rt.alloc(), &delivered, DELIVERED_RECEIPT);
-    assert_receipt(&rt, rt.alloc(), &expired, EXPIRED_RECEIPT);
-    assert_receipt(&rt, rt.alloc(), &deleted, DELETED_RECEIPT);
-    assert_receipt(&rt, rt.alloc(), &undelivered(), UNDELIVERABLE_RECEIPT);
-    assert_receipt(&rt, rt.alloc(), &rejected, REJECTED_RECEIPT);
+    let alloc = rt.alloc();
+    assert_receipt(&rt, alloc, TO_DELIVERED, DELIVERED_RECEIPT);
+    assert_receipt(&rt, alloc, TO_EXPIRED, EXPIRED_RECEIPT);
+    assert_receipt(&rt, alloc, TO_DELETED, DELETED_RECEIPT);
+    assert_receipt(&rt, alloc, &undelivered(), UNDELIVERABLE_RECEIPT);
+    assert_receipt(&rt, alloc, TO_REJECTED, REJECTED_RECEIPT);
 }
 
 #[test]
 fn there_is_no_receipt_of_a_message_on_its_way(rt: HostRuntime) {
-    let steps = [Step::Attempt(0, 1), Step::Fate(0, DELIVERED, 0)];
-    let fateless = receipt_refused(&rt, rt.alloc(), 1, &[]);
-    let unasked = receipt_refused(&rt, rt.alloc(), 2, &steps);
-    assert_same(&rt, &fateless, &Some(ReceiptFault::NoFate));
-    assert_same(&rt, &unasked, &Some(ReceiptFault::NotAsked));
+    let alloc = rt.alloc();
+    let fateless = receipt_refused(&rt, alloc, 1, &[]);
+    let unasked = receipt_refused(&rt, alloc, 2, TO_DELIVERED);
+    let wanted = (Some(ReceiptFault::NoFate), Some(ReceiptFault::NotAsked));
+    assert_same(&rt, &(fateless, unasked), &wanted);
 }

@@ -65,10 +65,8 @@ fn status_of(rt: &impl Abort, alloc: Global, registered_delivery: u8) -> u32 {
 /// What comes of this registered_delivery, as a line of the table.
 fn line_of(rt: &impl Abort, alloc: Global, octet: usize) -> String {
     let octet = (octet % 256) as u8;
-    let delivered = [Step::Attempt(0, 1), Step::Fate(0, DELIVERED, 0)];
-    let deleted = [Step::Fate(0, DELETED, 0)];
-    let delivered = word_of(is_asked(rt, alloc, octet, &delivered));
-    let other = word_of(is_asked(rt, alloc, octet, &deleted));
+    let delivered = word_of(is_asked(rt, alloc, octet, TO_DELIVERED));
+    let other = word_of(is_asked(rt, alloc, octet, TO_DELETED));
     let status = status_of(rt, alloc, octet);
     format!(in alloc; "{octet} {delivered} {other} {status}").expect(rt, "memory")
 }

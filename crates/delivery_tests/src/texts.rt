@@ -32,7 +32,7 @@ fn a_message_expires(rt: HostRuntime) {
         &rt,
         rt.alloc(),
         2,
-        &[Step::Fate(259200, EXPIRED, 0)],
+        TO_EXPIRED,
         b"before id:1000100001 sub:001 dlvrd:000 submit date:2401310000 done date:2402030000 stat:EXPIRED err:000 text:Hi",
     );
 }
@@ -54,7 +54,7 @@ fn a_message_is_rejected(rt: HostRuntime) {
         &rt,
         rt.alloc(),
         1,
-        &[Step::Attempt(0, 1), Step::Fate(0, REJECTED, 102)],
+        TO_REJECTED,
         b"before id:1000100001 sub:001 dlvrd:000 submit date:2401310000 done date:2401310000 stat:REJECTD err:102 text:Hi",
     );
 }
@@ -65,7 +65,7 @@ fn a_message_is_deleted(rt: HostRuntime) {
         &rt,
         rt.alloc(),
         1,
-        &[Step::Fate(0, DELETED, 0)],
+        TO_DELETED,
         b"before id:1000100001 sub:001 dlvrd:000 submit date:2401310000 done date:2401310000 stat:DELETED err:000 text:Hi",
     );
 }
@@ -100,13 +100,10 @@ fn assert_pattern(rt: &impl Abort, alloc: Global, row: u8, steps: &[Step]) {
 
 #[test]
 fn each_text_has_the_pattern_of_appendix_b(rt: HostRuntime) {
-    let delivered = [Step::Attempt(0, 1), Step::Fate(0, DELIVERED, 0)];
-    let expired = [Step::Fate(259200, EXPIRED, 0)];
-    let deleted = [Step::Fate(0, DELETED, 0)];
-    let rejected = [Step::Attempt(0, 1), Step::Fate(0, REJECTED, 102)];
-    assert_pattern(&rt, rt.alloc(), 0, &delivered);
-    assert_pattern(&rt, rt.alloc(), 1, &expired);
-    assert_pattern(&rt, rt.alloc(), 2, &deleted);
-    assert_pattern(&rt, rt.alloc(), 3, &undelivered());
-    assert_pattern(&rt, rt.alloc(), 4, &rejected);
+    let alloc = rt.alloc();
+    assert_pattern(&rt, alloc, 0, TO_DELIVERED);
+    assert_pattern(&rt, alloc, 1, TO_EXPIRED);
+    assert_pattern(&rt, alloc, 2, TO_DELETED);
+    assert_pattern(&rt, alloc, 3, &undelivered());
+    assert_pattern(&rt, alloc, 4, TO_REJECTED);
 }
