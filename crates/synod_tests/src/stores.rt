@@ -129,18 +129,24 @@ fn count_of(rt: &impl Abort, store: &ListStore) -> usize {
     count
 }
 
-// Counts nothing, and lets the save go on.
+// Counts how often it was asked, and lets the save go on.
 #[derive(Drop)]
-struct AtOnce;
+struct AtOnce {
+    asked: u64,
+}
 
 impl Hold for AtOnce {
-    fn hold(&mut self) {}
+    ghost held = { λ h. h.asked };
+
+    fn hold(&mut self) {
+        self.asked = self.asked.saturating_add(1);
+    }
 }
 
 #[test]
 fn a_save_that_is_held_is_done(rt: HostRuntime) {
     let alloc = rt.alloc();
-    let mut store = HoldingStore::make(ListStore::make(alloc), 1, AtOnce);
+    let mut store = HoldingStore::make(ListStore::make(alloc), 1, AtOnce { asked: 0 });
     let seen = saved_and_loaded(&rt, alloc, &mut store);
     drop(store);
     assert_same(&rt, &seen, &((None, None), (2, Some(262162)), 0));
