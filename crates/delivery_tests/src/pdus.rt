@@ -13,10 +13,11 @@ use std::process::Abort;
 const DELIVERY: &[u8] = b"\0\0\0\x29\0\0\0\x05\0\0\0\0\0\0\0\x01\
 \0\x01\x01144\0\x01\x01155\0\0\0\0\0\0\0\0\0\0\x02Hi";
 
-/// That these are the octets of a PDU.
-fn assert_octets(rt: &impl Abort, alloc: Global, pdu: &Pdu, wanted: &[u8]) {
+/// That these are the octets of a PDU. It is let go by a call, which makes the proof shorter.
+fn assert_octets(rt: &impl Abort, alloc: Global, pdu: Pdu, wanted: &[u8]) {
     let mut octets = Vec::new(alloc);
-    encode(pdu, &mut octets).expect(rt, "octets");
+    encode(&pdu, &mut octets).expect(rt, "octets");
+    drop(pdu);
     assert_same(rt, &octets.as_slice(), &wanted);
 }
 
@@ -25,8 +26,7 @@ fn assert_delivery(rt: &impl Abort, alloc: Global, steps: &[Step], wanted: &[u8]
     let chain = chain(rt, alloc, 1, steps);
     let pdu = deliver_pdu(alloc, &chain, 1).expect(rt, "a deliver_sm");
     drop(chain);
-    assert_octets(rt, alloc, &pdu, wanted);
-    drop(pdu);
+    assert_octets(rt, alloc, pdu, wanted);
 }
 
 /// That they are those of the deliver_sm of the receipt, with the sequence_number 2.
@@ -34,8 +34,7 @@ fn assert_receipt(rt: &impl Abort, alloc: Global, steps: &[Step], wanted: &[u8])
     let chain = chain(rt, alloc, 1, steps);
     let pdu = receipt_pdu(alloc, &chain, 2).expect(rt, "a receipt");
     drop(chain);
-    assert_octets(rt, alloc, &pdu, wanted);
-    drop(pdu);
+    assert_octets(rt, alloc, pdu, wanted);
 }
 
 /// Why there is no deliver_sm after these decrees.
