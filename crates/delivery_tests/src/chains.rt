@@ -1,8 +1,8 @@
 //! The chains that the tests are about, made from their octets.
 
 use fate_chain::Chain;
-use std::alloc::{AllocError, Global};
-use std::test::Fail;
+use std::alloc::Global;
+use std::process::Abort;
 
 /// 2024-01-31T00:00:00Z, when the message is taken; it expires three days later.
 pub const TAKEN: u32 = 1706659200;
@@ -26,43 +26,42 @@ const MESSAGE: &[u8] = b"\x01\x01\0\x01\x65\xb9\x8d\x80\
 
 const TERM: &[u8] = b"\0\x65\xb9\x8d\x80\x65\xbd\x82\0\x02Hi\0\0";
 
-/// Appends the octets of a decree of this kind, up to its moment.
-fn put_decree(octets: &mut Vec<u8>, kind: u8, after: u32) -> Result<(), AllocError> {
-    octets.extend_from_slice(&[kind, 1, 0, 1])?;
-    octets.extend_from_slice(&TAKEN.saturating_add(after).to_be_bytes())?;
-    Ok(())
+/// Appends the octets of a decree of this kind, so many seconds after the message was taken: what it has beside that comes last.
+fn put_decree(rt: &impl Abort, octets: &mut Vec<u8>, kind: u8, after: u32, last: &[u8]) {
+    let [a, b, c, d] = TAKEN.saturating_add(after).to_be_bytes();
+    let first = octets.extend_from_slice(&[kind, 1, 0, 1, a, b, c, d]);
+    first.expect(rt, "memory");
+    octets.extend_from_slice(last).expect(rt, "memory");
 }
 
-fn put_step(octets: &mut Vec<u8>, step: Step) -> Result<(), AllocError> {
+fn put_step(rt: &impl Abort, octets: &mut Vec<u8>, step: Step) {
     match step {
-        Step::Attempt(after, number) => {
-            put_decree(octets, 2, u32::from(after))?;
-            octets.push(number)?;
-        }
+        Step::Attempt(after, number) => put_decree(rt, octets, 2, u32::from(after), &[number]),
         Step::Failed(after, error) => {
-            put_decree(octets, 3, u32::from(after))?;
-            octets.extend_from_slice(&error.to_be_bytes())?;
+            put_decree(rt, octets, 3, u32::from(after), &error.to_be_bytes());
         }
         Step::Fate(after, state, error) => {
-            put_decree(octets, 4, after)?;
-            octets.push(state)?;
-            octets.extend_from_slice(&error.to_be_bytes())?;
+            let [high, low] = error.to_be_bytes();
+            put_decree(rt, octets, 4, after, &[state, high, low]);
         }
     }
-    Ok(())
+}
+
+fn put_steps(rt: &impl Abort, octets: &mut Vec<u8>, steps: &[Step]) {
+    for step in steps {
+        put_step(rt, octets, *step);
+    }
 }
 
 /// The message as it was taken, with this registered_delivery, and these decrees on it.
-pub fn chain(alloc: Global, registered_delivery: u8, steps: &[Step]) -> Result<Chain, Fail> {
-    let mut octets = Vec::from_slice(alloc, HEAD)?;
-    octets.push((steps.len() % 255) as u8 + 1)?;
-    octets.extend_from_slice(MESSAGE)?;
-    octets.push(registered_delivery)?;
-    octets.extend_from_slice(TERM)?;
-    for step in steps {
-        put_step(&mut octets, *step)?;
-    }
-    Ok(Chain::read(alloc, &octets)?)
+pub fn chain(rt: &impl Abort, alloc: Global, registered_delivery: u8, steps: &[Step]) -> Chain {
+    let decrees = (steps.len() % 255) as u8 + 1;
+    let parts = [HEAD, &[decrees], MESSAGE, &[registered_delivery], TERM];
+    let mut octets = parts.concat(alloc).expect(rt, "memory");
+    put_steps(rt, &mut octets, steps);
+    let chain = Chain::read(alloc, &octets);
+    drop(octets);
+    chain.expect(rt, "a chain")
 }
 
 /// Eight attempts, each of which failed at once with the error 100.
@@ -102,3 +101,12 @@ pub const DELETED: u8 = 4;
 pub const UNDELIVERABLE: u8 = 5;
 
 pub const REJECTED: u8 = 8;
+
+/// The decrees by which a message comes to a final state. Those to UNDELIVERABLE are above.
+pub const TO_DELIVERED: &[Step] = &[Step::Attempt(0, 1), Step::Fate(0, DELIVERED, 0)];
+
+pub const TO_EXPIRED: &[Step] = &[Step::Fate(259200, EXPIRED, 0)];
+
+pub const TO_DELETED: &[Step] = &[Step::Fate(0, DELETED, 0)];
+
+pub const TO_REJECTED: &[Step] = &[Step::Attempt(0, 1), Step::Fate(0, REJECTED, 102)];

@@ -1,141 +1,221 @@
 //! What a node decides next. The message goes to the account sme1.
 
 use crate::chains::*;
+use crate::same::assert_same;
 use delivery::{DueDecree, Outcome};
 use fate_chain::{Author, Chain, ErrorCode, Final, Kind};
 use mc_types::{Ballot, Incarnation, Moment, NodeNo};
 use pdu_codec::Text;
 use rules::{Attempted, Closing, Due, Standpoint, follow};
 use std::alloc::Global;
-use std::test::Fail;
+use std::process::Abort;
 use synod_acceptor::Vote;
 
-/// Nothing was done with the attempt.
-const UNTOUCHED: Attempted = Attempted {
-    granted: false,
-    closed: None,
-};
+/// What was done with the attempt.
+#[derive(Clone, Copy)]
+enum Done {
+    Nothing,
+    Granted,
+    /// It was granted, and closed: the message was delivered.
+    Closed,
+}
+
+fn attempted(done: Done) -> Attempted {
+    match done {
+        Done::Nothing => Attempted {
+            granted: false,
+            closed: None,
+        },
+        Done::Granted => Attempted {
+            granted: true,
+            closed: None,
+        },
+        Done::Closed => Attempted {
+            granted: true,
+            closed: Some(closing()),
+        },
+    }
+}
+
+fn closing() -> Closing {
+    Closing::Answered(Outcome::Delivered)
+}
 
 /// Node 1 in this incarnation, a minute after the message was taken.
-fn standpoint(incarnation: u16) -> Result<Standpoint, Fail> {
-    Ok(Standpoint {
+fn standpoint(rt: &impl Abort, incarnation: u16) -> Standpoint {
+    Standpoint {
         author: Author {
-            node: NodeNo::make(1)?,
-            incarnation: Incarnation::make(incarnation)?,
+            node: NodeNo::of(1),
+            incarnation: Incarnation::make(incarnation).expect(rt, "an incarnation"),
         },
-        clock: Moment::make(TAKEN.saturating_add(60))?,
-    })
+        clock: Moment::make(TAKEN.saturating_add(60)).expect(rt, "a moment"),
+    }
 }
 
-fn account(alloc: Global, name: &[u8]) -> Result<Vec<Text<16>>, Fail> {
+/// The account of which a session may receive.
+#[derive(Clone, Copy)]
+enum Up {
+    Sme1,
+    Sme2,
+}
+
+fn accounts(rt: &impl Abort, alloc: Global, up: Up) -> Vec<Text<16>> {
+    let name = match up {
+        Up::Sme1 => b"sme1",
+        Up::Sme2 => b"sme2",
+    };
+    let text = Text::make(alloc, name).expect(rt, "memory");
     let mut accounts = Vec::new(alloc);
-    accounts.push(Text::make(alloc, name)?.ok_or("a text")?)?;
-    Ok(accounts)
+    let put = accounts.push(text.expect(rt, "a text"));
+    put.expect(rt, "memory");
+    accounts
 }
 
-/// What is due a minute after the message was taken, in this incarnation, for a target that may receive.
-fn found(
+/// What a node is asked.
+#[derive(Clone, Copy)]
+enum Asked {
+    /// What is due, by what was done with the attempt, whether a cancel_sm waits, and which account may receive.
+    Due(Done, bool, Up),
+    /// Whether the message is deleted, if a cancel_sm waits or not.
+    Deletion(bool),
+    /// What is due once the attempt is closed: the message was delivered.
+    End,
+}
+
+/// What a node decides after these decrees, in this incarnation.
+fn decided(
+    rt: &impl Abort,
     alloc: Global,
     steps: &[Step],
     incarnation: u16,
-    attempted: Attempted,
-    cancelled: bool,
-) -> Result<Option<Due>, Fail> {
-    let up = account(alloc, b"sme1")?;
-    let chain = chain(alloc, 1, steps)?;
-    Ok(standpoint(incarnation)?.due(&chain, attempted, cancelled, &up))
+    asked: Asked,
+) -> Option<Due> {
+    let here = standpoint(rt, incarnation);
+    let chain = chain(rt, alloc, 1, steps);
+    let decided = match asked {
+        Asked::Due(done, cancelled, up) => {
+            let up = accounts(rt, alloc, up);
+            let due = here.due(&chain, attempted(done), cancelled, &up);
+            drop(up);
+            due
+        }
+        Asked::Deletion(cancelled) => here.deletion(&chain, cancelled),
+        Asked::End => here.end(&chain, closing()),
+    };
+    drop(chain);
+    decided
+}
+
+/// The incarnation of the node, what it is asked, and what it decides.
+type Row = (u16, Asked, Option<Due>);
+
+fn assert_decided(rt: &impl Abort, alloc: Global, steps: &[Step], rows: &[Row]) {
+    for (number, (incarnation, asked, wanted)) in rows.iter().enumerate() {
+        let decided = decided(rt, alloc, steps, *incarnation, *asked);
+        assert_same(rt, &(number, decided), &(number, *wanted));
+    }
 }
 
 const OPEN: [Step; 1] = [Step::Attempt(0, 1)];
 
 #[test]
-fn an_attempt_is_closed_lost_or_given_up(rt: HostRuntime) -> Result<(), Fail> {
-    let alloc = rt.alloc();
-    let closing = Closing::Answered(Outcome::Delivered);
-    let closed = Attempted {
-        granted: true,
-        closed: Some(closing),
-    };
-    let granted = Attempted {
-        granted: true,
-        closed: None,
-    };
-    assert_eq!(rt;
-        found(alloc, &OPEN, 1, closed, false)?,
-        Some(Due::Close(closing))
+fn an_attempt_is_closed_lost_or_given_up(rt: HostRuntime) {
+    assert_decided(
+        &rt,
+        rt.alloc(),
+        &OPEN,
+        &[
+            (
+                1,
+                Asked::Due(Done::Closed, false, Up::Sme1),
+                Some(Due::Close(closing())),
+            ),
+            (1, Asked::Due(Done::Granted, false, Up::Sme1), None),
+            (
+                2,
+                Asked::Due(Done::Nothing, true, Up::Sme1),
+                Some(Due::Lose),
+            ),
+            (
+                1,
+                Asked::Due(Done::Nothing, false, Up::Sme2),
+                Some(Due::GiveUp),
+            ),
+            (1, Asked::Due(Done::Granted, false, Up::Sme2), None),
+            (1, Asked::End, Some(Due::Close(closing()))),
+            (2, Asked::End, None),
+        ],
     );
-    assert_eq!(rt; found(alloc, &OPEN, 1, granted, false)?, None);
-    assert_eq!(rt; found(alloc, &OPEN, 2, UNTOUCHED, true)?, Some(Due::Lose));
-    let others = account(alloc, b"sme2")?;
-    let chain = chain(alloc, 1, &OPEN)?;
-    let left = standpoint(1)?.due(&chain, UNTOUCHED, false, &others);
-    assert_eq!(rt; left, Some(Due::GiveUp));
-    assert_eq!(rt; standpoint(1)?.due(&chain, granted, false, &others), None);
-    assert_eq!(rt;
-        standpoint(1)?.end(&chain, closing),
-        Some(Due::Close(closing))
-    );
-    assert_eq!(rt; standpoint(2)?.end(&chain, closing), None);
-    Ok(())
 }
 
 #[test]
-fn a_message_that_waits_is_deleted_before_it_is_attempted(rt: HostRuntime) -> Result<(), Fail> {
+fn a_message_that_waits_is_deleted_before_it_is_attempted(rt: HostRuntime) {
     let alloc = rt.alloc();
     let first = Some(Due::Decree(DueDecree::Attempt(1)));
-    assert_eq!(rt; found(alloc, &[], 1, UNTOUCHED, false)?, first);
-    assert_eq!(rt; found(alloc, &[], 1, UNTOUCHED, true)?, Some(Due::Delete));
-    assert_eq!(rt; found(alloc, &OPEN, 1, UNTOUCHED, true)?, None);
-    let taken = chain(alloc, 1, &[])?;
-    let open = chain(alloc, 1, &OPEN)?;
-    assert_eq!(rt; standpoint(1)?.deletion(&taken, true), Some(Due::Delete));
-    assert_eq!(rt; standpoint(1)?.deletion(&taken, false), None);
-    assert_eq!(rt; standpoint(1)?.deletion(&open, true), None);
-    Ok(())
+    let on_taken = [
+        (1, Asked::Due(Done::Nothing, false, Up::Sme1), first),
+        (
+            1,
+            Asked::Due(Done::Nothing, true, Up::Sme1),
+            Some(Due::Delete),
+        ),
+        (1, Asked::Deletion(true), Some(Due::Delete)),
+        (1, Asked::Deletion(false), None),
+    ];
+    let on_open = [
+        (1, Asked::Due(Done::Nothing, true, Up::Sme1), None),
+        (1, Asked::Deletion(true), None),
+    ];
+    assert_decided(&rt, alloc, &[], &on_taken);
+    assert_decided(&rt, alloc, &OPEN, &on_open);
 }
 
-/// Whether the newest decree of a chain is this, so many seconds after the message was taken.
-fn ends_in(chain: &Chain, last: Final, error: u16, after: u32) -> bool {
+/// The final state in which a chain ends, its error, and how many seconds after the message was taken.
+fn end_of(chain: &Chain) -> Option<(Final, u16, u32)> {
     let newest = chain.newest();
     match newest.kind {
-        Kind::Fate(of, code) => {
-            of == last
-                && code.number() == error
-                && newest.moment.seconds() == TAKEN.saturating_add(after)
+        Kind::Fate(last, code) => {
+            let after = newest.moment.seconds().saturating_sub(TAKEN);
+            Some((last, code.number(), after))
         }
-        _ => false,
+        _ => None,
     }
 }
 
+/// How the message ends after these decrees, once node 1 deletes it in its first incarnation.
+fn deleted(rt: &impl Abort, alloc: Global, steps: &[Step]) -> Option<(Final, u16, u32)> {
+    let here = standpoint(rt, 1);
+    let chain = chain(rt, alloc, 1, steps);
+    let due = here.deletion(&chain, true).expect(rt, "it is deleted");
+    let ended = here.behind(&chain, due);
+    drop(chain);
+    let ended = ended.expect(rt, "memory");
+    let end = end_of(&ended);
+    drop(ended);
+    end
+}
+
 #[test]
-fn a_decree_is_not_before_the_newest(rt: HostRuntime) -> Result<(), Fail> {
+fn a_decree_is_not_before_the_newest(rt: HostRuntime) {
     let alloc = rt.alloc();
-    let early = chain(alloc, 1, &[Step::Attempt(0, 1), Step::Failed(30, 100)])?;
-    let ended = deleted(&early)?;
-    assert_eq!(rt; ends_in(&ended, Final::Deleted, 0, 60), true);
-    let late = chain(alloc, 1, &[Step::Attempt(0, 1), Step::Failed(90, 100)])?;
-    let ended = deleted(&late)?;
-    assert_eq!(rt; ends_in(&ended, Final::Deleted, 0, 90), true);
-    Ok(())
-}
-
-/// The chain once its message is deleted, by node 1 in its first incarnation.
-fn deleted(chain: &Chain) -> Result<Chain, Fail> {
-    let here = standpoint(1)?;
-    let Some(due) = here.deletion(chain, true) else {
-        return Err("it is deleted".into());
-    };
-    Ok(here.behind(chain, due)?)
+    let early = [Step::Attempt(0, 1), Step::Failed(30, 100)];
+    let late = [Step::Attempt(0, 1), Step::Failed(90, 100)];
+    let early = deleted(&rt, alloc, &early);
+    let late = deleted(&rt, alloc, &late);
+    let wanted = (Some((Final::Deleted, 0, 60)), Some((Final::Deleted, 0, 90)));
+    assert_same(&rt, &(early, late), &wanted);
 }
 
 #[test]
-fn decrees_have_the_errors_of_the_profile(rt: HostRuntime) -> Result<(), Fail> {
+fn decrees_have_the_errors_of_the_profile(rt: HostRuntime) {
     let none = ErrorCode::of(0);
-    assert_eq!(rt; failure_of(Due::GiveUp.kind(none)), Some(998));
-    assert_eq!(rt; failure_of(Due::Lose.kind(none)), Some(999));
-    assert_eq!(rt; failure_of(Closing::GivenUp.kind()), Some(998));
-    assert_eq!(rt; failure_of(Due::Delete.kind(none)), None);
-    Ok(())
+    let found = [
+        failure_of(Due::GiveUp.kind(none)),
+        failure_of(Due::Lose.kind(none)),
+        failure_of(Closing::GivenUp.kind()),
+        failure_of(Due::Delete.kind(none)),
+    ];
+    assert_same(&rt, &found, &[Some(998), Some(999), Some(998), None]);
 }
 
 /// The error of an attempt that failed.
@@ -147,19 +227,36 @@ fn failure_of(kind: Kind) -> Option<u16> {
 }
 
 #[test]
-fn a_vote_beyond_what_is_known_is_followed(rt: HostRuntime) -> Result<(), Fail> {
+fn a_vote_beyond_what_is_known_is_followed(rt: HostRuntime) {
     let alloc = rt.alloc();
-    let taken = chain(alloc, 1, &[])?;
-    let vote = Vote {
-        ballot: Ballot::make(1, Incarnation::make(1)?, NodeNo::make(1)?)?,
-        chain: chain(alloc, 1, &OPEN)?,
-    };
-    let open = chain(alloc, 1, &OPEN)?;
-    assert_eq!(rt; place(follow(Some(&taken), Some(&vote))), Some(1));
-    assert_eq!(rt; place(follow(None, Some(&vote))), Some(1));
-    assert_eq!(rt; place(follow(Some(&open), Some(&vote))), None);
-    assert_eq!(rt; place(follow(Some(&open), None)), None);
-    Ok(())
+    let taken = chain(&rt, alloc, 1, &[]);
+    let open = chain(&rt, alloc, 1, &OPEN);
+    let vote = vote(&rt, alloc);
+    let places = places(&taken, &open, &vote);
+    drop(vote);
+    drop(open);
+    drop(taken);
+    assert_same(&rt, &places, &[Some(1), Some(1), None, None]);
+}
+
+/// The places of the chains that are followed: of the vote after the message was taken, if nothing is known, and once the attempt is
+/// open, and then with no vote.
+fn places(taken: &Chain, open: &Chain, vote: &Vote) -> [Option<u8>; 4] {
+    [
+        place(follow(Some(taken), Some(vote))),
+        place(follow(None, Some(vote))),
+        place(follow(Some(open), Some(vote))),
+        place(follow(Some(open), None)),
+    ]
+}
+
+/// A vote for the attempt that is open.
+fn vote(rt: &impl Abort, alloc: Global) -> Vote {
+    let incarnation = Incarnation::make(1).expect(rt, "an incarnation");
+    Vote {
+        ballot: Ballot::make(1, incarnation, NodeNo::of(1)).expect(rt, "a ballot"),
+        chain: chain(rt, alloc, 1, &OPEN),
+    }
 }
 
 fn place(chain: Option<&Chain>) -> Option<u8> {

@@ -1,69 +1,91 @@
 //! What is due.
 
 use crate::chains::*;
+use crate::same::assert_same;
 use delivery::{DueDecree, due};
 use mc_types::Moment;
 use std::alloc::Global;
-use std::test::Fail;
+use std::process::Abort;
+
+/// The decrees on the message, how long after it was taken, whether its target is up, and what is due.
+type Row<'a> = (&'a [Step], u32, bool, Option<DueDecree>);
+
+const FIRST: &[Row<'static>] = &[
+    (&[], 0, true, Some(DueDecree::Attempt(1))),
+    (&[], 0, false, None),
+    (&[], 259199, true, Some(DueDecree::Attempt(1))),
+    (&[], 259200, true, Some(DueDecree::Expired)),
+    (&[], 259200, false, Some(DueDecree::Expired)),
+];
 
 /// What is due for the message after these decrees, so long after it was taken, its target being up or not.
-fn found(alloc: Global, steps: &[Step], after: u32, up: bool) -> Result<Option<DueDecree>, Fail> {
-    let now = Moment::make(TAKEN.saturating_add(after))?;
-    let chain = chain(alloc, 1, steps)?;
-    Ok(due(&chain, now, up))
+fn found(
+    rt: &impl Abort,
+    alloc: Global,
+    steps: &[Step],
+    after: u32,
+    up: bool,
+) -> Option<DueDecree> {
+    let now = Moment::make(TAKEN.saturating_add(after)).expect(rt, "a moment");
+    let chain = chain(rt, alloc, 1, steps);
+    let found = due(&chain, now, up);
+    drop(chain);
+    found
 }
 
-#[test]
-fn a_message_is_attempted_at_once(rt: HostRuntime) -> Result<(), Fail> {
-    let first = Some(DueDecree::Attempt(1));
-    let expired = Some(DueDecree::Expired);
-    assert_eq!(rt; found(rt.alloc(), &[], 0, true)?, first);
-    assert_eq!(rt; found(rt.alloc(), &[], 0, false)?, None);
-    assert_eq!(rt; found(rt.alloc(), &[], 259199, true)?, first);
-    assert_eq!(rt; found(rt.alloc(), &[], 259200, true)?, expired);
-    assert_eq!(rt; found(rt.alloc(), &[], 259200, false)?, expired);
-    Ok(())
-}
-
-#[test]
-fn attempts_come_later_and_later(rt: HostRuntime) -> Result<(), Fail> {
-    // The number of the next attempt, how many decrees are there, and when it comes.
-    let attempts = [
-        (2, 2, 60u32),
-        (3, 4, 180),
-        (4, 6, 360),
-        (5, 8, 600),
-        (6, 10, 900),
-        (7, 12, 1260),
-        (8, 14, 1680),
-    ];
-    for (number, decrees, after) in attempts {
-        let steps = FAILURES.get(..decrees).ok_or("failures")?;
-        let next = Some(DueDecree::Attempt(number));
-        let before = u32::saturating_sub(after, 1);
-        assert_eq!(rt; found(rt.alloc(), steps, before, true)?, None);
-        assert_eq!(rt; found(rt.alloc(), steps, after, true)?, next);
-        assert_eq!(rt; found(rt.alloc(), steps, after, false)?, None);
+fn assert_due(rt: &impl Abort, alloc: Global, rows: &[Row<'_>]) {
+    for (number, (steps, after, up, due)) in rows.iter().enumerate() {
+        let found = found(rt, alloc, steps, *after, *up);
+        assert_same(rt, &(number, found), &(number, *due));
     }
-    Ok(())
 }
 
 #[test]
-fn there_is_no_ninth_attempt(rt: HostRuntime) -> Result<(), Fail> {
-    let undeliverable = Some(DueDecree::Undeliverable);
-    let expired = Some(DueDecree::Expired);
-    assert_eq!(rt; found(rt.alloc(), &FAILURES, 1680, true)?, undeliverable);
-    assert_eq!(rt; found(rt.alloc(), &FAILURES, 1680, false)?, undeliverable);
-    assert_eq!(rt; found(rt.alloc(), &FAILURES, 259200, true)?, expired);
-    Ok(())
+fn a_message_is_attempted_at_once(rt: HostRuntime) {
+    assert_due(&rt, rt.alloc(), FIRST);
+}
+
+/// That the attempt of this number comes after so many decrees at this moment, and not before, if the target is up.
+fn assert_next(rt: &impl Abort, alloc: Global, number: u8, decrees: usize, after: u32) {
+    let steps = FAILURES.get(..decrees).expect(rt, "failures");
+    let rows = [
+        (steps, after.saturating_sub(1), true, None),
+        (steps, after, true, Some(DueDecree::Attempt(number))),
+        (steps, after, false, None),
+    ];
+    assert_due(rt, alloc, &rows);
 }
 
 #[test]
-fn an_open_attempt_waits_for_its_outcome(rt: HostRuntime) -> Result<(), Fail> {
-    let open = [Step::Attempt(0, 1)];
-    assert_eq!(rt; found(rt.alloc(), &open, 60, true)?, None);
-    assert_eq!(rt; found(rt.alloc(), &open, 259200, true)?, None);
-    let ended = [Step::Attempt(0, 1), Step::Fate(0, DELIVERED, 0)];
-    assert_eq!(rt; found(rt.alloc(), &ended, 259200, true)?, None);
-    Ok(())
+fn attempts_come_later_and_later(rt: HostRuntime) {
+    let alloc = rt.alloc();
+    assert_next(&rt, alloc, 2, 2, 60);
+    assert_next(&rt, alloc, 3, 4, 180);
+    assert_next(&rt, alloc, 4, 6, 360);
+    assert_next(&rt, alloc, 5, 8, 600);
+    assert_next(&rt, alloc, 6, 10, 900);
+    assert_next(&rt, alloc, 7, 12, 1260);
+    assert_next(&rt, alloc, 8, 14, 1680);
+}
+
+const NO_NINTH: &[Row<'static>] = &[
+    (&FAILURES, 1680, true, Some(DueDecree::Undeliverable)),
+    (&FAILURES, 1680, false, Some(DueDecree::Undeliverable)),
+    (&FAILURES, 259200, true, Some(DueDecree::Expired)),
+];
+
+#[test]
+fn there_is_no_ninth_attempt(rt: HostRuntime) {
+    assert_due(&rt, rt.alloc(), NO_NINTH);
+}
+
+const NOTHING: &[Row<'static>] = &[
+    (&[Step::Attempt(0, 1)], 60, true, None),
+    (&[Step::Attempt(0, 1)], 259200, true, None),
+    (TO_DELIVERED, 259200, true, None),
+];
+
+#[test]
+fn an_open_attempt_waits_for_its_outcome(rt: HostRuntime) {
+    assert_due(&rt, rt.alloc(), NOTHING);
 }

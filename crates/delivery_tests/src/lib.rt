@@ -18,4 +18,6 @@ mod receipt_vectors;
 #[cfg(test)]
 mod registered;
 #[cfg(test)]
+mod same;
+#[cfg(test)]
 mod texts;

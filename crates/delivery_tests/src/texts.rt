@@ -1,96 +1,109 @@
 //! The texts of receipts.
 
 use crate::chains::*;
-use receipts::{ReceiptFault, receipt_text};
+use crate::same::assert_same;
+use receipts::receipt_text;
 use std::alloc::Global;
-use std::test::Fail;
+use std::process::Abort;
 
-/// The text of the receipt after these decrees, after the word before; if there is none, why.
-fn text(
+/// The text of the receipt after these decrees, after the word before.
+fn text(rt: &impl Abort, alloc: Global, registered_delivery: u8, steps: &[Step]) -> Vec<u8> {
+    let chain = chain(rt, alloc, registered_delivery, steps);
+    let mut text = Vec::from_slice(alloc, b"before ").expect(rt, "memory");
+    receipt_text(&chain, &mut text).expect(rt, "a text");
+    drop(chain);
+    text
+}
+
+fn assert_told(
+    rt: &impl Abort,
     alloc: Global,
     registered_delivery: u8,
     steps: &[Step],
-) -> Result<Result<Vec<u8>, ReceiptFault>, Fail> {
-    let mut text = Vec::from_slice(alloc, b"before ")?;
-    let chain = chain(alloc, registered_delivery, steps)?;
-    match receipt_text(&chain, &mut text) {
-        Ok(()) => Ok(Ok(text)),
-        Err(fault) => Ok(Err(fault)),
-    }
+    wanted: &[u8],
+) {
+    let told = text(rt, alloc, registered_delivery, steps);
+    assert_same(rt, &told.as_slice(), &wanted);
 }
 
 #[test]
-fn a_message_expires(rt: HostRuntime) -> Result<(), Fail> {
-    let told = text(rt.alloc(), 2, &[Step::Fate(259200, EXPIRED, 0)])??;
-    let wanted =
-        b"before id:1000100001 sub:001 dlvrd:000 submit date:2401310000 done date:2402030000 stat:EXPIRED err:000 text:Hi";
-    assert_eq!(rt; told.as_slice(), wanted.as_slice());
-    Ok(())
+fn a_message_expires(rt: HostRuntime) {
+    assert_told(
+        &rt,
+        rt.alloc(),
+        2,
+        TO_EXPIRED,
+        b"before id:1000100001 sub:001 dlvrd:000 submit date:2401310000 done date:2402030000 stat:EXPIRED err:000 text:Hi",
+    );
 }
 
 #[test]
-fn eight_attempts_fail(rt: HostRuntime) -> Result<(), Fail> {
-    let told = text(rt.alloc(), 1, &undelivered())??;
-    let wanted =
-        b"before id:1000100001 sub:001 dlvrd:000 submit date:2401310000 done date:2401310028 stat:UNDELIV err:100 text:Hi";
-    assert_eq!(rt; told.as_slice(), wanted.as_slice());
-    Ok(())
+fn eight_attempts_fail(rt: HostRuntime) {
+    assert_told(
+        &rt,
+        rt.alloc(),
+        1,
+        &undelivered(),
+        b"before id:1000100001 sub:001 dlvrd:000 submit date:2401310000 done date:2401310028 stat:UNDELIV err:100 text:Hi",
+    );
 }
 
 #[test]
-fn a_message_is_rejected(rt: HostRuntime) -> Result<(), Fail> {
-    let steps = [Step::Attempt(0, 1), Step::Fate(0, REJECTED, 102)];
-    let told = text(rt.alloc(), 1, &steps)??;
-    let wanted =
-        b"before id:1000100001 sub:001 dlvrd:000 submit date:2401310000 done date:2401310000 stat:REJECTD err:102 text:Hi";
-    assert_eq!(rt; told.as_slice(), wanted.as_slice());
-    Ok(())
+fn a_message_is_rejected(rt: HostRuntime) {
+    assert_told(
+        &rt,
+        rt.alloc(),
+        1,
+        TO_REJECTED,
+        b"before id:1000100001 sub:001 dlvrd:000 submit date:2401310000 done date:2401310000 stat:REJECTD err:102 text:Hi",
+    );
 }
 
 #[test]
-fn a_message_is_deleted(rt: HostRuntime) -> Result<(), Fail> {
-    let told = text(rt.alloc(), 1, &[Step::Fate(0, DELETED, 0)])??;
-    let wanted =
-        b"before id:1000100001 sub:001 dlvrd:000 submit date:2401310000 done date:2401310000 stat:DELETED err:000 text:Hi";
-    assert_eq!(rt; told.as_slice(), wanted.as_slice());
-    Ok(())
+fn a_message_is_deleted(rt: HostRuntime) {
+    assert_told(
+        &rt,
+        rt.alloc(),
+        1,
+        TO_DELETED,
+        b"before id:1000100001 sub:001 dlvrd:000 submit date:2401310000 done date:2401310000 stat:DELETED err:000 text:Hi",
+    );
 }
 
 /// The receipt of appendix B of SMPP 3.4, label by label: a `#` is a digit, a `@` a capital letter. The last label is in lower case
-/// here, and up to 20 octets of the message follow it.
+/// here, and up to 20 octets of the message follow it, as here `Hi`.
 const PATTERN: &[u8] =
-    b"before id:########## sub:### dlvrd:### submit date:########## done date:########## stat:@@@@@@@ err:### text:";
+    b"before id:########## sub:### dlvrd:### submit date:########## done date:########## stat:@@@@@@@ err:### text:@i";
 
-/// Whether an octet may stand at this place of the pattern.
-fn fits(place: u8, octet: u8) -> bool {
-    match place {
-        b'#' => octet.is_ascii_digit(),
-        b'@' => octet.is_ascii_uppercase(),
-        _ => octet == place,
+/// How the pattern writes an octet. A `#` or `@` of the text has no place in it.
+fn place_of(octet: u8) -> u8 {
+    match octet {
+        b'0'..=b'9' => b'#',
+        b'A'..=b'Z' => b'@',
+        b'#' | b'@' => b'?',
+        _ => octet,
     }
 }
 
-/// How many octets stand after the pattern, if a text has it.
-fn behind_the_pattern(text: &[u8]) -> Option<usize> {
-    let front = text.get(..PATTERN.len())?;
-    let is_there = PATTERN
-        .iter()
-        .zip(front)
-        .all(|(place, octet)| fits(*place, *octet));
-    is_there.then_some(text.len() - PATTERN.len())
+fn put_pattern(text: &mut [u8]) {
+    for octet in text {
+        *octet = place_of(*octet);
+    }
+}
+
+/// That the text of the receipt after these decrees, in the row of this number, has the pattern.
+fn assert_pattern(rt: &impl Abort, alloc: Global, row: u8, steps: &[Step]) {
+    let mut told = text(rt, alloc, 1, steps);
+    put_pattern(&mut told);
+    assert_same(rt, &(row, told.as_slice()), &(row, PATTERN));
 }
 
 #[test]
-fn each_text_has_the_pattern_of_appendix_b(rt: HostRuntime) -> Result<(), Fail> {
-    let delivered = [Step::Attempt(0, 1), Step::Fate(0, DELIVERED, 0)];
-    let expired = [Step::Fate(259200, EXPIRED, 0)];
-    let deleted = [Step::Fate(0, DELETED, 0)];
-    let rejected = [Step::Attempt(0, 1), Step::Fate(0, REJECTED, 102)];
-    let undelivered = undelivered();
-    let ends: [&[Step]; 5] = [&delivered, &expired, &deleted, &undelivered, &rejected];
-    for steps in ends {
-        let told = text(rt.alloc(), 1, steps)??;
-        assert_eq!(rt; behind_the_pattern(&told), Some(2));
-    }
-    Ok(())
+fn each_text_has_the_pattern_of_appendix_b(rt: HostRuntime) {
+    let alloc = rt.alloc();
+    assert_pattern(&rt, alloc, 0, TO_DELIVERED);
+    assert_pattern(&rt, alloc, 1, TO_EXPIRED);
+    assert_pattern(&rt, alloc, 2, TO_DELETED);
+    assert_pattern(&rt, alloc, 3, &undelivered());
+    assert_pattern(&rt, alloc, 4, TO_REJECTED);
 }

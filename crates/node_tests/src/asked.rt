@@ -17,37 +17,23 @@ const QUERY: &[u8] =
 const CANCEL: &[u8] =
     b"\x00\x00\x00\x25\x00\x00\x00\x08\x00\x00\x00\x00\x00\x00\x00\x04\x001000100001\x00\x01\x01144\x00\x00\x00\x00";
 
-// A request of sme1, whose messages go to itself.
-#[derive(Clone, Copy)]
-pub enum Asked {
-    Submit,
-    // With no route for its message.
-    SubmitNowhere,
-    Query,
-    Cancel,
-}
-
-pub fn request(alloc: Global, asked: Asked) -> Result<Input, Fail> {
-    let account = text(alloc, b"sme1")?;
-    let target = target(alloc, asked)?;
+// A request of sme1: `submit`, whose message goes to itself, `submit_nowhere`, with no route for its message, `query` or `cancel`.
+pub fn request(alloc: Global, asked: &str) -> Result<Input, Fail> {
+    let account = text(alloc, "sme1")?;
+    let target = match asked {
+        "submit_nowhere" => None,
+        _ => Some(text(alloc, "sme1")?),
+    };
     let pdu = decode(alloc, octets(asked))?;
     let request = request_in(pdu.body, target).ok_or("a request")?;
     Ok(Input::Request(account, request))
 }
 
-// The account to which a route leads.
-fn target(alloc: Global, asked: Asked) -> Result<Option<Text<16>>, Fail> {
+fn octets(asked: &str) -> &'static [u8] {
     match asked {
-        Asked::SubmitNowhere => Ok(None),
-        _ => Ok(Some(text(alloc, b"sme1")?)),
-    }
-}
-
-fn octets(asked: Asked) -> &'static [u8] {
-    match asked {
-        Asked::Submit | Asked::SubmitNowhere => SUBMIT,
-        Asked::Query => QUERY,
-        Asked::Cancel => CANCEL,
+        "query" => QUERY,
+        "cancel" => CANCEL,
+        _ => SUBMIT,
     }
 }
 

@@ -4,17 +4,15 @@
 #[cfg(test)]
 mod asked;
 #[cfg(test)]
-mod asking;
+mod cases;
 #[cfg(test)]
-mod attempts;
+mod nodes_by_rows;
 #[cfg(test)]
 mod opening;
 #[cfg(test)]
-mod packets;
-#[cfg(test)]
 mod permits;
 #[cfg(test)]
-mod ticks;
+mod rows;
 #[cfg(test)]
 mod values;
 #[cfg(test)]

@@ -2,54 +2,48 @@
 
 ghost use Rattle.node_core.specs.Nodes.{IsLifeOf};
 
-use crate::values::{Comes, input};
-use crate::walks::{Answer, otherwise_by, otherwise_over, setup};
+use crate::cases::{all, none};
+use crate::values::{input, second};
+use crate::walks::{otherwise_by, otherwise_over};
 use node_core::{Found, Life, Node, Setup, StepFault, open_node};
 use stable_store::{FailingStore, Found as Leaves, ListStore, StableStore, StoreFault};
 use std::alloc::Global;
+use std::collections::VecDeque;
 use std::test::Fail;
 use synod_acceptor::Packet;
 
-// What a node answers otherwise before a stop, and what it answers otherwise once it is opened again over its store.
+// The first row that a node answers otherwise before a stop, and that once it is opened again over its store.
 fn stopped<S: StableStore + Drop>(
     alloc: Global,
     store: S,
-    before: &[(Comes, Answer)],
-    after: &[(Comes, Answer)],
-) -> Result<(Option<(usize, Answer)>, Option<(usize, Answer)>), Fail> {
-    let setup = setup()?;
-    let (first, store) = otherwise_over(alloc, store, setup, before)?;
-    let (second, store) = otherwise_over(alloc, store, setup, after)?;
+    before: &str,
+    after: &str,
+) -> Result<(), Fail> {
+    let (first, store) = otherwise_over(alloc, store, second()?, before)?;
+    let (last, store) = otherwise_over(alloc, store, second()?, after)?;
     drop(store);
-    Ok((first, second))
+    none("before", &first)?;
+    none("after", &last)
 }
 
 #[test]
 fn what_was_voted_outlives_a_stop(rt: HostRuntime) -> Result<(), Fail> {
-    let before = [(Comes::Propose(1, 262162), Answer::Voted(262162))];
-    let after = [
-        (Comes::Ask(3), Answer::Told(262162)),
-        (Comes::Prepare(1, 262161), Answer::Refused(262162)),
-    ];
-    let store = ListStore::make(rt.alloc());
-    assert_eq!(rt; stopped(rt.alloc(), store, &before, &after)?, (None, None));
-    Ok(())
+    let before = "propose 1 262162 => Voted(262162)";
+    let after = "\
+ask 3 => Told(262162)
+prepare 1 262161 => Refused(262162)";
+    stopped(rt.alloc(), ListStore::make(rt.alloc()), before, after)
 }
 
 #[test]
 fn a_node_whose_save_fails_is_broken(rt: HostRuntime) -> Result<(), Fail> {
-    let before = [
-        (Comes::Prepare(1, 262161), Answer::Promised),
-        (
-            Comes::Propose(1, 262161),
-            Answer::Uncommitted(StepFault::Device),
-        ),
-        (Comes::Ask(3), Answer::Unprepared(StepFault::Broken)),
-    ];
-    let after = [(Comes::Ask(3), Answer::Told(262161))];
+    let before = "\
+prepare 1 262161 => Promised
+propose 1 262161 => Uncommitted(Device)
+ask 3 => Unprepared(Broken)";
+    let after = "ask 3 => Told(262161)";
     let store = FailingStore::make(ListStore::make(rt.alloc()), 2, Leaves::After);
-    assert_eq!(rt; stopped(rt.alloc(), store, &before, &after)?, (None, None));
-    Ok(())
+    stopped(rt.alloc(), store, before, after)
 }
 
 // The number and the incarnation of the second node of three that opens over a store, and the store once it has stopped.
@@ -66,12 +60,12 @@ fn started(alloc: Global, store: ListStore, setup: Setup) -> Result<(u8, u16, Li
 
 #[test]
 fn each_start_is_another_incarnation(rt: HostRuntime) -> Result<(), Fail> {
-    let setup = setup()?;
+    let setup = second()?;
     let mut store = ListStore::make(rt.alloc());
     for start in 1..4u16 {
         let (node, incarnation, left) = started(rt.alloc(), store, setup)?;
-        assert_eq!(rt; (node, incarnation), (2, start));
         store = left;
+        all("node and incarnation", &[node == 2, incarnation == start])?;
     }
     Ok(())
 }
@@ -83,53 +77,62 @@ fn use_up(store: &mut ListStore) -> Result<(), Fail> {
     Ok(())
 }
 
-#[test]
-fn a_store_is_handed_back(rt: HostRuntime) -> Result<(), Fail> {
-    let setup = setup()?;
-    let mut store = ListStore::make(rt.alloc());
-    use_up(&mut store)?;
-    match open_node(rt.alloc(), store, setup) {
-        Ok(_) => return Err("no incarnation is left".into()),
-        Err((fault, mut store)) => {
-            assert_eq!(rt; fault, StoreFault::Incarnations);
-            assert_eq!(rt; store.load()?.len(), 0);
-        }
+// Why a node does not open over a store that is used up, and how much its store holds then.
+fn not_opened(alloc: Global, store: ListStore) -> Result<(StoreFault, usize), Fail> {
+    match open_node(alloc, store, second()?) {
+        Ok(_) => Err("no incarnation is left".into()),
+        Err((fault, mut store)) => Ok((fault, store.load()?.len())),
     }
-    Ok(())
 }
 
-// A save of the node fails, and it opens again: its number, its incarnation, and what it answers otherwise then.
+#[test]
+fn a_store_is_handed_back(rt: HostRuntime) -> Result<(), Fail> {
+    let mut store = ListStore::make(rt.alloc());
+    use_up(&mut store)?;
+    let (fault, length) = not_opened(rt.alloc(), store)?;
+    all(
+        "handed back",
+        &[fault == StoreFault::Incarnations, length == 0],
+    )
+}
+
+// A save of the node fails, and it opens again: whether it does so with its number and another incarnation, and which row it answers otherwise then.
 fn reopened(
     alloc: Global,
     node: &mut Node<FailingStore>,
     first: Life,
-    rows: &[(Comes, Answer)],
-) -> Result<(u8, u16, Option<(usize, Answer)>), Fail>
+    rows: &str,
+) -> Result<([bool; 2], Option<usize>), Fail>
     requires { IsLifeOf node.old first }
 {
-    let pending = node.prepare_step(input(alloc, Comes::Propose(1, 262161))?)?;
+    let pending = node.prepare_step(input(alloc, "propose 1 262161")?)?;
     if node.commit(pending).err() != Some(StepFault::Device) {
         return Err("its save fails".into());
     }
     let Ok(second) = node.reopen(first) else {
         return Err("it opens again".into());
     };
-    let (number, incarnation) = (second.node().number(), second.incarnation().number());
-    Ok((number, incarnation, otherwise_by(alloc, node, rows)?))
+    let is_second = [
+        second.node().number() == 2,
+        second.incarnation().number() == 2,
+    ];
+    let mut left = VecDeque::new(alloc);
+    let otherwise = otherwise_by(alloc, node, &mut left, rows);
+    drop(left);
+    Ok((is_second, otherwise?))
 }
 
 #[test]
 fn a_broken_node_opens_again(rt: HostRuntime) -> Result<(), Fail> {
-    let setup = setup()?;
     let store = FailingStore::make(ListStore::make(rt.alloc()), 1, Leaves::After);
-    let Ok((mut node, first)) = open_node(rt.alloc(), store, setup) else {
+    let Ok((mut node, first)) = open_node(rt.alloc(), store, second()?) else {
         return Err("it opens".into());
     };
-    let rows = [(Comes::Ask(3), Answer::Told(262161))];
-    let reopened = reopened(rt.alloc(), &mut node, first, &rows);
+    let reopened = reopened(rt.alloc(), &mut node, first, "ask 3 => Told(262161)");
     drop(node);
-    assert_eq!(rt; reopened?, (2, 2, None));
-    Ok(())
+    let (is_second, otherwise) = reopened?;
+    all("node and incarnation", &is_second)?;
+    none("a row", &otherwise)
 }
 
 // What a node tells of the save in which it stopped: the ballot of its Prepare or Propose, and what was stored.
@@ -147,7 +150,7 @@ fn told_twice(
     alloc: Global,
     node: &mut Node<FailingStore>,
     first: Life,
-    comes: Comes,
+    comes: &str,
 ) -> Result<(Option<(u64, Found)>, Option<(u64, Found)>), Fail>
     requires { IsLifeOf node.old first }
 {
@@ -168,12 +171,11 @@ fn told_twice(
 // The same of a node over a store of which the first save fails and leaves this.
 fn told_over(
     alloc: Global,
-    comes: Comes,
+    comes: &str,
     leaves: Leaves,
 ) -> Result<(Option<(u64, Found)>, Option<(u64, Found)>), Fail> {
-    let setup = setup()?;
     let store = FailingStore::make(ListStore::make(alloc), 1, leaves);
-    let Ok((mut node, first)) = open_node(alloc, store, setup) else {
+    let Ok((mut node, first)) = open_node(alloc, store, second()?) else {
         return Err("it opens".into());
     };
     let told = told_twice(alloc, &mut node, first, comes);
@@ -184,14 +186,14 @@ fn told_over(
 #[test]
 fn a_node_tells_in_which_save_it_stopped(rt: HostRuntime) -> Result<(), Fail> {
     let rows = [
-        (Comes::Prepare(1, 262161), Leaves::Before, Found::Before),
-        (Comes::Prepare(1, 262161), Leaves::After, Found::After),
-        (Comes::Propose(1, 262161), Leaves::Before, Found::Before),
-        (Comes::Propose(1, 262161), Leaves::After, Found::After),
+        ("prepare 1 262161", Leaves::Before, Found::Before),
+        ("prepare 1 262161", Leaves::After, Found::After),
+        ("propose 1 262161", Leaves::Before, Found::Before),
+        ("propose 1 262161", Leaves::After, Found::After),
     ];
     for (comes, leaves, found) in &rows {
-        let told = told_over(rt.alloc(), *comes, *leaves)?;
-        assert_eq!(rt; told, (Some((262161, *found)), None));
+        let told = told_over(rt.alloc(), comes, *leaves)?;
+        all(comes, &[told == (Some((262161, *found)), None)])?;
     }
     Ok(())
 }

@@ -1,42 +1,35 @@
 //! Attempts that a node grants by a permit.
 
-use crate::asked::Asked;
-use crate::asking::{BEGINNING, answer_to, last_answer, setup};
-use crate::values::{Comes, input};
-use crate::walks::setup as setup_of_second;
+use crate::cases::all;
+use crate::values::{alone, opened, second};
+use crate::walks::what_comes_of;
 use delivery::Outcome;
 use mc_types::MsgId;
-use node_core::{GrantRefusal, Input, Life, Node, Outputs, Permit, Setup, StepFault, open_node};
+use node_core::{GrantRefusal, Input, Life, Node, Outputs, Permit, StepFault};
 use pdu_tables::State;
 use stable_store::ListStore;
 use std::alloc::Global;
 use std::collections::VecDeque;
 use std::test::Fail;
+use synod_acceptor::Packet;
 
 // The message that a node alone takes first.
 fn first_id() -> Result<MsgId, Fail> {
     Ok(MsgId::read(b"1000100001")?)
 }
 
-fn opened(alloc: Global, setup: Setup) -> Result<(Node<ListStore>, Life), Fail> {
-    match open_node(alloc, ListStore::make(alloc), setup) {
-        Ok(opened) => Ok(opened),
-        Err(_) => Err("it opens".into()),
-    }
-}
-
 // A submit_sm is taken, and its first attempt is chosen.
 fn attempt(alloc: Global, node: &mut Node<ListStore>) -> Result<(), Fail> {
-    let rows = [
-        Comes::Request(Asked::Submit),
-        Comes::Tick(BEGINNING, "sme1"),
-    ];
     let mut left = VecDeque::new(alloc);
-    for comes in &rows {
-        answer_to(node, input(alloc, *comes)?, &mut left)?;
-        last_answer(node, &mut left)?;
+    for comes in ["submit", "back", "tick 946684800 sme1", "back"] {
+        what_comes_of(alloc, node, &mut left, comes)?;
     }
     Ok(())
+}
+
+fn outputs_of(node: &mut Node<ListStore>, packet: Packet) -> Result<Outputs, StepFault> {
+    let pending = node.prepare_step(Input::Packet(packet))?;
+    node.commit(pending)
 }
 
 // The state of the first message whose receipt is due as the packets of the outputs come back to the node.
@@ -48,8 +41,7 @@ fn receipt_after(node: &mut Node<ListStore>, mut outputs: Outputs) -> Result<Opt
         let Some(packet) = outputs.packets.pop() else {
             return Ok(None);
         };
-        let pending = node.prepare_step(Input::Packet(packet))?;
-        outputs = node.commit(pending)?;
+        outputs = outputs_of(node, packet)?;
     }
     Ok(None)
 }
@@ -99,15 +91,12 @@ fn delivered(alloc: Global, node: &mut Node<ListStore>, life: &Life) -> Result<C
 
 #[test]
 fn an_attempt_is_granted_by_a_permit_and_delivered(rt: HostRuntime) -> Result<(), Fail> {
-    let (mut node, life) = opened(rt.alloc(), setup()?)?;
+    let (mut node, life) = opened(rt.alloc(), alone()?)?;
     let course = delivered(rt.alloc(), &mut node, &life);
     drop(node);
     let again = StepFault::Grant(GrantRefusal::AlreadyGranted);
-    assert_eq!(rt;
-        course?,
-        (1000100001, 1, 1, Some(again), Some(State::Delivered))
-    );
-    Ok(())
+    let wanted = (1000100001, 1, 1, Some(again), Some(State::Delivered));
+    all("the course", &[course? == wanted])
 }
 
 // Why an attempt is not granted before it is chosen, in a strange life after that, in its own life, and once its permit was given up.
@@ -134,9 +123,9 @@ fn refused(
 fn a_strange_life_is_refused_last_and_an_attempt_given_up_stays_granted(
     rt: HostRuntime,
 ) -> Result<(), Fail> {
-    let (other, strange) = opened(rt.alloc(), setup_of_second()?)?;
+    let (other, strange) = opened(rt.alloc(), second()?)?;
     drop(other);
-    let (mut node, life) = opened(rt.alloc(), setup()?)?;
+    let (mut node, life) = opened(rt.alloc(), alone()?)?;
     let refused = refused(rt.alloc(), &mut node, &life, &strange);
     drop(node);
     let reasons = [
@@ -145,8 +134,7 @@ fn a_strange_life_is_refused_last_and_an_attempt_given_up_stays_granted(
         None,
         Some(StepFault::Grant(GrantRefusal::AlreadyGranted)),
     ];
-    assert_eq!(rt; refused?, reasons);
-    Ok(())
+    all("the reasons", &[refused? == reasons])
 }
 
 // What another node of the cluster answers to a permit.
@@ -162,13 +150,18 @@ fn spent_elsewhere(
     Ok(spent(other, permit).err())
 }
 
+// The same of a permit of a node alone.
+fn spent_at(alloc: Global, other: &mut Node<ListStore>) -> Result<Option<StepFault>, Fail> {
+    let (mut node, life) = opened(alloc, alone()?)?;
+    let spent = spent_elsewhere(alloc, &mut node, &life, other);
+    drop(node);
+    spent
+}
+
 #[test]
 fn a_permit_is_worth_nothing_at_another_node(rt: HostRuntime) -> Result<(), Fail> {
-    let (mut other, _strange) = opened(rt.alloc(), setup_of_second()?)?;
-    let (mut node, life) = opened(rt.alloc(), setup()?)?;
-    let spent = spent_elsewhere(rt.alloc(), &mut node, &life, &mut other);
-    drop(node);
+    let (mut other, _strange) = opened(rt.alloc(), second()?)?;
+    let spent = spent_at(rt.alloc(), &mut other);
     drop(other);
-    assert_eq!(rt; spent?, Some(StepFault::NotGranted));
-    Ok(())
+    all("the answer", &[spent? == Some(StepFault::NotGranted)])
 }

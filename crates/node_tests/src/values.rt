@@ -1,11 +1,12 @@
 //! What comes to a node in the tests.
 
-use crate::asked::{Asked, request};
+use crate::asked::request;
 use delivery::Outcome;
 use fate_chain::{Author, Chain, Decree, ErrorCode, Final, Kind};
 use mc_types::{Ballot, Incarnation, Moment, MsgId, NodeNo, Slot};
-use node_core::Input;
+use node_core::{Input, Life, Node, Setup, open_node};
 use pdu_codec::Text;
+use stable_store::ListStore;
 use std::alloc::Global;
 use std::test::Fail;
 use synod_acceptor::{Name, Packet, Report, Vote};
@@ -14,36 +15,24 @@ use synod_acceptor::{Name, Packet, Report, Vote};
 const TAKEN: &[u8] =
     b"\x01\x00\x00\x00\x00\x3b\x9c\x50\xa1\x00\x01\x01\x01\x00\x01\x38\x6d\x43\x80\x04sme1\x04sme1\x00\x01\x01\x03144\x01\x01\x03155\x00\x00\x00\x01\x00\x38\x6d\x43\x80\x38\x71\x38\x00\x02Hi\x00\x00";
 
-// The moment at which that message expires.
-pub const EXPIRY: u32 = 946944000;
-
-// What comes to a node. Each packet is on that message, and from the node that it names first.
-#[derive(Clone, Copy)]
-pub enum Comes {
-    // At a ballot.
-    Prepare(u8, u64),
-    Propose(u8, u64),
-    Promise(u8, u64),
-    // Of the first ballot, for the promise at the second.
-    Refused(u8, u64, u64),
-    Ask(u8),
-    Tell(u8),
-    // A vote for that chain.
-    Voted(u8),
-    // A vote for that chain with its first attempt, by a node in an incarnation.
-    VotedAttempt(u8, u8, u16),
-    // A vote that the message of the id this many numbers after that one is deleted.
-    VotedDeleted(u8, u8),
-    // The attempt is asked for, and its message was delivered.
-    Grant,
-    Delivered,
-    // The moment, and the accounts of which a session may receive.
-    Tick(u32, &'static str),
-    Request(Asked),
-}
-
 pub fn node(number: u8) -> Result<NodeNo, Fail> {
     Ok(NodeNo::make(number)?)
+}
+
+// That of a node alone, and that of the second node of three.
+pub fn alone() -> Result<Setup, Fail> {
+    Ok(Setup::make(node(1)?, 1, 1, 172800)?)
+}
+
+pub fn second() -> Result<Setup, Fail> {
+    Ok(Setup::make(node(2)?, 3, 1, 172800)?)
+}
+
+pub fn opened(alloc: Global, setup: Setup) -> Result<(Node<ListStore>, Life), Fail> {
+    match open_node(alloc, ListStore::make(alloc), setup) {
+        Ok(opened) => Ok(opened),
+        Err(_) => Err("it opens".into()),
+    }
 }
 
 // The slot of that message at a place.
@@ -52,90 +41,120 @@ fn slot(place: u8) -> Result<Slot, Fail> {
     Ok(Slot { id, place })
 }
 
-pub fn input(alloc: Global, comes: Comes) -> Result<Input, Fail> {
-    match comes {
-        Comes::Grant => Ok(Input::Grant(slot(1)?.id)),
-        Comes::Delivered => Ok(Input::Answered(slot(1)?, Outcome::Delivered)),
-        Comes::Tick(seconds, accounts) => tick(alloc, seconds, accounts),
-        Comes::Request(asked) => request(alloc, asked),
-        packet => Ok(Input::Packet(packet_of(alloc, packet)?)),
+// What comes to a node: a request; `grant`, if the attempt is asked for; `delivered`, if its message was; `tick`, with the moment and the
+// accounts of which a session may receive; or a packet and its numbers.
+pub fn input(alloc: Global, comes: &str) -> Result<Input, Fail> {
+    let (kind, rest) = comes.split_once(' ').unwrap_or((comes, ""));
+    match kind {
+        "submit" | "submit_nowhere" | "query" | "cancel" => request(alloc, kind),
+        "grant" => Ok(Input::Grant(slot(1)?.id)),
+        "delivered" => Ok(Input::Answered(slot(1)?, Outcome::Delivered)),
+        "tick" => tick(alloc, rest),
+        _ => Ok(Input::Packet(packet(alloc, kind, numbers(rest)?)?)),
     }
 }
 
-fn packet_of(alloc: Global, comes: Comes) -> Result<Packet, Fail> {
-    match comes {
-        Comes::Prepare(from, ballot) => Ok(Packet::Prepare {
-            from: node(from)?,
-            slot: slot(0)?,
-            ballot: Ballot::of_number(ballot)?,
+fn numbers(words: &str) -> Result<[u64; 3], Fail> {
+    let mut numbers = [0; 3];
+    for (number, word) in numbers.iter_mut().zip(words.split_whitespace()) {
+        *number = word.parse()?;
+    }
+    Ok(numbers)
+}
+
+// A packet on that message, from the node that its first number names. The second number of `prepare`, `propose` and `promise` is a ballot;
+// those of `refused` are the first ballot, and the second, for whose promise it is refused. `voted`, `attempted` and `deleted` are votes.
+fn packet(alloc: Global, kind: &str, numbers: [u64; 3]) -> Result<Packet, Fail> {
+    let [from, first, second] = numbers;
+    let from = node(u8::try_from(from)?)?;
+    let slot = slot(0)?;
+    match kind {
+        "prepare" => {
+            let ballot = Ballot::of_number(first)?;
+            Ok(Packet::Prepare { from, slot, ballot })
+        }
+        "propose" => {
+            let vote = vote(alloc, first)?;
+            Ok(Packet::Propose { from, vote })
+        }
+        "promise" => Ok(Packet::Promise {
+            from,
+            ballot: Ballot::of_number(first)?,
+            report: Report::Nothing(slot),
         }),
-        Comes::Propose(from, ballot) => Ok(Packet::Propose {
-            from: node(from)?,
-            vote: vote(alloc, ballot)?,
+        "refused" => Ok(Packet::Refused {
+            from,
+            slot,
+            ballot: Ballot::of_number(first)?,
+            promised: Ballot::of_number(second)?,
         }),
-        Comes::Promise(from, ballot) => Ok(Packet::Promise {
-            from: node(from)?,
-            ballot: Ballot::of_number(ballot)?,
-            report: Report::Nothing(slot(0)?),
-        }),
-        Comes::Refused(from, ballot, promised) => Ok(Packet::Refused {
-            from: node(from)?,
-            slot: slot(0)?,
-            ballot: Ballot::of_number(ballot)?,
-            promised: Ballot::of_number(promised)?,
-        }),
-        Comes::Ask(from) => Ok(Packet::Ask {
-            from: node(from)?,
-            id: slot(0)?.id,
+        "ask" => Ok(Packet::Ask {
+            from,
+            id: slot.id,
             name: name(from, 7)?,
         }),
-        Comes::Tell(from) => Ok(Packet::Tell {
-            from: node(from)?,
-            name: name(2, 1)?,
+        "tell" => Ok(Packet::Tell {
+            from,
+            name: name(node(2)?, 1)?,
             told: None,
         }),
-        Comes::Voted(from) => Ok(Packet::Voted {
-            from: node(from)?,
-            vote: vote(alloc, 262161)?,
-        }),
-        Comes::VotedAttempt(from, by, incarnation) => Ok(Packet::Voted {
-            from: node(from)?,
-            vote: attempted(alloc, by, incarnation)?,
-        }),
-        Comes::VotedDeleted(from, more) => Ok(Packet::Voted {
-            from: node(from)?,
-            vote: deleted(alloc, more)?,
-        }),
-        _ => Err("a packet".into()),
+        _ => {
+            let vote = voted(alloc, kind, first, second)?;
+            Ok(Packet::Voted { from, vote })
+        }
     }
 }
 
-fn name(number: u8, ticket: u64) -> Result<Name, Fail> {
+fn name(node: NodeNo, ticket: u64) -> Result<Name, Fail> {
     Ok(Name {
-        node: node(number)?,
+        node,
         incarnation: Incarnation::make(1)?,
         ticket,
     })
 }
 
 fn vote(alloc: Global, ballot: u64) -> Result<Vote, Fail> {
+    let ballot = Ballot::of_number(ballot)?;
     Ok(Vote {
-        ballot: Ballot::of_number(ballot)?,
+        ballot,
         chain: Chain::read(alloc, TAKEN)?,
     })
 }
 
-fn attempted(alloc: Global, by: u8, incarnation: u16) -> Result<Vote, Fail> {
+// A vote for that chain; for it with its first attempt, by a node in an incarnation; or that the message is deleted of which the id is this
+// many numbers after that one.
+fn voted(alloc: Global, kind: &str, first: u64, second: u64) -> Result<Vote, Fail> {
+    match kind {
+        "voted" => vote(alloc, 262161),
+        "attempted" => {
+            let incarnation = u16::try_from(second)?;
+            extended(
+                alloc,
+                0,
+                (u8::try_from(first)?, incarnation),
+                Kind::Attempt(1),
+            )
+        }
+        "deleted" => {
+            let fate = Kind::Fate(Final::Deleted, ErrorCode::of(0));
+            extended(alloc, u8::try_from(first)?, (1, 1), fate)
+        }
+        _ => Err("a packet".into()),
+    }
+}
+
+// A vote for the chain of which the id is so many numbers after that one, with a decree of this kind by a node in an incarnation.
+fn extended(alloc: Global, more: u8, by: (u8, u16), kind: Kind) -> Result<Vote, Fail> {
     let author = Author {
-        node: node(by)?,
-        incarnation: Incarnation::make(incarnation)?,
+        node: node(by.0)?,
+        incarnation: Incarnation::make(by.1)?,
     };
     let ballot = Ballot::of_number(262161)?;
-    let taken = Chain::read(alloc, TAKEN)?;
+    let taken = taken(alloc, more)?;
     let chain = taken.extended(Decree {
         author,
         moment: Moment::least(),
-        kind: Kind::Attempt(1),
+        kind,
     });
     drop(taken);
     Ok(Vote {
@@ -144,37 +163,25 @@ fn attempted(alloc: Global, by: u8, incarnation: u16) -> Result<Vote, Fail> {
     })
 }
 
-fn deleted(alloc: Global, more: u8) -> Result<Vote, Fail> {
+fn taken(alloc: Global, more: u8) -> Result<Chain, Fail> {
     let mut octets = Vec::from_slice(alloc, TAKEN)?;
-    let last = octets.get_mut(8).ok_or("an id")?;
-    *last = last.checked_add(more).ok_or("an id")?;
-    let author = Author {
-        node: node(1)?,
-        incarnation: Incarnation::make(1)?,
-    };
-    let ballot = Ballot::of_number(262161)?;
-    let taken = Chain::read(alloc, &octets)?;
-    let chain = taken.extended(Decree {
-        author,
-        moment: Moment::least(),
-        kind: Kind::Fate(Final::Deleted, ErrorCode::of(0)),
-    });
-    drop(taken);
-    Ok(Vote {
-        ballot,
-        chain: chain?,
-    })
+    if let Some(last) = octets.get_mut(8) {
+        *last = last.saturating_add(more);
+    }
+    Ok(Chain::read(alloc, &octets)?)
 }
 
-fn tick(alloc: Global, seconds: u32, accounts: &str) -> Result<Input, Fail> {
-    let moment = Moment::make(seconds)?;
+// The moment, and the accounts behind it.
+fn tick(alloc: Global, words: &str) -> Result<Input, Fail> {
+    let (seconds, accounts) = words.split_once(' ').unwrap_or((words, ""));
+    let moment = Moment::make(seconds.parse()?)?;
     let mut up = Vec::new(alloc);
     for account in accounts.split_whitespace() {
-        up.push(text(alloc, account.as_bytes())?)?;
+        up.push(text(alloc, account)?)?;
     }
     Ok(Input::Tick(moment, up))
 }
 
-pub fn text(alloc: Global, octets: &[u8]) -> Result<Text<16>, Fail> {
-    Ok(Text::make(alloc, octets)?.ok_or("a text")?)
+pub fn text(alloc: Global, octets: &str) -> Result<Text<16>, Fail> {
+    Ok(Text::make(alloc, octets.as_bytes())?.ok_or("a text")?)
 }

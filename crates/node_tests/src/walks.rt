@@ -1,16 +1,17 @@
-//! Walks of a node over what comes to it, and what it answers.
+//! Walks of a node over what comes to it, a line each, and what it answers.
 
-use crate::values::{Comes, input, node};
+use crate::values::input;
 use node_core::{Input, Node, Outputs, Setup, StepFault, open_node};
 use pdu_tables::Status;
 use requests::Reply;
 use stable_store::{ListStore, StableStore};
 use std::alloc::Global;
+use std::collections::VecDeque;
 use std::test::Fail;
 use synod_acceptor::Packet;
 
 // What a node answers to what comes. It is `Other` if it gives out more than this one thing.
-#[derive(Clone, Copy, Debug, PartialEq, Eq)]
+#[derive(Clone, Copy, Debug)]
 pub enum Answer {
     Nothing,
     // A packet.
@@ -37,7 +38,7 @@ pub enum Answer {
 }
 
 // What a reply says.
-#[derive(Clone, Copy, Debug, PartialEq, Eq)]
+#[derive(Clone, Copy, Debug)]
 pub enum Said {
     Accepted,
     Shown,
@@ -94,81 +95,111 @@ pub fn answer_in(outputs: &Outputs) -> Answer {
     }
 }
 
-// What the node answers to an input, once it is committed.
-fn answer_to<S: StableStore>(node: &mut Node<S>, input: Input) -> Answer {
+fn put_back(outputs: Outputs, left: &mut VecDeque<Packet>) -> Result<(), Fail> {
+    for packet in outputs.packets {
+        left.push_back(packet)?;
+    }
+    Ok(())
+}
+
+// What a node answers to an input, once it is committed. Its packets are left.
+fn answer_to<S: StableStore>(
+    node: &mut Node<S>,
+    input: Input,
+    left: &mut VecDeque<Packet>,
+) -> Result<Answer, Fail> {
     let pending = match node.prepare_step(input) {
         Ok(pending) => pending,
-        Err(fault) => return Answer::Unprepared(fault),
+        Err(fault) => return Ok(Answer::Unprepared(fault)),
     };
     match node.commit(pending) {
         Ok(outputs) => {
             let answer = answer_in(&outputs);
-            drop(outputs);
-            answer
+            put_back(outputs, left)?;
+            Ok(answer)
         }
-        Err(fault) => Answer::Uncommitted(fault),
+        Err(fault) => Ok(Answer::Uncommitted(fault)),
     }
 }
 
-// What it would answer, if the step were not let go before it is committed.
-pub fn answer_let_go<S: StableStore>(node: &Node<S>, input: Input) -> Answer {
-    match node.prepare_step(input) {
-        Ok(pending) => {
-            let answer = answer_in(pending.outputs());
-            drop(pending);
-            answer
+// The last reply as each packet that is left comes back to the node.
+fn last_answer<S: StableStore>(
+    node: &mut Node<S>,
+    left: &mut VecDeque<Packet>,
+) -> Result<Answer, Fail> {
+    let mut last = Answer::Nothing;
+    for _ in 0..20 {
+        let Some(packet) = left.pop_front() else {
+            break;
+        };
+        let answer = answer_to(node, Input::Packet(packet), left)?;
+        if matches!(answer, Answer::Replied(..)) {
+            last = answer;
         }
-        Err(fault) => Answer::Unprepared(fault),
+    }
+    Ok(last)
+}
+
+// What a node answers to what comes; to `back` that is its last answer.
+pub fn what_comes_of<S: StableStore>(
+    alloc: Global,
+    node: &mut Node<S>,
+    left: &mut VecDeque<Packet>,
+    comes: &str,
+) -> Result<Answer, Fail> {
+    match comes {
+        "back" => last_answer(node, left),
+        _ => answer_to(node, input(alloc, comes)?, left),
     }
 }
 
-// The number of the first of these that the node answers otherwise, from 0, and that answer.
+// Whether the node answers to what comes as the row says.
+fn holds<S: StableStore>(
+    alloc: Global,
+    node: &mut Node<S>,
+    left: &mut VecDeque<Packet>,
+    row: &str,
+) -> Result<bool, Fail> {
+    let (comes, wanted) = row.split_once(" => ").ok_or("what comes, and the answer")?;
+    let answer = what_comes_of(alloc, node, left, comes)?;
+    let told = format!(in alloc; "{answer:?}")?;
+    Ok(told.as_str() == wanted)
+}
+
+// The number of the first row that the node answers otherwise, from 0.
 pub fn otherwise_by<S: StableStore>(
     alloc: Global,
     node: &mut Node<S>,
-    rows: &[(Comes, Answer)],
-) -> Result<Option<(usize, Answer)>, Fail> {
-    for (number, (comes, answer)) in rows.iter().enumerate() {
-        let given = answer_to(node, input(alloc, *comes)?);
-        if given != *answer {
-            return Ok(Some((number, given)));
+    left: &mut VecDeque<Packet>,
+    rows: &str,
+) -> Result<Option<usize>, Fail> {
+    for (number, row) in rows.lines().enumerate() {
+        if !holds(alloc, node, left, row)? {
+            return Ok(Some(number));
         }
     }
     Ok(None)
 }
 
-pub fn opened<S: StableStore + Drop>(
-    alloc: Global,
-    store: S,
-    setup: Setup,
-) -> Result<Node<S>, Fail> {
-    match open_node(alloc, store, setup) {
-        Ok((node, _life)) => Ok(node),
-        Err(_) => Err("it opens".into()),
-    }
-}
-
-// That of the second node of three.
-pub fn setup() -> Result<Setup, Fail> {
-    Ok(Setup::make(node(2)?, 3, 1, 172800)?)
-}
-
-// What a node answers otherwise that opens over a store, and the store once it has stopped.
+// That of a node that opens over a store, and the store once it has stopped.
 pub fn otherwise_over<S: StableStore + Drop>(
     alloc: Global,
     store: S,
     setup: Setup,
-    rows: &[(Comes, Answer)],
-) -> Result<(Option<(usize, Answer)>, S), Fail> {
-    let mut node = opened(alloc, store, setup)?;
-    let otherwise = otherwise_by(alloc, &mut node, rows);
+    rows: &str,
+) -> Result<(Option<usize>, S), Fail> {
+    let Ok((mut node, _life)) = open_node(alloc, store, setup) else {
+        return Err("it opens".into());
+    };
+    let mut left = VecDeque::new(alloc);
+    let otherwise = otherwise_by(alloc, &mut node, &mut left, rows);
+    drop(left);
     let store = node.into_store();
     Ok((otherwise?, store))
 }
 
-// What the second node of three answers otherwise.
-pub fn otherwise(alloc: Global, rows: &[(Comes, Answer)]) -> Result<Option<(usize, Answer)>, Fail> {
-    let setup = setup()?;
+// That of a node over a new store.
+pub fn otherwise(alloc: Global, setup: Setup, rows: &str) -> Result<Option<usize>, Fail> {
     let (otherwise, store) = otherwise_over(alloc, ListStore::make(alloc), setup, rows)?;
     drop(store);
     Ok(otherwise)

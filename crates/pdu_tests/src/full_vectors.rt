@@ -132,25 +132,69 @@ pub const ENQUIRE_LINK_ANSWER: &[u8] =
 /// Generic_nack, Invalid command ID, 44.
 pub const GENERIC_NACK: &[u8] = b"\x00\x00\x00\x10\x80\x00\x00\x00\x00\x00\x00\x03\x00\x00\x00\x2c";
 
-/// All of them.
-pub const FULL_PDUS: [&[u8]; 19] = [
-    BIND_RECEIVER,
-    BIND_RECEIVER_ANSWER,
-    BIND_TRANSMITTER,
-    BIND_TRANSMITTER_ANSWER,
-    BIND_TRANSCEIVER,
-    BIND_TRANSCEIVER_ANSWER,
-    SUBMIT,
-    SUBMIT_ANSWER,
-    DELIVER,
-    DELIVER_ANSWER,
-    QUERY,
-    QUERY_ANSWER,
-    CANCEL,
-    CANCEL_ANSWER,
-    UNBIND,
-    UNBIND_ANSWER,
-    ENQUIRE_LINK,
-    ENQUIRE_LINK_ANSWER,
-    GENERIC_NACK,
+/// All of them, and what each says (`told.rt`): a number as octets, a text as it is.
+pub const FULL_PDUS: [(&[u8], &[u8]); 19] = [
+    (
+        BIND_RECEIVER,
+        b"bind_receiver|\0\0\0\x15|\0\0\0\x16|RECEIVER1|hidden07|PULL|\x33|\x06|\x12|^155",
+    ),
+    (
+        BIND_RECEIVER_ANSWER,
+        b"bind_receiver_resp|\0\0\0\0|\0\0\0\x18|NORTH|\x02\x10\x00\x01\x33",
+    ),
+    (
+        BIND_TRANSMITTER,
+        b"bind_transmitter|\0\0\0\x19|\0\0\0\x1a|TRANSMIT2|opaque06|PUSH|\x35|\x03|\x0e|^166",
+    ),
+    (
+        BIND_TRANSMITTER_ANSWER,
+        b"bind_transmitter_resp|\0\0\0\0|\0\0\0\x1c|SOUTH|\x02\x10\x00\x01\x35",
+    ),
+    (
+        BIND_TRANSCEIVER,
+        b"bind_transceiver|\0\0\0\x0a|\0\0\0\x0b|SMPP3TEST|secret08|SUBMIT1|\x34|\x05|\x09|^44",
+    ),
+    (
+        BIND_TRANSCEIVER_ANSWER,
+        b"bind_transceiver_resp|\0\0\0\x0d|\0\0\0\x0c|SMSC|\x02\x10\x00\x01\x34",
+    ),
+    (
+        SUBMIT,
+        b"submit_sm|\0\0\0\x0e|\x01\x02\x03\x0f|CMT|\x01|\x08|4477|\x02|\x09|155|\x43|\x7f|\x03|240131000000000+|000007000000000R|\x11|\x06|\xf5|\x63|\
+            Hello|",
+    ),
+    (
+        SUBMIT_ANSWER,
+        b"submit_sm_resp|\0\0\0\0|\0\0\0\x1e|3000400005",
+    ),
+    (
+        DELIVER,
+        b"deliver_sm|\0\0\0\x1f|\0\0\0\x20|WAP|\x01|\x08|4477|\x02|\x09|155|\x84|\x3f|\x04|250131000000000+|000008000000000R|\x12|\x07|\xf6|\x64|Answer|\
+            \x00\x1e\x00\x0b3000400005\0\x04\x27\x00\x01\x02",
+    ),
+    (
+        DELIVER_ANSWER,
+        b"deliver_sm_resp|\0\0\0\0|\0\0\0\x22|4000500006",
+    ),
+    (
+        QUERY,
+        b"query_sm|\0\0\0\0|\0\0\0\x11|2000300004|\x01|\x08|4477",
+    ),
+    (
+        QUERY_ANSWER,
+        b"query_sm_resp|\0\0\0\x07|\0\0\0\x08|2000300004|240131000000000+|\x05|\x09",
+    ),
+    (
+        CANCEL,
+        b"cancel_sm|\0\0\0\0|\0\0\0\x12|CMT|2000300004|\x01|\x08|4477|\x02|\x09|155",
+    ),
+    (CANCEL_ANSWER, b"cancel_sm_resp|\0\0\0\x11|\0\0\0\x23"),
+    (UNBIND, b"unbind|\0\0\0\x24|\0\0\0\x25"),
+    (UNBIND_ANSWER, b"unbind_resp|\0\0\0\x26|\0\0\0\x27"),
+    (ENQUIRE_LINK, b"enquire_link|\0\0\0\x28|\0\0\0\x29"),
+    (
+        ENQUIRE_LINK_ANSWER,
+        b"enquire_link_resp|\0\0\0\x2a|\0\0\0\x2b",
+    ),
+    (GENERIC_NACK, b"generic_nack|\0\0\0\x03|\0\0\0\x2c"),
 ];

@@ -3,17 +3,15 @@
 #![tactic(auto)]
 
 #[cfg(test)]
-mod bodies;
-#[cfg(test)]
 mod body_fields;
+#[cfg(test)]
+mod cases;
 #[cfg(test)]
 mod damaged_pdus;
 #[cfg(test)]
 mod fields;
 #[cfg(test)]
 mod frames;
-#[cfg(test)]
-mod full_pdus;
 #[cfg(test)]
 mod full_vectors;
 #[cfg(test)]
@@ -24,5 +22,7 @@ mod pdus;
 mod tables;
 #[cfg(test)]
 mod texts;
+#[cfg(test)]
+mod told;
 #[cfg(test)]
 mod vectors;

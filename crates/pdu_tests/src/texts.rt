@@ -1,79 +1,70 @@
 //! Texts, short messages and optional parameters.
 
-use crate::bodies::assert_same;
+use crate::cases::all;
 use pdu_codec::{Address, PduFault, ShortMessage, Text, Tlvs, check_optional};
-use std::alloc::Global;
-use std::process::Abort;
+use std::alloc::{AllocError, Global};
 use std::test::Fail;
 
-fn is_text<const LIMIT: usize>(alloc: Global, octets: &[u8]) -> Result<bool, Fail> {
-    Ok(Text::<LIMIT>::make(alloc, octets)?.is_some())
-}
-
-#[test]
-fn texts(rt: HostRuntime) -> Result<(), Fail> {
-    let text: Text<5> = Text::make(rt.alloc(), b"sme1")?.ok_or("four octets are a text")?;
-    assert!(rt; !text.is_empty());
-    let copied = text.copy();
+/// A text, its copy, which outlives it, and another; and texts that are too long, have a zero, and are empty.
+fn texts(alloc: Global) -> Result<[bool; 8], AllocError> {
+    let Some(text) = Text::<5>::make(alloc, b"sme1")? else {
+        return Ok([false; 8]);
+    };
+    let copied = text.copy()?;
+    let other = Text::of(alloc, b"sme2")?;
+    let has_octets = !text.is_empty();
+    let is_copy = text == copied;
+    let is_another = text != other;
     drop(text);
-    let copied = copied?;
-    assert_same(&rt, &copied.octets(), &b"sme1".as_slice());
+    let is_kept = copied.octets() == b"sme1".as_slice();
     drop(copied);
-    assert!(rt; !is_text::<4>(rt.alloc(), b"sme1")?);
-    assert!(rt; !is_text::<5>(rt.alloc(), b"s\0e")?);
-    let empty: Text<1> = Text::of(rt.alloc(), b"")?;
-    assert!(rt; empty.is_empty());
-    Ok(())
+    drop(other);
+    Ok([
+        true,
+        has_octets,
+        is_copy,
+        is_another,
+        is_kept,
+        matches!(Text::<4>::make(alloc, b"sme1"), Ok(None)),
+        matches!(Text::<5>::make(alloc, b"s\0e"), Ok(None)),
+        Text::<1>::of(alloc, b"")?.is_empty(),
+    ])
 }
 
-#[test]
-fn addresses(rt: HostRuntime) -> Result<(), Fail> {
+/// The copy of an address, which outlives it.
+fn addresses(alloc: Global) -> Result<[bool; 3], AllocError> {
     let address = Address {
         ton: 1,
         npi: 8,
-        digits: Text::of(rt.alloc(), b"4477")?,
+        digits: Text::of(alloc, b"4477")?,
     };
     let copied = address.copy();
     drop(address);
     let copied = copied?;
-    assert_same(
-        &rt,
-        &(copied.ton, copied.npi, copied.digits.octets()),
-        &(1, 8, b"4477".as_slice()),
-    );
-    Ok(())
+    let are_digits = copied.digits.octets() == b"4477".as_slice();
+    Ok([copied.ton == 1, copied.npi == 8, are_digits])
 }
 
-/// How long a short_message is that is made of 254 octets, which are the most.
-fn longest(alloc: Global) -> Result<usize, Fail> {
-    let most = vec![in alloc; 0u8; 254]?;
-    let message = ShortMessage::of(alloc, &most);
-    drop(most);
-    Ok(message?.octets().len())
-}
-
-fn is_short_message(alloc: Global, length: usize) -> Result<bool, Fail> {
-    let octets = vec![in alloc; 0u8; length]?;
-    let message = ShortMessage::make(alloc, &octets);
-    drop(octets);
-    Ok(message?.is_some())
-}
-
-#[test]
-fn short_messages(rt: HostRuntime) -> Result<(), Fail> {
-    let message = ShortMessage::make(rt.alloc(), b"Hi")?.ok_or("two octets are a message")?;
-    let copied = message.copy();
+/// A message, its copy, which outlives it, and another; and the longest, and one that is too long.
+fn messages(alloc: Global) -> Result<[bool; 6], AllocError> {
+    let Some(message) = ShortMessage::make(alloc, b"Hi")? else {
+        return Ok([false; 6]);
+    };
+    let copied = message.copy()?;
+    let other = ShortMessage::of(alloc, b"Hi!")?;
+    let is_copy = message == copied;
+    let is_another = message != other;
     drop(message);
-    let copied = copied?;
-    assert_same(&rt, &copied.octets(), &b"Hi".as_slice());
+    let is_kept = copied.octets() == b"Hi".as_slice();
     drop(copied);
-    assert_same(&rt, &longest(rt.alloc())?, &254);
-    assert!(rt; !is_short_message(rt.alloc(), 255)?);
-    Ok(())
+    drop(other);
+    let has_most = ShortMessage::of(alloc, &[0; 254])?.octets().len() == 254;
+    let is_long = ShortMessage::make(alloc, &[0; 255])?.is_none();
+    Ok([true, is_copy, is_another, is_kept, has_most, is_long])
 }
 
 /// Three parameters, two of which have one tag.
-fn three(alloc: Global) -> Result<Tlvs, Fail> {
+fn three(alloc: Global) -> Result<Tlvs, AllocError> {
     let mut tlvs = Tlvs::empty(alloc);
     tlvs.push(0x0204, &[0, 7])?;
     tlvs.push(0x0204, &[0, 8])?;
@@ -81,97 +72,69 @@ fn three(alloc: Global) -> Result<Tlvs, Fail> {
     Ok(tlvs)
 }
 
-/// Those of these tags stand in these octets.
-fn assert_tagged(rt: &impl Abort, tlvs: &Tlvs, tags: &[u16], octets: &[u8]) -> Result<(), Fail> {
-    let tagged = tlvs.with_tags(tags)?;
-    assert_same(rt, &tagged.octets(), &octets);
-    Ok(())
+/// Whether those of these tags stand in these octets.
+fn is_tagged(tlvs: &Tlvs, tags: &[u16], octets: &[u8]) -> bool {
+    let Ok(tagged) = tlvs.with_tags(tags) else {
+        return false;
+    };
+    tagged.octets() == octets
 }
 
-fn assert_parameters(rt: &impl Abort, tlvs: &Tlvs) -> Result<(), Fail> {
-    let octets = b"\x02\x04\x00\x02\x00\x07\x02\x04\x00\x02\x00\x08\x04\x27\x00\x01\x02";
-    assert_same(rt, &tlvs.octets(), &octets.as_slice());
-    assert_same(rt, &tlvs.get(0x0204), &Some([0, 7].as_slice()));
-    assert_same(rt, &tlvs.get(0x0427), &Some([2].as_slice()));
-    assert_same(rt, &tlvs.get(0x020c), &None);
-    assert_tagged(rt, tlvs, &[0x0204], &octets[..12])?;
-    assert_tagged(rt, tlvs, &[0x0427, 0x020c], &octets[12..])?;
-    assert_tagged(rt, tlvs, &[0x020c], b"")
-}
-
-#[test]
-fn optional_parameters(rt: HostRuntime) -> Result<(), Fail> {
-    let tlvs = three(rt.alloc())?;
+/// A copy of them, which outlives them.
+fn parameters(alloc: Global) -> Result<[bool; 7], AllocError> {
+    let tlvs = three(alloc)?;
     let copied = tlvs.copy();
     drop(tlvs);
-    let tlvs = copied?;
-    let asserted = assert_parameters(&rt, &tlvs);
-    drop(tlvs);
-    asserted
+    let copied = copied?;
+    Ok(of_three(&copied))
 }
 
-#[test]
-fn optional_parameters_are_checked(rt: HostRuntime) -> Result<(), Fail> {
-    let octets = b"\x02\x04\x00\x02\x00\x07";
-    assert_same(&rt, &check_optional(octets), &Ok(()));
-    assert_same(&rt, &check_optional(&octets[..5]), &Err(PduFault::Tlvs));
-    Ok(())
-}
-
-/// Whether a text is its copy, and whether it is another than this one.
-fn texts_compared(text: &Text<5>, other: &Text<5>) -> Result<(bool, bool), Fail> {
-    let copied = text.copy()?;
-    Ok((*text == copied, *text != *other))
-}
-
-fn messages_compared(message: &ShortMessage, other: &ShortMessage) -> Result<(bool, bool), Fail> {
-    let copied = message.copy()?;
-    Ok((*message == copied, *message != *other))
-}
-
-#[test]
-fn texts_are_equal_by_their_octets(rt: HostRuntime) -> Result<(), Fail> {
-    let text: Text<5> = Text::of(rt.alloc(), b"sme1")?;
-    let other: Text<5> = Text::of(rt.alloc(), b"sme2")?;
-    let compared = texts_compared(&text, &other);
-    drop(text);
-    drop(other);
-    assert_same(&rt, &compared?, &(true, true));
-    let message = ShortMessage::of(rt.alloc(), b"Hi")?;
-    let other = ShortMessage::of(rt.alloc(), b"Hi!")?;
-    let compared = messages_compared(&message, &other);
-    drop(message);
-    drop(other);
-    assert_same(&rt, &compared?, &(true, true));
-    Ok(())
+fn of_three(tlvs: &Tlvs) -> [bool; 7] {
+    let octets = b"\x02\x04\x00\x02\x00\x07\x02\x04\x00\x02\x00\x08\x04\x27\x00\x01\x02";
+    [
+        tlvs.octets() == octets.as_slice(),
+        tlvs.get(0x0204) == Some(&[0, 7]),
+        tlvs.get(0x0427) == Some(&[2]),
+        tlvs.get(0x020c).is_none(),
+        is_tagged(tlvs, &[0x0204], &octets[..12]),
+        is_tagged(tlvs, &[0x0427, 0x020c], &octets[12..]),
+        is_tagged(tlvs, &[0x020c], b""),
+    ]
 }
 
 /// A parameter whose value is 0 and this octet.
-fn of_one(alloc: Global, tag: u16, octet: u8) -> Result<Tlvs, Fail> {
+fn of_one(alloc: Global, tag: u16, octet: u8) -> Result<Tlvs, AllocError> {
     let mut tlvs = Tlvs::empty(alloc);
     tlvs.push(tag, &[0, octet])?;
     Ok(tlvs)
 }
 
-/// Whether parameters are their copy, and whether they are others than those of another tag or value.
-fn tlvs_compared(alloc: Global, tlvs: &Tlvs) -> Result<[bool; 3], Fail> {
-    let copied = tlvs.copy()?;
-    let is_copy = *tlvs == copied;
-    drop(copied);
+/// Whether parameters are their copy, and others than those of another tag or value.
+fn of_ones(alloc: Global) -> Result<[bool; 3], AllocError> {
+    let one = of_one(alloc, 0x0204, 7)?;
+    let copied = one.copy()?;
     let tagged = of_one(alloc, 0x020c, 7)?;
-    let is_tagged = *tlvs != tagged;
-    drop(tagged);
     let valued = of_one(alloc, 0x0204, 8)?;
-    let is_valued = *tlvs != valued;
-    drop(valued);
-    Ok([is_copy, is_tagged, is_valued])
+    Ok([one == copied, one != tagged, one != valued])
+}
+
+fn are_checked() -> [bool; 2] {
+    let octets = b"\x02\x04\x00\x02\x00\x07";
+    [
+        check_optional(octets) == Ok(()),
+        check_optional(&octets[..5]) == Err(PduFault::Tlvs),
+    ]
 }
 
 #[test]
-fn optional_parameters_are_equal_by_tags_and_values(rt: HostRuntime) -> Result<(), Fail> {
-    let tlvs = of_one(rt.alloc(), 0x0204, 7)?;
-    let compared = tlvs_compared(rt.alloc(), &tlvs);
-    drop(tlvs);
-    assert_same(&rt, &compared?, &[true, true, true]);
-    Ok(())
+fn texts_messages_and_parameters(rt: HostRuntime) -> Result<(), Fail> {
+    let alloc = rt.alloc();
+    all(&[
+        ("texts", &texts(alloc).unwrap_or([false; 8])),
+        ("addresses", &addresses(alloc).unwrap_or([false; 3])),
+        ("messages", &messages(alloc).unwrap_or([false; 6])),
+        ("parameters", &parameters(alloc).unwrap_or([false; 7])),
+        ("equal parameters", &of_ones(alloc).unwrap_or([false; 3])),
+        ("parameters checked", &are_checked()),
+    ])
 }

@@ -102,22 +102,60 @@ pub const SECOND_CANCEL_OK: [u8; 16] = [
     0x00, 0x00, 0x00, 0x10, 0x80, 0x00, 0x00, 0x08, 0x00, 0x00, 0x00, 0x00, 0x00, 0x00, 0x00, 0x05,
 ];
 
-/// All of them.
-pub const VECTORS: [&[u8]; 16] = [
-    &BIND_TRANSCEIVER,
-    &BIND_ANSWER,
-    &SUBMIT_WITH_RECEIPT,
-    &SUBMIT_ANSWER,
-    &SUBMIT,
-    &QUERY,
-    &QUERY_ENROUTE,
-    &DELIVER,
-    &DELIVER_ANSWER,
-    RECEIPT,
-    &CANCEL,
-    &CANCEL_OK,
-    &CANCEL_REFUSED,
-    &QUERY_DELIVERED,
-    &SECOND_CANCEL,
-    &SECOND_CANCEL_OK,
+/// All of them, and what each says (`told.rt`).
+pub const VECTORS: [(&[u8], &[u8]); 16] = [
+    (
+        &BIND_TRANSCEIVER,
+        b"bind_transceiver|\0\0\0\0|\0\0\0\x01|sme1|pw1||\x34|\x00|\x00|",
+    ),
+    (
+        &BIND_ANSWER,
+        b"bind_transceiver_resp|\0\0\0\0|\0\0\0\x01|CENTRE|\x02\x10\x00\x01\x34",
+    ),
+    (
+        &SUBMIT_WITH_RECEIPT,
+        b"submit_sm|\0\0\0\0|\0\0\0\x02||\x01|\x01|144|\x01|\x01|155|\x00|\x00|\x00|||\x01|\x00|\x00|\x00|Hi|",
+    ),
+    (
+        &SUBMIT_ANSWER,
+        b"submit_sm_resp|\0\0\0\0|\0\0\0\x02|1000100001",
+    ),
+    (
+        &SUBMIT,
+        b"submit_sm|\0\0\0\0|\0\0\0\x02||\x01|\x01|144|\x01|\x01|155|\x00|\x00|\x00|||\x00|\x00|\x00|\x00|Hi|",
+    ),
+    (
+        &QUERY,
+        b"query_sm|\0\0\0\0|\0\0\0\x03|1000100001|\x01|\x01|144",
+    ),
+    (
+        &QUERY_ENROUTE,
+        b"query_sm_resp|\0\0\0\0|\0\0\0\x03|1000100001||\x01|\x00",
+    ),
+    (
+        &DELIVER,
+        b"deliver_sm|\0\0\0\0|\0\0\0\x01||\x01|\x01|144|\x01|\x01|155|\x00|\x00|\x00|||\x00|\x00|\x00|\x00|Hi|",
+    ),
+    (&DELIVER_ANSWER, b"deliver_sm_resp|\0\0\0\0|\0\0\0\x01|"),
+    (
+        RECEIPT,
+        b"deliver_sm|\0\0\0\0|\0\0\0\x02||\x01|\x01|155|\x01|\x01|144|\x04|\x00|\x00|||\x00|\x00|\x00|\x00|\
+            id:1000100001 sub:001 dlvrd:001 submit date:2401310000 done date:2401310000 stat:DELIVRD err:000 text:Hi|\
+            \x00\x1e\x00\x0b1000100001\0\x04\x27\x00\x01\x02",
+    ),
+    (
+        &CANCEL,
+        b"cancel_sm|\0\0\0\0|\0\0\0\x04||1000100001|\x01|\x01|144|\x00|\x00|",
+    ),
+    (&CANCEL_OK, b"cancel_sm_resp|\0\0\0\0|\0\0\0\x04"),
+    (&CANCEL_REFUSED, b"cancel_sm_resp|\0\0\0\x11|\0\0\0\x04"),
+    (
+        &QUERY_DELIVERED,
+        b"query_sm_resp|\0\0\0\0|\0\0\0\x03|1000100001|240131000000000+|\x02|\x00",
+    ),
+    (
+        &SECOND_CANCEL,
+        b"cancel_sm|\0\0\0\0|\0\0\0\x05||1000100001|\x01|\x01|144|\x00|\x00|",
+    ),
+    (&SECOND_CANCEL_OK, b"cancel_sm_resp|\0\0\0\0|\0\0\0\x05"),
 ];

@@ -18,7 +18,6 @@ use delivery::Outcome;
 use desk::Request;
 use fate_chain::Chain;
 use mc_types::{Moment, MsgId, Slot};
-use world::{Found, Input, Setup, StepFault};
 use pdu_codec::Text;
 use requests::Reply;
 use sessions::{Delivery, Pushed};
@@ -27,7 +26,7 @@ use stable_store::StoreFault;
 use std::alloc::{AllocError, Global};
 use std::marker::Model;
 use synod_acceptor::Packet;
-use world::{Given, Member};
+use world::{Found, Given, Input, Member, Setup, StepFault};
 
 /// A node that is up, over a store in memory, and the packets that it gives out.
 #[derive(Drop)]

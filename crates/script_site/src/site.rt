@@ -14,7 +14,7 @@ use mc_types::{Moment, MsgId, NodeNo, Slot};
 use node_core::{Found, Setup};
 use pdu_codec::Text;
 use pdu_frames::Framer;
-use script_node::{Granting, ScriptNode, StoppedNode};
+use script_node::{Given, Granting, ScriptNode, StoppedNode};
 use script_sessions::{
     Connected, Streams, Waiting, post_all, post_for, post_for_all, write_all_gone, write_declined,
     write_delivery, write_replies, write_ungranted,
@@ -23,7 +23,6 @@ use sessions::{Delivery, Session};
 use sim_net::Packets;
 use std::alloc::{AllocError, Global};
 use synod_acceptor::Packet;
-use script_node::Given;
 
 /// The number with which a restart is refused once the last incarnation has begun.
 const NO_INCARNATION: u8 = 6;

@@ -14,4 +14,6 @@ mod rows;
 #[cfg(test)]
 mod scripts;
 #[cfg(test)]
+mod turns;
+#[cfg(test)]
 mod worked;

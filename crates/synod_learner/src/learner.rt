@@ -11,11 +11,10 @@ ghost use Rattle.synod_learner.specs.Counts.{AreOfOthers, Grows, IsChainPlace, I
 ghost use Rattle.synod_learner.specs.Hearing.{HasHeard, IsShorter, MakesKnown, known_if, message_in};
 
 use crate::tally::{Tally, tally_of};
-use synod_acceptor::Chain;
 use mc_types::{MsgId, NodeNo, NodeSet};
 use std::alloc::{AllocError, Global};
 use std::marker::Model;
-use synod_acceptor::Vote;
+use synod_acceptor::{Chain, Vote};
 
 /// What a node learns of the votes of which it is told: for each vote the set of those who cast it, and the chain of each message
 /// that is known to be chosen.

@@ -11,11 +11,10 @@ ghost use Rattle.synod_proposer.specs.Proposing.{IsOfSame, as_round, counted_in,
 
 use crate::fault::ProposerFault;
 use crate::round::Round;
-use synod_acceptor::{Author, Chain};
 use mc_types::{Ballot, NodeNo, Slot};
 use std::alloc::AllocError;
 use std::marker::Model;
-use synod_acceptor::{Packet, Report};
+use synod_acceptor::{Author, Chain, Packet, Report};
 
 /// What a node proposes on one message: the round that runs, if any, and the highest round that it saw at each place of the chain.
 /// All that is handed to it is of that message, and a chain has 18 places at most.

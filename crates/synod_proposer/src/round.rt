@@ -9,11 +9,10 @@ ghost use Rattle.synod_acceptor.specs.Votes.{report_of, slot_in, slot_reported, 
 ghost use Rattle.synod_proposer.specs.Proposing.{IsCounted, IsFresh, Offers, as_round, over};
 ghost use Rattle.synod_proposer.specs.Rounds.{IsIn, votes_of};
 
-use synod_acceptor::Chain;
 use mc_types::{Ballot, NodeNo, NodeSet, Slot};
 use std::alloc::AllocError;
 use std::marker::Model;
-use synod_acceptor::{Report, Vote};
+use synod_acceptor::{Chain, Report, Vote};
 
 /// A round: its ballot, the chain that it is for, the nodes that promised, and the highest vote that they reported.
 #[derive(Drop)]

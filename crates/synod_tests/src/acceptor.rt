@@ -1,10 +1,10 @@
 //! The acceptor: promises, refusals and votes, in one slot.
 
-use crate::values::{node, taken, vote};
+use crate::same::assert_same;
+use crate::values::{ballot, node, taken, vote};
 use fate_chain::Chain;
-use mc_types::Ballot;
 use std::alloc::Global;
-use std::test::Fail;
+use std::process::Abort;
 use synod_acceptor::{Acceptor, Packet, Report, Verdict};
 
 // What was answered.
@@ -34,14 +34,16 @@ fn answer_in(packet: &Packet) -> Answer {
 }
 
 // The answer, and whether something changes, which is applied.
-fn applied(acceptor: &mut Acceptor, verdict: Verdict) -> Result<(Answer, bool), Fail> {
+fn applied(rt: &impl Abort, acceptor: &mut Acceptor, verdict: Verdict) -> (Answer, bool) {
     let answer = answer_in(&verdict.answer);
     drop(verdict.answer);
-    let Some(change) = verdict.change else {
-        return Ok((answer, false));
-    };
-    acceptor.apply(change)?;
-    Ok((answer, true))
+    match verdict.change {
+        None => (answer, false),
+        Some(change) => {
+            acceptor.apply(change).expect(rt, "memory");
+            (answer, true)
+        }
+    }
 }
 
 // What is asked of the acceptor in the slot of the first chain, at the ballot of this number.
@@ -51,98 +53,96 @@ enum Asked {
     Propose(u64),
 }
 
-fn answer_to(alloc: Global, acceptor: &mut Acceptor, asked: Asked) -> Result<(Answer, bool), Fail> {
+fn answer_to(
+    rt: &impl Abort,
+    alloc: Global,
+    acceptor: &mut Acceptor,
+    asked: Asked,
+) -> (Answer, bool) {
     let verdict = match asked {
-        Asked::Prepare(number) => prepared(alloc, acceptor, number)?,
-        Asked::Propose(number) => proposed(alloc, acceptor, number)?,
+        Asked::Prepare(number) => prepared(rt, alloc, acceptor, number),
+        Asked::Propose(number) => proposed(rt, alloc, acceptor, number),
     };
-    applied(acceptor, verdict)
+    applied(rt, acceptor, verdict)
 }
 
-fn prepared(alloc: Global, acceptor: &Acceptor, number: u64) -> Result<Verdict, Fail> {
-    let slot = vote(alloc, number)?.slot();
-    let ballot = Ballot::of_number(number)?;
-    Ok(acceptor.judge_prepare(node(3)?, slot, ballot)?)
-}
-
-fn proposed(alloc: Global, acceptor: &Acceptor, number: u64) -> Result<Verdict, Fail> {
-    let proposer = node(3)?;
-    let vote = vote(alloc, number)?;
-    let verdict = acceptor.judge_propose(proposer, &vote);
+fn prepared(rt: &impl Abort, alloc: Global, acceptor: &Acceptor, number: u64) -> Verdict {
+    let vote = vote(rt, alloc, number);
+    let verdict = acceptor.judge_prepare(node(rt, 3), vote.slot(), ballot(rt, number));
     drop(vote);
-    Ok(verdict?)
+    verdict.expect(rt, "memory")
 }
 
-// The number of the first of these that the acceptor answers otherwise, from 0, with that answer and whether something changes.
-fn otherwise(
+fn proposed(rt: &impl Abort, alloc: Global, acceptor: &Acceptor, number: u64) -> Verdict {
+    let vote = vote(rt, alloc, number);
+    let verdict = acceptor.judge_propose(node(rt, 3), &vote);
+    drop(vote);
+    verdict.expect(rt, "memory")
+}
+
+// That the acceptor answers each of these so, one after the other, and whether something changes.
+fn assert_answers(
+    rt: &impl Abort,
     alloc: Global,
     acceptor: &mut Acceptor,
     rows: &[(Asked, Answer, bool)],
-) -> Result<Option<(usize, Answer, bool)>, Fail> {
+) {
     for (number, (asked, answer, changes)) in rows.iter().enumerate() {
-        let (given, changed) = answer_to(alloc, acceptor, *asked)?;
-        if given != *answer || changed != *changes {
-            return Ok(Some((number, given, changed)));
-        }
+        let given = answer_to(rt, alloc, acceptor, *asked);
+        assert_same(rt, &(number, given), &(number, (*answer, *changes)));
     }
-    Ok(None)
 }
 
+fn acceptor(rt: &impl Abort, alloc: Global) -> Acceptor {
+    Acceptor::make(alloc, Vec::new(alloc)).expect(rt, "memory")
+}
+
+const IN_A_SLOT: &[(Asked, Answer, bool)] = &[
+    (Asked::Prepare(262162), Answer::Promised, true),
+    (Asked::Prepare(262162), Answer::Refused(262162), false),
+    (Asked::Propose(262161), Answer::Refused(262162), false),
+    (Asked::Propose(262162), Answer::Voted, true),
+    (Asked::Propose(262162), Answer::Voted, false),
+    (Asked::Prepare(262163), Answer::Reported, true),
+];
+
 #[test]
-fn a_slot_is_promised_and_voted_in(rt: HostRuntime) -> Result<(), Fail> {
-    let rows = [
-        (Asked::Prepare(262162), Answer::Promised, true),
-        (Asked::Prepare(262162), Answer::Refused(262162), false),
-        (Asked::Propose(262161), Answer::Refused(262162), false),
-        (Asked::Propose(262162), Answer::Voted, true),
-        (Asked::Propose(262162), Answer::Voted, false),
-        (Asked::Prepare(262163), Answer::Reported, true),
-    ];
-    let mut acceptor = Acceptor::make(rt.alloc(), Vec::new(rt.alloc()))?;
-    let differs = otherwise(rt.alloc(), &mut acceptor, &rows);
+fn a_slot_is_promised_and_voted_in(rt: HostRuntime) {
+    let alloc = rt.alloc();
+    let mut acceptor = acceptor(&rt, alloc);
+    assert_answers(&rt, alloc, &mut acceptor, IN_A_SLOT);
     drop(acceptor);
-    assert_eq!(rt; differs?, None);
-    Ok(())
 }
 
+const VOTED: &[(Asked, Answer, bool)] = &[(Asked::Propose(262161), Answer::Voted, true)];
+
 #[test]
-fn the_vote_is_told(rt: HostRuntime) -> Result<(), Fail> {
-    let chain = taken(rt.alloc())?;
-    let mut acceptor = Acceptor::make(rt.alloc(), Vec::new(rt.alloc()))?;
-    let nothing = acceptor.tell(chain.id()).is_none();
-    let told = told_once_voted(rt.alloc(), &mut acceptor, &chain);
+fn the_vote_is_told(rt: HostRuntime) {
+    let alloc = rt.alloc();
+    let chain = taken(&rt, alloc);
+    let mut acceptor = acceptor(&rt, alloc);
+    assert!(rt; acceptor.tell(chain.id()).is_none());
+    assert_answers(&rt, alloc, &mut acceptor, VOTED);
+    let told = told_by_a_copy(&rt, &acceptor, &chain);
     drop(acceptor);
     drop(chain);
-    assert!(rt; nothing);
-    assert_eq!(rt; told?, (262161, true, 262161));
-    Ok(())
-}
-
-// What is told after a vote for the first chain.
-fn told_once_voted(
-    alloc: Global,
-    acceptor: &mut Acceptor,
-    chain: &Chain,
-) -> Result<(u64, bool, u64), Fail> {
-    let rows = [(Asked::Propose(262161), Answer::Voted, true)];
-    match otherwise(alloc, acceptor, &rows)? {
-        None => told_by_a_copy(acceptor, chain),
-        Some(_) => Err("a vote".into()),
-    }
+    assert_same(&rt, &told, &(262161, true, 262161));
 }
 
 // Of the vote that a copy tells on the message of the chain: its ballot, whether it is for the chain, and which ballot is promised in its slot.
-fn told_by_a_copy(acceptor: &Acceptor, chain: &Chain) -> Result<(u64, bool, u64), Fail> {
-    let copy = acceptor.copy()?;
-    told(&copy, chain)
+fn told_by_a_copy(rt: &impl Abort, acceptor: &Acceptor, chain: &Chain) -> (u64, bool, u64) {
+    let copy = acceptor.copy().expect(rt, "memory");
+    let told = told(rt, &copy, chain);
+    drop(copy);
+    told
 }
 
-fn told(acceptor: &Acceptor, chain: &Chain) -> Result<(u64, bool, u64), Fail> {
-    let told = acceptor.tell(chain.id()).ok_or("a vote")?;
-    let record = acceptor.record(told.slot()).ok_or("a record")?;
-    Ok((
+fn told(rt: &impl Abort, acceptor: &Acceptor, chain: &Chain) -> (u64, bool, u64) {
+    let told = acceptor.tell(chain.id()).expect(rt, "a vote");
+    let record = acceptor.record(told.slot()).expect(rt, "a record");
+    (
         told.ballot.number(),
         told.chain.is(chain),
         record.promised.number(),
-    ))
+    )
 }

@@ -1,34 +1,26 @@
 //! The learner.
 
-use crate::values::{node, other, taken, vote};
+use crate::same::assert_same;
+use crate::values::{ballot, node, other, taken, vote};
 use fate_chain::Chain;
-use mc_types::Ballot;
-use std::alloc::{AllocError, Global};
-use std::test::Fail;
+use std::alloc::Global;
+use std::process::Abort;
 use synod_acceptor::Vote;
 use synod_learner::Learner;
 
-// Whether the known chain grows by a vote of this node for the first chain, at the ballot of this number.
-fn grows(alloc: Global, learner: &mut Learner, from: u8, ballot: u64) -> Result<bool, Fail> {
-    let from = node(from)?;
-    let vote = vote(alloc, ballot)?;
-    let grows = learner.on_vote(from, &vote);
+// Whether the known chain grows by this vote of a node. The vote is let go.
+fn grows_by(rt: &impl Abort, learner: &mut Learner, from: u8, vote: Vote) -> bool {
+    let grows = learner.on_vote(node(rt, from), &vote);
     drop(vote);
-    Ok(grows?)
+    grows.expect(rt, "memory")
 }
 
-// The number of the first of these votes, from 0, after which it is otherwise.
-fn otherwise(
-    alloc: Global,
-    learner: &mut Learner,
-    rows: &[(u8, u64, bool)],
-) -> Result<Option<usize>, Fail> {
-    for (number, (from, ballot, known)) in rows.iter().enumerate() {
-        if grows(alloc, learner, *from, *ballot)? != *known {
-            return Ok(Some(number));
-        }
+// That the known chain grows or not by each of these votes for the first chain: the node, the number of the ballot, and whether it grows.
+fn assert_grows(rt: &impl Abort, alloc: Global, learner: &mut Learner, rows: &[(u8, u64, bool)]) {
+    for (number, (from, ballot, grows)) in rows.iter().enumerate() {
+        let grown = grows_by(rt, learner, *from, vote(rt, alloc, *ballot));
+        assert_same(rt, &(number, grown), &(number, *grows));
     }
-    Ok(None)
 }
 
 // Whether this chain is known of its message; none if nothing is.
@@ -36,86 +28,64 @@ fn is_known(learner: &Learner, chain: &Chain) -> Option<bool> {
     Some(learner.known(chain.id())?.is(chain))
 }
 
+const EARLY: &[(u8, u64, bool)] = &[(1, 262161, false), (2, 262162, false)];
+
+const LAST: &[(u8, u64, bool)] = &[(3, 262162, true)];
+
 #[test]
-fn votes_at_two_ballots_are_not_added_up(rt: HostRuntime) -> Result<(), Fail> {
-    let chain = taken(rt.alloc())?;
-    let mut learner = Learner::make(rt.alloc(), 3);
-    let known = known_before_and_after(rt.alloc(), &mut learner, &chain);
+fn votes_at_two_ballots_are_not_added_up(rt: HostRuntime) {
+    let alloc = rt.alloc();
+    let chain = taken(&rt, alloc);
+    let mut learner = Learner::make(alloc, 3);
+    assert_grows(&rt, alloc, &mut learner, EARLY);
+    let before = is_known(&learner, &chain);
+    assert_grows(&rt, alloc, &mut learner, LAST);
+    let after = is_known(&learner, &chain);
     drop(learner);
     drop(chain);
-    assert_eq!(rt; known?, (None, Some(true)));
-    Ok(())
+    assert_same(&rt, &(before, after), &(None, Some(true)));
 }
 
-// Whether the chain is known before the last of three votes, and after it.
-fn known_before_and_after(
-    alloc: Global,
-    learner: &mut Learner,
-    chain: &Chain,
-) -> Result<(Option<bool>, Option<bool>), Fail> {
-    let early = [(1, 262161, false), (2, 262162, false)];
-    let last = [(3, 262162, true)];
-    if otherwise(alloc, learner, &early)?.is_some() {
-        return Err("no chain that grows".into());
-    }
-    let before = is_known(learner, chain);
-    if otherwise(alloc, learner, &last)?.is_some() {
-        return Err("a chain that grows".into());
-    }
-    Ok((before, is_known(learner, chain)))
-}
+const OF_FOUR: &[(u8, u64, bool)] = &[
+    (1, 262161, false),
+    (2, 262161, false),
+    (2, 262161, false),
+    (4, 262161, true),
+];
 
 #[test]
-fn three_of_four_votes_are_a_majority(rt: HostRuntime) -> Result<(), Fail> {
-    let rows = [
-        (1, 262161, false),
-        (2, 262161, false),
-        (2, 262161, false),
-        (4, 262161, true),
-    ];
-    let mut learner = Learner::make(rt.alloc(), 4);
-    let differs = otherwise(rt.alloc(), &mut learner, &rows);
+fn three_of_four_votes_are_a_majority(rt: HostRuntime) {
+    let alloc = rt.alloc();
+    let mut learner = Learner::make(alloc, 4);
+    assert_grows(&rt, alloc, &mut learner, OF_FOUR);
     drop(learner);
-    assert_eq!(rt; differs?, None);
-    Ok(())
 }
 
-// Whether the known chain grows by a vote for the second chain.
-fn grows_otherwise(alloc: Global, learner: &mut Learner) -> Result<bool, Fail> {
-    let from = node(1)?;
-    let second = Vote {
-        ballot: Ballot::of_number(262162)?,
-        chain: other(alloc)?,
-    };
-    let grows = learner.on_vote(from, &second);
-    drop(second);
-    Ok(grows?)
+// A vote for the second chain.
+fn other_vote(rt: &impl Abort, alloc: Global) -> Vote {
+    Vote {
+        ballot: ballot(rt, 262162),
+        chain: other(rt, alloc),
+    }
 }
 
 // Whether a copy of the learner knows this chain of its message.
-fn known_to_a_copy(learner: &Learner, chain: &Chain) -> Result<Option<bool>, AllocError> {
-    let copy = learner.copy()?;
-    Ok(is_known(&copy, chain))
+fn known_to_a_copy(rt: &impl Abort, learner: &Learner, chain: &Chain) -> Option<bool> {
+    let copy = learner.copy().expect(rt, "memory");
+    let known = is_known(&copy, chain);
+    drop(copy);
+    known
 }
 
 #[test]
-fn the_first_of_equally_long_chains_stays(rt: HostRuntime) -> Result<(), Fail> {
-    let chain = taken(rt.alloc())?;
-    let mut learner = Learner::make(rt.alloc(), 1);
-    let seen = grown_and_known(rt.alloc(), &mut learner, &chain);
+fn the_first_of_equally_long_chains_stays(rt: HostRuntime) {
+    let alloc = rt.alloc();
+    let chain = taken(&rt, alloc);
+    let mut learner = Learner::make(alloc, 1);
+    let first = grows_by(&rt, &mut learner, 1, vote(&rt, alloc, 262161));
+    let second = grows_by(&rt, &mut learner, 1, other_vote(&rt, alloc));
+    let known = known_to_a_copy(&rt, &learner, &chain);
     drop(learner);
     drop(chain);
-    assert_eq!(rt; seen?, (true, false, Some(true)));
-    Ok(())
-}
-
-// Whether the known chain grows by a vote for the first chain, and by one for the second after it, and whether a copy knows the first then.
-fn grown_and_known(
-    alloc: Global,
-    learner: &mut Learner,
-    chain: &Chain,
-) -> Result<(bool, bool, Option<bool>), Fail> {
-    let first = grows(alloc, learner, 1, 262161)?;
-    let second = grows_otherwise(alloc, learner)?;
-    Ok((first, second, known_to_a_copy(learner, chain)?))
+    assert_same(&rt, &(first, second, known), &(true, false, Some(true)));
 }

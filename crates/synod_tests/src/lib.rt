@@ -11,6 +11,8 @@ mod learner;
 #[cfg(test)]
 mod proposer;
 #[cfg(test)]
+mod same;
+#[cfg(test)]
 mod stores;
 #[cfg(test)]
 mod values;

@@ -1,19 +1,20 @@
 //! The proposer.
 
-use crate::values::{node, other, taken, vote};
+use crate::same::assert_same;
+use crate::values::{ballot, node, other, taken, vote};
 use fate_chain::{Author, Chain};
-use mc_types::{Ballot, Incarnation, Slot};
-use std::alloc::{AllocError, Global};
-use std::test::Fail;
+use mc_types::{Incarnation, Slot};
+use std::alloc::Global;
+use std::process::Abort;
 use synod_acceptor::{Packet, Report};
 use synod_proposer::{Proposer, ProposerFault};
 
-fn proposer(number: u8, nodes: u8) -> Result<Proposer, Fail> {
+fn proposer(rt: &impl Abort, number: u8, nodes: u8) -> Proposer {
     let me = Author {
-        node: node(number)?,
-        incarnation: Incarnation::make(1)?,
+        node: node(rt, number),
+        incarnation: Incarnation::make(1).expect(rt, "an incarnation"),
     };
-    Ok(Proposer::make(me, nodes))
+    Proposer::make(me, nodes)
 }
 
 // The round of a Prepare; 0 of any other packet.
@@ -27,7 +28,11 @@ fn round_of(packet: &Packet) -> u32 {
 // The round of the Prepare with which a round for this chain starts; 0 if none does.
 fn started(proposer: &mut Proposer, chain: Chain, own: u32) -> u32 {
     match proposer.start(chain, own) {
-        Ok(packet) => round_of(&packet),
+        Ok(packet) => {
+            let round = round_of(&packet);
+            drop(packet);
+            round
+        }
         Err(ProposerFault::Rounds) => 0,
     }
 }
@@ -39,132 +44,120 @@ enum Reported {
     Held,
 }
 
-fn report(alloc: Global, reported: Reported) -> Result<Report, Fail> {
-    let vote = vote(alloc, 262161)?;
+fn report(rt: &impl Abort, alloc: Global, reported: Reported) -> Report {
+    let vote = vote(rt, alloc, 262161);
     match reported {
-        Reported::Nothing => Ok(Report::Nothing(vote.slot())),
-        Reported::Held => Ok(Report::Held(vote)),
+        Reported::Nothing => {
+            let slot = vote.slot();
+            drop(vote);
+            Report::Nothing(slot)
+        }
+        Reported::Held => Report::Held(vote),
     }
 }
 
-// Whether a promise of this node, at the ballot 262162, makes a Propose, and the Propose is for the first chain.
+// Whether what a promise of this node makes, at the ballot 262162, is a Propose, and that is for the first chain.
 fn proposes(
+    rt: &impl Abort,
     alloc: Global,
     proposer: &mut Proposer,
     from: u8,
     reported: Reported,
-) -> Result<Option<bool>, Fail> {
-    let (from, ballot) = (node(from)?, Ballot::of_number(262162)?);
-    let report = report(alloc, reported)?;
-    let sent = proposer.on_promise(from, ballot, &report);
+) -> Option<bool> {
+    let report = report(rt, alloc, reported);
+    let sent = proposer.on_promise(node(rt, from), ballot(rt, 262162), &report);
     drop(report);
-    asked(alloc, sent?)
+    let sent = sent.expect(rt, "memory");
+    let first = taken(rt, alloc);
+    let proposes = is_for(&sent, &first);
+    drop(first);
+    drop(sent);
+    proposes
 }
 
-fn asked(alloc: Global, sent: Option<Packet>) -> Result<Option<bool>, Fail> {
+// Whether a packet is a Propose, and that is for this chain.
+fn is_for(sent: &Option<Packet>, chain: &Chain) -> Option<bool> {
     match sent {
-        Some(Packet::Propose { vote, .. }) => is_first(alloc, &vote.chain),
-        _ => Ok(None),
+        Some(Packet::Propose { vote, .. }) => Some(vote.chain.is(chain)),
+        _ => None,
     }
 }
 
-fn is_first(alloc: Global, chain: &Chain) -> Result<Option<bool>, Fail> {
-    let first = taken(alloc)?;
-    let is_first = chain.is(&first);
-    drop(first);
-    Ok(Some(is_first))
-}
-
-// The number of the first of these promises, from 0, that makes something else.
-fn otherwise(
+// That each of these promises makes what it is to make, one after the other.
+fn assert_proposes(
+    rt: &impl Abort,
     alloc: Global,
     proposer: &mut Proposer,
     rows: &[(u8, Reported, Option<bool>)],
-) -> Result<Option<usize>, Fail> {
-    for (number, (from, reported, proposed)) in rows.iter().enumerate() {
-        if proposes(alloc, proposer, *from, *reported)? != *proposed {
-            return Ok(Some(number));
-        }
+) {
+    for (number, (from, reported, wanted)) in rows.iter().enumerate() {
+        let proposed = proposes(rt, alloc, proposer, *from, *reported);
+        assert_same(rt, &(number, proposed), &(number, *wanted));
     }
-    Ok(None)
 }
+
+const PROMISES: &[(u8, Reported, Option<bool>)] = &[
+    (1, Reported::Nothing, None),
+    (2, Reported::Nothing, None),
+    (2, Reported::Nothing, None),
+    (3, Reported::Held, Some(true)),
+    (4, Reported::Nothing, None),
+];
 
 #[test]
-fn the_highest_report_is_proposed_once(rt: HostRuntime) -> Result<(), Fail> {
-    let rows = [
-        (1, Reported::Nothing, None),
-        (2, Reported::Nothing, None),
-        (2, Reported::Nothing, None),
-        (3, Reported::Held, Some(true)),
-        (4, Reported::Nothing, None),
-    ];
-    let own = other(rt.alloc())?;
-    let mut proposer = proposer(2, 4)?;
-    let round = started(&mut proposer, own, 0);
-    let differs = otherwise(rt.alloc(), &mut proposer, &rows);
+fn the_highest_report_is_proposed_once(rt: HostRuntime) {
+    let alloc = rt.alloc();
+    let mut proposer = proposer(&rt, 2, 4);
+    let round = started(&mut proposer, other(&rt, alloc), 0);
+    assert_proposes(&rt, alloc, &mut proposer, PROMISES);
     drop(proposer);
-    assert_eq!(rt; round, 1);
-    assert_eq!(rt; differs?, None);
-    Ok(())
-}
-
-// Which round starts for the first chain.
-fn started_first(alloc: Global, proposer: &mut Proposer, own: u32) -> Result<u32, Fail> {
-    let chain = taken(alloc)?;
-    Ok(started(proposer, chain, own))
+    assert_same(&rt, &round, &1);
 }
 
 // Whether a round in this slot goes on after a refusal of a Prepare at one ballot, for which another was promised.
-fn goes_on(proposer: &mut Proposer, slot: Slot, ballot: u64, promised: u64) -> Result<bool, Fail> {
-    proposer.on_refused(
-        slot,
-        Ballot::of_number(ballot)?,
-        Ballot::of_number(promised)?,
-    );
-    Ok(proposer.running() == Some(slot))
+fn goes_on(rt: &impl Abort, proposer: &mut Proposer, slot: Slot, at: u64, promised: u64) -> bool {
+    proposer.on_refused(slot, ballot(rt, at), ballot(rt, promised));
+    proposer.running() == Some(slot)
 }
 
 // Whether a copy runs once its round was dropped.
-fn runs_once_dropped(proposer: &Proposer) -> Result<bool, AllocError> {
-    let mut copy = proposer.copy()?;
+fn runs_once_dropped(rt: &impl Abort, proposer: &Proposer) -> bool {
+    let mut copy = proposer.copy().expect(rt, "memory");
     copy.drop_round();
-    Ok(copy.running().is_some())
+    let runs = copy.running().is_some();
+    drop(copy);
+    runs
+}
+
+// The slot of the first chain.
+fn slot(rt: &impl Abort, alloc: Global) -> Slot {
+    let vote = vote(rt, alloc, 262161);
+    let slot = vote.slot();
+    drop(vote);
+    slot
 }
 
 #[test]
-fn a_greater_promise_ends_the_round(rt: HostRuntime) -> Result<(), Fail> {
-    let slot = vote(rt.alloc(), 262161)?.slot();
-    let mut proposer = proposer(1, 3)?;
-    let rounds = rounds_around_a_refusal(rt.alloc(), &mut proposer, slot);
-    let dropped = runs_once_dropped(&proposer);
+fn a_greater_promise_ends_the_round(rt: HostRuntime) {
+    let alloc = rt.alloc();
+    let slot = slot(&rt, alloc);
+    let mut proposer = proposer(&rt, 1, 3);
+    let first = started(&mut proposer, taken(&rt, alloc), 0);
+    let after_another = goes_on(&rt, &mut proposer, slot, 262163, 524306);
+    let after_its_own = goes_on(&rt, &mut proposer, slot, 262161, 1310738);
+    let next = started(&mut proposer, taken(&rt, alloc), 0);
+    let dropped = runs_once_dropped(&rt, &proposer);
     drop(proposer);
-    assert_eq!(rt; rounds?, (1, 6));
-    assert_eq!(rt; dropped, Ok(false));
-    Ok(())
-}
-
-// The round that starts, and after it was refused that of the next: a refusal at another ballot leaves it, one at its own ends it.
-fn rounds_around_a_refusal(
-    alloc: Global,
-    proposer: &mut Proposer,
-    slot: Slot,
-) -> Result<(u32, u32), Fail> {
-    let first = started_first(alloc, proposer, 0)?;
-    if !goes_on(proposer, slot, 262163, 524306)? {
-        return Err("a round that goes on".into());
-    }
-    if goes_on(proposer, slot, 262161, 1310738)? {
-        return Err("no round".into());
-    }
-    Ok((first, started_first(alloc, proposer, 0)?))
+    let rounds = (first, after_another, after_its_own, next);
+    assert_same(&rt, &rounds, &(1, true, false, 6));
+    assert!(rt; !dropped);
 }
 
 #[test]
-fn rounds_end_at_the_greatest_number(rt: HostRuntime) -> Result<(), Fail> {
-    let mut proposer = proposer(1, 1)?;
-    let round = started_first(rt.alloc(), &mut proposer, 4294967295);
+fn rounds_end_at_the_greatest_number(rt: HostRuntime) {
+    let mut proposer = proposer(&rt, 1, 1);
+    let round = started(&mut proposer, taken(&rt, rt.alloc()), 4294967295);
     let runs = proposer.running();
     drop(proposer);
-    assert_eq!(rt; (round?, runs), (0, None));
-    Ok(())
+    assert_same(&rt, &(round, runs), &(0, None));
 }

@@ -15,4 +15,4 @@ returns c m is fate =
     c.submission.result.now c.cancels_then-cancelled.result c.args.had_fate c.in_ok-receipt.receipt outputs c.in_ok-step.step c.in_ok-settled.settled
     c.submission.ensures (rw c.nodes.ensures at (c.cancels_then-cancelled.ensures c.submission.result.now c.submission.ensures)) c.in_ok-next.ensures.start
     fate c.in_ok-receipt.ensures (rw c.id.ensures at c.in_ok-step.ensures) c.in_ok-settled.ensures
-    (ap (λ (replies : List Reply). record (outputs_of c.in_ok-step.step.outputs) { replies = replies }) (rw c.nodes-2.ensures at c.in_ok-replies.ensures))
+    (ap (λ (replies : List Reply). record (outputs_of c.in_ok-step.step.outputs) { replies = replies }) (rw c.nodes-2.ensures at c.in_ok-replies.ensures.replies))
