@@ -4,6 +4,7 @@ use Rattle.node_core.specs.Nodes.{HasStopped, HasTaken, Standing, seen}
 use Rattle.node_core.specs.Pendings.{Awaited}
 use Rattle.node_core.proofs.Committing.{taken}
 use Rattle.node_core.proofs.Stopping.{cut}
+use Rattle.node_core.proofs.Unsaved.{saved_for}
 use Rattle.node_core.proofs.node.Node.commit.Goals as goal
 
 pub returns-in-Ok-clause-ok : goal.returns-in-Ok-clause-ok
@@ -86,3 +87,8 @@ returns-clause-memory g c = search rules
 
 pub returns-clause-device : goal.returns-clause-device
 returns-clause-device g c = search rules
+
+pub returns-clause-wants : goal.returns-clause-wants
+returns-clause-wants g c = λ wanted.
+    saved_for c.pending.inside.was.value c.args.pending.input c.pending.inside.given.value c.pending.inside.foreseen.step c.pending.inside.packet
+    (ap (λ (p : Awaited). p.input) c.pending.view_is) c.pending.invariant.prepared c.in-Err.ensures.change
