@@ -1,6 +1,6 @@
 -- What comes to a node of the code may come to it.
 use Rattle.std.proofs.Common.{◌≡◌, ◌↔◌, ◌⊎◌, ℕ, ◌<◌, ◌≤◌, pred, Bool, true, false, List, length, Option, Some, None, Result, Ok, Err, refl}
-use Rattle.std.proofs.Common.{sym, subst, inl, inr, arith}
+use Rattle.std.proofs.Common.{sym, subst, inl, inr, arith, true≢false}
 use Rattle.std.specs.Prelude.{IfErr, IsErrOf, option_map, if◌then◌else◌}
 use Rattle.mc_model.specs.message.Chain.{IsPermitted}
 use Rattle.mc_model.specs.message.Decree.{Decree}
@@ -69,15 +69,15 @@ has_place id decrees permitted = let short : length decrees ≤ 18 = most_decree
 -- ---- a step that is not taken
 
 pub take_faults : {A : Type 0} (result : Result A StepFault) (broken : Bool) (other : Option StepFault) → IsErrOf result faults.Broken ↔ (broken ≡ true) →
-    IfErr result (λ fault. (fault ≡ faults.Broken) ⊎ (fault ≡ faults.Device) ⊎ (fault ≡ faults.Memory)) →
-    IfErr result (λ fault. (fault ≡ faults.Device) ⊎ (fault ≡ faults.Memory) ⊎ IsFault (if broken then Some faults.Broken else other) fault)
-take_faults (Ok given) broken other is among = tt
-take_faults (Err fault) broken other is among = elim among [
-  | inl same ↦
-      inr (inr (subst (λ (test : Bool). IsFault (if test then Some faults.Broken else other) fault)
-      (sym (is.0 (λ i. Err (same i)))) same))
-  | inr (inl same) ↦ inl same
-  | inr (inr same) ↦ inr (inl same)
+    other ≡ None → IfErr result (λ fault. (fault ≡ faults.Broken) ⊎ (fault ≡ faults.Device) ⊎ (fault ≡ faults.Memory)) →
+    IfErr result (λ fault. ((fault ≡ faults.Device) × ((if broken then Some faults.Broken else other) ≡ None)) ⊎
+        IsFault (if broken then Some faults.Broken else other) fault)
+take_faults (Ok given) broken other is none among = tt
+take_faults (Err fault) true other is none among = let same : Err fault ≡ Err faults.Broken = is.1 refl in let told : fault ≡ faults.Broken = cc in inr told
+take_faults (Err fault) false other is none among = elim among [
+  | inl same ↦ absurd (true≢false (sym (is.0 (λ i. Err (same i)))))
+  | inr (inl same) ↦ inl (same, none)
+  | inr (inr same) ↦ inr (subst (λ (told : Option StepFault). IsFault told fault) (sym none) same)
 ]
 
 pub take_left : {A : Type 0} (result : Result A StepFault) (old new : Seen) (input : Input) →

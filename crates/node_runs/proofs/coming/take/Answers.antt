@@ -5,7 +5,8 @@ use Rattle.node_runs.proofs.Inputs.{take_faults, take_left}
 use Rattle.node_runs.proofs.coming.take.Goals as goal
 
 pub returns-clause-faults : goal.returns-clause-faults
-returns-clause-faults g c = take_faults c.commit.result c.args.node.now.broken _ c.commit.ensures.broken c.commit.ensures.faults
+returns-clause-faults g c =
+    take_faults c.commit.result c.args.node.now.broken _ c.commit.ensures.broken c.in_ok-pending.ensures.ok.allowed c.commit.ensures.faults
 
 pub returns-clause-left : goal.returns-clause-left
 returns-clause-left g c =
