@@ -22,7 +22,7 @@ import tempfile
 from repository import BESIDE, IN_GATE, TOP, edits, libraries, with_beneath
 
 # An edit more costs less than a check of its crate, with which each copy begins, until there are about so many.
-MOST_A_COPY = 8
+MOST_A_COPY = 10
 SAID = re.compile(r"rt: must-fail (\w+/[\w.-]+\.edit): (refused, as it must be|.*)")
 
 
