@@ -71,7 +71,7 @@ has_place id decrees permitted = let short : length decrees ≤ 18 = most_decree
 pub take_faults : {A : Type 0} (result : Result A StepFault) (broken : Bool) (other : Option StepFault) → IsErrOf result faults.Broken ↔ (broken ≡ true) →
     other ≡ None → IfErr result (λ fault. (fault ≡ faults.Broken) ⊎ (fault ≡ faults.Device) ⊎ (fault ≡ faults.Memory)) →
     IfErr result (λ fault. ((fault ≡ faults.Device) × ((if broken then Some faults.Broken else other) ≡ None)) ⊎
-        IsFault (if broken then Some faults.Broken else other) fault)
+    IsFault (if broken then Some faults.Broken else other) fault)
 take_faults (Ok given) broken other is none among = tt
 take_faults (Err fault) true other is none among = let same : Err fault ≡ Err faults.Broken = is.1 refl in let told : fault ≡ faults.Broken = cc in inr told
 take_faults (Err fault) false other is none among = elim among [
