@@ -35,7 +35,7 @@ returns-clause-comes c =
     c.in_ok-add.ensures refl refl
     (subst (λ (p : Packet). ActsAt c.args.node (λ runner. comes_to runner
     (packet_of p)) c.index_mut.result.now c.deliver.new.self c.args.text.now.items c.deliver.new.text.items)
-    c.in_ok-packet.ensures c.in_ok-deliver.ensures.acts)
+    c.in_ok-packet.ensures.copy c.in_ok-deliver.ensures.acts)
     c.share.ensures
 
 pub returns-clause-up : goal.returns-clause-up
