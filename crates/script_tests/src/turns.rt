@@ -22,20 +22,22 @@ const LINKED: &[u8] = b"pdu 1 1 00000010800000150000000000000002\n";
 struct Typist<'a> {
     /// The lines, each with how many octets are to be written before it.
     lines: &'a [(&'a [u8], usize)],
+    /// How many of them were given.
+    given: usize,
     written: &'a Cell<usize>,
     is_early: &'a Cell<bool>,
 }
 
 impl Read for Typist<'_> {
     fn read(&mut self, buffer: &mut [u8]) -> io::Result<usize> {
-        let Some(((line, before), others)) = self.lines.split_first() else {
+        let Some((line, before)) = self.lines.get(self.given).copied() else {
             return Ok(0);
         };
-        if self.written.get() != *before {
+        if self.written.get() != before {
             self.is_early.set(true);
         }
-        self.lines = others;
-        let mut line = *line;
+        self.given = self.given.saturating_add(1);
+        let mut line = line;
         line.read(buffer)
     }
 }
@@ -66,6 +68,7 @@ fn each_answer_comes_before_the_next_line(rt: HostRuntime) {
     ];
     let mut typist = Typist {
         lines: &lines,
+        given: 0,
         written: &written,
         is_early: &is_early,
     };
@@ -81,12 +84,8 @@ struct Slow<'a>(&'a [u8]);
 
 impl Read for Slow<'_> {
     fn read(&mut self, buffer: &mut [u8]) -> io::Result<usize> {
-        let (Some((octet, others)), Some(place)) = (self.0.split_first(), buffer.first_mut()) else {
-            return Ok(0);
-        };
-        *place = *octet;
-        self.0 = others;
-        Ok(1)
+        let end = buffer.len().min(1);
+        self.0.read(&mut buffer[..end])
     }
 }
 
