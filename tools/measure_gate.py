@@ -142,7 +142,9 @@ def run_gate(clone):
         sampler.join()
     after = resource.getrusage(resource.RUSAGE_CHILDREN)
     processor = after.ru_utime + after.ru_stime - before.ru_utime - before.ru_stime
-    last = [line for line in log.read_text(errors="replace").splitlines() if re.match(r"\d+ passed", line)]
+    said = log.read_text(errors="replace").splitlines()
+    print(*(line for line in said if re.search(r"NOT PROVED|NOT REFUSED|BAD EDIT|FAILED", line)), sep="\n")
+    last = [line for line in said if re.match(r"\d+ passed", line)]
     return sampler, time.monotonic() - began, processor, last[-1] if last else f"no last line: see {log}"
 
 
