@@ -2,8 +2,9 @@
 """Counts the lines of definitions that stand behind the headline, by following its imports.
 
     tools/definitions.py [--list] [CLAUSE ..]
+    tools/definitions.py --check
 
-It begins with the words that the contract of `headline` (or of another function of mc_laws) cites, and follows what each definition
+With --check it looks whether it reads definitions whole, and whether docs/HEADLINE.md has its figures. It begins with the words that the contract of `headline` (or of another function of mc_laws) cites, and follows what each definition
 names. A line counts where it holds text that is neither a comment nor a `use`.
 """
 import glob
@@ -24,7 +25,8 @@ def definitions():
     for path in glob.glob(os.path.join(SPECS, "**", "*.antt"), recursive=True):
         file = os.path.relpath(path, SPECS)
         text = re.sub(r"^use [^}]*\}\n", "", open(path, encoding="utf-8").read(), flags=re.M)
-        text = re.sub(r"--.*", "", text)
+        # A line of comment goes whole: an empty line in its place would end the definition that it stands in.
+        text = re.sub(r"^ *--.*\n", "", text, flags=re.M)
         for block in re.split(r"\n\s*\n", text):
             head = HEAD.search(block)
             if head:
@@ -70,7 +72,33 @@ def behind(function):
     return {name: found[name] for name in reached}
 
 
+def misread():
+    """What the headline rests on and is not counted: constructors of a packet and fields of the rule of proposals, each of which has a line."""
+    stands = behind("headline")
+    packets = {"Prepare", "Promise", "Propose", "Voted", "Refused", "Ask", "Tell"}
+    fields = {"proposer", "incarnation", "once", "justified", "free"}
+    for name, wanted in ("Packet", packets), ("MayPropose", fields):
+        lines = stands[name][1] if name in stands else []
+        counted = {word[1] for line in lines if (word := re.match(r"  (?:pub )?(\w+) :", line))}
+        yield from (f"{name} lacks {word}" for word in sorted(wanted - counted))
+
+
+def misquoted():
+    """The figures that docs/HEADLINE.md does not have."""
+    with open(os.path.join(ROOT, "docs", "HEADLINE.md"), encoding="utf-8") as page:
+        text = page.read()
+    for function, words in ("headline", "`headline` rests on"), ("headline_over_steps", "`headline_over_steps` on"):
+        stands = behind(function)
+        figures = f"{words} {len(stands)} definitions, {sum(len(lines) for _, lines in stands.values()):,} lines"
+        if figures not in text:
+            yield f"docs/HEADLINE.md does not say: {figures}"
+
+
 def main():
+    if "--check" in sys.argv:
+        wrong = [*misread(), *misquoted()]
+        print(*wrong, f"{len(wrong)} wrong", sep="\n")
+        sys.exit(1 if wrong else 0)
     words = [word for word in sys.argv[1:] if word != "--list"]
     for function in words or ["headline", "headline_over_steps"]:
         stands = behind(function)
