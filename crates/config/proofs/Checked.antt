@@ -12,8 +12,8 @@ use Rattle.config.specs.declared.key.Key.{Key}
 use Rattle.config.specs.Keys.{is_needed, part_of}
 use Rattle.config.specs.Rows.{has_twice, is_table, listed, rows_of, same_value}
 use Rattle.config.specs.Listen.{IsListen}
-use Rattle.config.specs.Faults.{Fits, IsFit, has_key, is_given}
-use Rattle.config.proofs.Lists.{all_from_map, all_of_map, all_to_map, any_of_map, listed_view}
+use Rattle.config.specs.Faults.{DoesNotFitAt, Fits, IsFit, IsMissing, IsUnfit, LacksAt, has_key, is_given}
+use Rattle.config.proofs.Lists.{all_from_map, all_of_map, any_of_map, listed_view}
 
 pub given_here : (document : Data) (key : Key) (rows : List Value) → is_needed key ≡ true → map view rows ≡ rows_of document (part_of key)
     → list_all (λ row. has_key key (view row)) rows ≡ is_given document key
@@ -22,12 +22,22 @@ given_here document key rows needed are =
     ∙ ap (λ (ds : List Data). list_all (has_key key) ds) (sym are)
     ∙ all_of_map (has_key key) view rows)
 
-pub fit_here : (document : Data) (key : Key) (rows : List Value) (result : Bool) → map view rows ≡ rows_of document (part_of key)
-    → (IsTrue result ↔ AllByRecursion (λ row. Fits document key (view row)) rows) → IsTrue result ↔ IsFit document key
-fit_here document key rows result are is = (
-  λ yes. subst (AllByRecursion (Fits document key)) are (all_from_map (Fits document key) view rows (is.0 yes)),
-  λ fit. is.1 (all_to_map (Fits document key) view rows (subst (AllByRecursion (Fits document key)) (sym are) fit)),
-)
+-- a key that each of its tables must have, by the first of them that lacks it
+pub missing_here : (document : Data) (key : Key) (rows : List Value) (result : Option ℕ) → is_needed key ≡ true → map view rows ≡ rows_of document (part_of key)
+    → MatchOption result (list_all (λ row. has_key key (view row)) rows ≡ true) (λ place. LacksAt key (map view rows) place)
+    → MatchOption result (is_given document key ≡ true) (λ row. IsMissing document (record { key = key; row = row }))
+missing_here document key rows None needed are all = sym (given_here document key rows needed are) ∙ all
+missing_here document key rows (Some place) needed are lacks = record {
+  needed = needed;
+  lacks = subst (λ (all : List Data). LacksAt key all place) are lacks;
+}
+
+-- what a key may be, by the first of its tables in which it is not
+pub unfit_here : (document : Data) (key : Key) (rows : List Value) (result : Option ℕ) → map view rows ≡ rows_of document (part_of key)
+    → MatchOption result (AllByRecursion (λ row. Fits document key (view row)) rows) (λ place. DoesNotFitAt document key (map view rows) place)
+    → MatchOption result (IsFit document key) (λ row. IsUnfit document (record { key = key; row = row }))
+unfit_here document key rows None are all = subst (AllByRecursion (Fits document key)) are (all_from_map (Fits document key) view rows all)
+unfit_here document key rows (Some place) are unfit = subst (λ (all : List Data). DoesNotFitAt document key all place) are unfit
 
 -- ---- what a value may be
 
@@ -54,12 +64,6 @@ twice_here : (name : List ℕ) (rows : List Value) (place : ℕ) (first : Value)
 twice_here name rows place first below is =
     ap (λ (vs : List Value). has_twice name (map view vs)) (drop_more rows place first below ∙ ap (λ (v : Value). v ∷ drop (place + 1) rows) (sym is))
     ∙ ap (λ (b : Bool). b || has_twice name (map view (drop (place + 1) rows))) (any_of_map (same_value name (view first)) view (drop (place + 1) rows))
-
-pub again_here : (name : List ℕ) (rows : List Value) (place : ℕ) (first : Value) → place < length rows → first ≡ get_or rows place first
-    → has_twice name (map view (drop place rows)) ≡ has_twice name (map view rows)
-    → list_any (λ other. same_value name (view first) (view other)) (drop (place + 1) rows) ≡ true → has_twice name (map view rows) ≡ true
-again_here name rows place first below is so_far again =
-    sym so_far ∙ twice_here name rows place first below is ∙ ap (λ (b : Bool). b || has_twice name (map view (drop (place + 1) rows))) again
 
 pub not_again : (name : List ℕ) (rows : List Value) (place : ℕ) (first : Value) → place < length rows → first ≡ get_or rows place first
     → has_twice name (map view (drop place rows)) ≡ has_twice name (map view rows)

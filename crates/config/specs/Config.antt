@@ -14,7 +14,7 @@ use Rattle.config.specs.declared.config.Config.{Config}
 use Rattle.config.specs.declared.config.NodeConfig.{NodeConfig}
 use Rattle.config.specs.Listen.{IsListen}
 use Rattle.config.specs.Rows.{number_in, rows_of, text_in}
-use Rattle.config.specs.Faults.{IsFit, is_given, is_numbered, is_once}
+use Rattle.config.specs.Faults.{IsAgain, IsFit, IsMissing, IsUnfit, is_given, is_numbered, is_once}
 
 -- ---- what stands under a name; what does not is empty, false or the default
 
@@ -92,12 +92,12 @@ pub record IsFaultless (document : Data) : Type 0 where
   pub fit : AreFit document
   pub once : (key : Key) → is_once document key ≡ true
 
--- The fault of the lowest number that fits, with any one of its keys.
+-- The fault of the lowest number that fits, with a place at which it is.
 abbrev pub HasFault : Data → ConfigFault → Type 0
 HasFault document NotToml = ⊥
-HasFault document (Missing key) = is_given document key ≡ false
-HasFault document (BadValue key) = IsGiven document × (IsFit document key → ⊥)
-HasFault document (Repeated key) = IsGiven document × AreFit document × (is_once document key ≡ false)
+HasFault document (Missing place) = IsMissing document place
+HasFault document (BadValue place) = IsGiven document × IsUnfit document place
+HasFault document (Repeated place) = IsGiven document × AreFit document × IsAgain document place
 HasFault document Memory = ⊥
 
 -- the table of octets that are TOML
@@ -111,18 +111,18 @@ pub record IsDocument (octets : List ℕ) (document : Data) : Type 0 where
 abbrev pub IsOutcome : List ℕ → Result Config ConfigFault → Type 0
 IsOutcome octets (Ok config) = (document : Data) × IsDocument octets document × IsFaultless document × IsConfig document config
 IsOutcome octets (Err NotToml) = (document : Data) → IsDocument octets document → ⊥
-IsOutcome octets (Err (Missing key)) = (document : Data) × IsDocument octets document × HasFault document (Missing key)
-IsOutcome octets (Err (BadValue key)) = (document : Data) × IsDocument octets document × HasFault document (BadValue key)
-IsOutcome octets (Err (Repeated key)) = (document : Data) × IsDocument octets document × HasFault document (Repeated key)
+IsOutcome octets (Err (Missing place)) = (document : Data) × IsDocument octets document × HasFault document (Missing place)
+IsOutcome octets (Err (BadValue place)) = (document : Data) × IsDocument octets document × HasFault document (BadValue place)
+IsOutcome octets (Err (Repeated place)) = (document : Data) × IsDocument octets document × HasFault document (Repeated place)
 IsOutcome octets (Err Memory) = Unit {0}
 
 -- ---- in two steps
 
 abbrev pub ReadsNone : List ℕ → ConfigFault → Type 0
 ReadsNone octets NotToml = (document : Data) → IsDocument octets document → ⊥
-ReadsNone octets (Missing key) = ⊥
-ReadsNone octets (BadValue key) = ⊥
-ReadsNone octets (Repeated key) = ⊥
+ReadsNone octets (Missing place) = ⊥
+ReadsNone octets (BadValue place) = ⊥
+ReadsNone octets (Repeated place) = ⊥
 ReadsNone octets Memory = Unit {0}
 
 abbrev pub IsChecked : Data → Result (Unit {0}) ConfigFault → Type 0

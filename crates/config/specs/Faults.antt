@@ -1,5 +1,5 @@
 -- The faults of a configuration: what is missing, what has a value that it may not have, and what is given twice (own).
-use Rattle.std.specs.Prelude.{Bool, true, false, ◌||◌, not, ◌==◌, ◌<◌, ◌≤◌, ◌-◌, ℕ, List, [], ◌∷◌, length, All, codes, Option, Some, None}
+use Rattle.std.specs.Prelude.{Bool, true, false, ◌≡◌, slice_get, ◌||◌, not, ◌==◌, ◌<◌, ◌≤◌, ◌-◌, ℕ, List, [], ◌∷◌, length, All, codes, Option, Some, None}
 use Rattle.std.specs.Prelude.{IsSome, IsSomeAnd, IfSome, IsTrue}
 use Rattle.std.specs.List.{AllByRecursion, list_all, list_any}
 use Rattle.std.specs.declared.net.socket_addr.SocketAddrV4.{SocketAddrV4}
@@ -9,8 +9,9 @@ use Rattle.config.specs.declared.key.Key.TheVariants.{SystemId, DefaultValidity,
 use Rattle.config.specs.declared.key.Key.TheVariants.{NodeListen, NodeStore, AccountSystemId, AccountPassword, AccountTransmit}
 use Rattle.config.specs.declared.key.Key.TheVariants.{AccountReceive, RoutePrefix, RouteAccount}
 use Rattle.config.specs.declared.key.Part.TheVariants.{Nodes, Accounts}
+use Rattle.config.specs.declared.place.Place.{Place}
 use Rattle.config.specs.Keys.{is_needed, is_unique, name_of, part_of}
-use Rattle.config.specs.Rows.{as_number, has_twice, is_table, listed, number_in, rows_of, same_number, same_text, text_in}
+use Rattle.config.specs.Rows.{RepeatsAt, as_number, has_twice, is_table, listed, number_in, rows_of, same_number, same_text, text_in}
 use Rattle.config.specs.Listen.{IsListen}
 
 -- ---- what is missing
@@ -36,6 +37,17 @@ has_key key row = not (is_table row) || stands key (get (name_of key) row)
 -- nothing of the key is missing
 abbrev pub is_given : Data → Key → Bool
 is_given document key = not (is_needed key) || list_all (has_key key) (rows_of document (part_of key))
+
+-- the row at a place lacks a key
+pub record LacksAt (key : Key) (rows : List Data) (place : ℕ) : Type 0 where
+  pub row : Data
+  pub at : slice_get rows place ≡ Some row
+  pub lacks : has_key key row ≡ false
+
+-- one of its tables lacks a key that each must have
+pub record IsMissing (document : Data) (place : Place) : Type 0 where
+  pub needed : is_needed place.key ≡ true
+  pub lacks : LacksAt place.key (rows_of document (part_of place.key)) place.row
 
 -- ---- what a value may be
 
@@ -101,8 +113,22 @@ Fits document key row = IfSome (get (name_of key) row) (Admits document key)
 abbrev pub IsFit : Data → Key → Type 0
 IsFit document key = AllByRecursion (Fits document key) (rows_of document (part_of key))
 
+-- in the row at a place the key has a value that it may not have
+pub record DoesNotFitAt (document : Data) (key : Key) (rows : List Data) (place : ℕ) : Type 0 where
+  pub row : Data
+  pub at : slice_get rows place ≡ Some row
+  pub unfit : ¬ Fits document key row
+
+abbrev pub IsUnfit : Data → Place → Type 0
+IsUnfit document place = DoesNotFitAt document place.key (rows_of document (part_of place.key)) place.row
+
 -- ---- what is given twice
 
 -- no account, prefix or node is given twice
 abbrev pub is_once : Data → Key → Bool
 is_once document key = not (is_unique key) || not (has_twice (name_of key) (rows_of document (part_of key)))
+
+-- a table of a key of which no two may have one value has that of an earlier one
+pub record IsAgain (document : Data) (place : Place) : Type 0 where
+  pub unique : is_unique place.key ≡ true
+  pub repeats : RepeatsAt (name_of place.key) (rows_of document (part_of place.key)) place.row

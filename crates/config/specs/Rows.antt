@@ -1,5 +1,5 @@
 -- The tables of a text in which the keys stand, and what stands in them.
-use Rattle.std.specs.Prelude.{Bool, false, ◌||◌, ◌==◌, ℕ, ℤ, pos, negsuc, List, [], ◌∷◌, codes, Option, Some, None, is_some, option_and_then}
+use Rattle.std.specs.Prelude.{Bool, true, false, ◌≡◌, ◌<◌, slice_get, ◌||◌, ◌==◌, ℕ, ℤ, pos, negsuc, List, [], ◌∷◌, codes, Option, Some, None, is_some, option_and_then}
 use Rattle.std.specs.List.{list_any}
 use Rattle.std.specs.Str.{bytes_eq}
 use Rattle.toml.specs.Data.{Data, Items, no_items, item, get, as_str, as_integer, as_array, as_table}
@@ -60,6 +60,16 @@ same_number (Some number) (Some other) = number == other
 -- whether two rows have one text or one number under a name
 abbrev pub same_value : List ℕ → Data → Data → Bool
 same_value name one other = same_text (text_in name one) (text_in name other) || same_number (number_in name one) (number_in name other)
+
+-- a row that has the value of an earlier one under a name
+pub record RepeatsAt (name : List ℕ) (rows : List Data) (place : ℕ) : Type 0 where
+  pub row : Data
+  pub at : slice_get rows place ≡ Some row
+  pub earlier : ℕ
+  pub first : Data
+  pub before : earlier < place
+  pub at_first : slice_get rows earlier ≡ Some first
+  pub same : same_value name first row ≡ true
 
 -- whether any two rows do
 abbrev pub has_twice : List ℕ → List Data → Bool

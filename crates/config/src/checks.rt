@@ -1,68 +1,76 @@
 //! Which faults a document has.
 
-ghost use Rattle.std.specs.Prelude.{◌≡◌, ◌↔◌, true, false, map, MatchOption, IfSome, IsTrue};
+ghost use Rattle.std.specs.Prelude.{◌≡◌, ◌↔◌, true, false, map, slice_get, MatchOption, IsTrue, Some};
 ghost use Rattle.std.specs.List.{AllByRecursion, list_all, list_any};
 ghost use Rattle.toml.specs.Data.{as_array, get};
 ghost use Rattle.toml.specs.View.{view};
 ghost use Rattle.config.specs.Faults as spec;
 ghost use Rattle.config.specs.Keys.{name_of};
-ghost use Rattle.config.specs.Rows.{has_twice, same_value};
+ghost use Rattle.config.specs.Rows.{RepeatsAt, has_twice, same_value};
+ghost use Rattle.toml.specs.declared.value.Value.{Value};
 
 use crate::key::Key;
+use crate::place::Place;
 use crate::rows::{number_in, rows, text_in};
 use crate::values::admits;
 use toml::Value;
 
-/// The first of some keys of which something is missing.
-pub(crate) fn first_missing(document: &Value, keys: &[Key]) -> Option<Key>
-    ensures { MatchOption result (AllByRecursion (λ key. spec.is_given (view document.now) key ≡ true) keys.now)
-        (λ key. spec.is_given (view document.now) key ≡ false) }
+/// The first of some keys of which something is missing, and where.
+pub(crate) fn first_missing(document: &Value, keys: &[Key]) -> Option<Place>
+    ensures { MatchOption result (AllByRecursion (λ key. spec.is_given (view document.now) key ≡ true) keys.now) (spec.IsMissing (view document.now)) }
 {
     for key in keys {
-        if !is_given(document, *key) {
-            return Some(*key);
+        if let Some(row) = row_without(document, *key) {
+            return Some(Place { key: *key, row });
         }
     }
     None
 }
 
-/// The first of some keys that has a value that it may not have.
-pub(crate) fn first_bad(document: &Value, keys: &[Key]) -> Option<Key>
-    ensures { MatchOption result (AllByRecursion (spec.IsFit (view document.now)) keys.now) (λ key. ¬ spec.IsFit (view document.now) key) }
+/// The first of some keys that has a value that it may not have, and where.
+pub(crate) fn first_bad(document: &Value, keys: &[Key]) -> Option<Place>
+    ensures { MatchOption result (AllByRecursion (spec.IsFit (view document.now)) keys.now) (spec.IsUnfit (view document.now)) }
 {
     for key in keys {
-        if !is_fit(document, *key) {
-            return Some(*key);
+        if let Some(row) = row_that_is_bad(document, *key) {
+            return Some(Place { key: *key, row });
         }
     }
     None
 }
 
-/// The first of some keys that is given twice with one value.
-pub(crate) fn first_repeated(document: &Value, keys: &[Key]) -> Option<Key>
-    ensures { MatchOption result (AllByRecursion (λ key. spec.is_once (view document.now) key ≡ true) keys.now)
-        (λ key. spec.is_once (view document.now) key ≡ false) }
+/// The first of some keys that is given twice with one value, and where it is given again.
+pub(crate) fn first_repeated(document: &Value, keys: &[Key]) -> Option<Place>
+    ensures { MatchOption result (AllByRecursion (λ key. spec.is_once (view document.now) key ≡ true) keys.now) (spec.IsAgain (view document.now)) }
 {
     for key in keys {
-        if !is_once(document, *key) {
-            return Some(*key);
+        if let Some(row) = row_that_repeats(document, *key) {
+            return Some(Place { key: *key, row });
         }
     }
     None
 }
 
-/// Whether nothing of a key is missing.
-fn is_given(document: &Value, key: Key) -> bool
-    ensures { result ≡ spec.is_given (view document.now) key }
+/// The first table of a key that lacks it, if it must have it.
+fn row_without(document: &Value, key: Key) -> Option<usize>
+    ensures { MatchOption result (spec.is_given (view document.now) key ≡ true) (λ row. spec.IsMissing (view document.now) (record { key = key; row = row })) }
 {
-    !key.is_needed() || have_key(rows(document, key.part()), key)
+    if !key.is_needed() {
+        return None;
+    }
+    first_without(rows(document, key.part()), key)
 }
 
-/// Whether each of some rows has a key.
-fn have_key(rows: &[Value], key: Key) -> bool
-    ensures { result ≡ list_all (λ row. spec.has_key key (view row)) rows.now }
+/// The place of the first of some rows that lacks a key.
+fn first_without(rows: &[Value], key: Key) -> Option<usize>
+    ensures { MatchOption result (list_all (λ row. spec.has_key key (view row)) rows.now ≡ true) (λ place. spec.LacksAt key (map view rows.now) place) }
 {
-    rows.iter().all(|row| has_key(row, key))
+    for (place, row) in rows.iter().enumerate() {
+        if !has_key(row, key) {
+            return Some(place);
+        }
+    }
+    None
 }
 
 /// Whether a row has a key; what is no table is a fault of another kind.
@@ -88,23 +96,24 @@ fn is_no_list(value: &Value) -> bool
     }
 }
 
-/// Whether each value of a key is one that it may have.
-fn is_fit(document: &Value, key: Key) -> bool
-    ensures { IsTrue result ↔ spec.IsFit (view document.now) key }
+/// The first table of a key in which it has a value that it may not have.
+fn row_that_is_bad(document: &Value, key: Key) -> Option<usize>
+    ensures { MatchOption result (spec.IsFit (view document.now) key) (λ row. spec.IsUnfit (view document.now) (record { key = key; row = row })) }
 {
-    are_fit(document, key, rows(document, key.part()))
+    first_unfit(document, key, rows(document, key.part()))
 }
 
-/// Whether each value of a key in some rows is one that it may have.
-fn are_fit(document: &Value, key: Key, rows: &[Value]) -> bool
-    ensures { IsTrue result ↔ AllByRecursion (λ row. spec.Fits (view document.now) key (view row)) rows.now }
+/// The place of the first of some rows in which a key has a value that it may not have.
+fn first_unfit(document: &Value, key: Key, rows: &[Value]) -> Option<usize>
+    ensures { MatchOption result (AllByRecursion (λ row. spec.Fits (view document.now) key (view row)) rows.now)
+        (λ place. spec.DoesNotFitAt (view document.now) key (map view rows.now) place) }
 {
-    for row in rows {
+    for (place, row) in rows.iter().enumerate() {
         if !fits(document, key, row) {
-            return false;
+            return Some(place);
         }
     }
-    true
+    None
 }
 
 /// Whether the value of a key in a row, if there is one, is one that it may have.
@@ -117,30 +126,39 @@ fn fits(document: &Value, key: Key, row: &Value) -> bool
     }
 }
 
-/// Whether no two rows have one value of a key of which they may not.
-fn is_once(document: &Value, key: Key) -> bool
-    ensures { result ≡ spec.is_once (view document.now) key }
+/// A table of a key that has the value of an earlier one, if no two may have one value of it.
+fn row_that_repeats(document: &Value, key: Key) -> Option<usize>
+    ensures { MatchOption result (spec.is_once (view document.now) key ≡ true) (λ row. spec.IsAgain (view document.now) (record { key = key; row = row })) }
 {
-    !key.is_unique() || !is_twice(rows(document, key.part()), key.name())
+    if !key.is_unique() {
+        return None;
+    }
+    first_again(rows(document, key.part()), key.name())
 }
 
-/// Whether any two rows have one value under a name.
-fn is_twice(rows: &[Value], name: &str) -> bool
-    ensures { result ≡ has_twice name.now (map view rows.now) }
+/// The place of a row that has the value of an earlier one under a name.
+fn first_again(rows: &[Value], name: &str) -> Option<usize>
+    ensures { MatchOption result (has_twice name.now (map view rows.now) ≡ false) (RepeatsAt name.now (map view rows.now)) }
 {
     for place in 0..rows.len() {
-        if is_again(&rows[place], &rows[place + 1..], name) {
-            return true;
+        if let Some(behind) = place_of_same(&rows[place], &rows[place + 1..], name) {
+            return Some(place + 1 + behind);
         }
     }
-    false
+    None
 }
 
-/// Whether one of some rows has the value that another has under a name.
-fn is_again(first: &Value, others: &[Value], name: &str) -> bool
-    ensures { result ≡ list_any (λ other. same_value name.now (view first.now) (view other)) others.now }
+/// The place of the first of some rows that has the value that another has under a name.
+fn place_of_same(first: &Value, others: &[Value], name: &str) -> Option<usize>
+    ensures { MatchOption result (list_any (λ other. same_value name.now (view first.now) (view other)) others.now ≡ false)
+        (λ place. (other : Value) × (slice_get others.now place ≡ Some other) × (same_value name.now (view first.now) (view other) ≡ true)) }
 {
-    others.iter().any(|other| has_same(first, other, name))
+    for (place, other) in others.iter().enumerate() {
+        if has_same(first, other, name) {
+            return Some(place);
+        }
+    }
+    None
 }
 
 /// Whether two rows have one text or one number under a name.

@@ -12,7 +12,7 @@ use crate::key::KEYS;
 use std::alloc::Global;
 use toml::Value;
 
-/// The configuration that a text says (TOML, UTF-8), or the lowest fault that fits, with any one of its keys: `NotToml` only of
+/// The configuration that a text says (TOML, UTF-8), or the lowest fault that fits, with a place at which it is: `NotToml` only of
 /// what is no TOML; else `Missing`, if a key without a default is not there or there is no node; else `BadValue`, if a value is of
 /// another kind or range, a node is the tenth, or a route leads to no account of the text; else `Repeated`, if two accounts have
 /// one system_id, two routes one prefix, or two nodes one number. Other keys are ignored. `Memory` is want of memory.
@@ -39,14 +39,14 @@ fn document_of(alloc: Global, octets: &[u8]) -> Result<Value, ConfigFault>
 fn check(document: &Value) -> Result<(), ConfigFault>
     ensures { spec.IsChecked (view document.now) result }
 {
-    if let Some(key) = first_missing(document, &KEYS) {
-        return Err(ConfigFault::Missing(key));
+    if let Some(place) = first_missing(document, &KEYS) {
+        return Err(ConfigFault::Missing(place));
     }
-    if let Some(key) = first_bad(document, &KEYS) {
-        return Err(ConfigFault::BadValue(key));
+    if let Some(place) = first_bad(document, &KEYS) {
+        return Err(ConfigFault::BadValue(place));
     }
-    if let Some(key) = first_repeated(document, &KEYS) {
-        return Err(ConfigFault::Repeated(key));
+    if let Some(place) = first_repeated(document, &KEYS) {
+        return Err(ConfigFault::Repeated(place));
     }
     Ok(())
 }
