@@ -1,9 +1,9 @@
 -- The laws of the format, for all octets and all PDUs.
-use Rattle.std.specs.Prelude.{◌≡◌, ℕ, List, Some, Ok, Err}
+use Rattle.std.specs.Prelude.{◌≡◌, ◌≢◌, ℕ, List, Some, Ok, Err}
 use Rattle.octet_fields.specs.Laws.{IsFirstFault}
 use Rattle.pdu_tables.specs.declared.command.Command.{Command}
 use Rattle.pdu_fields.specs.declared.fault.PduFault.{PduFault}
-use Rattle.pdu_fields.specs.declared.fault.PduFault.TheVariants.{Extra}
+use Rattle.pdu_fields.specs.declared.fault.PduFault.TheVariants.{Extra, Memory}
 use Rattle.pdu_bodies.specs.Forms.{form_of, parts_of}
 use Rattle.pdu_bodies.specs.Bodies.{body_at}
 use Rattle.pdu_bodies.specs.declared.pdu.Pdu.{Pdu}
@@ -23,3 +23,7 @@ WrittenIsRead = (pdu : Pdu) → Fits pdu → read_pdu (octets_of pdu) ≡ Ok pdu
 abbrev pub FirstFaultIsTold : Type 0
 FirstFaultIsTold = (command : Command) (octets : List ℕ) (fault : PduFault) → IsOctets octets → body_at (Some command) octets ≡ Err fault
     → IsFirstFault Extra (parts_of (form_of command)) octets fault
+
+-- No octets are read as want of memory: that fault is the program's alone.
+abbrev pub NoneWantMemory : Type 0
+NoneWantMemory = (octets : List ℕ) → read_pdu octets ≢ Err Memory
