@@ -51,7 +51,7 @@ impl Kept {
     fn asked(&self, name: Name) -> Option<&Held>
         ensures { option_map held_of (option_copied result) ≡ asked_by self.now.setup (kept_of self.now) name }
     {
-        if name.node != self.setup.node || name.incarnation != self.incarnation() {
+        if !name.is_of(self.setup.node, self.incarnation()) {
             return None;
         }
         self.queue.at(name.ticket)
@@ -118,6 +118,7 @@ impl Kept {
         held: Held,
         known: Option<&Chain>,
     ) -> Result<(Vec<Reply>, QueueChange), AllocError>
+        requires { IfSome known (λ chain. chain.now.id ≡ id_of (held_of held)) }
         ensures { IfOk result (IsVerdict self.now.setup.nodes (known_of (option_copied known.entry)) (held_of held)) }
     {
         let ticket = held.ticket();

@@ -3,6 +3,7 @@ pub mod Waiting
 pub mod Queues
 pub mod Tops
 pub mod Questions
+pub mod Showing
 pub mod Replying
 pub mod Submits
 pub mod Numbers

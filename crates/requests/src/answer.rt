@@ -1,5 +1,7 @@
 //! Answers.
 
+ghost use Rattle.requests.specs.Showing.{IsAbout};
+
 use fate_chain::Chain;
 use mc_types::MsgId;
 
@@ -24,10 +26,11 @@ pub enum Answer {
     TooLate,
 }
 
-/// The answer to the request of a ticket, about the message of an id.
+/// The answer to the request of a ticket, about the message of an id. It shows no chain of another message.
 #[derive(Drop)]
 pub struct Reply {
     pub ticket: u64,
     pub id: MsgId,
     pub answer: Answer,
+    pub ghost about: { IsAbout id answer },
 }

@@ -1,7 +1,7 @@
 //! Requests that wait.
 
 ghost use Rattle.std.specs.Prelude.{◌≡◌, ◌&&◌, ◌||◌, None, Some, IfOk, IfSome, IsTrue, OnErr, OnOk, false, option_map, if◌then◌else◌};
-ghost use Rattle.std.specs.Option.{option_copied};
+ghost use Rattle.std.specs.Option.{ForSome, option_copied};
 ghost use Rattle.mc_model.specs.message.Chain.{taken_in};
 ghost use Rattle.mc_model.specs.message.Submission.{Submission as SubmissionValue};
 ghost use Rattle.mc_model.specs.node.Replies.{Unknown};
@@ -17,6 +17,7 @@ ghost use Rattle.synod_acceptor.specs.Votes.{told_vote};
 ghost use Rattle.requests.specs.Questions.{question_by};
 ghost use Rattle.requests.specs.Replying.{ShowsChain, answer_given, answer_with, reply_given, reply_to, reply_with};
 ghost use Rattle.requests.specs.Queues.{is_answered};
+ghost use Rattle.requests.specs.Showing.{IsAbout};
 ghost use Rattle.requests.specs.Submits.{IsNumberedBy, begun_of, start_of};
 ghost use Rattle.requests.specs.Tops.{Passes, over, shown_by, told_by_most};
 ghost use Rattle.requests.specs.Waiting.{IsSince, held_of, known_of, request_of};
@@ -204,6 +205,7 @@ impl Held {
     /// copy of a chain needs.
     pub fn answer(&self, nodes: u8, known: Option<&Chain>) -> Result<Option<Answer>, AllocError>
         ensures answer { IfOk result (λ answer. option_map answer_given answer ≡ answer_to nodes (known_of (option_copied known.entry)) (held_of self.now)) }
+        ensures about { IfSome known.entry (λ chain. chain.now.id ≡ id_of (held_of self.now)) → IfOk result (λ answer. IfSome answer (IsAbout (id_of (held_of self.now)))) }
         ensures memory { OnErr result (ShowsChain (answer_to nodes (known_of (option_copied known.entry)) (held_of self.now))) }
     {
         let Some(chain) = known else {
@@ -217,7 +219,8 @@ impl Held {
 
     /// What it is answered if nothing is known of its message.
     fn answer_unheard(&self, nodes: u8) -> Option<Answer>
-        ensures { option_map answer_given result ≡ answer_to nodes None (held_of self.now) }
+        ensures answer { option_map answer_given result ≡ answer_to nodes None (held_of self.now) }
+        ensures about { IfSome result (IsAbout (id_of (held_of self.now))) }
     {
         if self.is_unknown(nodes) {
             Some(Answer::Unknown)
@@ -283,6 +286,7 @@ impl Held {
 
     /// The reply to it with this answer, if there is one.
     fn reply_with(&self, answer: Option<Answer>) -> Option<Reply>
+        requires { ForSome answer (IsAbout (id_of (held_of self.now))) }
         ensures { option_map reply_given result ≡ reply_with (held_of self.now) (option_map answer_given answer) }
     {
         Some(self.reply_of(answer?))
@@ -297,6 +301,7 @@ impl Held {
 
     /// The reply to it with this answer.
     fn reply_of(&self, answer: Answer) -> Reply
+        requires { IsAbout (id_of (held_of self.now)) answer }
         ensures { reply_given result ≡ record { ticket = ticket_of (held_of self.now); id = id_of (held_of self.now); answer = answer_given answer } }
     {
         let ticket = self.ticket;

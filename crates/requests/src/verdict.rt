@@ -6,6 +6,7 @@ ghost use Rattle.mc_model.specs.message.Decree.{Decree};
 ghost use Rattle.node_model.specs.Answers.{answer_by, cancel_answer, cancel_decided, is_match, is_owner, query_shown};
 ghost use Rattle.fate_chain.specs.Kinds.{kind_of};
 ghost use Rattle.requests.specs.Replying.{ShowsChain, answer_given, answer_with};
+ghost use Rattle.requests.specs.Showing.{IsAbout};
 ghost use Rattle.requests.specs.Waiting.{request_of};
 
 use crate::answer::Answer;
@@ -67,6 +68,7 @@ impl Verdict {
     /// The answer, with the chain by which it is. An `Err` is want of memory, which only an answer that shows the chain needs.
     pub(crate) fn answer(self, chain: &Chain) -> Result<Answer, AllocError>
         ensures answer { IfOk result (λ answer. answer_given answer ≡ answer_with chain.now.decrees self) }
+        ensures about { IfOk result (IsAbout chain.now.id) }
         ensures memory { OnErr result (ShowsChain (Some (answer_with chain.now.decrees self))) }
     {
         match self {

@@ -1,6 +1,6 @@
 //! What nodes send to one another.
 
-ghost use Rattle.std.specs.Prelude.{◌≡◌, IfOk, IsSome, OnErr};
+ghost use Rattle.std.specs.Prelude.{◌≡◌, ◌&&◌, ◌==◌, IfOk, IsSome, OnErr};
 ghost use Rattle.synod_acceptor.specs.Packets.{CarriesVote, packet_of};
 
 use crate::vote::{Report, Vote};
@@ -24,6 +24,15 @@ impl Model for Name {
     ghost view = { λ n. record { node = n.node; incarnation = n.incarnation; ticket = n.ticket } };
 
     ghost inverse = { λ n. record { node = n.node; incarnation = n.incarnation; ticket = n.ticket } };
+}
+
+impl Name {
+    /// Whether the request waits at this node in this incarnation: a question of an older one is nobody's any more.
+    pub fn is_of(self, node: NodeNo, incarnation: Incarnation) -> bool
+        ensures { result ≡ ((self.node == node) && (self.incarnation == incarnation)) }
+    {
+        self.node == node && self.incarnation == incarnation
+    }
 }
 
 /// What a node sends to all nodes (Paxos Made Simple, sections 2.2 and 2.3, and the questions of a read), with its sender. A
