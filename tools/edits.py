@@ -4,6 +4,7 @@
     python3 tools/edits.py [CRATE ..]             those of these crates, or of all
     python3 tools/edits.py --changed COMMIT       those of the crates whose sources, or those below them, changed since a commit
     python3 tools/edits.py .. --gate              those of the gate, too
+    python3 tools/edits.py .. --planted           in their place the wrong bodies of tools/planted, which stand for no promise
     python3 tools/edits.py .. --jobs N            N at a time
 
 They are tried by `rt must-fail` on copies of the tree, each over what earlier checks built of the crates below (`rt all check` builds all). So many
@@ -19,7 +20,7 @@ import subprocess
 import sys
 import tempfile
 
-from repository import BESIDE, IN_GATE, TOP, edits, libraries, with_beneath
+from repository import BESIDE, IN_GATE, PLANTED, TOP, edits, libraries, with_beneath
 
 # An edit more costs less than a check of its crate, with which each copy begins, until there are about so many.
 MOST_A_COPY = 10
@@ -86,6 +87,7 @@ def main():
     parser.add_argument("crates", metavar="CRATE", nargs="*")
     parser.add_argument("--changed", metavar="COMMIT", help="the crates that changed since this commit, and those above them")
     parser.add_argument("--gate", action="store_true", help="try the edits of the gate, too")
+    parser.add_argument("--planted", action="store_true", help="try the wrong bodies of tools/planted in place of these")
     parser.add_argument("--jobs", metavar="N", type=int, default=max(1, (os.cpu_count() or 2) - 1), help="how many copies are worked on at a time")
     arguments = parser.parse_args()
     named = libraries()
@@ -94,7 +96,8 @@ def main():
         sys.exit(f"crates.txt names no {unknown[0]}")
     crates = arguments.crates or (changed_crates(arguments.changed, named) if arguments.changed else list(named))
     counts = {True: 0, False: 0}
-    for name, answer in answers(parts_of(crates, [IN_GATE, BESIDE] if arguments.gate else [BESIDE]), named, arguments.jobs):
+    places = [PLANTED] if arguments.planted else [IN_GATE, BESIDE] if arguments.gate else [BESIDE]
+    for name, answer in answers(parts_of(crates, places), named, arguments.jobs):
         is_refused = answer.startswith("refused")
         counts[is_refused] += 1
         if not is_refused:

@@ -5,6 +5,8 @@ import re
 TOP = pathlib.Path(__file__).resolve().parent.parent
 # Where the edits of a crate stand that the checker must refuse: those that the gate tries, and those beside it.
 IN_GATE, BESIDE = "must-fail", "edits"
+# Wrong bodies that were written from the contracts and definitions alone, in tools/planted/CRATE.
+PLANTED = "planted"
 
 
 def libraries(top=TOP):
@@ -34,8 +36,9 @@ def sources(crate, parts=("src", "specs", "proofs"), top=TOP):
 
 
 def edits(crate, place, top=TOP):
-    """The edits of a crate in one of the two places."""
-    return sorted((top / "crates" / crate / place).glob("*.edit"))
+    """The edits of a crate in one of these places."""
+    folder = top / "tools" / PLANTED / crate if place == PLANTED else top / "crates" / crate / place
+    return sorted(folder.glob("*.edit"))
 
 
 def lines_of(folder, pattern):
