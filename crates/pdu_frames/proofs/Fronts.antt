@@ -1,12 +1,12 @@
 -- What stands at the front of a stream: a part of a frame, a wrong length, or a frame, and one of these alone.
-use Rattle.std.proofs.Common.{◌≡◌, ℕ, true, false, nat_le, ◌+◌, ◌-◌, ◌≤◌, ◌⊎◌, inl, inr, List, ◌++◌, length, take, drop, refl, sym, ap}
+use Rattle.std.proofs.Common.{◌≡◌, ◌<◌, ℕ, true, false, nat_le, ◌+◌, ◌-◌, ◌≤◌, ◌⊎◌, inl, inr, List, ◌++◌, length, take, drop, refl, sym, ap}
 use Rattle.std.proofs.Common.{◌∙◌, subst, arith, append_assoc}
 use Rattle.std.proofs.lemmas.List.{append_cancel_left, length-append, length-take-le, take_at, take-append-le, take-append-drop, take-take}
 use Rattle.std.proofs.lemmas.List.{take_rest, drop-take}
 use Rattle.std.proofs.Math.Bool.{and-false}
-use Rattle.std.proofs.lemmas.Bool.{cases_lt, cases_Bool, and_parts, and_from, leb-true, le-leb, lt-leb}
+use Rattle.std.proofs.lemmas.Bool.{cases_lt, cases_Bool, and_parts, and_from, leb-true, leb-false, le-leb, lt-leb}
 use Rattle.std.specs.Int.{from_be_bytes, w32}
-use Rattle.pdu_frames.specs.Frames.{command_length, is_pdu_length, IsFrame, IsPart, HasWrongLength, begins_with_frame, begins_wrong}
+use Rattle.pdu_frames.specs.Frames.{command_length, is_pdu_length, IsFrame, IsPart, HasWrongLength, begins_with_frame, begins_wrong, wanted_of}
 
 -- a length that a PDU may have, in numbers
 pub within_limits : (count : ℕ) → is_pdu_length count ≡ true → (16 ≤ count) × (count ≤ 8192)
@@ -97,3 +97,12 @@ added_in_two held piece first second =
     let joined : take first piece ++ take second (drop first piece) ≡ take (first + second) piece =
     rw (← take-take first (first + second) piece (omega arith), ← drop-take first second piece) (take-append-drop first (take (first + second) piece)) in
     rw (take_rest, append_assoc) (ap (λ taken. held ++ taken) joined)
+
+-- Of a part some octets are missing.
+pub part_wants : (octets : List ℕ) → IsPart octets → 0 < wanted_of octets
+part_wants octets (inl short) = let early = lt-leb 4 (length octets) short in rw early (omega arith)
+part_wants octets (inr part) = wanted_behind (nat_le 4 (length octets)) refl
+  where
+    wanted_behind : (come : _) → nat_le 4 (length octets) ≡ come → 0 < wanted_of octets
+    wanted_behind true come = let allowed : is_pdu_length (command_length octets) ≡ true = part.0 in rw (come, allowed) (omega (arith, part.1))
+    wanted_behind false come = rw come (omega (arith, leb-false 4 (length octets) come))

@@ -60,6 +60,7 @@ impl Framer {
         ensures one { IsOfOneFrame self.new }
         ensures all { IfOk result (λ count. IsPart self.new → count ≡ length piece.now) }
         ensures some { IfOk result (λ count. IsPart self.old → 0 < length piece.now → 0 < count) }
+        ensures wanted { IfOk result (λ count. length piece.now ≤ spec.wanted_of self.old → count ≡ length piece.now) }
 
         // Want of memory is no fault of it.
         ensures wrong { HasWrongLength self.old ↔ (result ≡ Err Length) }
@@ -71,6 +72,13 @@ impl Framer {
         let of_length = self.fill(piece);
         let of_frame = self.fill(&piece[of_length..]);
         Ok(of_length + of_frame)
+    }
+
+    /// Whether it holds no octet.
+    pub fn is_empty(&self) -> bool
+        ensures { IsTrue result ↔ (self.now ≡ []) }
+    {
+        self.octets.is_empty()
     }
 
     /// The frame that is held; none if it is not whole yet. `Err(Length)` if a wrong command_length stands next.
@@ -106,7 +114,7 @@ impl Framer {
         // Want of memory comes only if the frame needs more than the vector has.
         ensures memory { result ≡ Err Memory → IsFrame self.old × (vec_capacity into.old < length self.old) }
         ensures fault { IfErr result (λ fault. (fault ≡ Length) ⊎ (fault ≡ Memory)) }
-        ensures waits { result ≡ Ok false → (self.new ≡ self.old) × (into.new.items ≡ into.old.items) }
+        ensures waits { result ≡ Ok false → (self.new ≡ self.old) × (into.new ≡ into.old) }
         ensures kept { OnErr result ((self.new ≡ self.old) × (into.new.items ≡ into.old.items)) }
     {
         let Some(frame) = self.frame()? else {
