@@ -7,7 +7,7 @@ ghost use Rattle.accounts.specs.declared.fault.AccountsFault.TheVariants as faul
 
 use crate::fault::AccountsFault;
 use crate::role::Role;
-use pdu_codec::{Bind, Text};
+use pdu_codec::{Bind, Password, SystemId};
 use pdu_tables::Status;
 use std::alloc::Global;
 use std::marker::Model;
@@ -16,9 +16,9 @@ use std::marker::Model;
 #[derive(Drop)]
 pub struct Account {
     /// system_id (SMPP 3.4, section 5.2.1).
-    pub system_id: Text<16>,
+    pub system_id: SystemId,
     /// password (section 5.2.2).
-    pub password: Text<9>,
+    pub password: Password,
     /// Whether it may submit.
     pub transmit: bool,
     /// Whether it may be delivered to.

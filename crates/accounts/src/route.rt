@@ -6,7 +6,7 @@ ghost use Rattle.accounts.specs.Routes.{better, has_route, is_front, route_of, t
 ghost use Rattle.accounts.specs.declared.fault.AccountsFault.TheVariants as faults;
 
 use crate::fault::AccountsFault;
-use pdu_codec::Text;
+use pdu_codec::{AddressDigits, SystemId};
 use std::alloc::Global;
 use std::marker::Model;
 
@@ -14,9 +14,9 @@ use std::marker::Model;
 #[derive(Drop)]
 pub struct Route {
     /// The first digits of the destination_addr (SMPP 3.4, section 5.2.9). The empty prefix is one of every destination.
-    pub prefix: Text<21>,
+    pub prefix: AddressDigits,
     /// The system_id of the account.
-    pub account: Text<16>,
+    pub account: SystemId,
 }
 
 /// Routes, in the order in which they were added, no two with one prefix.
@@ -63,7 +63,7 @@ impl Routes {
 
     /// The account to which the route leads whose prefix is the longest of those that the destination begins with, if any
     /// is. It takes no memory.
-    pub fn target(&self, destination: &[u8]) -> Option<&Text<16>>
+    pub fn target(&self, destination: &[u8]) -> Option<&SystemId>
         ensures { option_copied result ≡ target_of self.now destination.now }
     {
         let route = longest(&self.routes, destination)?;
@@ -72,7 +72,7 @@ impl Routes {
 }
 
 /// Whether a route has this prefix.
-fn has_route(routes: &[Route], prefix: &Text<21>) -> bool
+fn has_route(routes: &[Route], prefix: &AddressDigits) -> bool
     ensures { result ≡ has_route routes.now prefix.now }
 {
     routes.iter().any(|route| route.prefix == *prefix)

@@ -1,7 +1,7 @@
 //! The configuration of a centre's nodes.
 
 use accounts::{Accounts, Routes};
-use pdu_codec::Text;
+use pdu_codec::SystemId;
 use std::net::SocketAddrV4;
 
 /// Where a node listens, and where it keeps its records.
@@ -17,7 +17,7 @@ pub struct NodeConfig {
 #[derive(Drop)]
 pub struct Config {
     /// The centre's system_id, 1 to 15 octets.
-    pub system_id: Text<16>,
+    pub system_id: SystemId,
     /// For how long a message is kept that asks for no time, in seconds, 1 to 31,536,000.
     pub default_validity: u32,
     /// The serial of the first message, 1 to 99999.

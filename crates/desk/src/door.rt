@@ -10,7 +10,7 @@ use crate::request::Request;
 use crate::times::Times;
 use fate_chain::Submission;
 use mc_types::{Moment, MsgId};
-use pdu_codec::{Cancel, Message, Query, Text};
+use pdu_codec::{AddressDigits, Cancel, Message, MessageIdText, Query, SystemId};
 use pdu_tables::Status;
 use std::alloc::AllocError;
 
@@ -38,15 +38,15 @@ pub enum Admitted {
     /// A query_sm of an account, about the message of an id.
     Query {
         id: MsgId,
-        account: Text<16>,
-        source: Text<21>,
+        account: SystemId,
+        source: AddressDigits,
     },
     /// A cancel_sm of an account, about the message of an id.
     Cancel {
         id: MsgId,
-        account: Text<16>,
-        source: Text<21>,
-        destination: Text<21>,
+        account: SystemId,
+        source: AddressDigits,
+        destination: AddressDigits,
     },
 }
 
@@ -58,7 +58,7 @@ impl Door {
     /// which only a request needs that is not refused.
     pub fn admit(
         &self,
-        account: &Text<16>,
+        account: &SystemId,
         request: Request,
     ) -> Result<Result<Admitted, Status>, AllocError>
         ensures admitted { IfOk result (λ judged. (next : ℕ) → asked_as next judged ≡ admitted self.now next account.now request) }
@@ -75,9 +75,9 @@ impl Door {
     /// What is taken of a submit_sm, with the account that a route leads to, if one does.
     fn submit(
         &self,
-        account: &Text<16>,
+        account: &SystemId,
         message: Message,
-        target: Option<Text<16>>,
+        target: Option<SystemId>,
     ) -> Result<Result<Admitted, Status>, AllocError>
         ensures admitted { IfOk result (λ judged. (next : ℕ) → asked_as next judged ≡ submitted_as self.now next account.now message target) }
         ensures memory { OnErr result ((next : ℕ) → IsOk (submitted_as self.now next account.now message target)) }
@@ -98,7 +98,7 @@ impl Door {
     /// What waits of a query_sm.
     fn query(
         &self,
-        account: &Text<16>,
+        account: &SystemId,
         query: Query,
     ) -> Result<Result<Admitted, Status>, AllocError>
         ensures admitted { IfOk result (λ judged. (next : ℕ) → asked_as next judged ≡ admitted self.now next account.now (requests.Ask query)) }
@@ -120,7 +120,7 @@ impl Door {
     /// What waits of a cancel_sm.
     fn cancel(
         &self,
-        account: &Text<16>,
+        account: &SystemId,
         cancel: Cancel,
     ) -> Result<Result<Admitted, Status>, AllocError>
         ensures admitted { IfOk result (λ judged. (next : ℕ) → asked_as next judged ≡ admitted self.now next account.now (requests.Cancel cancel)) }
@@ -144,7 +144,7 @@ impl Door {
     }
 
     /// The id that a request names, if another request may wait.
-    fn about(&self, text: &Text<65>) -> Result<MsgId, Status>
+    fn about(&self, text: &MessageIdText) -> Result<MsgId, Status>
         ensures id { result ≡ about self.now.busy (id_in text.now) }
         ensures room { OnOk result (self.now.busy ≡ false) }
     {
@@ -208,8 +208,8 @@ fn fields_refusal(message: &Message) -> Option<Status>
 
 /// What is taken of a submit_sm of an account that goes to another.
 fn submission(
-    account: &Text<16>,
-    target: Text<16>,
+    account: &SystemId,
+    target: SystemId,
     times: Times,
     message: Message,
 ) -> Result<Submission, AllocError>

@@ -1,14 +1,14 @@
 //! Requests and what they are answered.
 
 use mc_types::Moment;
-use pdu_codec::{Cancel, Message, Query, Text};
+use pdu_codec::{Cancel, Message, Query, SystemId};
 use pdu_tables::State;
 
 /// A request of an account.
 #[derive(Drop)]
 pub enum Request {
     /// A submit_sm, with the account that a route leads to, if one does.
-    Submit(Message, Option<Text<16>>),
+    Submit(Message, Option<SystemId>),
     /// A query_sm.
     Ask(Query),
     /// A cancel_sm.

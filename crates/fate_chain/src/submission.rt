@@ -6,17 +6,17 @@ ghost use Rattle.fate_chain.specs.Same.{SameHandling, SameParties};
 
 use crate::marks::Term;
 use mc_types::Moment;
-use pdu_codec::{Address, ShortMessage, Text, Tlvs};
+use pdu_codec::{Address, ServiceType, ShortMessage, SystemId, Tlvs};
 use std::marker::Model;
 
 /// What a submit_sm asked for, as it was taken (SMPP 3.4, section 4.4.1).
 #[derive(Drop)]
 pub struct Submission {
     /// The account that sent it.
-    pub submitter: Text<16>,
+    pub submitter: SystemId,
     /// The account that it goes to.
-    pub target: Text<16>,
-    pub service_type: Text<6>,
+    pub target: SystemId,
+    pub service_type: ServiceType,
     pub source: Address,
     pub destination: Address,
     pub esm_class: u8,

@@ -22,7 +22,7 @@ use crate::pending::Pending;
 use mc_types::Moment;
 use node_kept::{Foreseen, Kept, Step, Stopped, told};
 use node_parts::{Input, Outputs, StepFault};
-use pdu_codec::Text;
+use pdu_codec::SystemId;
 use stable_store::{StableStore, StoreFault};
 use std::marker::Model;
 use std::snapshot::Snapshot;
@@ -40,7 +40,7 @@ pub struct Node<S: StableStore> {
     unfinished: Option<Packet>,
     stopped: Option<Stopped>,
     // The accounts with which a tick at its clock does nothing, if they are noted.
-    idle: Option<Vec<Text<16>>>,
+    idle: Option<Vec<SystemId>>,
 }
 
 impl<S: StableStore> Model for Node<S> {

@@ -35,7 +35,7 @@ use crate::step::{Foreseen, Next, Put, Step};
 use fate_chain::{Author, Chain, Final, Submission};
 use mc_types::{Ballot, Incarnation, Moment, MsgId, NodeNo, Slot};
 use node_parts::{Input, Message, MessageShelf, Outputs, StepFault, sender};
-use pdu_codec::Text;
+use pdu_codec::SystemId;
 use requests::Queue;
 use rules::Standpoint;
 use std::alloc::{AllocError, Global};
@@ -118,7 +118,7 @@ impl Kept {
     pub fn step(
         &self,
         input: Input,
-        idle: &Option<Vec<Text<16>>>,
+        idle: &Option<Vec<SystemId>>,
     ) -> Result<(Foreseen, Option<Packet>), StepFault>
         requires own { AreOwn self.now }
         requires idle { IsQuiet self.now.setup (kept_of self.now) idle.now }

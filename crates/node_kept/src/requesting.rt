@@ -17,14 +17,14 @@ use crate::step::Step;
 use desk::{Admitted, Door, Request as Asked};
 use fate_chain::{ChainFault, Submission};
 use mc_types::MsgId;
-use pdu_codec::Text;
+use pdu_codec::SystemId;
 use pdu_tables::Status;
 use requests::{Request, Taken};
 use std::alloc::AllocError;
 
 impl Kept {
     /// What it does with a request of an account: it refuses it at once, or lets it wait.
-    pub(crate) fn on_request(&self, account: &Text<16>, request: Asked) -> Result<Step, AllocError>
+    pub(crate) fn on_request(&self, account: &SystemId, request: Asked) -> Result<Step, AllocError>
         requires { AreOwn self.now }
         ensures { IfOk result (IsStep self.now (stepped_up self.now.setup (kept_of self.now)
             (requested self.now.setup (kept_of self.now) account.now request))) }

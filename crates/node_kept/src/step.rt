@@ -3,7 +3,7 @@
 use crate::queue_change::QueueChange;
 use mc_types::{Moment, MsgId};
 use node_parts::{Message, MessageRoom, Outputs};
-use pdu_codec::Text;
+use pdu_codec::SystemId;
 use synod_acceptor::Change;
 
 /// A message that takes the place of what is kept of its id.
@@ -38,5 +38,5 @@ pub struct Step {
 #[derive(Drop)]
 pub struct Foreseen {
     pub step: Step,
-    pub idle: Option<Vec<Text<16>>>,
+    pub idle: Option<Vec<SystemId>>,
 }

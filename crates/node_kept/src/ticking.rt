@@ -31,7 +31,7 @@ use crate::turn_list::TurnList;
 use crate::walk::Walk;
 use mc_types::{Moment, MsgId};
 use node_parts::{Message, Outputs, Turn};
-use pdu_codec::Text;
+use pdu_codec::SystemId;
 use rules::Standpoint;
 use std::alloc::AllocError;
 use synod_acceptor::Packet;
@@ -42,8 +42,8 @@ impl Kept {
     pub(crate) fn tick(
         &self,
         moment: Moment,
-        up: Vec<Text<16>>,
-        idle: &Option<Vec<Text<16>>>,
+        up: Vec<SystemId>,
+        idle: &Option<Vec<SystemId>>,
     ) -> Result<Foreseen, AllocError>
         requires own { AreOwn self.now }
         requires idle { IsQuiet self.now.setup (kept_of self.now) idle.now }
@@ -66,7 +66,7 @@ impl Kept {
     /// those that waited too long are answered so and wait no more, and those are asked of again of which no majority told; all rounds end,
     /// and for each message, by ascending ids, the first rule that fits starts one. `up` has the accounts of which a session may receive.
     /// It takes no memory if nothing is due.
-    pub(crate) fn on_tick(&self, moment: Moment, up: &[Text<16>]) -> Result<Step, AllocError>
+    pub(crate) fn on_tick(&self, moment: Moment, up: &[SystemId]) -> Result<Step, AllocError>
         requires { AreOwn self.now }
         ensures step { IfOk result (IsStep self.now (on_tick self.now.setup (kept_of self.now) moment (is_up up.now))) }
         ensures idle { IsIdle self.now.setup (kept_of self.now) (max self.now.clock moment) (is_up up.now) → IsOk result }
@@ -112,7 +112,7 @@ impl Kept {
     /// What a tick makes of all messages, by ascending ids, at this clock, once all rounds ended: of those that are kept, and of those that
     /// the requests ask of which did not wait too long. It looks at those that are live or asked of, since no rule fits another. `up` has the
     /// accounts of which a session may receive. It takes memory only for those that a rule fits.
-    fn turns(&self, clock: Moment, up: &[Text<16>]) -> Result<TurnList, AllocError>
+    fn turns(&self, clock: Moment, up: &[SystemId]) -> Result<TurnList, AllocError>
         requires { AreOwn self.now }
         ensures turned { IfOk result (IsTurned self.now clock (is_up up.now) (ids_of (ticked (kept_of self.now) clock))) }
         ensures idle { NoneFits self.now.setup (kept_of self.now) clock (is_up up.now) →
@@ -181,7 +181,7 @@ impl Kept {
         &self,
         id: MsgId,
         at: &Standpoint,
-        up: &[Text<16>],
+        up: &[SystemId],
     ) -> Result<Option<Turn>, AllocError>
         requires own { AreOwn self.now }
         requires node { at.now.author.node ≡ self.now.setup.node }
@@ -200,7 +200,7 @@ impl Kept {
 }
 
 /// Whether these accounts are noted.
-fn is_noted(idle: &Option<Vec<Text<16>>>, up: &[Text<16>]) -> bool
+fn is_noted(idle: &Option<Vec<SystemId>>, up: &[SystemId]) -> bool
     ensures { IsTrue result ↔ IsSomeAnd idle.now (λ noted. noted.items ≡ up.now) }
 {
     match idle {
@@ -210,7 +210,7 @@ fn is_noted(idle: &Option<Vec<Text<16>>>, up: &[Text<16>]) -> bool
 }
 
 /// Whether these accounts are the others.
-fn are_same(accounts: &[Text<16>], others: &[Text<16>]) -> bool
+fn are_same(accounts: &[SystemId], others: &[SystemId]) -> bool
     ensures { IsTrue result ↔ (accounts.now ≡ others.now) }
 {
     accounts == others

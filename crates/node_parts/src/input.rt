@@ -7,14 +7,14 @@ ghost use Rattle.synod_acceptor.specs.Packets.{packet_of};
 use delivery::Outcome;
 use desk::Request;
 use mc_types::{Moment, MsgId, NodeNo, Slot};
-use pdu_codec::Text;
+use pdu_codec::SystemId;
 use synod_acceptor::Packet;
 
 /// What comes to a node.
 #[derive(Drop)]
 pub enum Input {
     /// A request of an account: a submit_sm, with the account that a route leads to, if one does, a query_sm or a cancel_sm.
-    Request(Text<16>, Request),
+    Request(SystemId, Request),
     /// A packet that a node sent, or that anybody made up.
     Packet(Packet),
     /// The attempt in which the known chain of a message ends is asked for.
@@ -22,7 +22,7 @@ pub enum Input {
     /// What came of the attempt in a slot.
     Answered(Slot, Outcome),
     /// Time passes: the moment, and the accounts of which a session may receive.
-    Tick(Moment, Vec<Text<16>>),
+    Tick(Moment, Vec<SystemId>),
 }
 
 /// The node that sent a packet, as the packet says.

@@ -41,7 +41,7 @@ use crate::turn::Turn;
 use delivery::Outcome;
 use fate_chain::{Author, Chain, Decree, Kind};
 use mc_types::{Ballot, MsgId, NodeNo, Slot};
-use pdu_codec::Text;
+use pdu_codec::SystemId;
 use requests::Queue;
 use rules::{Attempted, Closing, Due, Standpoint, follow};
 use std::alloc::{AllocError, Global};
@@ -287,7 +287,7 @@ impl Message {
         id: MsgId,
         at: &Standpoint,
         queue: &Queue,
-        up: &[Text<16>],
+        up: &[SystemId],
     ) -> Result<Option<Turn>, AllocError>
         requires { AreToldOf (timely at.now.clock (held_in queue.now)) }
         ensures same { IfOk result (IsOfTurn id self.now) }
@@ -327,7 +327,7 @@ impl Message {
         id: MsgId,
         at: &Standpoint,
         queue: &Queue,
-        up: &[Text<16>],
+        up: &[SystemId],
     ) -> Result<Option<Ruling>, AllocError>
         requires { AreToldOf (timely at.now.clock (held_in queue.now)) }
         ensures rule { IfOk result (λ ruling. (setup : Setup) (k : KeptValue) → IsAtRest setup k (timely at.now.clock (held_in queue.now)) id self.now at.now →
@@ -364,7 +364,7 @@ impl Message {
         chain: &Chain,
         at: &Standpoint,
         queue: &Queue,
-        up: &[Text<16>],
+        up: &[SystemId],
     ) -> Result<Option<Ruling>, AllocError>
         ensures rule { IfOk result (λ ruling. (setup : Setup) (k : KeptValue) → IsAtRest setup k
             (timely at.now.clock (held_in queue.now)) chain.now.id self.now at.now →

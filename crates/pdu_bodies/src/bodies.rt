@@ -7,9 +7,7 @@ ghost use Rattle.pdu_bodies.specs.Forms.{MayHave, filling_at};
 ghost use Rattle.pdu_bodies.specs.Made.{IsMade};
 
 use crate::pdu::{BindAnswer, Query, QueryAnswer};
-use pdu_fields::{
-    Field, PduFault, Text, Tlvs, check_optional, nothing_at, octet_at, source_at, text_at,
-};
+use pdu_fields::{Field, MessageIdText, PduFault, Text, Tlvs, check_optional, nothing_at, octet_at, source_at, text_at};
 use pdu_tables::limits;
 use std::alloc::Global;
 
@@ -29,7 +27,7 @@ pub fn bind_answer_of(alloc: Global, octets: &[u8]) -> Result<Option<BindAnswer>
 }
 
 /// The message_id of the response to a submit_sm or a deliver_sm (sections 4.4.2 and 4.6.2); none if the response has no field.
-pub fn message_id_of(alloc: Global, octets: &[u8]) -> Result<Option<Text<65>>, PduFault>
+pub fn message_id_of(alloc: Global, octets: &[u8]) -> Result<Option<MessageIdText>, PduFault>
     ensures { IsMade (option_map message_id_contents) result (filling_at (MayHave message_id_parts) octets.now) }
 {
     if octets.is_empty() {

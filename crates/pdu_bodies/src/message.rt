@@ -9,17 +9,14 @@ ghost use Rattle.pdu_bodies.specs.Made.{IsMade};
 ghost use Rattle.pdu_bodies.specs.Pieces as pieces;
 
 use crate::pdu::Message;
-use pdu_fields::{
-    Address, AddressOctets, Field, HandlingOctets, PduFault, ShortMessage, Text, Tlvs,
-    check_optional, counted_at, destination_at, handling_at, source_at, text_at,
-};
+use pdu_fields::{Address, AddressOctets, Field, HandlingOctets, PduFault, ServiceType, ShortMessage, Text, TimeText, Tlvs, check_optional, counted_at, destination_at, handling_at, source_at, text_at};
 use pdu_tables::limits;
 use std::alloc::{AllocError, Global};
 
 /// From whom a message is and to whom.
 #[derive(Drop)]
 struct Parties {
-    service_type: Text<6>,
+    service_type: ServiceType,
     source: Address,
     destination: Address,
 }
@@ -27,8 +24,8 @@ struct Parties {
 /// When a message is to be delivered, and until when.
 #[derive(Drop)]
 struct Times {
-    schedule_delivery_time: Text<17>,
-    validity_period: Text<17>,
+    schedule_delivery_time: TimeText,
+    validity_period: TimeText,
 }
 
 /// From whom a message is and to whom, as it stands in octets.

@@ -1,6 +1,6 @@
 //! PDUs, and what their bodies have (SMPP 3.4, section 4).
 
-use pdu_fields::{Address, ShortMessage, Text, Tlvs};
+use pdu_fields::{Address, AddressRange, MessageIdText, Password, ServiceType, ShortMessage, SystemId, SystemType, TimeText, Tlvs};
 use pdu_tables::Command;
 use std::fmt;
 
@@ -27,10 +27,10 @@ pub enum Body {
     BindTransceiverResp(Option<BindAnswer>),
     SubmitSm(Message),
     /// With the message_id.
-    SubmitSmResp(Option<Text<65>>),
+    SubmitSmResp(Option<MessageIdText>),
     DeliverSm(Message),
     /// With the message_id, which an ESME leaves empty.
-    DeliverSmResp(Option<Text<65>>),
+    DeliverSmResp(Option<MessageIdText>),
     QuerySm(Query),
     QuerySmResp(Option<QueryAnswer>),
     CancelSm(Cancel),
@@ -84,33 +84,33 @@ impl fmt::Debug for Body {
 /// What a bind has (section 4.1.5).
 #[derive(PartialEq, Eq, Drop)]
 pub struct Bind {
-    pub system_id: Text<16>,
-    pub password: Text<9>,
-    pub system_type: Text<13>,
+    pub system_id: SystemId,
+    pub password: Password,
+    pub system_type: SystemType,
     pub interface_version: u8,
     pub addr_ton: u8,
     pub addr_npi: u8,
-    pub address_range: Text<41>,
+    pub address_range: AddressRange,
 }
 
 /// What the response to a bind has (section 4.1.6).
 #[derive(PartialEq, Eq, Drop)]
 pub struct BindAnswer {
-    pub system_id: Text<16>,
+    pub system_id: SystemId,
     pub tlvs: Tlvs,
 }
 
 /// What a submit_sm and a deliver_sm have (sections 4.4.1 and 4.6.1).
 #[derive(PartialEq, Eq, Drop)]
 pub struct Message {
-    pub service_type: Text<6>,
+    pub service_type: ServiceType,
     pub source: Address,
     pub destination: Address,
     pub esm_class: u8,
     pub protocol_id: u8,
     pub priority_flag: u8,
-    pub schedule_delivery_time: Text<17>,
-    pub validity_period: Text<17>,
+    pub schedule_delivery_time: TimeText,
+    pub validity_period: TimeText,
     pub registered_delivery: u8,
     pub replace_if_present_flag: u8,
     pub data_coding: u8,
@@ -122,15 +122,15 @@ pub struct Message {
 /// What a query_sm has (section 4.8.1).
 #[derive(PartialEq, Eq, Drop)]
 pub struct Query {
-    pub message_id: Text<65>,
+    pub message_id: MessageIdText,
     pub source: Address,
 }
 
 /// What the response to a query_sm has (section 4.8.2).
 #[derive(PartialEq, Eq, Drop)]
 pub struct QueryAnswer {
-    pub message_id: Text<65>,
-    pub final_date: Text<17>,
+    pub message_id: MessageIdText,
+    pub final_date: TimeText,
     pub message_state: u8,
     pub error_code: u8,
 }
@@ -138,8 +138,8 @@ pub struct QueryAnswer {
 /// What a cancel_sm has (section 4.9.1).
 #[derive(PartialEq, Eq, Drop)]
 pub struct Cancel {
-    pub service_type: Text<6>,
-    pub message_id: Text<65>,
+    pub service_type: ServiceType,
+    pub message_id: MessageIdText,
     pub source: Address,
     pub destination: Address,
 }

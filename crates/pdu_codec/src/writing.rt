@@ -13,7 +13,7 @@ ghost use Rattle.pdu_codec.specs.Pdu.{framed, octets_of, Fits};
 
 use octet_fields::{length_of, put_pieces};
 use pdu_bodies::{Bind, BindAnswer, Body, Cancel, Message, Pdu, Query, QueryAnswer};
-use pdu_fields::Text;
+use pdu_fields::MessageIdText;
 use pdu_tables::{Command, limits};
 use std::alloc::AllocError;
 
@@ -143,7 +143,7 @@ fn put_message(out: &mut Vec<u8>, head: Head, message: &Message) -> Result<(), A
     )
 }
 
-fn put_message_id(out: &mut Vec<u8>, head: Head, message_id: &Text<65>) -> Result<(), AllocError>
+fn put_message_id(out: &mut Vec<u8>, head: Head, message_id: &MessageIdText) -> Result<(), AllocError>
     ensures ok { OnOk result (out.new.items ≡ out.old.items
         ++ framed head.command head.status head.sequence (spellings message_id_parts (message_id_contents message_id.now))) }
     ensures err { OnErr result (out.new.items ≡ out.old.items) }

@@ -1,6 +1,6 @@
 //! An address.
 
-use crate::text::Text;
+use crate::texts::AddressDigits;
 use std::alloc::AllocError;
 
 /// An address of an SME, with its type of number and its numbering plan (sections 5.2.5, 5.2.6, 5.2.8).
@@ -8,7 +8,7 @@ use std::alloc::AllocError;
 pub struct Address {
     pub ton: u8,
     pub npi: u8,
-    pub digits: Text<21>,
+    pub digits: AddressDigits,
 }
 
 impl Address {

@@ -10,7 +10,7 @@ use crate::taken::Taken;
 use crate::verdict::is_match;
 use fate_chain::Submission;
 use mc_types::MsgId;
-use pdu_codec::Text;
+use pdu_codec::{AddressDigits, SystemId};
 use std::alloc::AllocError;
 
 /// A request that may wait, with what is compared of it (SMPP 3.4, sections 4.4, 4.8 and 4.9).
@@ -21,15 +21,15 @@ pub enum Request {
     /// A query_sm of an account, with its source address.
     Query {
         id: MsgId,
-        account: Text<16>,
-        source: Text<21>,
+        account: SystemId,
+        source: AddressDigits,
     },
     /// A cancel_sm of an account, with its addresses; an empty destination names none.
     Cancel {
         id: MsgId,
-        account: Text<16>,
-        source: Text<21>,
-        destination: Text<21>,
+        account: SystemId,
+        source: AddressDigits,
+        destination: AddressDigits,
     },
 }
 

@@ -12,7 +12,7 @@ ghost use Rattle.requests.specs.Waiting.{request_of};
 use crate::answer::Answer;
 use crate::request::Request;
 use fate_chain::{Chain, Final, Kind, Submission};
-use pdu_codec::Text;
+use pdu_codec::{AddressDigits, SystemId};
 use std::alloc::AllocError;
 
 /// What a request is answered by the chain of its message, without the chain.
@@ -83,7 +83,7 @@ impl Verdict {
 }
 
 /// What a query_sm is answered by a chain.
-fn shown(chain: &Chain, account: &Text<16>, source: &Text<21>) -> Verdict
+fn shown(chain: &Chain, account: &SystemId, source: &AddressDigits) -> Verdict
     ensures { Some (answer_with chain.now.decrees result) ≡ query_shown account.now source.now chain.now.decrees (taken_in chain.now.decrees) }
 {
     if is_owner(chain.submission(), account, source) {
@@ -96,9 +96,9 @@ fn shown(chain: &Chain, account: &Text<16>, source: &Text<21>) -> Verdict
 /// What a cancel_sm that was settled is answered by a chain; nothing if its message is to be deleted first.
 fn decided(
     chain: &Chain,
-    account: &Text<16>,
-    source: &Text<21>,
-    destination: &Text<21>,
+    account: &SystemId,
+    source: &AddressDigits,
+    destination: &AddressDigits,
 ) -> Option<Verdict>
     ensures { option_map (answer_with chain.now.decrees) result
         ≡ cancel_decided account.now source.now destination.now chain.now.decrees (taken_in chain.now.decrees) }
@@ -122,7 +122,7 @@ fn ended(newest: &Kind) -> Option<Verdict>
 }
 
 /// Whether the account and the source address are those of the message.
-fn is_owner(message: &Submission, account: &Text<16>, source: &Text<21>) -> bool
+fn is_owner(message: &Submission, account: &SystemId, source: &AddressDigits) -> bool
     ensures { result ≡ is_owner message.now account.now source.now }
 {
     message.submitter.octets() == account.octets()
@@ -132,9 +132,9 @@ fn is_owner(message: &Submission, account: &Text<16>, source: &Text<21>) -> bool
 /// Whether they are, and so is the destination address, if it is not empty.
 pub(crate) fn is_match(
     message: &Submission,
-    account: &Text<16>,
-    source: &Text<21>,
-    destination: &Text<21>,
+    account: &SystemId,
+    source: &AddressDigits,
+    destination: &AddressDigits,
 ) -> bool
     ensures { result ≡ is_match message.now account.now source.now destination.now }
 {

@@ -14,7 +14,7 @@ use crate::due::Due;
 use delivery::due;
 use fate_chain::{Author, Chain, ChainFault, Decree, ErrorCode, Kind};
 use mc_types::Moment;
-use pdu_codec::Text;
+use pdu_codec::SystemId;
 use std::alloc::AllocError;
 
 /// By whom a node's decrees are, and its clock.
@@ -33,7 +33,7 @@ impl Standpoint {
         chain: &Chain,
         attempted: Attempted,
         cancelled: bool,
-        up: &[Text<16>],
+        up: &[SystemId],
     ) -> Option<Due>
         ensures due { IsDueBehind self.now attempted cancelled (is_up up.now) chain.now.decrees result }
         ensures may { IfSome result (MayBeDue self.now chain.now.decrees) }
@@ -151,7 +151,7 @@ fn is_idle(newest: &Decree) -> bool
 }
 
 /// Whether the account is one of these.
-fn is_up(accounts: &[Text<16>], target: &Text<16>) -> bool
+fn is_up(accounts: &[SystemId], target: &SystemId) -> bool
     ensures { result ≡ is_up accounts.now target.now }
 {
     accounts

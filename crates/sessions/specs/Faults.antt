@@ -23,7 +23,27 @@ status_of_long fields.SystemId = statuses.InvalidSystemId
 status_of_long fields.Password = statuses.InvalidPassword
 status_of_long fields.SystemType = statuses.InvalidSystemType
 status_of_long fields.AddressRange = statuses.BindFailed
-status_of_long other = statuses.InvalidMessageLength
+-- no texts of a request
+status_of_long fields.InterfaceVersion = statuses.InvalidMessageLength
+status_of_long fields.AddrTon = statuses.InvalidMessageLength
+status_of_long fields.AddrNpi = statuses.InvalidMessageLength
+status_of_long fields.SourceAddrTon = statuses.InvalidMessageLength
+status_of_long fields.SourceAddrNpi = statuses.InvalidMessageLength
+status_of_long fields.DestAddrTon = statuses.InvalidMessageLength
+status_of_long fields.DestAddrNpi = statuses.InvalidMessageLength
+status_of_long fields.EsmClass = statuses.InvalidMessageLength
+status_of_long fields.ProtocolId = statuses.InvalidMessageLength
+status_of_long fields.PriorityFlag = statuses.InvalidMessageLength
+status_of_long fields.RegisteredDelivery = statuses.InvalidMessageLength
+status_of_long fields.ReplaceIfPresentFlag = statuses.InvalidMessageLength
+status_of_long fields.DataCoding = statuses.InvalidMessageLength
+status_of_long fields.SmDefaultMsgId = statuses.InvalidMessageLength
+status_of_long fields.SmLength = statuses.InvalidMessageLength
+status_of_long fields.ShortMessage = statuses.InvalidMessageLength
+status_of_long fields.FinalDate = statuses.InvalidMessageLength
+status_of_long fields.MessageState = statuses.InvalidMessageLength
+status_of_long fields.ErrorCode = statuses.InvalidMessageLength
+status_of_long fields.OptionalParameters = statuses.InvalidMessageLength
 
 -- the request, if there is one, is refused with this status
 abbrev pub refused_with : Status → Option Requested → Option Response

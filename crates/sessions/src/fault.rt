@@ -33,7 +33,7 @@ fn refused(requested: Option<Requested>, status: Status) -> Option<Response>
     requested.map(|requested| Response::Refused(requested, status))
 }
 
-/// The status that tells that a field is too long.
+/// The status that tells that a field is too long. Those after the first ten are no texts of a request, so none of them is too long.
 fn status_of_long_field(field: Field) -> Status
     ensures { result ≡ status_of_long field }
 {
@@ -48,6 +48,25 @@ fn status_of_long_field(field: Field) -> Status
         Field::Password => Status::InvalidPassword,
         Field::SystemType => Status::InvalidSystemType,
         Field::AddressRange => Status::BindFailed,
-        _ => Status::InvalidMessageLength,
+        Field::InterfaceVersion
+        | Field::AddrTon
+        | Field::AddrNpi
+        | Field::SourceAddrTon
+        | Field::SourceAddrNpi
+        | Field::DestAddrTon
+        | Field::DestAddrNpi
+        | Field::EsmClass
+        | Field::ProtocolId
+        | Field::PriorityFlag
+        | Field::RegisteredDelivery
+        | Field::ReplaceIfPresentFlag
+        | Field::DataCoding
+        | Field::SmDefaultMsgId
+        | Field::SmLength
+        | Field::ShortMessage
+        | Field::FinalDate
+        | Field::MessageState
+        | Field::ErrorCode
+        | Field::OptionalParameters => Status::InvalidMessageLength,
     }
 }

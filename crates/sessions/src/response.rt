@@ -6,7 +6,7 @@ ghost use Rattle.sessions.specs.Responses.{AnswersBind, pdu_of, pdu_with, bound_
 
 use crate::requested::Requested;
 use accounts::Role;
-use pdu_codec::{BindAnswer, Body, Pdu, Text, Tlvs, encode};
+use pdu_codec::{BindAnswer, Body, Pdu, SystemId, Tlvs, encode};
 use pdu_tables::{Status, Tag};
 use std::alloc::{AllocError, Global};
 
@@ -38,14 +38,14 @@ pub struct Outgoing {
 
 impl Outgoing {
     /// The octets of its PDU. The centre has this system_id. An `Err` is want of memory.
-    pub fn octets(self, alloc: Global, system_id: &Text<16>) -> Result<Vec<u8>, AllocError>
+    pub fn octets(self, alloc: Global, system_id: &SystemId) -> Result<Vec<u8>, AllocError>
         ensures { IfOk result (λ octets. octets.items ≡ octets_of (pdu_of system_id.now self)) }
     {
         encoded(alloc, self.pdu(alloc, system_id)?)
     }
 
     /// Its PDU. The centre has this system_id. An `Err` is want of memory, which only the answer to a bind that succeeds needs.
-    pub fn pdu(self, alloc: Global, system_id: &Text<16>) -> Result<Pdu, AllocError>
+    pub fn pdu(self, alloc: Global, system_id: &SystemId) -> Result<Pdu, AllocError>
         ensures pdu { IfOk result (λ pdu. pdu ≡ pdu_of system_id.now self) }
         ensures memory { OnErr result (AnswersBind self.response) }
     {
@@ -89,7 +89,7 @@ fn body_of_bound(role: Role, answer: BindAnswer) -> Body
 /// What a bind is answered that succeeds: the centre's system_id, and its version if the ESME knows optional parameters.
 fn bind_answer(
     alloc: Global,
-    system_id: &Text<16>,
+    system_id: &SystemId,
     interface_version: u8,
 ) -> Result<BindAnswer, AllocError>
     ensures { IfOk result (λ answer. answer ≡ bound_answer system_id.now interface_version) }

@@ -22,7 +22,7 @@ use crate::response::{KNOWS_OPTIONAL, Outgoing, Response};
 use crate::state::SessionState;
 use accounts::{Accounts, Role};
 use mc_types::Moment;
-use pdu_codec::{Bind, Body, Header, Pdu, PduFault, Text};
+use pdu_codec::{Bind, Body, Header, Pdu, PduFault, SystemId};
 use pdu_tables::Status;
 use std::alloc::{AllocError, Global};
 use std::marker::Model;
@@ -40,7 +40,7 @@ const LAST_SEQUENCE: u32 = 0x7FFF_FFFF;
 pub struct Session {
     state: SessionState,
     // Of a session that is bound.
-    account: Option<Text<16>>,
+    account: Option<SystemId>,
     // Of its bind.
     interface_version: u8,
     requests: Vec<OpenRequest>,
@@ -99,7 +99,7 @@ impl Session {
     }
 
     /// The account by which it is bound; none if it is not.
-    pub fn account(&self) -> Option<&Text<16>>
+    pub fn account(&self) -> Option<&SystemId>
         ensures { option_copied result ≡ self.now.account }
     {
         self.account.as_ref()
