@@ -1,8 +1,9 @@
 //! Texts that are no configuration, and the lines that tell why.
 
+use crate::same::assert_same;
 use config::{ConfigFault, Key, read_config};
 use std::alloc::Global;
-use std::test::Fail;
+use std::process::Abort;
 
 const NODE: &str = "[[node]]\nnumber = 1\nlisten = \"127.0.0.1:2775\"\n";
 
@@ -17,214 +18,245 @@ const CUT: &str = "[[route]]\naccount = \"sme1\"\n";
 
 // The fault of a text; none of a configuration.
 fn fault_of(alloc: Global, text: &[u8]) -> Option<ConfigFault> {
-    match read_config(alloc, text) {
-        Ok(_) => None,
-        Err(fault) => Some(fault),
+    read_config(alloc, text).err()
+}
+
+// The fault of the lines of these parts behind a name and a node.
+fn fault_with(rt: &impl Abort, alloc: Global, more: &[&str]) -> Option<ConfigFault> {
+    let mut text = String::from_str(alloc, "system_id = \"CENTRE\"\n").expect(rt, "memory");
+    text.push_str(NODE).expect(rt, "memory");
+    for part in more {
+        text.push_str(part).expect(rt, "memory");
+    }
+    let fault = fault_of(alloc, text.as_bytes());
+    drop(text);
+    fault
+}
+
+// A text, and its fault.
+type Row = (&'static [u8], ConfigFault);
+
+fn assert_faults(rt: &impl Abort, alloc: Global, rows: &[Row]) {
+    for (number, (text, wanted)) in rows.iter().enumerate() {
+        let fault = fault_of(alloc, text);
+        assert_same(rt, &(number, fault), &(number, Some(*wanted)));
     }
 }
 
-// The fault of a name, a node and these.
-fn fault_with(alloc: Global, more: &[&str]) -> Result<Option<ConfigFault>, Fail> {
-    let mut text = format!(in alloc; "system_id = \"CENTRE\"\n{NODE}")?;
-    for part in more {
-        text.push_str(part)?;
+// What stands behind a name and a node, and the fault of that.
+type RowBehind = (&'static [&'static str], ConfigFault);
+
+fn assert_faults_with(rt: &impl Abort, alloc: Global, rows: &[RowBehind]) {
+    for (number, (more, wanted)) in rows.iter().enumerate() {
+        let fault = fault_with(rt, alloc, more);
+        assert_same(rt, &(number, fault), &(number, Some(*wanted)));
     }
-    Ok(fault_of(alloc, text.as_bytes()))
 }
+
+const NO_TOML: &[Row] = &[
+    (b"system_id = ", ConfigFault::NotToml),
+    (b"a = 1\na = 2\n", ConfigFault::NotToml),
+    (b"a = \"\xff\"\n", ConfigFault::NotToml),
+];
 
 #[test]
 fn what_is_no_toml(rt: HostRuntime) {
-    for text in [
-        b"system_id = ".as_slice(),
-        b"a = 1\na = 2\n",
-        b"a = \"\xff\"\n",
-    ] {
-        assert_eq!(rt; fault_of(rt.alloc(), text), Some(ConfigFault::NotToml));
-    }
+    assert_faults(&rt, rt.alloc(), NO_TOML);
 }
 
-#[test]
-fn what_is_missing(rt: HostRuntime) -> Result<(), Fail> {
-    let alloc = rt.alloc();
-    for (text, key) in [
-        (b"".as_slice(), Key::SystemId),
-        (b"system_id = \"C\"\n", Key::Node),
-        (b"system_id = \"C\"\nnode = []\n", Key::Node),
-        (
-            b"system_id = \"C\"\n[[node]]\nlisten = \"1.2.3.4:5\"\n",
-            Key::NodeNumber,
-        ),
-        (
-            b"system_id = \"C\"\n[[node]]\nnumber = 1\n",
-            Key::NodeListen,
-        ),
-    ] {
-        assert_eq!(rt; fault_of(alloc, text), Some(ConfigFault::Missing(key)));
-    }
-    for (more, key) in [
-        (
-            "[[account]]\nsystem_id = \"a\"\ntransmit = true\nreceive = true\n",
-            Key::AccountPassword,
-        ),
-        ("[[route]]\nprefix = \"2\"\n", Key::RouteAccount),
-    ] {
-        assert_eq!(rt;
-            fault_with(alloc, &[more])?,
-            Some(ConfigFault::Missing(key))
-        );
-    }
-    Ok(())
-}
+const MISSING: &[Row] = &[
+    (b"", ConfigFault::Missing(Key::SystemId)),
+    (b"system_id = \"C\"\n", ConfigFault::Missing(Key::Node)),
+    (
+        b"system_id = \"C\"\nnode = []\n",
+        ConfigFault::Missing(Key::Node),
+    ),
+    (
+        b"system_id = \"C\"\n[[node]]\nlisten = \"1.2.3.4:5\"\n",
+        ConfigFault::Missing(Key::NodeNumber),
+    ),
+    (
+        b"system_id = \"C\"\n[[node]]\nnumber = 1\n",
+        ConfigFault::Missing(Key::NodeListen),
+    ),
+];
+
+const MISSING_BEHIND: &[RowBehind] = &[
+    (
+        &["[[account]]\nsystem_id = \"a\"\ntransmit = true\nreceive = true\n"],
+        ConfigFault::Missing(Key::AccountPassword),
+    ),
+    (
+        &["[[route]]\nprefix = \"2\"\n"],
+        ConfigFault::Missing(Key::RouteAccount),
+    ),
+];
 
 #[test]
-fn bad_values(rt: HostRuntime) -> Result<(), Fail> {
-    let alloc = rt.alloc();
-    for (text, key) in [
-        (
-            b"system_id = 1\n[[node]]\nnumber = 1\nlisten = \"1.2.3.4:5\"\n".as_slice(),
-            Key::SystemId,
-        ),
-        (
-            b"system_id = \"\"\n[[node]]\nnumber = 1\nlisten = \"1.2.3.4:5\"\n",
-            Key::SystemId,
-        ),
-        (
-            b"system_id = \"0123456789abcdef\"\n[[node]]\nnumber = 1\nlisten = \"1.2.3.4:5\"\n",
-            Key::SystemId,
-        ),
-        (
-            b"system_id = \"C\"\ndefault_validity = 0\n[[node]]\nnumber = 1\nlisten = \"1.2.3.4:5\"\n",
-            Key::DefaultValidity,
-        ),
-        (
-            b"system_id = \"C\"\nfirst_serial = 100000\n[[node]]\nnumber = 1\nlisten = \"1.2.3.4:5\"\n",
-            Key::FirstSerial,
-        ),
-        (
-            b"system_id = \"C\"\nstop_after = -1\n[[node]]\nnumber = 1\nlisten = \"1.2.3.4:5\"\n",
-            Key::StopAfter,
-        ),
-        (b"system_id = \"C\"\nnode = 1\n", Key::Node),
-        (
-            b"system_id = \"C\"\n[[node]]\nnumber = 2\nlisten = \"1.2.3.4:5\"\n",
-            Key::NodeNumber,
-        ),
-        (
-            b"system_id = \"C\"\n[[node]]\nnumber = 1\nlisten = \"1.2.3.4:05\"\n",
-            Key::NodeListen,
-        ),
-        (
-            b"system_id = \"C\"\n[[node]]\nnumber = 1\nlisten = \"1.2.3.256:5\"\n",
-            Key::NodeListen,
-        ),
-        (
-            b"system_id = \"C\"\n[[node]]\nnumber = 1\nlisten = \"localhost:5\"\n",
-            Key::NodeListen,
-        ),
-    ] {
-        assert_eq!(rt; fault_of(alloc, text), Some(ConfigFault::BadValue(key)));
-    }
-    for (more, key) in [
-        ("store = 1\n", Key::NodeStore),
-        (
+fn what_is_missing(rt: HostRuntime) {
+    assert_faults(&rt, rt.alloc(), MISSING);
+    assert_faults_with(&rt, rt.alloc(), MISSING_BEHIND);
+}
+
+const BAD: &[Row] = &[
+    (
+        b"system_id = 1\n[[node]]\nnumber = 1\nlisten = \"1.2.3.4:5\"\n",
+        ConfigFault::BadValue(Key::SystemId),
+    ),
+    (
+        b"system_id = \"\"\n[[node]]\nnumber = 1\nlisten = \"1.2.3.4:5\"\n",
+        ConfigFault::BadValue(Key::SystemId),
+    ),
+    (
+        b"system_id = \"0123456789abcdef\"\n[[node]]\nnumber = 1\nlisten = \"1.2.3.4:5\"\n",
+        ConfigFault::BadValue(Key::SystemId),
+    ),
+    (
+        b"system_id = \"C\"\ndefault_validity = 0\n[[node]]\nnumber = 1\nlisten = \"1.2.3.4:5\"\n",
+        ConfigFault::BadValue(Key::DefaultValidity),
+    ),
+    (
+        b"system_id = \"C\"\nfirst_serial = 100000\n[[node]]\nnumber = 1\nlisten = \"1.2.3.4:5\"\n",
+        ConfigFault::BadValue(Key::FirstSerial),
+    ),
+    (
+        b"system_id = \"C\"\nstop_after = -1\n[[node]]\nnumber = 1\nlisten = \"1.2.3.4:5\"\n",
+        ConfigFault::BadValue(Key::StopAfter),
+    ),
+    (
+        b"system_id = \"C\"\nnode = 1\n",
+        ConfigFault::BadValue(Key::Node),
+    ),
+    (
+        b"system_id = \"C\"\n[[node]]\nnumber = 2\nlisten = \"1.2.3.4:5\"\n",
+        ConfigFault::BadValue(Key::NodeNumber),
+    ),
+    (
+        b"system_id = \"C\"\n[[node]]\nnumber = 1\nlisten = \"1.2.3.4:05\"\n",
+        ConfigFault::BadValue(Key::NodeListen),
+    ),
+    (
+        b"system_id = \"C\"\n[[node]]\nnumber = 1\nlisten = \"1.2.3.256:5\"\n",
+        ConfigFault::BadValue(Key::NodeListen),
+    ),
+    (
+        b"system_id = \"C\"\n[[node]]\nnumber = 1\nlisten = \"localhost:5\"\n",
+        ConfigFault::BadValue(Key::NodeListen),
+    ),
+];
+
+const BAD_BEHIND: &[RowBehind] = &[
+    (&["store = 1\n"], ConfigFault::BadValue(Key::NodeStore)),
+    (
+        &[
             "[[account]]\nsystem_id = \"a\"\npassword = \"123456789\"\ntransmit = true\nreceive = true\n",
-            Key::AccountPassword,
-        ),
-        (
+        ],
+        ConfigFault::BadValue(Key::AccountPassword),
+    ),
+    (
+        &[
             "[[account]]\nsystem_id = \"a\"\npassword = \"\\u0000\"\ntransmit = true\nreceive = true\n",
-            Key::AccountPassword,
-        ),
-        (
-            "[[account]]\nsystem_id = \"a\"\npassword = \"\"\ntransmit = 1\nreceive = true\n",
-            Key::AccountTransmit,
-        ),
-        (
-            "[[route]]\nprefix = \"2\"\naccount = \"sme1\"\n",
-            Key::RouteAccount,
-        ),
-    ] {
-        assert_eq!(rt;
-            fault_with(alloc, &[more])?,
-            Some(ConfigFault::BadValue(key))
-        );
-    }
-    Ok(())
+        ],
+        ConfigFault::BadValue(Key::AccountPassword),
+    ),
+    (
+        &["[[account]]\nsystem_id = \"a\"\npassword = \"\"\ntransmit = 1\nreceive = true\n"],
+        ConfigFault::BadValue(Key::AccountTransmit),
+    ),
+    (&[ROUTE], ConfigFault::BadValue(Key::RouteAccount)),
+];
+
+#[test]
+fn bad_values(rt: HostRuntime) {
+    assert_faults(&rt, rt.alloc(), BAD);
+    assert_faults_with(&rt, rt.alloc(), BAD_BEHIND);
 }
 
 // The fault of a name and of nodes of the numbers below this.
-fn fault_of_nodes(alloc: Global, end: u64) -> Result<Option<ConfigFault>, Fail> {
-    let mut text = String::from_str(alloc, "system_id = \"C\"\n")?;
+fn fault_of_nodes(rt: &impl Abort, alloc: Global, end: u64) -> Option<ConfigFault> {
+    let mut text = String::from_str(alloc, "system_id = \"C\"\n").expect(rt, "memory");
     for number in 1..end {
-        let node = format!(in alloc; "[[node]]\nnumber = {number}\nlisten = \"1.2.3.4:5\"\n")?;
-        text.push_str(node.as_str())?;
-    }
-    Ok(fault_of(alloc, text.as_bytes()))
-}
-
-#[test]
-fn a_tenth_node(rt: HostRuntime) -> Result<(), Fail> {
-    assert_eq!(rt; fault_of_nodes(rt.alloc(), 10)?, None);
-    assert_eq!(rt;
-        fault_of_nodes(rt.alloc(), 11)?,
-        Some(ConfigFault::BadValue(Key::Node))
-    );
-    Ok(())
-}
-
-#[test]
-fn what_is_given_twice(rt: HostRuntime) -> Result<(), Fail> {
-    for (more, key) in [
-        ([NODE, "", ""].as_slice(), Key::NodeNumber),
-        ([SME1, SME1, ""].as_slice(), Key::AccountSystemId),
-        ([SME1, ROUTE, ROUTE].as_slice(), Key::RoutePrefix),
-    ] {
-        assert_eq!(rt;
-            fault_with(rt.alloc(), more)?,
-            Some(ConfigFault::Repeated(key))
+        let node = write!(
+            text,
+            "[[node]]\nnumber = {number}\nlisten = \"1.2.3.4:5\"\n"
         );
+        node.expect(rt, "memory");
     }
-    Ok(())
+    let fault = fault_of(alloc, text.as_bytes());
+    drop(text);
+    fault
+}
+
+#[test]
+fn a_tenth_node(rt: HostRuntime) {
+    let faults = (
+        fault_of_nodes(&rt, rt.alloc(), 10),
+        fault_of_nodes(&rt, rt.alloc(), 11),
+    );
+    let tenth = ConfigFault::BadValue(Key::Node);
+    assert_same(&rt, &faults, &(None, Some(tenth)));
+}
+
+const TWICE: &[RowBehind] = &[
+    (&[NODE], ConfigFault::Repeated(Key::NodeNumber)),
+    (&[SME1, SME1], ConfigFault::Repeated(Key::AccountSystemId)),
+    (
+        &[SME1, ROUTE, ROUTE],
+        ConfigFault::Repeated(Key::RoutePrefix),
+    ),
+];
+
+#[test]
+fn what_is_given_twice(rt: HostRuntime) {
+    assert_faults_with(&rt, rt.alloc(), TWICE);
 }
 
 // An account is given twice, and a route leads to none; of another route the prefix is not there; behind it there is no TOML.
+const OF_TWO: &[RowBehind] = &[
+    (
+        &[SME1, SME1, LOST],
+        ConfigFault::BadValue(Key::RouteAccount),
+    ),
+    (
+        &[SME1, SME1, LOST, CUT],
+        ConfigFault::Missing(Key::RoutePrefix),
+    ),
+    (&[SME1, SME1, LOST, CUT, "route\n"], ConfigFault::NotToml),
+];
+
 #[test]
-fn the_lower_of_two_is_told(rt: HostRuntime) -> Result<(), Fail> {
-    for (more, fault) in [
-        (
-            [SME1, SME1, LOST, "", ""],
-            ConfigFault::BadValue(Key::RouteAccount),
-        ),
-        (
-            [SME1, SME1, LOST, CUT, ""],
-            ConfigFault::Missing(Key::RoutePrefix),
-        ),
-        ([SME1, SME1, LOST, CUT, "route\n"], ConfigFault::NotToml),
-    ] {
-        assert_eq!(rt; fault_with(rt.alloc(), more.as_slice())?, Some(fault));
-    }
-    Ok(())
+fn the_lower_of_two_is_told(rt: HostRuntime) {
+    assert_faults_with(&rt, rt.alloc(), OF_TWO);
+}
+
+// Faults, and the lines that tell of them.
+const TOLD: &[(ConfigFault, &str)] = &[
+    (ConfigFault::NotToml, "no TOML"),
+    (
+        ConfigFault::Missing(Key::AccountPassword),
+        "missing: account.password",
+    ),
+    (
+        ConfigFault::BadValue(Key::NodeListen),
+        "bad value: node.listen",
+    ),
+    (
+        ConfigFault::Repeated(Key::RoutePrefix),
+        "given twice: route.prefix",
+    ),
+    (ConfigFault::Missing(Key::SystemId), "missing: system_id"),
+    (ConfigFault::Memory, "there was not enough memory"),
+];
+
+// That this line tells of the fault.
+fn assert_line(rt: &impl Abort, alloc: Global, fault: ConfigFault, wanted: &str) {
+    let line = format!(in alloc; "{fault}").expect(rt, "memory");
+    assert_same(rt, &line.as_str(), &wanted);
 }
 
 #[test]
-fn faults_are_told_in_a_line(rt: HostRuntime) -> Result<(), Fail> {
-    for (fault, line) in [
-        (ConfigFault::NotToml, "no TOML"),
-        (
-            ConfigFault::Missing(Key::AccountPassword),
-            "missing: account.password",
-        ),
-        (
-            ConfigFault::BadValue(Key::NodeListen),
-            "bad value: node.listen",
-        ),
-        (
-            ConfigFault::Repeated(Key::RoutePrefix),
-            "given twice: route.prefix",
-        ),
-        (ConfigFault::Missing(Key::SystemId), "missing: system_id"),
-        (ConfigFault::Memory, "there was not enough memory"),
-    ] {
-        assert!(rt; format!(in rt.alloc(); "{fault}")?.as_str() == line);
+fn faults_are_told_in_a_line(rt: HostRuntime) {
+    for (fault, line) in TOLD {
+        assert_line(&rt, rt.alloc(), *fault, line);
     }
-    Ok(())
 }

@@ -6,4 +6,6 @@ mod accounts_tests;
 #[cfg(test)]
 mod faults;
 #[cfg(test)]
+mod same;
+#[cfg(test)]
 mod whole;

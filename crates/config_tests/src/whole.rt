@@ -1,5 +1,6 @@
 //! Configurations without a fault.
 
+use crate::same::assert_same;
 use accounts::Role;
 use config::{Config, read_config};
 
@@ -88,57 +89,61 @@ fn leads(config: &Config, destination: &[u8], account: &[u8]) -> bool {
     }
 }
 
-fn is_whole(config: &Config) -> bool {
-    config.system_id.octets() == b"CENTRE".as_slice()
-        && numbers_of(config) == (3600, 42, 7, 2)
-        && listens(config, 0, [127, 0, 0, 1], 2775)
-        && listens(config, 1, [10, 0, 0, 2], 2776)
-        && store_of(config, 0).is_none()
-        && store_of(config, 1) == Some("/var/centre/2")
-        && has_account(config, b"sme1", b"pw1", true)
-        && has_account(config, b"sme2", b"", false)
-        && leads(config, b"255", b"sme2")
-        && leads(config, b"155", b"sme1")
+// What is said of a configuration, and is to be true.
+fn whole(config: &Config) -> [bool; 10] {
+    [
+        config.system_id.octets() == b"CENTRE".as_slice(),
+        numbers_of(config) == (3600, 42, 7, 2),
+        listens(config, 0, [127, 0, 0, 1], 2775),
+        listens(config, 1, [10, 0, 0, 2], 2776),
+        store_of(config, 0).is_none(),
+        store_of(config, 1) == Some("/var/centre/2"),
+        has_account(config, b"sme1", b"pw1", true),
+        has_account(config, b"sme2", b"", false),
+        leads(config, b"255", b"sme2"),
+        leads(config, b"155", b"sme1"),
+    ]
 }
 
 #[test]
 fn each_key_is_read(rt: HostRuntime) {
-    let holds = match read_config(rt.alloc(), WHOLE.as_bytes()) {
-        Ok(config) => is_whole(&config),
-        Err(_) => false,
-    };
-    assert!(rt; holds);
+    let config = read_config(rt.alloc(), WHOLE.as_bytes()).expect(&rt, "a configuration");
+    let holds = whole(&config);
+    drop(config);
+    assert_same(&rt, &holds, &[true; 10]);
 }
 
-fn is_least(config: &Config) -> bool {
-    numbers_of(config) == (259_200, 1, 0, 1)
-        && listens(config, 0, [0, 0, 0, 0], 0)
-        && config.accounts.find(b"sme1").is_none()
-        && config.routes.target(b"155").is_none()
+fn least(config: &Config) -> [bool; 4] {
+    [
+        numbers_of(config) == (259_200, 1, 0, 1),
+        listens(config, 0, [0, 0, 0, 0], 0),
+        config.accounts.find(b"sme1").is_none(),
+        config.routes.target(b"155").is_none(),
+    ]
 }
 
 #[test]
 fn what_is_absent_has_its_default(rt: HostRuntime) {
-    let holds = match read_config(rt.alloc(), LEAST.as_bytes()) {
-        Ok(config) => is_least(&config),
-        Err(_) => false,
-    };
-    assert!(rt; holds);
+    let config = read_config(rt.alloc(), LEAST.as_bytes()).expect(&rt, "a configuration");
+    let holds = least(&config);
+    drop(config);
+    assert_same(&rt, &holds, &[true; 4]);
 }
 
-fn is_of_scripts(config: &Config) -> bool {
-    config.system_id.octets() == b"CENTRE".as_slice()
-        && has_account(config, b"sme1", b"pw1", true)
-        && has_account(config, b"sme2", b"pw2", true)
-        && leads(config, b"255", b"sme2")
-        && leads(config, b"155", b"sme1")
+fn of_scripts(config: &Config) -> [bool; 5] {
+    [
+        config.system_id.octets() == b"CENTRE".as_slice(),
+        has_account(config, b"sme1", b"pw1", true),
+        has_account(config, b"sme2", b"pw2", true),
+        leads(config, b"255", b"sme2"),
+        leads(config, b"155", b"sme1"),
+    ]
 }
 
 #[test]
 fn a_script_has_two_accounts(rt: HostRuntime) {
-    let holds = match Config::of_scripts(rt.alloc()) {
-        Ok(config) => is_of_scripts(&config),
-        Err(_) => false,
-    };
-    assert!(rt; holds);
+    let config = Config::of_scripts(rt.alloc()).expect(&rt, "a configuration");
+    let holds = of_scripts(&config);
+    drop(config);
+    assert_same(&rt, &holds, &[true; 5]);
 }

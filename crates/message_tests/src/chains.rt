@@ -2,6 +2,7 @@
 
 ghost use Rattle.std.specs.Prelude.{◌≤◌};
 
+use crate::same::assert_same;
 use crate::values::{address, text};
 use fate_chain::{
     Author, Chain, ChainFault, Decree, ErrorCode, Final, Kind, SharedSubmission, Submission,
@@ -9,27 +10,41 @@ use fate_chain::{
 use mc_types::{Incarnation, Moment, MsgId, NodeNo};
 use pdu_codec::{ShortMessage, Tlvs};
 use pdu_tables::State;
+use std::alloc::Global;
 use std::process::Abort;
-use std::test::Fail;
+
+fn moment(rt: &impl Abort, seconds: u32) -> Moment {
+    Moment::make(seconds).expect(rt, "a moment")
+}
+
+fn id(rt: &impl Abort) -> MsgId {
+    MsgId::read(b"1000100001").expect(rt, "an id")
+}
+
+// The text of the message.
+fn short_text(rt: &impl Abort, alloc: Global) -> ShortMessage {
+    let text = ShortMessage::make(alloc, b"Hi").expect(rt, "memory");
+    text.expect(rt, "a text")
+}
 
 // A message of sme1 to itself, from 144 to 155, of three days.
-fn message(rt: &HostRuntime) -> Result<Submission, Fail> {
-    Ok(Submission {
-        submitter: text(rt.alloc(), b"sme1")?,
-        target: text(rt.alloc(), b"sme1")?,
-        service_type: text(rt.alloc(), b"")?,
-        source: address(rt.alloc(), b"144")?,
-        destination: address(rt.alloc(), b"155")?,
+fn message(rt: &impl Abort, alloc: Global) -> Submission {
+    Submission {
+        submitter: text(rt, alloc, b"sme1"),
+        target: text(rt, alloc, b"sme1"),
+        service_type: text(rt, alloc, b""),
+        source: address(rt, alloc, b"144"),
+        destination: address(rt, alloc, b"155"),
         esm_class: 0,
         protocol_id: 0,
         priority_flag: 0,
         registered_delivery: 1,
         data_coding: 0,
-        schedule: Moment::make(0x386d4380)?,
-        expiry: Moment::make(0x38713800)?,
-        text: ShortMessage::make(rt.alloc(), b"Hi")?.ok_or("a text")?,
-        passed: Tlvs::empty(rt.alloc()),
-    })
+        schedule: moment(rt, 0x386d4380),
+        expiry: moment(rt, 0x38713800),
+        text: short_text(rt, alloc),
+        passed: Tlvs::empty(alloc),
+    }
 }
 
 const TAKEN: u32 = 946684800;
@@ -38,52 +53,71 @@ const FAILED: u32 = TAKEN + 7;
 
 const EXPIRY: u32 = 946944000;
 
-fn begun(rt: &HostRuntime, seconds: u32) -> Result<Result<Chain, ChainFault>, Fail> {
-    let id = MsgId::read(b"1000100001")?;
-    let moment = Moment::make(seconds)?;
-    Ok(Chain::begin(rt.alloc(), id, moment, message(rt)?))
+fn begun(rt: &impl Abort, alloc: Global, seconds: u32) -> Result<Chain, ChainFault> {
+    let message = message(rt, alloc);
+    Chain::begin(alloc, id(rt), moment(rt, seconds), message)
 }
 
-fn taken(rt: &HostRuntime) -> Result<Chain, Fail> {
-    Ok(begun(rt, TAKEN)??)
+fn taken(rt: &impl Abort, alloc: Global) -> Chain {
+    begun(rt, alloc, TAKEN).expect(rt, "a chain")
 }
 
-fn is_as_taken(rt: &impl Abort, chain: &Chain) -> Result<(), Fail> {
-    assert_eq!(rt; chain.id(), MsgId::read(b"1000100001")?);
-    assert_eq!(rt; chain.decrees().len(), 1);
-    assert_eq!(rt; chain.newest().author.node.number(), 1);
-    assert_eq!(rt; chain.newest().author.incarnation.number(), 1);
-    assert_eq!(rt; chain.newest().moment.seconds(), 946684800);
-    assert_eq!(rt; chain.submission().expiry.seconds(), 946944000);
-    assert_eq!(rt;
-        chain.submission().destination.digits.octets(),
-        b"155".as_slice()
+fn read(rt: &impl Abort, alloc: Global, octets: &[u8]) -> Chain {
+    Chain::read(alloc, octets).expect(rt, "a chain")
+}
+
+// That a chain is that of the message as it was taken.
+fn assert_taken(rt: &impl Abort, chain: Chain) {
+    let (newest, message) = (chain.newest(), chain.submission());
+    let by = (
+        newest.author.node.number(),
+        newest.author.incarnation.number(),
+        newest.moment.seconds(),
     );
-    assert_eq!(rt; chain.state(), State::Enroute);
-    assert_eq!(rt; chain.error(), 0);
-    Ok(())
+    let texts = (message.destination.digits.octets(), message.text.octets());
+    let expiry = message.expiry.seconds();
+    assert_same(rt, &by, &(1, 1, 946684800));
+    assert_same(rt, &texts, &(b"155".as_slice(), b"Hi".as_slice()));
+    assert_same(rt, &(chain.id(), expiry), &(id(rt), 946944000));
+    assert_stands(rt, chain, (1, State::Enroute, 0));
+}
+
+// How many decrees a chain has, its state and its error.
+type Standing = (usize, State, u16);
+
+fn standing(chain: &Chain) -> Standing {
+    (chain.decrees().len(), chain.state(), chain.error())
+}
+
+// That a chain stands so, and its copy has the same error.
+fn assert_stands(rt: &impl Abort, chain: Chain, wanted: Standing) {
+    let (standing, copy) = (standing(&chain), chain.copy());
+    drop(chain);
+    let copy = copy.expect(rt, "memory");
+    let error = copy.error();
+    drop(copy);
+    assert_same(rt, &(standing, error), &(wanted, wanted.2));
 }
 
 #[test]
-fn a_message_is_taken(rt: HostRuntime) -> Result<(), Fail> {
-    let chain = taken(&rt)?;
-    is_as_taken(&rt, &chain)
+fn a_message_is_taken(rt: HostRuntime) {
+    assert_taken(&rt, taken(&rt, rt.alloc()));
 }
 
 #[test]
-fn a_message_is_not_taken_at_its_expiry(rt: HostRuntime) -> Result<(), Fail> {
-    assert!(rt; matches!(begun(&rt, EXPIRY)?, Err(ChainFault::NotPermitted)));
-    Ok(())
+fn a_message_is_not_taken_at_its_expiry(rt: HostRuntime) {
+    let refused = begun(&rt, rt.alloc(), EXPIRY).err();
+    assert_same(&rt, &refused, &Some(ChainFault::NotPermitted));
 }
 
 #[test]
-fn an_error_is_below_a_thousand(rt: HostRuntime) -> Result<(), Fail> {
-    let error = ErrorCode::make(999).ok_or("an error")?;
-    assert_eq!(rt; ErrorCode::of(999), error);
-    assert_eq!(rt; error.number(), 999);
-    assert!(rt; ErrorCode::make(1000).is_none());
-    assert_eq!(rt; Final::Undeliverable.state(), State::Undeliverable);
-    Ok(())
+fn an_error_is_below_a_thousand(rt: HostRuntime) {
+    let error = ErrorCode::of(999);
+    let made = (ErrorCode::make(999), ErrorCode::make(1000));
+    assert_same(&rt, &made, &(Some(error), None));
+    assert_same(&rt, &error.number(), &999);
+    let state = Final::Undeliverable.state();
+    assert_same(&rt, &state, &State::Undeliverable);
 }
 
 // What a decree decides that takes no message.
@@ -94,204 +128,170 @@ enum Next {
     Fate(Final, u16),
 }
 
-// A decree of an incarnation of node 1.
-#[derive(Clone, Copy)]
-struct Step {
-    incarnation: u16,
-    seconds: u32,
-    next: Next,
+// A decree of an incarnation of node 1, and its moment.
+type Step = (u16, u32, Next);
+
+fn error(rt: &impl Abort, number: u16) -> ErrorCode {
+    ErrorCode::make(number).expect(rt, "an error")
 }
 
-fn by(incarnation: u16, seconds: u32, next: Next) -> Step {
-    Step {
-        incarnation,
-        seconds,
-        next,
+fn decree(rt: &impl Abort, (incarnation, seconds, next): Step) -> Decree {
+    let author = Author {
+        node: NodeNo::of(1),
+        incarnation: Incarnation::make(incarnation).expect(rt, "an incarnation"),
+    };
+    let kind = match next {
+        Next::Attempt(number) => Kind::Attempt(number),
+        Next::Failed(number) => Kind::Failed(error(rt, number)),
+        Next::Fate(last, number) => Kind::Fate(last, error(rt, number)),
+    };
+    Decree {
+        author,
+        moment: moment(rt, seconds),
+        kind,
     }
 }
 
-fn error(number: u16) -> Result<ErrorCode, Fail> {
-    Ok(ErrorCode::make(number).ok_or("an error")?)
-}
-
-fn decree(step: Step) -> Result<Decree, Fail> {
-    let author = Author {
-        node: NodeNo::of(1),
-        incarnation: Incarnation::make(step.incarnation)?,
-    };
-    let moment = Moment::make(step.seconds)?;
-    let kind = match step.next {
-        Next::Attempt(number) => Kind::Attempt(number),
-        Next::Failed(number) => Kind::Failed(error(number)?),
-        Next::Fate(last, number) => Kind::Fate(last, error(number)?),
-    };
-    Ok(Decree {
-        author,
-        moment,
-        kind,
-    })
+// A chain with one more decree.
+fn extended(rt: &impl Abort, chain: Chain, decree: Decree) -> Chain {
+    let longer = chain.extended(decree);
+    drop(chain);
+    longer.expect(rt, "a permitted decree")
 }
 
 // A message that was taken, and these decrees on it.
-fn chain_of(rt: &HostRuntime, steps: &[Step]) -> Result<Chain, Fail> {
-    let mut chain = taken(rt)?;
+fn chain_of(rt: &impl Abort, alloc: Global, steps: &[Step]) -> Chain {
+    let mut chain = taken(rt, alloc);
     for step in steps {
-        chain = chain.extended(decree(*step)?)?;
+        chain = extended(rt, chain, decree(rt, *step));
     }
-    Ok(chain)
+    chain
+}
+
+// Why a decree may not follow, if it may not, asked and given.
+fn refusal(rt: &impl Abort, chain: &Chain, step: Step) -> (bool, Option<ChainFault>) {
+    let decree = decree(rt, step);
+    let permits = chain.permits(&decree);
+    (permits, chain.extended(decree).err())
+}
+
+// That each of these decrees may not follow those.
+fn assert_refused(rt: &impl Abort, alloc: Global, steps: &[Step], refused: &[Step]) {
+    let chain = chain_of(rt, alloc, steps);
+    for (number, step) in refused.iter().enumerate() {
+        let refusal = refusal(rt, &chain, *step);
+        let wanted = (false, Some(ChainFault::NotPermitted));
+        assert_same(rt, &(number, refusal), &(number, wanted));
+    }
+}
+
+const ATTEMPTED: &[Step] = &[(1, TAKEN, Next::Attempt(1))];
+
+const OF_ANOTHER_END: &[Step] = &[
+    (2, TAKEN, Next::Fate(Final::Delivered, 0)),
+    (1, TAKEN, Next::Fate(Final::Deleted, 0)),
+    (2, TAKEN, Next::Fate(Final::Deleted, 0)),
+    (1, EXPIRY, Next::Fate(Final::Expired, 0)),
+    (2, EXPIRY, Next::Fate(Final::Expired, 0)),
+];
+
+#[test]
+fn an_attempt_ends_by_its_author(rt: HostRuntime) {
+    assert_refused(&rt, rt.alloc(), ATTEMPTED, OF_ANOTHER_END);
+}
+
+#[test]
+fn a_later_incarnation_may_fail_an_attempt(rt: HostRuntime) {
+    let chain = chain_of(&rt, rt.alloc(), ATTEMPTED);
+    let failure = decree(&rt, (2, FAILED, Next::Failed(999)));
+    let permits = chain.permits(&failure);
+    drop(failure);
+    drop(chain);
+    assert!(rt; permits);
 }
 
 // Attempted by the first incarnation of node 1, and failed by the second.
-fn failed_once(rt: &HostRuntime) -> Result<Chain, Fail> {
-    chain_of(
-        rt,
-        &[
-            by(1, TAKEN, Next::Attempt(1)),
-            by(2, FAILED, Next::Failed(999)),
-        ],
-    )
-}
-
-// That decrees which may not follow are refused, asked or given.
-fn refuses(rt: &impl Abort, chain: &Chain, steps: &[Step]) -> Result<(), Fail> {
-    for step in steps {
-        assert!(rt; !chain.permits(&decree(*step)?));
-        assert!(rt;
-            matches!(
-                chain.extended(decree(*step)?),
-                Err(ChainFault::NotPermitted)
-            )
-        );
-    }
-    Ok(())
-}
+const FAILED_ONCE: &[Step] = &[(1, TAKEN, Next::Attempt(1)), (2, FAILED, Next::Failed(999))];
 
 #[test]
-fn an_attempt_ends_by_its_author(rt: HostRuntime) -> Result<(), Fail> {
-    let chain = chain_of(&rt, &[by(1, TAKEN, Next::Attempt(1))])?;
-    refuses(
-        &rt,
-        &chain,
-        &[
-            by(2, TAKEN, Next::Fate(Final::Delivered, 0)),
-            by(1, TAKEN, Next::Fate(Final::Deleted, 0)),
-            by(2, TAKEN, Next::Fate(Final::Deleted, 0)),
-            by(1, EXPIRY, Next::Fate(Final::Expired, 0)),
-            by(2, EXPIRY, Next::Fate(Final::Expired, 0)),
-        ],
-    )
+fn a_later_incarnation_fails_an_attempt(rt: HostRuntime) {
+    let chain = chain_of(&rt, rt.alloc(), FAILED_ONCE);
+    assert_stands(&rt, chain, (3, State::Enroute, 999));
 }
 
-// How many decrees a chain has, its state and its error, and that its copy has the same.
-fn stands(
-    rt: &impl Abort,
-    chain: &Chain,
-    decrees: usize,
-    state: State,
-    error: u16,
-) -> Result<(), Fail> {
-    assert_eq!(rt; chain.decrees().len(), decrees);
-    assert_eq!(rt; chain.state(), state);
-    assert_eq!(rt; chain.error(), error);
-    assert_eq!(rt; chain.copy()?.error(), error);
-    Ok(())
-}
+const DELETED: &[Step] = &[(1, TAKEN, Next::Fate(Final::Deleted, 999))];
 
 #[test]
-fn a_later_incarnation_may_fail_an_attempt(rt: HostRuntime) -> Result<(), Fail> {
-    let chain = chain_of(&rt, &[by(1, TAKEN, Next::Attempt(1))])?;
-    let failure = decree(by(2, FAILED, Next::Failed(999)))?;
-    assert!(rt; chain.permits(&failure));
-    Ok(())
+fn a_fate_has_its_error(rt: HostRuntime) {
+    let chain = chain_of(&rt, rt.alloc(), DELETED);
+    assert_stands(&rt, chain, (2, State::Deleted, 999));
 }
+
+const TOO_EARLY: &[Step] = &[
+    (2, FAILED + 59, Next::Attempt(2)),
+    (2, FAILED + 60, Next::Attempt(3)),
+    (2, EXPIRY - 1, Next::Fate(Final::Expired, 0)),
+];
 
 #[test]
-fn a_later_incarnation_fails_an_attempt(rt: HostRuntime) -> Result<(), Fail> {
-    let chain = failed_once(&rt)?;
-    stands(&rt, &chain, 3, State::Enroute, 999)
+fn the_second_attempt_waits_a_minute(rt: HostRuntime) {
+    assert_refused(&rt, rt.alloc(), FAILED_ONCE, TOO_EARLY);
 }
+
+const DELIVERED: &[Step] = &[
+    (1, TAKEN, Next::Attempt(1)),
+    (2, FAILED, Next::Failed(999)),
+    (2, FAILED + 60, Next::Attempt(2)),
+    (2, FAILED + 60, Next::Fate(Final::Delivered, 0)),
+];
 
 #[test]
-fn a_fate_has_its_error(rt: HostRuntime) -> Result<(), Fail> {
-    let chain = chain_of(&rt, &[by(1, TAKEN, Next::Fate(Final::Deleted, 999))])?;
-    stands(&rt, &chain, 2, State::Deleted, 999)
+fn a_message_is_delivered_at_its_second_attempt(rt: HostRuntime) {
+    let chain = chain_of(&rt, rt.alloc(), DELIVERED);
+    assert_stands(&rt, chain, (5, State::Delivered, 0));
 }
+
+const BEHIND_A_FATE: &[Step] = &[
+    (2, FAILED + 60, Next::Fate(Final::Delivered, 0)),
+    (2, FAILED + 60, Next::Failed(1)),
+    (2, FAILED + 600, Next::Attempt(3)),
+    (2, EXPIRY, Next::Fate(Final::Expired, 0)),
+];
 
 #[test]
-fn the_second_attempt_waits_a_minute(rt: HostRuntime) -> Result<(), Fail> {
-    let chain = failed_once(&rt)?;
-    refuses(
-        &rt,
-        &chain,
-        &[
-            by(2, FAILED + 59, Next::Attempt(2)),
-            by(2, FAILED + 60, Next::Attempt(3)),
-            by(2, EXPIRY - 1, Next::Fate(Final::Expired, 0)),
-        ],
-    )
-}
-
-fn delivered(rt: &HostRuntime) -> Result<Chain, Fail> {
-    chain_of(
-        rt,
-        &[
-            by(1, TAKEN, Next::Attempt(1)),
-            by(2, FAILED, Next::Failed(999)),
-            by(2, FAILED + 60, Next::Attempt(2)),
-            by(2, FAILED + 60, Next::Fate(Final::Delivered, 0)),
-        ],
-    )
-}
-
-#[test]
-fn a_message_is_delivered_at_its_second_attempt(rt: HostRuntime) -> Result<(), Fail> {
-    let chain = delivered(&rt)?;
-    stands(&rt, &chain, 5, State::Delivered, 0)
-}
-
-#[test]
-fn nothing_follows_a_fate(rt: HostRuntime) -> Result<(), Fail> {
-    let chain = delivered(&rt)?;
-    refuses(
-        &rt,
-        &chain,
-        &[
-            by(2, FAILED + 60, Next::Fate(Final::Delivered, 0)),
-            by(2, FAILED + 60, Next::Failed(1)),
-            by(2, FAILED + 600, Next::Attempt(3)),
-            by(2, EXPIRY, Next::Fate(Final::Expired, 0)),
-        ],
-    )
+fn nothing_follows_a_fate(rt: HostRuntime) {
+    assert_refused(&rt, rt.alloc(), DELIVERED, BEHIND_A_FATE);
 }
 
 // The message of a chain, taken once more by its author at its newest moment.
-fn taken_again(rt: &HostRuntime, chain: &Chain) -> Result<Decree, Fail> {
-    Ok(Decree {
+fn taken_again(rt: &impl Abort, alloc: Global, chain: &Chain) -> Decree {
+    let message = SharedSubmission::make(alloc, message(rt, alloc));
+    Decree {
         author: chain.newest().author,
         moment: chain.newest().moment,
-        kind: Kind::Taken(SharedSubmission::make(rt.alloc(), message(rt)?)?),
-    })
+        kind: Kind::Taken(message.expect(rt, "memory")),
+    }
 }
 
 #[test]
-fn a_message_is_taken_once(rt: HostRuntime) -> Result<(), Fail> {
-    let chain = delivered(&rt)?;
-    let again = taken_again(&rt, &chain)?;
-    assert!(rt; matches!(chain.extended(again), Err(ChainFault::NotPermitted)));
-    Ok(())
+fn a_message_is_taken_once(rt: HostRuntime) {
+    let chain = chain_of(&rt, rt.alloc(), DELIVERED);
+    let again = taken_again(&rt, rt.alloc(), &chain);
+    let refused = chain.extended(again).err();
+    drop(chain);
+    assert_same(&rt, &refused, &Some(ChainFault::NotPermitted));
 }
 
+const EXPIRED: &[Step] = &[
+    (1, TAKEN, Next::Attempt(1)),
+    (2, FAILED, Next::Failed(999)),
+    (2, EXPIRY, Next::Fate(Final::Expired, 0)),
+];
+
 #[test]
-fn a_message_expires_at_its_expiry(rt: HostRuntime) -> Result<(), Fail> {
-    let chain = chain_of(
-        &rt,
-        &[
-            by(1, TAKEN, Next::Attempt(1)),
-            by(2, FAILED, Next::Failed(999)),
-            by(2, EXPIRY, Next::Fate(Final::Expired, 0)),
-        ],
-    )?;
-    stands(&rt, &chain, 4, State::Expired, 0)
+fn a_message_expires_at_its_expiry(rt: HostRuntime) {
+    let chain = chain_of(&rt, rt.alloc(), EXPIRED);
+    assert_stands(&rt, chain, (4, State::Expired, 0));
 }
 
 // The chain of a message that was taken at the least moment.
@@ -314,86 +314,105 @@ const TAKEN_CHAIN: [u8; 60] = [
     0x00, 0x00, // optional parameters
 ];
 
+// The octets of a chain.
+fn octets_of(rt: &impl Abort, chain: Chain) -> Vec<u8> {
+    let octets = chain.bytes();
+    drop(chain);
+    octets.expect(rt, "memory")
+}
+
 // That these are a chain's octets.
-fn is_spelled(rt: &impl Abort, chain: &Chain, octets: &[u8]) -> Result<(), Fail> {
-    assert_eq!(rt; chain.bytes()?.as_slice(), octets);
-    Ok(())
+fn assert_spelled(rt: &impl Abort, chain: Chain, wanted: &[u8]) {
+    let octets = octets_of(rt, chain);
+    assert_same(rt, &octets.as_slice(), &wanted);
 }
 
 #[test]
-fn a_chain_is_its_octets(rt: HostRuntime) -> Result<(), Fail> {
-    let chain = taken(&rt)?;
-    is_spelled(&rt, &chain, &TAKEN_CHAIN)
-}
-
-fn read_again(rt: &HostRuntime, chain: &Chain) -> Result<Chain, Fail> {
-    Ok(Chain::read(rt.alloc(), &chain.bytes()?)?)
+fn a_chain_is_its_octets(rt: HostRuntime) {
+    assert_spelled(&rt, taken(&rt, rt.alloc()), &TAKEN_CHAIN);
 }
 
 #[test]
-fn what_is_written_is_read(rt: HostRuntime) -> Result<(), Fail> {
-    let chain = read_again(&rt, &delivered(&rt)?)?;
-    stands(&rt, &chain, 5, State::Delivered, 0)
+fn what_is_written_is_read(rt: HostRuntime) {
+    let octets = octets_of(&rt, chain_of(&rt, rt.alloc(), DELIVERED));
+    let chain = read(&rt, rt.alloc(), &octets);
+    drop(octets);
+    assert_stands(&rt, chain, (5, State::Delivered, 0));
 }
 
 #[test]
-fn the_chain_of_octets_is_as_taken(rt: HostRuntime) -> Result<(), Fail> {
-    let read = Chain::read(rt.alloc(), &TAKEN_CHAIN)?;
-    assert_eq!(rt; read.submission().text.octets(), b"Hi".as_slice());
-    is_as_taken(&rt, &read)
+fn the_chain_of_octets_is_as_taken(rt: HostRuntime) {
+    assert_taken(&rt, read(&rt, rt.alloc(), &TAKEN_CHAIN));
 }
 
-fn is_no_text(rt: &HostRuntime, octets: &[u8]) -> bool {
-    matches!(Chain::read(rt.alloc(), octets), Err(ChainFault::NotBytes))
+// Why octets are no chain's; none if they are.
+fn fault_of(alloc: Global, octets: &[u8]) -> Option<ChainFault> {
+    Chain::read(alloc, octets).err()
+}
+
+// The same of the first octets of that chain, so many, and these behind them.
+fn fault_with(rt: &impl Abort, alloc: Global, length: usize, more: &[u8]) -> Option<ChainFault> {
+    let front = TAKEN_CHAIN.get(..length).expect(rt, "octets");
+    let octets = [front, more].concat(alloc).expect(rt, "memory");
+    let fault = fault_of(alloc, &octets);
+    drop(octets);
+    fault
 }
 
 #[test]
-fn octets_that_are_no_text_are_refused(rt: HostRuntime) -> Result<(), Fail> {
-    for length in 0..TAKEN_CHAIN.len() {
-        assert!(rt; is_no_text(&rt, &TAKEN_CHAIN[..length]));
+fn octets_that_are_no_text_are_refused(rt: HostRuntime) {
+    let alloc = rt.alloc();
+    let no_text = Some(ChainFault::NotBytes);
+    for length in 0..60 {
+        let fault = fault_with(&rt, alloc, length, b"");
+        assert_same(&rt, &(length, fault), &(length, no_text));
     }
-    let mut longer = Vec::from_slice(rt.alloc(), &TAKEN_CHAIN)?;
-    longer.push(0)?;
-    assert!(rt; is_no_text(&rt, &longer));
+    let longer = fault_with(&rt, alloc, 60, b"\0");
     // The text of no decree is one, but of no permitted chain.
-    let mut none = Vec::from_slice(rt.alloc(), &TAKEN_CHAIN[..9])?;
-    none.extend_from_slice(&[0, 0])?;
-    assert!(rt;
-        matches!(
-            Chain::read(rt.alloc(), &none),
-            Err(ChainFault::NotPermitted)
-        )
-    );
-    Ok(())
+    let none = fault_with(&rt, alloc, 9, b"\0\0");
+    let wanted = (no_text, Some(ChainFault::NotPermitted));
+    assert_same(&rt, &(longer, none), &wanted);
 }
 
-// What becomes of those octets with one of them changed to 00, 7f, 80 or ff, a line a place: k is a permitted chain, p a
+// What becomes of those octets with one of them changed to 00, 7f, 80 or ff, a word a place: k is a permitted chain, p a
 // chain that is not permitted, and b no chain's octets.
-const CHANGED: [&[u8; 4]; 60] = [
-    b"bbbb", b"kbbb", b"kbbb", b"kbbb", b"kbbb", b"bppp", b"bbbp", b"bkkk", b"bbbk", b"kbbb",
-    b"bbbb", b"bbbb", b"bbbb", b"kbbb", b"bppp", b"bppb", b"bppp", b"bkkk", b"bbkk", b"bbbb",
-    b"bkkk", b"bkkk", b"bkkk", b"bkkk", b"bbbb", b"bkkk", b"bkkk", b"bkkk", b"bkkk", b"kbbb",
-    b"kkkk", b"kkkk", b"bbbb", b"bkkk", b"bkkk", b"bkkk", b"kkkk", b"kkkk", b"bbbb", b"bkkk",
-    b"bkkk", b"bkkk", b"kkkk", b"kkkk", b"kkkk", b"kkkk", b"kkkk", b"bppb", b"bppp", b"bkkk",
-    b"bbkk", b"bkkb", b"bkkk", b"kkkk", b"kkkk", b"bbbb", b"kkkk", b"kkkk", b"kbbb", b"kbbb",
-];
+const CHANGED: &str = "bbbb kbbb kbbb kbbb kbbb bppp bbbp bkkk bbbk kbbb bbbb bbbb \
+bbbb kbbb bppp bppb bppp bkkk bbkk bbbb bkkk bkkk bkkk bkkk \
+bbbb bkkk bkkk bkkk bkkk kbbb kkkk kkkk bbbb bkkk bkkk bkkk \
+kkkk kkkk bbbb bkkk bkkk bkkk kkkk kkkk kkkk kkkk kkkk bppb \
+bppp bkkk bbkk bkkb bkkk kkkk kkkk bbbb kkkk kkkk kbbb kbbb";
+
+// What becomes of them with this octet at a place.
+fn changed(alloc: Global, place: usize, octet: u8) -> u8 {
+    let mut octets = TAKEN_CHAIN;
+    if let Some(changed) = octets.get_mut(place) {
+        *changed = octet;
+    }
+    match fault_of(alloc, &octets) {
+        None => b'k',
+        Some(ChainFault::NotPermitted) => b'p',
+        Some(ChainFault::NotBytes) => b'b',
+        Some(ChainFault::Memory) => b'm',
+    }
+}
 
 #[test]
-fn changed_octets_are_judged(rt: HostRuntime) -> Result<(), Fail> {
-    for (place, outcomes) in CHANGED.iter().enumerate() {
-        for (octet, outcome) in [0x00, 0x7f, 0x80, 0xff].iter().zip(*outcomes) {
-            let mut octets = TAKEN_CHAIN;
-            octets[place] = *octet;
-            let letter = match Chain::read(rt.alloc(), &octets) {
-                Ok(_) => b'k',
-                Err(ChainFault::NotPermitted) => b'p',
-                Err(ChainFault::NotBytes) => b'b',
-                Err(ChainFault::Memory) => b'm',
-            };
-            assert_eq!(rt; letter, *outcome, "at {place}");
-        }
+fn changed_octets_are_judged(rt: HostRuntime) {
+    let alloc = rt.alloc();
+    assert_same(&rt, &CHANGED.split_whitespace().count(), &60);
+    for (place, wanted) in CHANGED.split_whitespace().enumerate() {
+        let judged = [
+            changed(alloc, place, 0x00),
+            changed(alloc, place, 0x7f),
+            changed(alloc, place, 0x80),
+            changed(alloc, place, 0xff),
+        ];
+        assert_same(
+            &rt,
+            &(place, judged.as_slice()),
+            &(place, wanted.as_bytes()),
+        );
     }
-    Ok(())
 }
 
 // The longest chain: taken, tried eight times, each failure seven seconds after its attempt, and given up by another node.
@@ -421,53 +440,59 @@ const TRIED_CHAIN: [u8; 223] = [
 ];
 
 // An attempt, and seven seconds later its failure by the next incarnation.
-fn tried(chain: &Chain, number: u8, seconds: u32, failed: u32) -> Result<Chain, Fail>
+fn tried(rt: &impl Abort, chain: Chain, number: u8, begun: Moment, failed: Moment) -> Chain
     requires { number ≤ 8 }
 {
     let incarnation = u16::from(number);
-    let attempt = decree(by(incarnation, seconds, Next::Attempt(number)))?;
-    let failure = decree(by(incarnation + 1, failed, Next::Failed(100 * incarnation)))?;
-    Ok(chain.extended(attempt)?.extended(failure)?)
+    let attempt = (incarnation, begun.seconds(), Next::Attempt(number));
+    let failure = (
+        incarnation + 1,
+        failed.seconds(),
+        Next::Failed(100 * incarnation),
+    );
+    let chain = extended(rt, chain, decree(rt, attempt));
+    extended(rt, chain, decree(rt, failure))
 }
 
-fn tried_eight_times(rt: &HostRuntime) -> Result<Chain, Fail> {
-    let mut chain = taken(rt)?;
-    let mut begun = Moment::make(TAKEN)?;
+fn tried_eight_times(rt: &impl Abort, alloc: Global) -> Chain {
+    let mut chain = taken(rt, alloc);
+    let mut begun = moment(rt, TAKEN);
     for number in 1..9 {
         let failed = begun.later(7);
-        chain = tried(&chain, number, begun.seconds(), failed.seconds())?;
+        chain = tried(rt, chain, number, begun, failed);
         begun = failed.later(60 * u32::from(number));
     }
-    given_up(&chain, begun)
+    extended(rt, chain, given_up(begun))
 }
 
-// Given up by another node.
-fn given_up(chain: &Chain, moment: Moment) -> Result<Chain, Fail> {
-    let author = Author {
-        node: NodeNo::of(9),
-        incarnation: Incarnation::of(9999),
-    };
-    Ok(chain.extended(Decree {
-        author,
+// It is given up by another node.
+fn given_up(moment: Moment) -> Decree {
+    Decree {
+        author: Author {
+            node: NodeNo::of(9),
+            incarnation: Incarnation::of(9999),
+        },
         moment,
         kind: Kind::Fate(Final::Undeliverable, ErrorCode::of(999)),
-    })?)
+    }
 }
 
 #[test]
-fn the_longest_chain_is_written(rt: HostRuntime) -> Result<(), Fail> {
-    let chain = tried_eight_times(&rt)?;
-    is_spelled(&rt, &chain, &TRIED_CHAIN)
+fn the_longest_chain_is_written(rt: HostRuntime) {
+    let chain = tried_eight_times(&rt, rt.alloc());
+    assert_spelled(&rt, chain, &TRIED_CHAIN);
 }
 
 #[test]
-fn the_longest_chain_is_copied(rt: HostRuntime) -> Result<(), Fail> {
-    let chain = Chain::read(rt.alloc(), &TRIED_CHAIN)?.copy()?;
-    is_spelled(&rt, &chain, &TRIED_CHAIN)
+fn the_longest_chain_is_copied(rt: HostRuntime) {
+    let chain = read(&rt, rt.alloc(), &TRIED_CHAIN);
+    let copy = chain.copy();
+    drop(chain);
+    assert_spelled(&rt, copy.expect(&rt, "memory"), &TRIED_CHAIN);
 }
 
 #[test]
-fn the_longest_chain_is_read(rt: HostRuntime) -> Result<(), Fail> {
-    let chain = Chain::read(rt.alloc(), &TRIED_CHAIN)?;
-    stands(&rt, &chain, 18, State::Undeliverable, 999)
+fn the_longest_chain_is_read(rt: HostRuntime) {
+    let chain = read(&rt, rt.alloc(), &TRIED_CHAIN);
+    assert_stands(&rt, chain, (18, State::Undeliverable, 999));
 }

@@ -7,4 +7,6 @@ mod chains;
 #[cfg(test)]
 mod requests;
 #[cfg(test)]
+mod same;
+#[cfg(test)]
 mod values;

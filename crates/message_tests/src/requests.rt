@@ -1,5 +1,6 @@
 //! Requests that wait, and the statuses of those that do not.
 
+use crate::same::assert_same;
 use crate::values::{address, text};
 use desk::{Admitted, Door, Request};
 use mc_types::Moment;
@@ -7,7 +8,6 @@ use pdu_codec::{Body, Cancel, Message, Query, decode};
 use pdu_tables::Status;
 use std::alloc::Global;
 use std::process::Abort;
-use std::test::Fail;
 
 // From 144 to 155, with the text Hi and a receipt asked for.
 const SUBMIT: &[u8] =
@@ -28,49 +28,49 @@ enum Asked<'a> {
     Cancel(&'a [u8], &'a [u8], &'a [u8]),
 }
 
-fn message(alloc: Global, registered_delivery: u8) -> Result<Message, Fail> {
-    let Body::SubmitSm(mut message) = decode(alloc, SUBMIT)?.body else {
-        return Err("a submit_sm")?;
+fn message(rt: &impl Abort, alloc: Global, registered_delivery: u8) -> Message {
+    let pdu = decode(alloc, SUBMIT).expect(rt, "a submit_sm");
+    let Body::SubmitSm(mut message) = pdu.body else {
+        panic!(rt; "a submit_sm");
     };
     message.registered_delivery = registered_delivery;
-    Ok(message)
+    message
 }
 
-fn submit(alloc: Global, registered_delivery: u8) -> Result<Request, Fail> {
-    let message = message(alloc, registered_delivery)?;
-    Ok(Request::Submit(message, Some(text(alloc, b"sme1")?)))
-}
-
-fn query(alloc: Global, message_id: &[u8], source: &[u8]) -> Result<Request, Fail> {
-    Ok(Request::Ask(Query {
-        message_id: text(alloc, message_id)?,
-        source: address(alloc, source)?,
-    }))
+fn query(rt: &impl Abort, alloc: Global, message_id: &[u8], source: &[u8]) -> Query {
+    Query {
+        message_id: text(rt, alloc, message_id),
+        source: address(rt, alloc, source),
+    }
 }
 
 fn cancel(
+    rt: &impl Abort,
     alloc: Global,
     message_id: &[u8],
     source: &[u8],
     destination: &[u8],
-) -> Result<Request, Fail> {
-    Ok(Request::Cancel(Cancel {
-        service_type: text(alloc, b"")?,
-        message_id: text(alloc, message_id)?,
-        source: address(alloc, source)?,
-        destination: address(alloc, destination)?,
-    }))
+) -> Cancel {
+    Cancel {
+        service_type: text(rt, alloc, b""),
+        message_id: text(rt, alloc, message_id),
+        source: address(rt, alloc, source),
+        destination: address(rt, alloc, destination),
+    }
 }
 
-fn request(alloc: Global, asked: Asked<'_>) -> Result<Request, Fail> {
+fn request(rt: &impl Abort, alloc: Global, asked: Asked<'_>) -> Request {
     match asked {
-        Asked::Submit(registered_delivery) => submit(alloc, registered_delivery),
-        Asked::Unrouted(registered_delivery) => {
-            Ok(Request::Submit(message(alloc, registered_delivery)?, None))
+        Asked::Submit(registered_delivery) => {
+            let message = message(rt, alloc, registered_delivery);
+            Request::Submit(message, Some(text(rt, alloc, b"sme1")))
         }
-        Asked::Query(message_id, source) => query(alloc, message_id, source),
+        Asked::Unrouted(registered_delivery) => {
+            Request::Submit(message(rt, alloc, registered_delivery), None)
+        }
+        Asked::Query(message_id, source) => Request::Ask(query(rt, alloc, message_id, source)),
         Asked::Cancel(message_id, source, destination) => {
-            cancel(alloc, message_id, source, destination)
+            Request::Cancel(cancel(rt, alloc, message_id, source, destination))
         }
     }
 }
@@ -95,106 +95,100 @@ enum Judged {
     Refused(Status),
 }
 
-fn verdict_on(alloc: Global, door: Door, asked: Asked<'_>) -> Result<Judged, Fail> {
-    let account = text(alloc, b"sme1")?;
-    let admitted = door.admit(&account, request(alloc, asked)?)?;
-    Ok(match &admitted {
+fn judgement(admitted: &Result<Admitted, Status>) -> Judged {
+    match admitted {
         Ok(Admitted::Submit(message)) => {
             Judged::Taken(message.schedule.seconds(), message.expiry.seconds())
         }
         Ok(Admitted::Query { id, .. }) => Judged::Queries(id.number()),
         Ok(Admitted::Cancel { id, .. }) => Judged::Cancels(id.number()),
         Err(status) => Judged::Refused(*status),
-    })
-}
-
-fn are_judged(
-    rt: &impl Abort,
-    alloc: Global,
-    door: Door,
-    rows: &[(Asked<'_>, Judged)],
-) -> Result<(), Fail> {
-    for (asked, expected) in rows {
-        assert_eq!(rt; verdict_on(alloc, door, *asked)?, *expected);
     }
-    Ok(())
 }
 
-#[test]
-fn requests_wait(rt: HostRuntime) -> Result<(), Fail> {
-    are_judged(
-        &rt,
-        rt.alloc(),
-        door(99999, false),
-        &[
-            // Three days from 2000-01-01T00:00:00Z.
-            (Asked::Submit(0), Judged::Taken(946684800, 946944000)),
-            (Asked::Query(FIRST, b"144"), Judged::Queries(1000100001)),
-            (
-                Asked::Cancel(FIRST, b"144", b""),
-                Judged::Cancels(1000100001),
-            ),
-        ],
-    )
+fn verdict_on(rt: &impl Abort, alloc: Global, door: Door, asked: Asked<'_>) -> Judged {
+    let account = text(rt, alloc, b"sme1");
+    let admitted = door.admit(&account, request(rt, alloc, asked));
+    drop(account);
+    let admitted = admitted.expect(rt, "memory");
+    let judged = judgement(&admitted);
+    drop(admitted);
+    judged
 }
 
-#[test]
-fn requests_are_refused_at_once(rt: HostRuntime) -> Result<(), Fail> {
-    are_judged(
-        &rt,
-        rt.alloc(),
-        door(1, false),
-        &[
-            (
-                Asked::Query(b"1", b"144"),
-                Judged::Refused(Status::InvalidMessageId),
-            ),
-            (
-                Asked::Submit(3),
-                Judged::Refused(Status::InvalidRegisteredDelivery),
-            ),
-            (
-                Asked::Unrouted(3),
-                Judged::Refused(Status::InvalidDestinationAddress),
-            ),
-            (
-                Asked::Cancel(b"", b"144", b""),
-                Judged::Refused(Status::CancelFailed),
-            ),
-            (
-                Asked::Cancel(b"100010000", b"144", b""),
-                Judged::Refused(Status::InvalidMessageId),
-            ),
-        ],
-    )
+// A request, and what is to become of it.
+type Row = (Asked<'static>, Judged);
+
+fn assert_judged(rt: &impl Abort, alloc: Global, door: &Door, rows: &[Row]) {
+    for (number, (asked, wanted)) in rows.iter().enumerate() {
+        let judged = verdict_on(rt, alloc, *door, *asked);
+        assert_same(rt, &(number, judged), &(number, *wanted));
+    }
 }
 
-#[test]
-fn serials_run_out_before_the_room(rt: HostRuntime) -> Result<(), Fail> {
-    are_judged(
-        &rt,
-        rt.alloc(),
-        door(100000, true),
-        &[(Asked::Submit(0), Judged::Refused(Status::MessageQueueFull))],
-    )
-}
+const WAITING: &[Row] = &[
+    // Three days from 2000-01-01T00:00:00Z.
+    (Asked::Submit(0), Judged::Taken(946684800, 946944000)),
+    (Asked::Query(FIRST, b"144"), Judged::Queries(1000100001)),
+    (
+        Asked::Cancel(FIRST, b"144", b""),
+        Judged::Cancels(1000100001),
+    ),
+];
 
 #[test]
-fn no_more_requests_wait_than_may(rt: HostRuntime) -> Result<(), Fail> {
-    are_judged(
-        &rt,
-        rt.alloc(),
-        door(1, true),
-        &[
-            (Asked::Submit(0), Judged::Refused(Status::Throttled)),
-            (
-                Asked::Query(FIRST, b"144"),
-                Judged::Refused(Status::Throttled),
-            ),
-            (
-                Asked::Cancel(FIRST, b"144", b""),
-                Judged::Refused(Status::Throttled),
-            ),
-        ],
-    )
+fn requests_wait(rt: HostRuntime) {
+    assert_judged(&rt, rt.alloc(), &door(99999, false), WAITING);
+}
+
+const REFUSED: &[Row] = &[
+    (
+        Asked::Query(b"1", b"144"),
+        Judged::Refused(Status::InvalidMessageId),
+    ),
+    (
+        Asked::Submit(3),
+        Judged::Refused(Status::InvalidRegisteredDelivery),
+    ),
+    (
+        Asked::Unrouted(3),
+        Judged::Refused(Status::InvalidDestinationAddress),
+    ),
+    (
+        Asked::Cancel(b"", b"144", b""),
+        Judged::Refused(Status::CancelFailed),
+    ),
+    (
+        Asked::Cancel(b"100010000", b"144", b""),
+        Judged::Refused(Status::InvalidMessageId),
+    ),
+];
+
+#[test]
+fn requests_are_refused_at_once(rt: HostRuntime) {
+    assert_judged(&rt, rt.alloc(), &door(1, false), REFUSED);
+}
+
+const WITHOUT_SERIAL: &[Row] = &[(Asked::Submit(0), Judged::Refused(Status::MessageQueueFull))];
+
+#[test]
+fn serials_run_out_before_the_room(rt: HostRuntime) {
+    assert_judged(&rt, rt.alloc(), &door(100000, true), WITHOUT_SERIAL);
+}
+
+const WITHOUT_ROOM: &[Row] = &[
+    (Asked::Submit(0), Judged::Refused(Status::Throttled)),
+    (
+        Asked::Query(FIRST, b"144"),
+        Judged::Refused(Status::Throttled),
+    ),
+    (
+        Asked::Cancel(FIRST, b"144", b""),
+        Judged::Refused(Status::Throttled),
+    ),
+];
+
+#[test]
+fn no_more_requests_wait_than_may(rt: HostRuntime) {
+    assert_judged(&rt, rt.alloc(), &door(1, true), WITHOUT_ROOM);
 }

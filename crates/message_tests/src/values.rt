@@ -2,16 +2,17 @@
 
 use pdu_codec::{Address, Text};
 use std::alloc::Global;
-use std::test::Fail;
+use std::process::Abort;
 
-pub fn text<const LIMIT: usize>(alloc: Global, octets: &[u8]) -> Result<Text<LIMIT>, Fail> {
-    Ok(Text::make(alloc, octets)?.ok_or("a text")?)
+pub fn text<const LIMIT: usize>(rt: &impl Abort, alloc: Global, octets: &[u8]) -> Text<LIMIT> {
+    let text = Text::make(alloc, octets).expect(rt, "memory");
+    text.expect(rt, "a text")
 }
 
-pub fn address(alloc: Global, digits: &[u8]) -> Result<Address, Fail> {
-    Ok(Address {
+pub fn address(rt: &impl Abort, alloc: Global, digits: &[u8]) -> Address {
+    Address {
         ton: 1,
         npi: 1,
-        digits: text(alloc, digits)?,
-    })
+        digits: text(rt, alloc, digits),
+    }
 }

@@ -6,6 +6,10 @@ mod ids;
 #[cfg(test)]
 mod lines;
 #[cfg(test)]
+mod readers;
+#[cfg(test)]
+mod same;
+#[cfg(test)]
 mod time_rows;
 #[cfg(test)]
 mod times;

@@ -1,108 +1,149 @@
 //! Times, as texts and as moments.
 
+use crate::same::assert_same;
 use crate::time_rows::{ABSOLUTE, RELATIVE};
 use mc_types::Moment;
 use smpp_time::{TimeFault, read_time, receipt_date, write_time};
 use std::process::Abort;
-use std::test::Fail;
 
-/// What a text says at the start of 2000: the seconds since 1970.
-fn said(text: &[u8]) -> Result<Option<u32>, TimeFault> {
-    Ok(read_time(text, Moment::least())?.map(|moment| moment.seconds()))
-}
-
-/// A line of an absolute time and its seconds.
-fn absolute(line: &str) -> Result<(&str, u32), Fail> {
-    let (text, seconds) = line.split_once(' ').ok_or("two words")?;
-    Ok((text, seconds.parse()?))
-}
-
-#[test]
-fn absolute_times_are_read(rt: HostRuntime) -> Result<(), Fail> {
-    for line in ABSOLUTE.lines() {
-        let (text, seconds) = absolute(line)?;
-        assert_eq!(rt; said(text.as_bytes()), Ok(Some(seconds)), "{line}");
-    }
-    Ok(())
-}
-
-/// What a relative time says at a moment: the seconds since 1970.
-fn said_at(text: &str, now: u32) -> Result<Option<u32>, Fail> {
-    let read = read_time(text.as_bytes(), Moment::make(now)?)?;
+/// What a text says at a moment: the seconds since 1970.
+fn said_at(text: &[u8], now: Moment) -> Result<Option<u32>, TimeFault> {
+    let read = read_time(text, now)?;
     Ok(read.map(|moment| moment.seconds()))
 }
 
-#[test]
-fn relative_times_are_read(rt: HostRuntime) -> Result<(), Fail> {
-    for line in RELATIVE.lines() {
-        let (now, rest) = line.split_once(' ').ok_or("three words")?;
-        let (text, seconds) = absolute(rest)?;
-        assert_eq!(rt; said_at(text, now.parse()?)?, Some(seconds), "{line}");
-    }
-    Ok(())
+/// What it says at the start of 2000.
+fn said(text: &[u8]) -> Result<Option<u32>, TimeFault> {
+    said_at(text, Moment::least())
 }
 
-/// That a moment is written so, and its date in a receipt.
-fn is_written(rt: &impl Abort, text: &str, moment: Moment) {
-    assert_eq!(rt; write_time(moment).as_slice(), text.as_bytes(), "{text}");
-    assert!(rt;
-        text.as_bytes().starts_with(&receipt_date(moment)),
-        "{text}"
-    );
+/// The first word of a line, and what is behind it.
+fn split<'a>(rt: &impl Abort, line: &'a str) -> (&'a str, &'a str) {
+    line.split_once(' ').expect(rt, "two words")
+}
+
+fn number(rt: &impl Abort, word: &str) -> u32 {
+    word.parse().expect(rt, "a number")
+}
+
+fn moment(rt: &impl Abort, seconds: u32) -> Moment {
+    Moment::make(seconds).expect(rt, "a moment")
+}
+
+/// That an absolute time says its seconds.
+fn assert_absolute(rt: &impl Abort, line: &str) {
+    let (text, seconds) = split(rt, line);
+    let wanted = Ok(Some(number(rt, seconds)));
+    assert_same(rt, &(line, said(text.as_bytes())), &(line, wanted));
 }
 
 #[test]
-fn moments_are_written(rt: HostRuntime) -> Result<(), Fail> {
+fn absolute_times_are_read(rt: HostRuntime) {
     for line in ABSOLUTE.lines() {
-        let (text, seconds) = absolute(line)?;
-        if text.ends_with("000+") {
-            is_written(&rt, text, Moment::make(seconds)?);
-        }
+        assert_absolute(&rt, line);
     }
-    Ok(())
+}
+
+/// That a relative time says its seconds at a moment.
+fn assert_relative(rt: &impl Abort, line: &str) {
+    let (now, rest) = split(rt, line);
+    let (text, seconds) = split(rt, rest);
+    let now = moment(rt, number(rt, now));
+    let wanted = Ok(Some(number(rt, seconds)));
+    assert_same(rt, &(line, said_at(text.as_bytes(), now)), &(line, wanted));
+}
+
+#[test]
+fn relative_times_are_read(rt: HostRuntime) {
+    for line in RELATIVE.lines() {
+        assert_relative(&rt, line);
+    }
+}
+
+/// That the moment of an absolute time in UTC is written so, and that its date in a receipt is the front of that.
+fn assert_written(rt: &impl Abort, line: &str) {
+    let (text, seconds) = split(rt, line);
+    if text.ends_with("000+") {
+        let moment = moment(rt, number(rt, seconds));
+        let written = write_time(moment);
+        let has_date = text.as_bytes().starts_with(&receipt_date(moment));
+        let wanted = (text.as_bytes(), true);
+        assert_same(rt, &(written.as_slice(), has_date), &wanted);
+    }
+}
+
+#[test]
+fn moments_are_written(rt: HostRuntime) {
+    for line in ABSOLUTE.lines() {
+        assert_written(&rt, line);
+    }
+}
+
+/// A line each: a text, and its fault at the last second of 2099, at which a relative time of 99 years is past the range.
+const FAULTS: &str = "\
+000000000000000X Shape\n\
+24022912000000+ Shape\n\
+2402291200000000+ Shape\n\
+2402291200000O0+ Shape\n\
+240230000000000+ Field\n\
+230229000000000+ Field\n\
+990229000000000+ Field\n\
+240431000000000+ Field\n\
+241301000000000+ Field\n\
+240001000000000+ Field\n\
+240100000000000+ Field\n\
+240229240000000+ Field\n\
+240229006000000+ Field\n\
+240229000060000+ Field\n\
+240229120000049+ Field\n\
+240229120000049- Field\n\
+000000000000100R Field\n\
+000000000000001R Field\n\
+000101000000048+ Range\n\
+991231235959048- Range\n\
+990000000000000R Range\n\
+";
+
+/// The fault that a word names.
+fn fault_of(rt: &impl Abort, word: &str) -> TimeFault {
+    match word {
+        "Shape" => TimeFault::Shape,
+        "Field" => TimeFault::Field,
+        "Range" => TimeFault::Range,
+        _ => panic!(rt; "a fault"),
+    }
+}
+
+fn assert_fault(rt: &impl Abort, line: &str) {
+    let (text, word) = split(rt, line);
+    let now = Moment::least().later(u32::MAX);
+    let wanted = Err(fault_of(rt, word));
+    assert_same(rt, &(line, said_at(text.as_bytes(), now)), &(line, wanted));
 }
 
 #[test]
 fn faults_are_told_lowest_first(rt: HostRuntime) {
-    let faults = [
-        ("000000000000000X", TimeFault::Shape),
-        ("24022912000000+", TimeFault::Shape),
-        ("2402291200000000+", TimeFault::Shape),
-        ("2402291200000O0+", TimeFault::Shape),
-        ("240230000000000+", TimeFault::Field),
-        ("230229000000000+", TimeFault::Field),
-        ("990229000000000+", TimeFault::Field),
-        ("240431000000000+", TimeFault::Field),
-        ("241301000000000+", TimeFault::Field),
-        ("240001000000000+", TimeFault::Field),
-        ("240100000000000+", TimeFault::Field),
-        ("240229240000000+", TimeFault::Field),
-        ("240229006000000+", TimeFault::Field),
-        ("240229000060000+", TimeFault::Field),
-        ("240229120000049+", TimeFault::Field),
-        ("240229120000049-", TimeFault::Field),
-        ("000000000000100R", TimeFault::Field),
-        ("000000000000001R", TimeFault::Field),
-        ("000101000000048+", TimeFault::Range),
-        ("991231235959048-", TimeFault::Range),
-        ("990000000000000R", TimeFault::Range),
-    ];
-    for (text, fault) in faults {
-        // At the last second of 2099 a relative time of 99 years is past the range.
-        let now = Moment::least().later(u32::MAX);
-        let read = read_time(text.as_bytes(), now);
-        assert_eq!(rt; read, Err(fault), "{text}");
+    for line in FAULTS.lines() {
+        assert_fault(&rt, line);
     }
-    assert_eq!(rt; said(b""), Ok(None));
+    assert_same(&rt, &said(b""), &Ok(None));
+}
+
+/// That a time with this octet at a place is none.
+fn assert_no_time(rt: &impl Abort, place: usize, other: u8) {
+    let mut text = *b"240229120000000+";
+    if let Some(octet) = text.get_mut(place) {
+        *octet = other;
+    }
+    let wanted = (place, other, Err(TimeFault::Shape));
+    assert_same(rt, &(place, other, said(&text)), &wanted);
 }
 
 #[test]
 fn other_characters_are_no_time(rt: HostRuntime) {
     for place in 0..16 {
-        for other in [b'a', b' ', 0xff] {
-            let mut text = *b"240229120000000+";
-            text[place] = other;
-            assert_eq!(rt; said(&text), Err(TimeFault::Shape), "{place}");
-        }
+        assert_no_time(&rt, place, b'a');
+        assert_no_time(&rt, place, b' ');
+        assert_no_time(&rt, place, 0xff);
     }
 }

@@ -1,100 +1,148 @@
 //! The requests that wait, in their queue.
 
-use crate::values::{Known, after, cancel, query, submit};
-use crate::waits::{Wait, alone, otherwise};
-use requests::Queue;
-use std::test::Fail;
+ghost use Rattle.std.specs.Prelude.{◌≡◌};
+ghost use Rattle.std.specs.Box.{box_value};
+
+use crate::same::assert_same;
+use crate::values::{Known, after, asking, cancel, query, said, submit};
+use crate::waits::{Wait, alone, assert_waits, replies_at, tell_at};
+use requests::{Held, Queue, Reply};
+use std::alloc::Global;
+use std::process::Abort;
 
 #[test]
-fn a_queue_begins_empty(rt: HostRuntime) -> Result<(), Fail> {
-    let queue = Queue::make(rt.alloc())?;
+fn a_queue_begins_empty(rt: HostRuntime) {
+    let queue = Queue::make(rt.alloc()).expect(&rt, "memory");
     let begun = (queue.len(), queue.is_full(), queue.at(1).is_none());
     drop(queue);
-    assert_eq!(rt; begun, (0, false, true));
-    Ok(())
+    assert_same(&rt, &begun, &(0, false, true));
+}
+
+const A_SUBMIT: &[Wait] = &[
+    Wait::Starts(30, false),
+    Wait::Starts(29, true),
+    Wait::Asks(0),
+    Wait::Concluded(Known::Taken, "accepted", 0),
+];
+
+#[test]
+fn a_submit_starts_the_round_of_its_chain(rt: HostRuntime) {
+    let held = submit(&rt, rt.alloc());
+    assert_waits(&rt, rt.alloc(), held, A_SUBMIT);
+}
+
+const A_CANCEL: &[Wait] = &[
+    Wait::Told(1, Known::Taken),
+    Wait::Told(2, Known::Taken),
+    Wait::CancelsThen(Known::Taken, true),
+    Wait::Concluded(Known::Taken, "waits", 1),
+    Wait::Cancels(29, true),
+    Wait::Concluded(Known::Deleted, "removed", 0),
+];
+
+#[test]
+fn a_cancel_is_settled_when_its_chain_is_known(rt: HostRuntime) {
+    let held = cancel(&rt, rt.alloc(), b"");
+    assert_waits(&rt, rt.alloc(), held, A_CANCEL);
+}
+
+const LATE: &[Wait] = &[
+    Wait::Expired(29, "waits", 1),
+    Wait::Expired(30, "too late", 0),
+];
+
+#[test]
+fn a_request_waits_for_30_seconds(rt: HostRuntime) {
+    let held = query(&rt, rt.alloc(), b"sme1");
+    assert_waits(&rt, rt.alloc(), held, LATE);
+}
+
+const A_QUERY: &[Wait] = &[
+    Wait::Asks(1),
+    Wait::Told(1, Known::Nothing),
+    Wait::Told(2, Known::Nothing),
+    Wait::Asks(0),
+    Wait::Removed(2, 1),
+    Wait::Removed(1, 0),
+];
+
+#[test]
+fn a_query_asks_until_a_majority_told(rt: HostRuntime) {
+    let held = query(&rt, rt.alloc(), b"sme1");
+    assert_waits(&rt, rt.alloc(), held, A_QUERY);
+}
+
+const HIGHEST: &[Wait] = &[
+    Wait::Told(1, Known::Tried),
+    Wait::Shown(Known::Taken, Some(1)),
+];
+
+#[test]
+fn the_highest_vote_is_shown(rt: HostRuntime) {
+    let held = query(&rt, rt.alloc(), b"sme1");
+    assert_waits(&rt, rt.alloc(), held, HIGHEST);
+}
+
+// The first id from a number on of which a request asks that waits for so many seconds.
+fn asked_from(rt: &impl Abort, queue: &Queue, seconds: u32, number: u64) -> Option<u64> {
+    let id = queue.next_id(after(rt, seconds), number)?;
+    Some(id.number())
 }
 
 #[test]
-fn a_submit_starts_the_round_of_its_chain(rt: HostRuntime) -> Result<(), Fail> {
-    let waits = [
-        Wait::Starts(30, false),
-        Wait::Starts(29, true),
-        Wait::Asks(0),
-        Wait::Concluded(Known::Taken, "accepted", 0),
+fn a_walk_meets_the_ids_of_requests(rt: HostRuntime) {
+    let queue = alone(&rt, rt.alloc(), query(&rt, rt.alloc(), b"sme1"));
+    let asked = [
+        asked_from(&rt, &queue, 29, 1000100001),
+        asked_from(&rt, &queue, 29, 1000100002),
+        asked_from(&rt, &queue, 30, 1000100001),
+        asked_from(&rt, &queue, 30, 1000100002),
     ];
-    let held = submit(rt.alloc())?;
-    assert_eq!(rt; otherwise(rt.alloc(), held, &waits)?, None);
-    Ok(())
-}
-
-#[test]
-fn a_cancel_is_settled_when_its_chain_is_known(rt: HostRuntime) -> Result<(), Fail> {
-    let waits = [
-        Wait::Told(1, Known::Taken),
-        Wait::Told(2, Known::Taken),
-        Wait::CancelsThen(Known::Taken, true),
-        Wait::Concluded(Known::Taken, "waits", 1),
-        Wait::Cancels(29, true),
-        Wait::Concluded(Known::Deleted, "removed", 0),
-    ];
-    let held = cancel(rt.alloc(), b"")?;
-    assert_eq!(rt; otherwise(rt.alloc(), held, &waits)?, None);
-    Ok(())
-}
-
-#[test]
-fn a_request_waits_for_30_seconds(rt: HostRuntime) -> Result<(), Fail> {
-    let waits = [
-        Wait::Expired(29, "waits", 1),
-        Wait::Expired(30, "too late", 0),
-    ];
-    let held = query(rt.alloc(), b"sme1")?;
-    assert_eq!(rt; otherwise(rt.alloc(), held, &waits)?, None);
-    Ok(())
-}
-
-#[test]
-fn a_query_asks_until_a_majority_told(rt: HostRuntime) -> Result<(), Fail> {
-    let waits = [
-        Wait::Asks(1),
-        Wait::Told(1, Known::Nothing),
-        Wait::Told(2, Known::Nothing),
-        Wait::Asks(0),
-        Wait::Removed(2, 1),
-        Wait::Removed(1, 0),
-    ];
-    let held = query(rt.alloc(), b"sme1")?;
-    assert_eq!(rt; otherwise(rt.alloc(), held, &waits)?, None);
-    Ok(())
-}
-
-#[test]
-fn the_highest_vote_is_shown(rt: HostRuntime) -> Result<(), Fail> {
-    let waits = [
-        Wait::Told(1, Known::Tried),
-        Wait::Shown(Known::Taken, Some(1)),
-    ];
-    let held = query(rt.alloc(), b"sme1")?;
-    assert_eq!(rt; otherwise(rt.alloc(), held, &waits)?, None);
-    Ok(())
-}
-
-// The first id from each number on of which a request asks that waits for so many seconds.
-fn asked_from(queue: &Queue, seconds: u16) -> Result<(Option<u64>, Option<u64>), Fail> {
-    let clock = after(seconds)?;
-    let at = queue.next_id(clock, 1000100001).map(|id| id.number());
-    let above = queue.next_id(clock, 1000100002).map(|id| id.number());
-    Ok((at, above))
-}
-
-#[test]
-fn a_walk_meets_the_ids_of_requests(rt: HostRuntime) -> Result<(), Fail> {
-    let held = query(rt.alloc(), b"sme1")?;
-    let queue = alone(rt.alloc(), held)?;
-    let timely = asked_from(&queue, 29)?;
-    let late = asked_from(&queue, 30)?;
     drop(queue);
-    assert_eq!(rt; timely, (Some(1000100001), None));
-    assert_eq!(rt; late, (None, None));
-    Ok(())
+    assert_same(&rt, &asked, &[Some(1000100001), None, None, None]);
+}
+
+// A query_sm of an account that waits under a ticket.
+fn boxed(rt: &impl Abort, alloc: Global, ticket: u64, account: &[u8]) -> Box<Held>
+    ensures { (box_value result).waiting.ticket ≡ ticket }
+{
+    Box::new(alloc, asking(rt, alloc, ticket, account)).expect(rt, "memory")
+}
+
+// Three query_sms, the second of which is of another account than the message.
+fn three(rt: &impl Abort, alloc: Global) -> Queue {
+    let mut queue = Queue::make(alloc).expect(rt, "memory");
+    queue.push(boxed(rt, alloc, 1, b"sme1"));
+    queue.push(boxed(rt, alloc, 2, b"sme2"));
+    queue.push(boxed(rt, alloc, 3, b"sme1"));
+    queue
+}
+
+// The tickets of three replies, and what they say with which place.
+fn three_in(rt: &impl Abort, replies: &[Reply]) -> [(u64, (&'static str, u8)); 3] {
+    match replies {
+        [first, second, third] => [
+            (first.ticket, said(Some(&first.answer))),
+            (second.ticket, said(Some(&second.answer))),
+            (third.ticket, said(Some(&third.answer))),
+        ],
+        _ => panic!(rt; "three replies"),
+    }
+}
+
+#[test]
+fn three_are_answered_at_once_by_ascending_tickets(rt: HostRuntime) {
+    let alloc = rt.alloc();
+    let mut queue = three(&rt, alloc);
+    for ticket in 1..4 {
+        tell_at(&rt, alloc, &mut queue, ticket, (1, Known::Nothing));
+        tell_at(&rt, alloc, &mut queue, ticket, (2, Known::Nothing));
+    }
+    let replies = replies_at(&rt, alloc, &mut queue, Known::Tried);
+    let left = queue.len();
+    drop(queue);
+    let answers = three_in(&rt, replies.as_slice());
+    drop(replies);
+    let wanted = [(1, ("shown", 1)), (2, ("not owner", 0)), (3, ("shown", 1))];
+    assert_same(&rt, &(answers, left), &(wanted, 0));
 }

@@ -1,9 +1,10 @@
 //! What happens to a request that waits, in a cluster of three nodes.
 
+use crate::same::assert_same;
 use crate::values::{Known, chain, id, message, said, tell, vote_for};
 use requests::Held;
 use std::alloc::Global;
-use std::test::Fail;
+use std::process::Abort;
 
 // What happens, and what is to come of it.
 #[derive(Clone, Copy)]
@@ -22,42 +23,34 @@ pub enum Turn {
     Answered(Known, &'static str, u8),
 }
 
-// The number of the first turn of which something else comes, from 0.
-pub fn otherwise(alloc: Global, mut held: Held, turns: &[Turn]) -> Result<Option<usize>, Fail> {
-    let otherwise = otherwise_in(alloc, &mut held, turns);
-    drop(held);
-    otherwise
-}
-
-fn otherwise_in(alloc: Global, held: &mut Held, turns: &[Turn]) -> Result<Option<usize>, Fail> {
+// That it comes of each turn, one after the other.
+pub fn assert_turns(rt: &impl Abort, alloc: Global, mut held: Held, turns: &[Turn]) {
     for (number, turn) in turns.iter().enumerate() {
-        if !comes(alloc, held, *turn)? {
-            return Ok(Some(number));
-        }
+        let comes = comes(rt, alloc, &mut held, *turn);
+        assert_same(rt, &(number, comes), &(number, true));
     }
-    Ok(None)
 }
 
 // Whether it comes of a turn.
-fn comes(alloc: Global, held: &mut Held, turn: Turn) -> Result<bool, Fail> {
+fn comes(rt: &impl Abort, alloc: Global, held: &mut Held, turn: Turn) -> bool {
     match turn {
         Turn::Told(from, known) => {
-            tell(alloc, held, from, known)?;
-            Ok(true)
+            tell(rt, alloc, held, from, known);
+            true
         }
-        Turn::Fits(known, fits) => Ok(is_told(alloc, held, known)? == fits),
-        Turn::Followed(place) => Ok(followed(held) == place),
-        Turn::Settled(known, settles) => Ok(settle(alloc, held, known)? == settles),
-        Turn::Cancels(cancels) => Ok(cancels_it(alloc, held)? == cancels),
-        Turn::Answered(known, word, place) => Ok(answer(alloc, held, known)? == (word, place)),
+        Turn::Fits(known, fits) => is_told(rt, alloc, held, known) == fits,
+        Turn::Followed(place) => followed(held) == place,
+        Turn::Settled(known, settles) => settle(rt, alloc, held, known) == settles,
+        Turn::Cancels(cancels) => cancels_it(rt, alloc, held) == cancels,
+        Turn::Answered(known, word, place) => answer(rt, alloc, held, known) == (word, place),
     }
 }
 
-fn is_told(alloc: Global, held: &Held, known: Known) -> Result<bool, Fail> {
-    let told = vote_for(alloc, known)?;
+fn is_told(rt: &impl Abort, alloc: Global, held: &Held, known: Known) -> bool {
+    let told = vote_for(rt, alloc, known);
     let is_told = held.is_told_by(told.as_ref());
     drop(told);
-    Ok(is_told)
+    is_told
 }
 
 fn followed(held: &Held) -> Option<u8> {
@@ -67,28 +60,27 @@ fn followed(held: &Held) -> Option<u8> {
     }
 }
 
-fn settle(alloc: Global, held: &mut Held, known: Known) -> Result<bool, Fail> {
-    let chain = chain(alloc, known)?;
+fn settle(rt: &impl Abort, alloc: Global, held: &mut Held, known: Known) -> bool {
+    let chain = chain(rt, alloc, known);
     let settles = held.settles(3, chain.as_ref());
     held.settle(3, chain.as_ref());
     drop(chain);
-    Ok(settles)
+    settles
 }
 
-fn cancels_it(alloc: Global, held: &Held) -> Result<bool, Fail> {
-    let about = id()?;
-    let message = message(alloc)?;
-    let cancels = held.cancels(about, &message);
+fn cancels_it(rt: &impl Abort, alloc: Global, held: &Held) -> bool {
+    let message = message(rt, alloc);
+    let cancels = held.cancels(id(rt), &message);
     drop(message);
-    Ok(cancels)
+    cancels
 }
 
-fn answer(alloc: Global, held: &Held, known: Known) -> Result<(&'static str, u8), Fail> {
-    let chain = chain(alloc, known)?;
+fn answer(rt: &impl Abort, alloc: Global, held: &Held, known: Known) -> (&'static str, u8) {
+    let chain = chain(rt, alloc, known);
     let answer = held.answer(3, chain.as_ref());
     drop(chain);
-    let answer = answer?;
+    let answer = answer.expect(rt, "memory");
     let said = said(answer.as_ref());
     drop(answer);
-    Ok(said)
+    said
 }

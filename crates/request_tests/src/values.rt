@@ -1,134 +1,126 @@
 //! Values that the tests are given.
 
+ghost use Rattle.std.specs.Prelude.{◌≡◌};
+
 use fate_chain::{Author, Chain, Decree, ErrorCode, Final, Kind, Submission};
 use mc_types::{Ballot, Incarnation, Moment, MsgId, NodeNo};
 use pdu_codec::{Address, ShortMessage, Text, Tlvs};
 use requests::{Answer, Held, Request, Taken};
 use std::alloc::Global;
-use std::test::Fail;
+use std::process::Abort;
 use synod_acceptor::Vote;
 
 // The start of 2000.
 pub const BEGINNING: u32 = 946684800;
 
-pub fn node(number: u8) -> Result<NodeNo, Fail> {
-    Ok(NodeNo::make(number)?)
+pub fn node(rt: &impl Abort, number: u8) -> NodeNo {
+    NodeNo::make(number).expect(rt, "a node")
 }
 
-pub fn first() -> Result<Incarnation, Fail> {
-    Ok(Incarnation::make(1)?)
+pub fn first(rt: &impl Abort) -> Incarnation {
+    Incarnation::make(1).expect(rt, "an incarnation")
 }
 
 // So many seconds after the start of 2000.
-pub fn after(seconds: u16) -> Result<Moment, Fail> {
-    Ok(Moment::make(BEGINNING + seconds as u32)?)
+pub fn after(rt: &impl Abort, seconds: u32) -> Moment {
+    Moment::make(BEGINNING.saturating_add(seconds)).expect(rt, "a moment")
 }
 
 // The first message of the first node.
-pub fn id() -> Result<MsgId, Fail> {
-    Ok(MsgId::read(b"1000100001")?)
+pub fn id(rt: &impl Abort) -> MsgId {
+    MsgId::read(b"1000100001").expect(rt, "an id")
 }
 
-pub fn text<const LIMIT: usize>(alloc: Global, octets: &[u8]) -> Result<Text<LIMIT>, Fail> {
-    Ok(Text::make(alloc, octets)?.ok_or("a text")?)
+pub fn text<const LIMIT: usize>(rt: &impl Abort, alloc: Global, octets: &[u8]) -> Text<LIMIT> {
+    let text = Text::make(alloc, octets).expect(rt, "memory");
+    text.expect(rt, "a text")
 }
 
-fn address(alloc: Global, digits: &[u8]) -> Result<Address, Fail> {
-    Ok(Address {
+fn address(rt: &impl Abort, alloc: Global, digits: &[u8]) -> Address {
+    Address {
         ton: 1,
         npi: 1,
-        digits: text(alloc, digits)?,
-    })
+        digits: text(rt, alloc, digits),
+    }
 }
 
-fn short_text(alloc: Global, octets: &[u8]) -> Result<ShortMessage, Fail> {
-    Ok(ShortMessage::make(alloc, octets)?.ok_or("a text")?)
+fn short_text(rt: &impl Abort, alloc: Global, octets: &[u8]) -> ShortMessage {
+    let text = ShortMessage::make(alloc, octets).expect(rt, "memory");
+    text.expect(rt, "a text")
 }
 
 // A message of sme1 to itself, from 144 to 155, of three days.
-pub fn message(alloc: Global) -> Result<Submission, Fail> {
-    let schedule = Moment::make(BEGINNING)?;
-    let expiry = Moment::make(BEGINNING + 259200)?;
-    Ok(Submission {
-        submitter: text(alloc, b"sme1")?,
-        target: text(alloc, b"sme1")?,
-        service_type: text(alloc, b"")?,
-        source: address(alloc, b"144")?,
-        destination: address(alloc, b"155")?,
+pub fn message(rt: &impl Abort, alloc: Global) -> Submission {
+    Submission {
+        submitter: text(rt, alloc, b"sme1"),
+        target: text(rt, alloc, b"sme1"),
+        service_type: text(rt, alloc, b""),
+        source: address(rt, alloc, b"144"),
+        destination: address(rt, alloc, b"155"),
         esm_class: 0,
         protocol_id: 0,
         priority_flag: 0,
         registered_delivery: 1,
         data_coding: 0,
-        schedule,
-        expiry,
-        text: short_text(alloc, b"Hi")?,
+        schedule: after(rt, 0),
+        expiry: after(rt, 259200),
+        text: short_text(rt, alloc, b"Hi"),
         passed: Tlvs::empty(alloc),
-    })
+    }
 }
 
 // Its chain when it was taken.
-pub fn taken(alloc: Global) -> Result<Chain, Fail> {
-    Ok(Chain::begin(alloc, id()?, after(0)?, message(alloc)?)?)
+pub fn taken(rt: &impl Abort, alloc: Global) -> Chain {
+    let message = message(rt, alloc);
+    let chain = Chain::begin(alloc, id(rt), after(rt, 0), message);
+    chain.expect(rt, "a chain")
 }
 
-// With a decree of the first node behind it.
-fn behind(taken: &Chain, moment: Moment, kind: Kind) -> Result<Chain, Fail> {
-    let author = Author {
-        node: NodeNo::of(1),
-        incarnation: Incarnation::of(1),
-    };
-    Ok(taken.extended(Decree {
-        author,
-        moment,
+// Its chain with a decree of the first node behind it.
+fn behind(rt: &impl Abort, alloc: Global, kind: Kind) -> Chain {
+    let taken = taken(rt, alloc);
+    let chain = taken.extended(Decree {
+        author: Author {
+            node: NodeNo::of(1),
+            incarnation: Incarnation::of(1),
+        },
+        moment: after(rt, 1),
         kind,
-    })?)
-}
-
-// With a first attempt.
-pub fn tried(alloc: Global) -> Result<Chain, Fail> {
-    let moment = after(1)?;
-    let taken = taken(alloc)?;
-    let tried = behind(&taken, moment, Kind::Attempt(1));
+    });
     drop(taken);
-    tried
+    chain.expect(rt, "a chain")
 }
 
-// Deleted before any attempt.
-pub fn deleted(alloc: Global) -> Result<Chain, Fail> {
-    let error = ErrorCode::make(0).ok_or("an error")?;
-    let moment = after(1)?;
-    let taken = taken(alloc)?;
-    let deleted = behind(&taken, moment, Kind::Fate(Final::Deleted, error));
-    drop(taken);
-    deleted
-}
-
-pub fn query(alloc: Global, account: &[u8]) -> Result<Held, Fail> {
-    let (id, since) = (id()?, after(0)?);
+// A query_sm of this account that waits under a ticket.
+pub fn asking(rt: &impl Abort, alloc: Global, ticket: u64, account: &[u8]) -> Held
+    ensures { result.waiting.ticket ≡ ticket }
+{
     let request = Request::Query {
-        id,
-        account: text(alloc, account)?,
-        source: text(alloc, b"144")?,
+        id: id(rt),
+        account: text(rt, alloc, account),
+        source: text(rt, alloc, b"144"),
     };
-    Ok(Held::begin(1, since, request))
+    Held::begin(ticket, after(rt, 0), request)
 }
 
-pub fn cancel(alloc: Global, destination: &[u8]) -> Result<Held, Fail> {
-    let (id, since) = (id()?, after(0)?);
+pub fn query(rt: &impl Abort, alloc: Global, account: &[u8]) -> Held {
+    asking(rt, alloc, 1, account)
+}
+
+pub fn cancel(rt: &impl Abort, alloc: Global, destination: &[u8]) -> Held {
     let request = Request::Cancel {
-        id,
-        account: text(alloc, b"sme1")?,
-        source: text(alloc, b"144")?,
-        destination: text(alloc, destination)?,
+        id: id(rt),
+        account: text(rt, alloc, b"sme1"),
+        source: text(rt, alloc, b"144"),
+        destination: text(rt, alloc, destination),
     };
-    Ok(Held::begin(1, since, request))
+    Held::begin(1, after(rt, 0), request)
 }
 
-pub fn submit(alloc: Global) -> Result<Held, Fail> {
-    let since = after(0)?;
-    let taken = Taken::make(alloc, id()?, since, message(alloc)?)?;
-    Ok(Held::begin(1, since, Request::Submit(taken)))
+pub fn submit(rt: &impl Abort, alloc: Global) -> Held {
+    let since = after(rt, 0);
+    let taken = Taken::make(alloc, id(rt), since, message(rt, alloc)).expect(rt, "a message");
+    Held::begin(1, since, Request::Submit(taken))
 }
 
 // What is known of the message.
@@ -140,21 +132,25 @@ pub enum Known {
     Deleted,
 }
 
-pub fn chain(alloc: Global, known: Known) -> Result<Option<Chain>, Fail> {
+// Its chain: as it was taken, with a first attempt, or deleted before any.
+pub fn chain(rt: &impl Abort, alloc: Global, known: Known) -> Option<Chain> {
     match known {
-        Known::Nothing => Ok(None),
-        Known::Taken => Ok(Some(taken(alloc)?)),
-        Known::Tried => Ok(Some(tried(alloc)?)),
-        Known::Deleted => Ok(Some(deleted(alloc)?)),
+        Known::Nothing => None,
+        Known::Taken => Some(taken(rt, alloc)),
+        Known::Tried => Some(behind(rt, alloc, Kind::Attempt(1))),
+        Known::Deleted => {
+            let fate = Kind::Fate(Final::Deleted, ErrorCode::of(0));
+            Some(behind(rt, alloc, fate))
+        }
     }
 }
 
 // A vote for its chain, at the ballot of round 1 of node 1.
-pub fn vote_for(alloc: Global, known: Known) -> Result<Option<Vote>, Fail> {
-    let ballot = Ballot::of_number(262161)?;
-    match chain(alloc, known)? {
-        Some(chain) => Ok(Some(Vote { ballot, chain })),
-        None => Ok(None),
+pub fn vote_for(rt: &impl Abort, alloc: Global, known: Known) -> Option<Vote> {
+    let ballot = Ballot::of_number(262161).expect(rt, "a ballot");
+    match chain(rt, alloc, known) {
+        Some(chain) => Some(Vote { ballot, chain }),
+        None => None,
     }
 }
 
@@ -174,10 +170,9 @@ pub fn said(answer: Option<&Answer>) -> (&'static str, u8) {
 }
 
 // A node tells of a vote for this chain.
-pub fn tell(alloc: Global, held: &mut Held, from: u8, known: Known) -> Result<(), Fail> {
-    let from = node(from)?;
-    let told = vote_for(alloc, known)?;
-    let heard = held.hear(from, told.as_ref());
+pub fn tell(rt: &impl Abort, alloc: Global, held: &mut Held, from: u8, known: Known) {
+    let told = vote_for(rt, alloc, known);
+    let heard = held.hear(node(rt, from), told.as_ref());
     drop(told);
-    Ok(heard?)
+    heard.expect(rt, "memory");
 }

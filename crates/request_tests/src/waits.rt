@@ -1,10 +1,10 @@
 //! What happens to a queue in which one request waits, in a cluster of three nodes.
 
+use crate::same::assert_same;
 use crate::values::{Known, after, chain, first, id, message, node, said, taken, tell, vote_for};
-use mc_types::MsgId;
 use requests::{Held, Queue, Reply};
 use std::alloc::Global;
-use std::test::Fail;
+use std::process::Abort;
 
 // What happens, and what is to come of it. Seconds are those after the start of 2000.
 #[derive(Clone, Copy)]
@@ -14,151 +14,149 @@ pub enum Wait {
     // How many questions the first node asks for it.
     Asks(usize),
     // Whether it is a submit_sm that starts the round of its chain after so many seconds.
-    Starts(u16, bool),
+    Starts(u32, bool),
     // Whether the message is to be deleted once this chain is known, and after so many seconds.
     CancelsThen(Known, bool),
-    Cancels(u16, bool),
+    Cancels(u32, bool),
     // The place of the vote that is shown where this one was told.
     Shown(Known, Option<u8>),
     // What it is told once this chain is known, or after so many seconds, and how many wait then.
     Concluded(Known, &'static str, usize),
-    Expired(u16, &'static str, usize),
+    Expired(u32, &'static str, usize),
     // The request of a ticket is taken away, and how many wait then.
     Removed(u64, usize),
 }
 
-// The number of the first of these of which something else comes, from 0.
-pub fn otherwise(alloc: Global, held: Held, waits: &[Wait]) -> Result<Option<usize>, Fail> {
-    let mut queue = alone(alloc, held)?;
-    let otherwise = otherwise_in(alloc, &mut queue, waits);
-    drop(queue);
-    otherwise
+// That it comes of each of these, one after the other, in a queue in which this request waits alone.
+pub fn assert_waits(rt: &impl Abort, alloc: Global, held: Held, waits: &[Wait]) {
+    let mut queue = alone(rt, alloc, held);
+    for (number, wait) in waits.iter().enumerate() {
+        let comes = comes(rt, alloc, &mut queue, *wait);
+        assert_same(rt, &(number, comes), &(number, true));
+    }
 }
 
 // A queue in which this request waits alone.
-pub fn alone(alloc: Global, held: Held) -> Result<Queue, Fail> {
-    let held = Box::new(alloc, held)?;
-    let mut queue = Queue::make(alloc)?;
+pub fn alone(rt: &impl Abort, alloc: Global, held: Held) -> Queue {
+    let held = Box::new(alloc, held).expect(rt, "memory");
+    let mut queue = Queue::make(alloc).expect(rt, "memory");
     queue.push(held);
-    Ok(queue)
-}
-
-fn otherwise_in(alloc: Global, queue: &mut Queue, waits: &[Wait]) -> Result<Option<usize>, Fail> {
-    for (number, wait) in waits.iter().enumerate() {
-        if !comes(alloc, queue, *wait)? {
-            return Ok(Some(number));
-        }
-    }
-    Ok(None)
+    queue
 }
 
 // Whether it comes of this.
-fn comes(alloc: Global, queue: &mut Queue, wait: Wait) -> Result<bool, Fail> {
+fn comes(rt: &impl Abort, alloc: Global, queue: &mut Queue, wait: Wait) -> bool {
     match wait {
         Wait::Told(from, known) => {
-            let told = told(alloc, queue.at(1).ok_or("a request")?, from, known)?;
-            queue.replace(told);
-            Ok(true)
+            tell_at(rt, alloc, queue, 1, (from, known));
+            true
         }
-        Wait::Asks(count) => Ok(questions(queue)? == count),
-        Wait::Starts(seconds, wanted) => Ok(starts(alloc, queue, seconds)? == wanted),
-        Wait::CancelsThen(known, cancels) => Ok(cancels_then(alloc, queue, known)? == cancels),
-        Wait::Cancels(seconds, cancels) => Ok(cancels_it(alloc, queue, seconds)? == cancels),
-        Wait::Shown(known, place) => Ok(shown(alloc, queue, known)? == place),
-        Wait::Concluded(known, word, left) => Ok(conclude(alloc, queue, known)? == (word, left)),
-        Wait::Expired(seconds, word, left) => Ok(expire(queue, seconds)? == (word, left)),
+        Wait::Asks(count) => questions(rt, queue) == count,
+        Wait::Starts(seconds, wanted) => starts(rt, alloc, queue, seconds) == wanted,
+        Wait::CancelsThen(known, cancels) => cancels_then(rt, alloc, queue, known) == cancels,
+        Wait::Cancels(seconds, cancels) => cancels_it(rt, alloc, queue, seconds) == cancels,
+        Wait::Shown(known, place) => shown(rt, alloc, queue, known) == place,
+        Wait::Concluded(known, word, left) => conclude(rt, alloc, queue, known) == (word, left),
+        Wait::Expired(seconds, word, left) => expire(rt, queue, seconds) == (word, left),
         Wait::Removed(ticket, left) => {
             queue.remove(ticket);
-            Ok(queue.len() == left)
+            queue.len() == left
         }
     }
 }
 
-// A copy of a request, once a node told it of a vote.
-fn told(alloc: Global, held: &Held, from: u8, known: Known) -> Result<Box<Held>, Fail> {
-    let mut copy = Box::new(alloc, held.copy()?)?;
-    match tell(alloc, &mut copy, from, known) {
-        Ok(()) => Ok(copy),
-        Err(fail) => {
-            drop(copy);
-            Err(fail)
-        }
-    }
+// A node tells the request of this ticket of a vote for a chain.
+pub fn tell_at(
+    rt: &impl Abort,
+    alloc: Global,
+    queue: &mut Queue,
+    ticket: u64,
+    (from, known): (u8, Known),
+) {
+    let held = queue.at(ticket).expect(rt, "a request");
+    let copy = held.copy().expect(rt, "memory");
+    let mut told = Box::new(alloc, copy).expect(rt, "memory");
+    tell(rt, alloc, &mut told, from, known);
+    queue.replace(told);
 }
 
-fn questions(queue: &Queue) -> Result<usize, Fail> {
-    let (clock, asker, incarnation) = (after(29)?, node(1)?, first()?);
-    let questions = queue.questions(clock, asker, incarnation, 3)?;
+fn questions(rt: &impl Abort, queue: &Queue) -> usize {
+    let questions = queue.questions(after(rt, 29), node(rt, 1), first(rt), 3);
+    let questions = questions.expect(rt, "memory");
     let count = questions.len();
     drop(questions);
-    Ok(count)
+    count
 }
 
-fn starts(alloc: Global, queue: &Queue, seconds: u16) -> Result<bool, Fail> {
-    let Some(chain) = queue.taken(after(seconds)?, id()?) else {
-        return Ok(false);
+// The chain that starts is the one that was taken.
+fn starts(rt: &impl Abort, alloc: Global, queue: &Queue, seconds: u32) -> bool {
+    let Some(chain) = queue.taken(after(rt, seconds), id(rt)) else {
+        return false;
     };
-    let taken = taken(alloc)?;
+    let taken = taken(rt, alloc);
     let is_taken = chain.is(&taken);
     drop(taken);
-    if is_taken {
-        return Ok(true);
-    }
-    Err("the chain that was taken".into())
+    assert_same(rt, &is_taken, &true);
+    true
 }
 
-fn cancels_then(alloc: Global, queue: &Queue, known: Known) -> Result<bool, Fail> {
-    let known = chain(alloc, known)?.ok_or("a chain")?;
+fn cancels_then(rt: &impl Abort, alloc: Global, queue: &Queue, known: Known) -> bool {
+    let known = chain(rt, alloc, known).expect(rt, "a chain");
     let cancels = queue.cancels_then(3, &known);
     drop(known);
-    Ok(cancels)
+    cancels
 }
 
-fn cancels_it(alloc: Global, queue: &Queue, seconds: u16) -> Result<bool, Fail> {
-    let (clock, about) = (after(seconds)?, id()?);
-    let message = message(alloc)?;
-    let cancels = queue.cancels(clock, about, &message);
+fn cancels_it(rt: &impl Abort, alloc: Global, queue: &Queue, seconds: u32) -> bool {
+    let message = message(rt, alloc);
+    let cancels = queue.cancels(after(rt, seconds), id(rt), &message);
     drop(message);
-    Ok(cancels)
+    cancels
 }
 
-fn shown(alloc: Global, queue: &Queue, known: Known) -> Result<Option<u8>, Fail> {
-    let (clock, about) = (after(29)?, id()?);
-    let told = vote_for(alloc, known)?;
-    let place = match queue.shown(clock, about, told.as_ref()) {
+fn shown(rt: &impl Abort, alloc: Global, queue: &Queue, known: Known) -> Option<u8> {
+    let told = vote_for(rt, alloc, known);
+    let place = match queue.shown(after(rt, 29), id(rt), told.as_ref()) {
         Some(vote) => Some(vote.chain.place()),
         None => None,
     };
     drop(told);
-    Ok(place)
+    place
 }
 
-fn conclude(alloc: Global, queue: &mut Queue, known: Known) -> Result<(&'static str, usize), Fail> {
-    let about = id()?;
-    let known = chain(alloc, known)?.ok_or("a chain")?;
+// The replies once this chain is known, and those requests are taken away.
+pub fn replies_at(rt: &impl Abort, alloc: Global, queue: &mut Queue, known: Known) -> Vec<Reply> {
+    let known = chain(rt, alloc, known).expect(rt, "a chain");
     let replies = queue.replies(3, &known);
     queue.settle(3, &known);
     drop(known);
-    Ok((only(replies?, about)?, queue.len()))
+    replies.expect(rt, "memory")
 }
 
-fn expire(queue: &mut Queue, seconds: u16) -> Result<(&'static str, usize), Fail> {
-    let (clock, about) = (after(seconds)?, id()?);
-    let replies = queue.late(clock)?;
+fn conclude(
+    rt: &impl Abort,
+    alloc: Global,
+    queue: &mut Queue,
+    known: Known,
+) -> (&'static str, usize) {
+    let replies = replies_at(rt, alloc, queue, known);
+    (only(rt, replies), queue.len())
+}
+
+fn expire(rt: &impl Abort, queue: &mut Queue, seconds: u32) -> (&'static str, usize) {
+    let clock = after(rt, seconds);
+    let replies = queue.late(clock).expect(rt, "memory");
     queue.expire(clock);
-    Ok((only(replies, about)?, queue.len()))
+    (only(rt, replies), queue.len())
 }
 
-// What the only reply says, which is to ticket 1 and about this message.
-fn only(replies: Vec<Reply>, about: MsgId) -> Result<&'static str, Fail> {
+// What the only reply says, which is to ticket 1 and about the message.
+fn only(rt: &impl Abort, replies: Vec<Reply>) -> &'static str {
     let word = match replies.as_slice() {
-        [] => Some("waits"),
-        [reply] if reply.ticket == 1 && reply.id == about => {
-            let (word, _place) = said(Some(&reply.answer));
-            Some(word)
-        }
-        _ => None,
+        [] => "waits",
+        [reply] if reply.ticket == 1 && reply.id == id(rt) => said(Some(&reply.answer)).0,
+        _ => panic!(rt; "one reply to ticket 1"),
     };
     drop(replies);
-    Ok(word.ok_or("one reply to ticket 1")?)
+    word
 }

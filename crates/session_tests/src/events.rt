@@ -7,114 +7,136 @@ use accounts::Accounts;
 use pdu_codec::{Pdu, decode, read_header};
 use sessions::{OpenRequest, Reaction, Requested, Session};
 use std::alloc::Global;
-use std::test::Fail;
+use std::process::Abort;
 
-/// What comes of a PDU; none if memory is wanting.
-fn served(accounts: &Accounts, session: &mut Session, pdu: &Pdu) -> Option<Reaction> {
-    session.on_pdu(accounts, pdu).ok()
+/// What comes of a PDU. It is let go by a call, which makes the proof shorter.
+fn served(rt: &impl Abort, accounts: &Accounts, session: &mut Session, pdu: Pdu) -> Reaction {
+    let reaction = session.on_pdu(accounts, &pdu);
+    drop(pdu);
+    reaction.expect(rt, "memory")
 }
 
-/// What comes of these octets; none if memory is wanting.
+/// What comes of these octets.
 pub fn came(
+    rt: &impl Abort,
     alloc: Global,
     accounts: &Accounts,
     session: &mut Session,
     octets: &[u8],
-) -> Option<Reaction> {
+) -> Reaction {
     let Some(header) = read_header(octets) else {
-        return Some(session.on_wrong_length());
+        return session.on_wrong_length();
     };
     match decode(alloc, octets) {
-        Ok(pdu) => {
-            let reaction = served(accounts, session, &pdu);
-            drop(pdu);
-            reaction
-        }
-        Err(fault) => Some(session.on_fault(header, fault)),
+        Ok(pdu) => served(rt, accounts, session, pdu),
+        Err(fault) => session.on_fault(header, fault),
     }
+}
+
+/// What comes of these octets, as digits.
+pub fn came_of(
+    rt: &impl Abort,
+    alloc: Global,
+    accounts: &Accounts,
+    session: &mut Session,
+    digits: &str,
+) -> Reaction {
+    let octets = hex::decode(alloc, digits).expect(rt, "digits");
+    let reaction = came(rt, alloc, accounts, session, &octets);
+    drop(octets);
+    reaction
+}
+
+fn number(rt: &impl Abort, word: &str) -> u32 {
+    word.parse().expect(rt, "a number")
+}
+
+/// `new STATE`: what is seen of another session, in this state.
+fn anew(
+    rt: &impl Abort,
+    alloc: Global,
+    accounts: &Accounts,
+    session: &mut Session,
+    state: &str,
+) -> String {
+    *session = Session::make(alloc).expect(rt, "memory");
+    bring(rt, alloc, accounts, session, state);
+    see(rt, alloc, session)
 }
 
 /// `pdu NAME`: what is sent.
 fn pdu(
+    rt: &impl Abort,
     alloc: Global,
     accounts: &Accounts,
     session: &mut Session,
     name: &str,
-) -> Result<String, Fail> {
-    let octets = hex::decode(alloc, digits_of(name)?)?;
-    match came(alloc, accounts, session, &octets) {
-        Some(reaction) => word_of(alloc, &reaction),
-        None => Err("memory".into()),
-    }
+) -> String {
+    let reaction = came_of(rt, alloc, accounts, session, digits_of(rt, name));
+    word_of(rt, alloc, reaction)
 }
 
 /// `wait TICKET`: whether the query_sm of sequence_number 3 waits under it.
-fn wait(alloc: Global, session: &mut Session, ticket: &str) -> Result<String, Fail> {
-    let request = OpenRequest {
-        ticket: ticket.parse()?,
+fn wait(rt: &impl Abort, alloc: Global, session: &mut Session, ticket: &str) -> String {
+    let waits = session.on_wait(OpenRequest {
+        ticket: u64::from(number(rt, ticket)),
         requested: Requested::QuerySm,
         sequence: 3,
-    };
-    let waits = session.on_wait(request);
-    Ok(format!(in alloc; "{waits}")?)
+    });
+    format!(in alloc; "{waits}").expect(rt, "memory")
 }
 
 /// `reply TICKET`: which request is answered.
-fn reply(alloc: Global, session: &mut Session, ticket: &str) -> Result<String, Fail> {
-    let request = session.on_reply(ticket.parse()?);
-    word_of_request(alloc, request.as_ref())
+fn reply(rt: &impl Abort, alloc: Global, session: &mut Session, ticket: &str) -> String {
+    let request = session.on_reply(u64::from(number(rt, ticket)));
+    word_of_request(rt, alloc, request)
 }
 
 /// `push SECONDS`: the sequence_number, or why there is none.
-fn push(alloc: Global, session: &mut Session, seconds: &str) -> Result<String, Fail> {
-    let pushed = session.push_request(at(seconds.parse()?)?, attempt()?);
-    Ok(format!(in alloc; "{pushed:?}")?)
+fn push(rt: &impl Abort, alloc: Global, session: &mut Session, seconds: &str) -> String {
+    let pushed = session.push_request(at(rt, number(rt, seconds)), attempt(rt));
+    format!(in alloc; "{pushed:?}").expect(rt, "memory")
 }
 
 /// `tick SECONDS`: which pushed requests are given up.
-fn tick(alloc: Global, session: &mut Session, seconds: &str) -> Result<String, Fail> {
-    let moment = at(seconds.parse()?)?;
-    match session.on_tick(moment) {
-        Ok(abandoned) => word_of_abandoned(alloc, &abandoned),
-        Err(_) => Err("memory".into()),
-    }
+fn tick(rt: &impl Abort, alloc: Global, session: &mut Session, seconds: &str) -> String {
+    let abandoned = session.on_tick(at(rt, number(rt, seconds)));
+    word_of_abandoned(rt, alloc, abandoned.expect(rt, "memory"))
 }
 
 /// `see WHAT`: the state, whether the ESME knows optional parameters, how many requests wait each way, the account.
-fn see(alloc: Global, session: &Session) -> Result<String, Fail> {
+fn see(rt: &impl Abort, alloc: Global, session: &Session) -> String {
     let known = session
         .account()
         .is_some_and(|account| account.octets() == b"sme1".as_slice());
-    Ok(format!(in alloc;
+    let told = format!(in alloc;
         "{:?} {} {} {} {known}",
         session.state(),
         session.knows_optional(),
         session.requests().len(),
         session.pushed().len()
-    )?)
+    );
+    told.expect(rt, "memory")
 }
 
 /// What comes of an event.
 pub fn event(
+    rt: &impl Abort,
     alloc: Global,
     accounts: &Accounts,
     session: &mut Session,
     event: &str,
-) -> Result<String, Fail> {
-    let (kind, rest) = event.split_once(' ').ok_or("two words")?;
+) -> String {
+    let (kind, rest) = event.split_once(' ').expect(rt, "two words");
     match kind {
-        "new" => {
-            *session = Session::make(alloc)?;
-            bring(alloc, accounts, session, rest)?;
-            see(alloc, session)
-        }
-        "pdu" => pdu(alloc, accounts, session, rest),
-        "wait" => wait(alloc, session, rest),
-        "reply" => reply(alloc, session, rest),
-        "push" => push(alloc, session, rest),
-        "tick" => tick(alloc, session, rest),
-        "fail" => word_of_abandoned(alloc, &session.fail()),
-        "see" => see(alloc, session),
-        _ => Err("an event".into()),
+        "new" => anew(rt, alloc, accounts, session, rest),
+        "pdu" => pdu(rt, alloc, accounts, session, rest),
+        "wait" => wait(rt, alloc, session, rest),
+        "reply" => reply(rt, alloc, session, rest),
+        "push" => push(rt, alloc, session, rest),
+        "tick" => tick(rt, alloc, session, rest),
+        "fail" => word_of_abandoned(rt, alloc, session.fail()),
+        "see" => see(rt, alloc, session),
+        _ => panic!(rt; "an event"),
     }
 }

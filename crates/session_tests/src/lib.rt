@@ -8,6 +8,8 @@ mod names;
 #[cfg(test)]
 mod rows;
 #[cfg(test)]
+mod same;
+#[cfg(test)]
 mod sessions_by_rows;
 #[cfg(test)]
 mod values;

@@ -1,16 +1,16 @@
 //! The octets of the PDUs that come, by their names.
 
-use std::test::Fail;
+use std::process::Abort;
 
 /// The octets that a name stands for, as digits.
-pub fn digits_of(name: &str) -> Result<&'static str, Fail> {
+pub fn digits_of(rt: &impl Abort, name: &str) -> &'static str {
     for line in PDUS.lines() {
-        let (known, digits) = line.split_once(' ').ok_or("a name and digits")?;
+        let (known, digits) = line.split_once(' ').expect(rt, "a name and digits");
         if known == name {
-            return Ok(digits);
+            return digits;
         }
     }
-    Err("a name".into())
+    panic!(rt; "a name")
 }
 
 /// A bind of sme1 with its password pw1 and interface_version 0x34, in each role.
@@ -56,6 +56,8 @@ bind_receiver_of_sme2 0000001e000000010000000000000001736d6532007077310000340000
 bind_transceiver_of_sme2 0000001e000000090000000000000001736d653200707731000034000000\n\
 bind_transmitter_of_sme3 0000001e000000020000000000000001736d653300707731000034000000\n\
 bind_transceiver_of_sme3 0000001e000000090000000000000001736d653300707731000034000000\n\
+bind_transceiver_of_the_longest_name 0000002e000000090000000000000001615f6c6f6e676573745f6e616d655f0070617373776f7264000034000000\n\
+bind_transceiver_of_the_longest_name_with_another_end 0000002e000000090000000000000001615f6c6f6e676573745f6e616d655f0070617373776f7265000034000000\n\
 bind_transceiver_of_0x33 0000001e000000090000000000000001736d653100707731000033000000\n\
 fifteen_octets 0000000f0000001500000000000000\n\
 longer_than_it_says 0000001000000015000000000000000700\n\

@@ -534,6 +534,11 @@ see - => Transceiver true 0 0 true\n\
 new Fresh => Fresh false 0 0 false\n\
 pdu bind_transceiver_of_0x33 => 0000001780000009000000000000000143454e54524500\n\
 see - => Transceiver false 0 0 true\n\
+new Fresh => Fresh false 0 0 false\n\
+pdu bind_transceiver_of_the_longest_name_with_another_end => 00000010800000090000000e00000001\n\
+see - => Fresh false 0 0 false\n\
+pdu bind_transceiver_of_the_longest_name => 0000001c80000009000000000000000143454e545245000210000134\n\
+see - => Transceiver true 0 0 false\n\
 ";
 
 /// The window of the requests of the ESME: requests that are asked and do not wait, then ten that do.

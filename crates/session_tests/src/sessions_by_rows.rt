@@ -2,84 +2,85 @@
 
 use crate::events::event;
 use crate::rows::{BINDS, FAULTS, GONE, PUSHES, REPLIES, TABLE, WINDOW};
+use crate::same::assert_same;
 use crate::values::accounts;
 use accounts::Accounts;
 use sessions::{Session, sequence_after};
 use std::alloc::Global;
-use std::test::Fail;
+use std::process::Abort;
 
-/// Whether what comes of the row's event is what the row says.
-fn holds(
+/// That what comes of the row's event is what the row says. With it comes the number of the row, from 0.
+fn assert_row(
+    rt: &impl Abort,
     alloc: Global,
     accounts: &Accounts,
     session: &mut Session,
-    row: &str,
-) -> Result<bool, Fail> {
+    (number, row): (usize, &str),
+) {
     let (happens, wanted) = row
         .split_once(" => ")
-        .ok_or("an event and what comes of it")?;
-    let told = event(alloc, accounts, session, happens)?;
-    Ok(told.as_str() == wanted)
+        .expect(rt, "an event and what comes of it");
+    let told = event(rt, alloc, accounts, session, happens);
+    assert_same(
+        rt,
+        &(number, happens, told.as_str()),
+        &(number, happens, wanted),
+    );
 }
 
-/// The first row that is not so.
-fn first_that_fails(alloc: Global, rows: &'static str) -> Result<Option<&'static str>, Fail> {
-    let accounts = accounts(alloc)?;
-    let mut session = Session::make(alloc)?;
+/// That there are so many rows, and that all of them are so, at one session.
+fn assert_rows(rt: &impl Abort, alloc: Global, rows: &str, wanted: usize) {
+    let accounts = accounts(rt, alloc);
+    let mut session = Session::make(alloc).expect(rt, "memory");
+    let mut count = 0;
     for row in rows.lines() {
-        if !holds(alloc, &accounts, &mut session, row)? {
-            return Ok(Some(row));
-        }
+        assert_row(rt, alloc, &accounts, &mut session, (count, row));
+        count = usize::saturating_add(count, 1);
     }
-    Ok(None)
+    assert_same(rt, &count, &wanted);
 }
 
 #[test]
-fn each_command_in_each_state(rt: HostRuntime) -> Result<(), Fail> {
-    assert_eq!(rt; TABLE.lines().count(), 4 * 95);
-    assert_eq!(rt; first_that_fails(rt.alloc(), TABLE)?, None);
-    Ok(())
+fn each_command_in_each_state(rt: HostRuntime) {
+    assert_rows(&rt, rt.alloc(), TABLE, 380);
 }
 
 #[test]
-fn each_fault_of_octets(rt: HostRuntime) -> Result<(), Fail> {
-    assert_eq!(rt; first_that_fails(rt.alloc(), FAULTS)?, None);
-    Ok(())
+fn each_fault_of_octets(rt: HostRuntime) {
+    assert_rows(&rt, rt.alloc(), FAULTS, 105);
 }
 
 #[test]
-fn each_refusal_of_a_bind(rt: HostRuntime) -> Result<(), Fail> {
-    assert_eq!(rt; first_that_fails(rt.alloc(), BINDS)?, None);
-    Ok(())
+fn each_refusal_of_a_bind(rt: HostRuntime) {
+    assert_rows(&rt, rt.alloc(), BINDS, 40);
 }
 
 #[test]
-fn eleventh_request(rt: HostRuntime) -> Result<(), Fail> {
-    assert_eq!(rt; first_that_fails(rt.alloc(), WINDOW)?, None);
-    Ok(())
+fn eleventh_request(rt: HostRuntime) {
+    assert_rows(&rt, rt.alloc(), WINDOW, 51);
 }
 
 #[test]
-fn replies_by_ticket(rt: HostRuntime) -> Result<(), Fail> {
-    assert_eq!(rt; first_that_fails(rt.alloc(), REPLIES)?, None);
-    Ok(())
+fn replies_by_ticket(rt: HostRuntime) {
+    assert_rows(&rt, rt.alloc(), REPLIES, 12);
 }
 
 #[test]
-fn pushed_requests(rt: HostRuntime) -> Result<(), Fail> {
-    assert_eq!(rt; first_that_fails(rt.alloc(), PUSHES)?, None);
-    Ok(())
+fn pushed_requests(rt: HostRuntime) {
+    assert_rows(&rt, rt.alloc(), PUSHES, 36);
 }
 
 #[test]
-fn sessions_that_are_gone(rt: HostRuntime) -> Result<(), Fail> {
-    assert_eq!(rt; first_that_fails(rt.alloc(), GONE)?, None);
-    Ok(())
+fn sessions_that_are_gone(rt: HostRuntime) {
+    assert_rows(&rt, rt.alloc(), GONE, 16);
 }
 
 #[test]
 fn sequence_numbers(rt: HostRuntime) {
-    assert_eq!(rt; sequence_after(1), 2);
-    assert_eq!(rt; sequence_after(0x7FFF_FFFE), 0x7FFF_FFFF);
-    assert_eq!(rt; sequence_after(0x7FFF_FFFF), 1);
+    let next = [
+        sequence_after(1),
+        sequence_after(0x7FFF_FFFE),
+        sequence_after(0x7FFF_FFFF),
+    ];
+    assert_same(&rt, &next, &[2, 0x7FFF_FFFF, 1]);
 }

@@ -1,74 +1,79 @@
 //! Values that the tests are given.
 
-use crate::events::came;
+use crate::events::came_of;
 use crate::names::{BIND_RECEIVER, BIND_TRANSCEIVER, BIND_TRANSMITTER};
 use accounts::{Account, Accounts};
 use mc_types::{Moment, MsgId, Slot};
 use pdu_codec::Text;
 use sessions::{Delivery, Session};
 use std::alloc::Global;
-use std::test::Fail;
+use std::process::Abort;
 
-pub fn text<const LIMIT: usize>(alloc: Global, octets: &[u8]) -> Result<Text<LIMIT>, Fail> {
-    Ok(Text::make(alloc, octets)?.ok_or("a text")?)
+pub fn text<const LIMIT: usize>(rt: &impl Abort, alloc: Global, octets: &[u8]) -> Text<LIMIT> {
+    let text = Text::make(alloc, octets).expect(rt, "memory");
+    text.expect(rt, "a text")
 }
 
-fn account(alloc: Global, name: &[u8], transmit: bool, receive: bool) -> Result<Account, Fail> {
-    Ok(Account {
-        system_id: text(alloc, name)?,
-        password: text(alloc, b"pw1")?,
+/// The system_id and the password of an account, and whether it may submit, and be delivered to.
+type Row = (&'static [u8], &'static [u8], bool, bool);
+
+/// That of 15 octets has a password of eight: the longest of both (SMPP 3.4, sections 5.2.1 and 5.2.2).
+const ACCOUNTS: &[Row] = &[
+    (b"sme1", b"pw1", true, true),
+    (b"sme2", b"pw1", true, false),
+    (b"sme3", b"pw1", false, true),
+    (b"a_longest_name_", b"password", true, true),
+];
+
+fn add(rt: &impl Abort, alloc: Global, accounts: &mut Accounts, row: Row) {
+    let (name, password, transmit, receive) = row;
+    let added = accounts.add(Account {
+        system_id: text(rt, alloc, name),
+        password: text(rt, alloc, password),
         transmit,
         receive,
-    })
+    });
+    added.expect(rt, "an account");
 }
 
-/// The accounts sme1, which may do both, sme2, which may submit, and sme3, which may be delivered to.
-pub fn accounts(alloc: Global) -> Result<Accounts, Fail> {
+pub fn accounts(rt: &impl Abort, alloc: Global) -> Accounts {
     let mut accounts = Accounts::make(alloc);
-    accounts.add(account(alloc, b"sme1", true, true)?)?;
-    accounts.add(account(alloc, b"sme2", true, false)?)?;
-    accounts.add(account(alloc, b"sme3", false, true)?)?;
-    Ok(accounts)
+    for row in ACCOUNTS {
+        add(rt, alloc, &mut accounts, *row);
+    }
+    accounts
 }
 
 /// So many seconds after the least moment.
-pub fn at(seconds: u32) -> Result<Moment, Fail> {
-    Ok(Moment::make(seconds.saturating_add(946684800))?)
+pub fn at(rt: &impl Abort, seconds: u32) -> Moment {
+    Moment::make(seconds.saturating_add(946684800)).expect(rt, "a moment")
 }
 
 /// The first attempt of the message 1000100001.
-pub fn attempt() -> Result<Delivery, Fail> {
-    let id = MsgId::read(b"1000100001")?;
-    Ok(Delivery::Attempt(Slot { id, place: 1 }))
+pub fn attempt(rt: &impl Abort) -> Delivery {
+    let id = MsgId::read(b"1000100001").expect(rt, "an id");
+    Delivery::Attempt(Slot { id, place: 1 })
 }
 
 /// Brings a session that is connected into a state.
 pub fn bring(
+    rt: &impl Abort,
     alloc: Global,
     accounts: &Accounts,
     session: &mut Session,
     state: &str,
-) -> Result<(), Fail> {
+) {
     match state {
-        "Fresh" => Ok(()),
-        "Transmitter" => bind(alloc, accounts, session, BIND_TRANSMITTER),
-        "Receiver" => bind(alloc, accounts, session, BIND_RECEIVER),
-        "Transceiver" => bind(alloc, accounts, session, BIND_TRANSCEIVER),
-        "Gone" => {
-            session.fail();
-            Ok(())
-        }
-        _ => Err("a state".into()),
+        "Fresh" => {}
+        "Transmitter" => bind(rt, alloc, accounts, session, BIND_TRANSMITTER),
+        "Receiver" => bind(rt, alloc, accounts, session, BIND_RECEIVER),
+        "Transceiver" => bind(rt, alloc, accounts, session, BIND_TRANSCEIVER),
+        "Gone" => drop(session.fail()),
+        _ => panic!(rt; "a state"),
     }
 }
 
-fn bind(
-    alloc: Global,
-    accounts: &Accounts,
-    session: &mut Session,
-    digits: &str,
-) -> Result<(), Fail> {
-    let octets = hex::decode(alloc, digits)?;
-    let bound = came(alloc, accounts, session, &octets).is_some();
-    if bound { Ok(()) } else { Err("memory".into()) }
+fn bind(rt: &impl Abort, alloc: Global, accounts: &Accounts, session: &mut Session, digits: &str) {
+    let answer = came_of(rt, alloc, accounts, session, digits);
+    drop(answer);
 }
