@@ -1,7 +1,7 @@
 //! Texts that are no configuration, and the lines that tell why.
 
 use crate::same::assert_same;
-use config::{ConfigFault, Key, read_config};
+use config::{ConfigFault, Key, Place, read_config};
 use std::alloc::Global;
 use std::process::Abort;
 
@@ -65,30 +65,64 @@ fn what_is_no_toml(rt: HostRuntime) {
 }
 
 const MISSING: &[Row] = &[
-    (b"", ConfigFault::Missing(Key::SystemId)),
-    (b"system_id = \"C\"\n", ConfigFault::Missing(Key::Node)),
+    (
+        b"",
+        ConfigFault::Missing(Place {
+            key: Key::SystemId,
+            row: 0,
+        }),
+    ),
+    (
+        b"system_id = \"C\"\n",
+        ConfigFault::Missing(Place {
+            key: Key::Node,
+            row: 0,
+        }),
+    ),
     (
         b"system_id = \"C\"\nnode = []\n",
-        ConfigFault::Missing(Key::Node),
+        ConfigFault::Missing(Place {
+            key: Key::Node,
+            row: 0,
+        }),
     ),
     (
         b"system_id = \"C\"\n[[node]]\nlisten = \"1.2.3.4:5\"\n",
-        ConfigFault::Missing(Key::NodeNumber),
+        ConfigFault::Missing(Place {
+            key: Key::NodeNumber,
+            row: 0,
+        }),
     ),
     (
         b"system_id = \"C\"\n[[node]]\nnumber = 1\n",
-        ConfigFault::Missing(Key::NodeListen),
+        ConfigFault::Missing(Place {
+            key: Key::NodeListen,
+            row: 0,
+        }),
     ),
 ];
 
 const MISSING_BEHIND: &[RowBehind] = &[
     (
         &["[[account]]\nsystem_id = \"a\"\ntransmit = true\nreceive = true\n"],
-        ConfigFault::Missing(Key::AccountPassword),
+        ConfigFault::Missing(Place {
+            key: Key::AccountPassword,
+            row: 0,
+        }),
     ),
     (
         &["[[route]]\nprefix = \"2\"\n"],
-        ConfigFault::Missing(Key::RouteAccount),
+        ConfigFault::Missing(Place {
+            key: Key::RouteAccount,
+            row: 0,
+        }),
+    ),
+    (
+        &[SME1, ROUTE, "[[route]]\nprefix = \"3\"\n"],
+        ConfigFault::Missing(Place {
+            key: Key::RouteAccount,
+            row: 1,
+        }),
     ),
 ];
 
@@ -101,69 +135,130 @@ fn what_is_missing(rt: HostRuntime) {
 const BAD: &[Row] = &[
     (
         b"system_id = 1\n[[node]]\nnumber = 1\nlisten = \"1.2.3.4:5\"\n",
-        ConfigFault::BadValue(Key::SystemId),
+        ConfigFault::BadValue(Place {
+            key: Key::SystemId,
+            row: 0,
+        }),
     ),
     (
         b"system_id = \"\"\n[[node]]\nnumber = 1\nlisten = \"1.2.3.4:5\"\n",
-        ConfigFault::BadValue(Key::SystemId),
+        ConfigFault::BadValue(Place {
+            key: Key::SystemId,
+            row: 0,
+        }),
     ),
     (
         b"system_id = \"0123456789abcdef\"\n[[node]]\nnumber = 1\nlisten = \"1.2.3.4:5\"\n",
-        ConfigFault::BadValue(Key::SystemId),
+        ConfigFault::BadValue(Place {
+            key: Key::SystemId,
+            row: 0,
+        }),
     ),
     (
         b"system_id = \"C\"\ndefault_validity = 0\n[[node]]\nnumber = 1\nlisten = \"1.2.3.4:5\"\n",
-        ConfigFault::BadValue(Key::DefaultValidity),
+        ConfigFault::BadValue(Place {
+            key: Key::DefaultValidity,
+            row: 0,
+        }),
     ),
     (
         b"system_id = \"C\"\nfirst_serial = 100000\n[[node]]\nnumber = 1\nlisten = \"1.2.3.4:5\"\n",
-        ConfigFault::BadValue(Key::FirstSerial),
+        ConfigFault::BadValue(Place {
+            key: Key::FirstSerial,
+            row: 0,
+        }),
     ),
     (
         b"system_id = \"C\"\nstop_after = -1\n[[node]]\nnumber = 1\nlisten = \"1.2.3.4:5\"\n",
-        ConfigFault::BadValue(Key::StopAfter),
+        ConfigFault::BadValue(Place {
+            key: Key::StopAfter,
+            row: 0,
+        }),
     ),
     (
         b"system_id = \"C\"\nnode = 1\n",
-        ConfigFault::BadValue(Key::Node),
+        ConfigFault::BadValue(Place {
+            key: Key::Node,
+            row: 0,
+        }),
     ),
     (
         b"system_id = \"C\"\n[[node]]\nnumber = 2\nlisten = \"1.2.3.4:5\"\n",
-        ConfigFault::BadValue(Key::NodeNumber),
+        ConfigFault::BadValue(Place {
+            key: Key::NodeNumber,
+            row: 0,
+        }),
     ),
     (
         b"system_id = \"C\"\n[[node]]\nnumber = 1\nlisten = \"1.2.3.4:05\"\n",
-        ConfigFault::BadValue(Key::NodeListen),
+        ConfigFault::BadValue(Place {
+            key: Key::NodeListen,
+            row: 0,
+        }),
     ),
     (
         b"system_id = \"C\"\n[[node]]\nnumber = 1\nlisten = \"1.2.3.256:5\"\n",
-        ConfigFault::BadValue(Key::NodeListen),
+        ConfigFault::BadValue(Place {
+            key: Key::NodeListen,
+            row: 0,
+        }),
     ),
     (
         b"system_id = \"C\"\n[[node]]\nnumber = 1\nlisten = \"localhost:5\"\n",
-        ConfigFault::BadValue(Key::NodeListen),
+        ConfigFault::BadValue(Place {
+            key: Key::NodeListen,
+            row: 0,
+        }),
     ),
 ];
 
 const BAD_BEHIND: &[RowBehind] = &[
-    (&["store = 1\n"], ConfigFault::BadValue(Key::NodeStore)),
+    (
+        &["store = 1\n"],
+        ConfigFault::BadValue(Place {
+            key: Key::NodeStore,
+            row: 0,
+        }),
+    ),
     (
         &[
             "[[account]]\nsystem_id = \"a\"\npassword = \"123456789\"\ntransmit = true\nreceive = true\n",
         ],
-        ConfigFault::BadValue(Key::AccountPassword),
+        ConfigFault::BadValue(Place {
+            key: Key::AccountPassword,
+            row: 0,
+        }),
     ),
     (
         &[
             "[[account]]\nsystem_id = \"a\"\npassword = \"\\u0000\"\ntransmit = true\nreceive = true\n",
         ],
-        ConfigFault::BadValue(Key::AccountPassword),
+        ConfigFault::BadValue(Place {
+            key: Key::AccountPassword,
+            row: 0,
+        }),
     ),
     (
         &["[[account]]\nsystem_id = \"a\"\npassword = \"\"\ntransmit = 1\nreceive = true\n"],
-        ConfigFault::BadValue(Key::AccountTransmit),
+        ConfigFault::BadValue(Place {
+            key: Key::AccountTransmit,
+            row: 0,
+        }),
     ),
-    (&[ROUTE], ConfigFault::BadValue(Key::RouteAccount)),
+    (
+        &[ROUTE],
+        ConfigFault::BadValue(Place {
+            key: Key::RouteAccount,
+            row: 0,
+        }),
+    ),
+    (
+        &[SME1, ROUTE, LOST],
+        ConfigFault::BadValue(Place {
+            key: Key::RouteAccount,
+            row: 1,
+        }),
+    ),
 ];
 
 #[test]
@@ -193,16 +288,34 @@ fn a_tenth_node(rt: HostRuntime) {
         fault_of_nodes(&rt, rt.alloc(), 10),
         fault_of_nodes(&rt, rt.alloc(), 11),
     );
-    let tenth = ConfigFault::BadValue(Key::Node);
+    let tenth = ConfigFault::BadValue(Place {
+        key: Key::Node,
+        row: 0,
+    });
     assert_same(&rt, &faults, &(None, Some(tenth)));
 }
 
 const TWICE: &[RowBehind] = &[
-    (&[NODE], ConfigFault::Repeated(Key::NodeNumber)),
-    (&[SME1, SME1], ConfigFault::Repeated(Key::AccountSystemId)),
+    (
+        &[NODE],
+        ConfigFault::Repeated(Place {
+            key: Key::NodeNumber,
+            row: 1,
+        }),
+    ),
+    (
+        &[SME1, SME1],
+        ConfigFault::Repeated(Place {
+            key: Key::AccountSystemId,
+            row: 1,
+        }),
+    ),
     (
         &[SME1, ROUTE, ROUTE],
-        ConfigFault::Repeated(Key::RoutePrefix),
+        ConfigFault::Repeated(Place {
+            key: Key::RoutePrefix,
+            row: 1,
+        }),
     ),
 ];
 
@@ -215,11 +328,17 @@ fn what_is_given_twice(rt: HostRuntime) {
 const OF_TWO: &[RowBehind] = &[
     (
         &[SME1, SME1, LOST],
-        ConfigFault::BadValue(Key::RouteAccount),
+        ConfigFault::BadValue(Place {
+            key: Key::RouteAccount,
+            row: 0,
+        }),
     ),
     (
         &[SME1, SME1, LOST, CUT],
-        ConfigFault::Missing(Key::RoutePrefix),
+        ConfigFault::Missing(Place {
+            key: Key::RoutePrefix,
+            row: 1,
+        }),
     ),
     (&[SME1, SME1, LOST, CUT, "route\n"], ConfigFault::NotToml),
 ];
@@ -233,18 +352,33 @@ fn the_lower_of_two_is_told(rt: HostRuntime) {
 const TOLD: &[(ConfigFault, &str)] = &[
     (ConfigFault::NotToml, "no TOML"),
     (
-        ConfigFault::Missing(Key::AccountPassword),
-        "missing: account.password",
+        ConfigFault::Missing(Place {
+            key: Key::AccountPassword,
+            row: 1,
+        }),
+        "missing: account.password (account 2)",
     ),
     (
-        ConfigFault::BadValue(Key::NodeListen),
-        "bad value: node.listen",
+        ConfigFault::BadValue(Place {
+            key: Key::NodeListen,
+            row: 0,
+        }),
+        "bad value: node.listen (node 1)",
     ),
     (
-        ConfigFault::Repeated(Key::RoutePrefix),
-        "given twice: route.prefix",
+        ConfigFault::Repeated(Place {
+            key: Key::RoutePrefix,
+            row: 39,
+        }),
+        "given twice: route.prefix (route 40)",
     ),
-    (ConfigFault::Missing(Key::SystemId), "missing: system_id"),
+    (
+        ConfigFault::Missing(Place {
+            key: Key::SystemId,
+            row: 0,
+        }),
+        "missing: system_id",
+    ),
     (ConfigFault::Memory, "there was not enough memory"),
 ];
 
