@@ -7,7 +7,10 @@ ghost use Rattle.pdu_bodies.specs.Forms.{MayHave, filling_at};
 ghost use Rattle.pdu_bodies.specs.Made.{IsMade};
 
 use crate::pdu::{BindAnswer, Query, QueryAnswer};
-use pdu_fields::{Field, MessageIdText, PduFault, Text, Tlvs, check_optional, nothing_at, octet_at, source_at, text_at};
+use pdu_fields::{
+    Field, MessageIdText, PduFault, Text, Tlvs, check_optional, nothing_at, octet_at, source_at,
+    text_at,
+};
 use pdu_tables::limits;
 use std::alloc::Global;
 

@@ -9,7 +9,10 @@ ghost use Rattle.pdu_bodies.specs.Made.{IsMade};
 ghost use Rattle.pdu_bodies.specs.Pieces as pieces;
 
 use crate::pdu::Message;
-use pdu_fields::{Address, AddressOctets, Field, HandlingOctets, PduFault, ServiceType, ShortMessage, Text, TimeText, Tlvs, check_optional, counted_at, destination_at, handling_at, source_at, text_at};
+use pdu_fields::{
+    Address, AddressOctets, Field, HandlingOctets, PduFault, ServiceType, ShortMessage, Text,
+    TimeText, Tlvs, check_optional, counted_at, destination_at, handling_at, source_at, text_at,
+};
 use pdu_tables::limits;
 use std::alloc::{AllocError, Global};
 

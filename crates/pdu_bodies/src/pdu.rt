@@ -1,6 +1,9 @@
 //! PDUs, and what their bodies have (SMPP 3.4, section 4).
 
-use pdu_fields::{Address, AddressRange, MessageIdText, Password, ServiceType, ShortMessage, SystemId, SystemType, TimeText, Tlvs};
+use pdu_fields::{
+    Address, AddressRange, MessageIdText, Password, ServiceType, ShortMessage, SystemId,
+    SystemType, TimeText, Tlvs,
+};
 use pdu_tables::Command;
 use std::fmt;
 

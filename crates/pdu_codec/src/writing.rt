@@ -143,7 +143,11 @@ fn put_message(out: &mut Vec<u8>, head: Head, message: &Message) -> Result<(), A
     )
 }
 
-fn put_message_id(out: &mut Vec<u8>, head: Head, message_id: &MessageIdText) -> Result<(), AllocError>
+fn put_message_id(
+    out: &mut Vec<u8>,
+    head: Head,
+    message_id: &MessageIdText,
+) -> Result<(), AllocError>
     ensures ok { OnOk result (out.new.items ≡ out.old.items
         ++ framed head.command head.status head.sequence (spellings message_id_parts (message_id_contents message_id.now))) }
     ensures err { OnErr result (out.new.items ≡ out.old.items) }

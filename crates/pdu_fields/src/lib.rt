@@ -17,6 +17,7 @@ pub use fields::{check_optional, counted_at, nothing_at, octet_at, octets_at, te
 pub use handling_octets::{HandlingOctets, handling_at};
 pub use text::{ShortMessage, Text};
 pub use texts::{
-    AddressDigits, AddressRange, MessageIdText, Password, ServiceType, SystemId, SystemType, TimeText,
+    AddressDigits, AddressRange, MessageIdText, Password, ServiceType, SystemId, SystemType,
+    TimeText,
 };
 pub use tlv::Tlvs;
