@@ -10,6 +10,7 @@ use Rattle.mc_model.specs.cluster.Steps.{Cluster, setup_of}
 use Rattle.node_model.specs.Attempts.{grant_refusal}
 use Rattle.node_model.specs.Granted.{is_open}
 use Rattle.node_laws.specs.Clusters.{KeptCluster, NodeInput, comes_to, kept_reached}
+use Rattle.fate_chain.specs.declared.chain.Chain.{Chain}
 use Rattle.synod_acceptor.specs.Packets.{packet_of}
 use Rattle.synod_acceptor.specs.declared.packet.Packet.{Packet as Sent}
 use Rattle.node_core.specs.StepFault.{StepFault}
@@ -17,7 +18,7 @@ use Rattle.node_core.specs.StepFault.TheVariants as causes
 use Rattle.node_core.specs.Input.{Input as Given}
 use Rattle.node_core.specs.Input.TheVariants as given
 use Rattle.node_core.specs.Attempting.{reason_of}
-use Rattle.node_core.specs.Steps.{IsFault as IsStepFault, input_of, refused_by}
+use Rattle.node_core.specs.Steps.{GrantsKnown, IsFault as IsStepFault, input_of, refused_by}
 use Rattle.sim_net.specs.Network.{numbered}
 use Rattle.sim_net.proofs.Numbers.{has_number, map_length, none_given, some_given}
 use Rattle.world.specs.declared.fault.WorldFault.{WorldFault}
@@ -26,7 +27,7 @@ use Rattle.world.specs.declared.given.Given.{Given as Gives}
 use Rattle.world.specs.declared.step.Step.{Step}
 use Rattle.world.specs.declared.step.Step.TheVariants as steps
 use Rattle.world.specs.Members.{DoesNotTake, HasTaken, IsSentIn, Keeps, fault_from}
-use Rattle.world.specs.Runs.{Comes, GoesOn, IsAt, IsFault, Leads, StaysAt, away, or_else, refusal_of, unsent}
+use Rattle.world.specs.Runs.{Comes, GoesOn, GrantsKnownBy, IsAt, IsFault, Leads, StaysAt, away, or_else, refusal_of, unsent}
 use Rattle.world.specs.Scenes.{Scene}
 use Rattle.world.proofs.Going.{stays}
 use Rattle.world.proofs.Leading.{not_taken, taken}
@@ -43,6 +44,7 @@ pub record IsInputOf (old : Scene) (step : Step) (node : ℕ) (input : Given) : 
   pub refused : (cluster : Cluster) (behind : List Packet) (inputs : List NodeInput) → IsAt cluster behind inputs old →
       refusal_of cluster (length behind) (after cluster inputs) step
       ≡ or_else (away cluster (after cluster inputs) node) (option_map fault_from (refused_by (setup_of cluster node) ((after cluster inputs).kept node) input))
+  pub grants : (w : KeptCluster) (granted : Option Chain) → GrantsKnown (w.kept node) input granted → GrantsKnownBy w step granted
 
 is_fault : (refused : Option StepFault) (cause : StepFault) (fault : WorldFault) → IsStepFault refused cause → fault ≡ fault_from cause
     → IsFault (option_map fault_from refused) fault
@@ -60,6 +62,7 @@ module _ (old new : Scene) (step : Step) (node : ℕ) (input : Given) (is : IsIn
         comes = is.comes cluster behind inputs now;
         at = it.at_then;
         gives = it.given_is;
+        granted = is.grants (after cluster inputs) gives.granted it.granted;
       }
 
   abbrev why : Cluster → List NodeInput → Option WorldFault
@@ -81,8 +84,8 @@ module _ (old new : Scene) (step : Step) (node : ℕ) (input : Given) (is : IsIn
 
   pub input_leads : (result : Result Gives WorldFault) → 1 ≤ node → IsSentIn old input → IfOk result (λ gives. HasTaken old node input gives new) →
       IfErr result (DoesNotTake old node input) → OnErr result (Keeps old new) → Leads old step result new
-  input_leads (Ok gives) least sent has does keeps = record { each = took gives sent has }
-  input_leads (Err fault) least sent has does keeps = record { each = did_not fault least does keeps }
+  input_leads (Ok gives) least sent has does keeps = record { fresh = tt; each = took gives sent has }
+  input_leads (Err fault) least sent has does keeps = record { fresh = keeps.fresh; each = did_not fault least does keeps }
 
 -- ---- requests, ticks, attempts
 
@@ -92,12 +95,14 @@ or_none (Some fault) = refl
 
 pub request_is : (old : Scene) (node : ℕ) (account : _) (request : _) → IsInputOf old (steps.Request node account request) node (given.Request account request)
 request_is old node account request = record {
+  grants = λ w granted known. known;
   comes = λ cluster behind inputs now. refl;
   refused = λ cluster behind inputs now. or_none _;
 }
 
 pub tick_is : (old : Scene) (node moment : ℕ) (up : _) → IsInputOf old (steps.Tick node moment up) node (given.Tick moment up)
 tick_is old node moment up = record {
+  grants = λ w granted known. known;
   comes = λ cluster behind inputs now. refl;
   refused = λ cluster behind inputs now. or_none _;
 }
@@ -110,6 +115,7 @@ granted_so (Some refusal) = refl
 
 pub grant_is : (old : Scene) (node id : ℕ) → IsInputOf old (steps.Grant node id) node (given.Grant id)
 grant_is old node id = record {
+  grants = λ w granted known. known;
   comes = λ cluster behind inputs now. refl;
   refused = λ cluster behind inputs now. ap (or_else (away cluster (after cluster inputs) node))
       (granted_so (grant_refusal (setup_of cluster node) ((after cluster inputs).kept node) id));
@@ -121,6 +127,7 @@ open_so false = refl
 
 pub answered_is : (old : Scene) (node : ℕ) (slot : _) (outcome : _) → IsInputOf old (steps.Answered node slot outcome) node (given.Answered slot outcome)
 answered_is old node slot outcome = record {
+  grants = λ w granted known. known;
   comes = λ cluster behind inputs now. refl;
   refused = λ cluster behind inputs now. ap (or_else (away cluster (after cluster inputs) node)) (open_so (is_open ((after cluster inputs).kept node) slot));
 }
@@ -149,6 +156,7 @@ module _ (cluster : Cluster) (behind : List Packet) (inputs : List NodeInput) (o
 pub deliver_is : (old : Scene) (number node : ℕ) (packet : Sent) → numbered old.packets number ≡ Some packet
     → IsInputOf old (steps.Deliver number node) node (given.Packet packet)
 deliver_is old number node packet is = record {
+  grants = λ w granted known. known;
   comes = λ cluster behind inputs now. (packet_of packet, number_is cluster behind inputs old now number packet is, refl);
   refused = λ cluster behind inputs now.
       ap (λ (o : Option WorldFault). or_else o (away cluster (after cluster inputs) node)) (unsent_some cluster behind inputs old now number packet is)

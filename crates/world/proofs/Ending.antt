@@ -159,6 +159,7 @@ pub crash_leads : (old new : Scene) (node number place : ℕ) (packet : Sent) (f
     IfOk result (λ gives. HasStopped old place packet (is_after found) gives new) → IfErr result (λ fault. fault ≡ faults.Memory) →
     OnErr result (Keeps old new) → Leads old (steps.Crash node number found) result new
 crash_leads old new node number place packet found (Ok gives) place_is packet_is up is is_up has fault keeps = record {
+  fresh = tt;
   each = λ cluster behind inputs now.
       let sent = number_is cluster behind inputs old now number packet packet_is in
       record {
@@ -168,9 +169,11 @@ crash_leads old new node number place packet found (Ok gives) place_is packet_is
         comes = (packet_of packet, sent, refl);
         at = stopped_at cluster behind inputs old new now node place packet (is_after found) gives place_is has (number_in _ _ _ sent);
         gives = stop_gives cluster behind inputs old new now node place packet (is_after found) gives place_is has;
+        granted = tt;
       };
 }
 crash_leads old new node number place packet found (Err fault) place_is packet_is up is is_up has memory keeps = record {
+  fresh = keeps.fresh;
   each = λ cluster behind inputs now. record {
     refused = subst (λ (o : Option WorldFault). IsFault o fault)
         (sym ((λ i. or_else (unsent_some cluster behind inputs old now number packet packet_is i) (away cluster (kept_reached cluster inputs) node))
@@ -183,6 +186,7 @@ pub restart_leads : (old new : Scene) (node place : ℕ) (result : Result Gives 
     IfOk result (λ gives. HasBegun old place gives new) → IfErr result (CantBegin old place) → OnErr result (Keeps old new) →
     Leads old (steps.Restart node) result new
 restart_leads old new node place (Ok gives) place_is has cant keeps = record {
+  fresh = tt;
   each = λ cluster behind inputs now. record {
     allowed =
         (λ i. or_else (present cluster behind inputs old now node place has.member (record { place_is = place_is; found = has.is.found }) i)
@@ -192,9 +196,11 @@ restart_leads old new node place (Ok gives) place_is has cant keeps = record {
     comes = refl;
     at = begun_at cluster behind inputs old new now node place gives place_is has;
     gives = begun_gives cluster behind inputs old new now node place gives place_is has;
+    granted = tt;
   };
 }
 restart_leads old new node place (Err fault) place_is has cant keeps = record {
+  fresh = keeps.fresh;
   each = λ cluster behind inputs now.
       let here = kept_reached cluster inputs in
       let is : IsPlace old node place cant.member = record { place_is = place_is; found = cant.is.found } in

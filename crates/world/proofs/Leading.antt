@@ -25,7 +25,7 @@ use Rattle.node_core.specs.StepFault.{StepFault}
 use Rattle.node_core.specs.Input.{Input as Given}
 use Rattle.node_core.specs.Input.TheVariants as given
 use Rattle.node_core.specs.Keeping.{kept_of}
-use Rattle.node_core.specs.Steps.{IsFault as IsStepFault, input_of, refused_by}
+use Rattle.node_core.specs.Steps.{GrantsKnown, IsFault as IsStepFault, input_of, refused_by}
 use Rattle.sim_net.specs.Network.{numbered}
 use Rattle.world.specs.declared.fault.WorldFault.{WorldFault}
 use Rattle.world.specs.declared.fault.WorldFault.TheVariants as faults
@@ -132,6 +132,7 @@ module _ (cluster : Cluster) (behind : List Packet) (inputs : List NodeInput) (o
     pub allowed : refused_by (setup_of cluster node) (here.kept node) input ≡ None
     pub at_then : IsAt cluster behind (comes_to node (input_at node input) ∷ inputs) new
     pub given_is : IsGiven gives (step_at cluster here (comes_to node (input_at node input))).outputs
+    pub granted : GrantsKnown (here.kept node) input gives.granted
 
   step_is : (node place : ℕ) (m : Placed) → IsPlace old node place m → m.up ≡ true → (input : Given) →
       step_by m input ≡ step_at cluster here (comes_to node (input_at node input))
@@ -163,6 +164,7 @@ module _ (cluster : Cluster) (behind : List Packet) (inputs : List NodeInput) (o
             member has.changed refl
             (has.sent.packets ∙ ap (λ (s : Stepped). map packet_of old.packets ++ s.outputs.packets) step);
         given_is = subst (λ (s : Stepped). IsGiven gives s.outputs) step has.sent.gives;
+        granted = subst (λ (k : Kept). GrantsKnown k input gives.granted) kept has.sent.granted;
       }
 
   -- ---- a step that is not taken

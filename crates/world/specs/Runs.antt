@@ -1,6 +1,6 @@
 -- The steps of a world of nodes of the code, as a run of a cluster of nodes by what they keep (own).
 use Rattle.std.specs.Prelude.{◌≡◌, ℕ, zero, suc, ◌+◌, ◌<◌, nat_lt, nat_le, ◌&&◌, not, Bool, true, false, List, [], ◌∷◌, ◌++◌, length, map}
-use Rattle.std.specs.Prelude.{reverse, option_map, Option, Some, None, Result, Ok, Err, if◌then◌else◌}
+use Rattle.std.specs.Prelude.{reverse, option_map, Option, Some, None, Result, Ok, Err, IfSome, OnErr, if◌then◌else◌}
 use Rattle.mc_model.specs.synod.Packet.{Packet}
 use Rattle.mc_model.specs.node.Input.{Crash, Delivery, Grant, Response, Restart, Tick}
 use Rattle.mc_model.specs.node.Outputs.{HasNumber, Outputs}
@@ -15,6 +15,7 @@ use Rattle.node_laws.specs.Clusters.{KeptCluster, MayHappen, NodeInput, comes_to
 use Rattle.delivery.specs.Kept.{outcome_kept}
 use Rattle.delivery.specs.Targets.{is_up}
 use Rattle.desk.specs.Arrivals.{requested}
+use Rattle.fate_chain.specs.declared.chain.Chain.{Chain}
 use Rattle.pdu_tables.specs.StatusCodes.{status_code}
 use Rattle.requests.specs.Replying.{reply_given}
 use Rattle.stable_store.specs.Stored.{AreSame, Listed}
@@ -23,7 +24,7 @@ use Rattle.synod_acceptor.specs.Records.{record_at}
 use Rattle.node_core.specs.Attempting.{reason_of}
 use Rattle.node_core.specs.Keeping.{kept_of}
 use Rattle.node_core.specs.Listing.{ListsRecorded}
-use Rattle.node_core.specs.Steps.{granted_of}
+use Rattle.node_core.specs.Steps.{IsKnown, granted_of}
 use Rattle.node_core.specs.Nodes.{Standing}
 use Rattle.node_core.specs.Stops.{is_after}
 use Rattle.sim_net.specs.Network.{numbered}
@@ -162,6 +163,16 @@ pub record IsSomewhere (w : Scene) : Type 0 where
 
 -- ---- from one step to the next
 
+-- what is given out of an attempt that is granted is the known chain of its message
+abbrev pub GrantsKnownBy : KeptCluster → Step → Option Chain → Type 0
+GrantsKnownBy w (steps.Deliver number node) granted = Unit {0}
+GrantsKnownBy w (steps.Request node account request) granted = Unit {0}
+GrantsKnownBy w (steps.Tick node moment up) granted = Unit {0}
+GrantsKnownBy w (steps.Grant node id) granted = IfSome granted (IsKnown (w.kept node) id)
+GrantsKnownBy w (steps.Answered node slot outcome) granted = Unit {0}
+GrantsKnownBy w (steps.Crash node number found) granted = Unit {0}
+GrantsKnownBy w (steps.Restart node) granted = Unit {0}
+
 -- The step was taken: this came to a node, and this is what the model's cluster gives out.
 pub record GoesOn (cluster : Cluster) (behind : List Packet) (inputs : List NodeInput) (step : Step) (given : Given) (new : Scene) : Type 0 where
   pub allowed : refusal_of cluster (length behind) (kept_reached cluster inputs) step ≡ None
@@ -169,6 +180,7 @@ pub record GoesOn (cluster : Cluster) (behind : List Packet) (inputs : List Node
   pub comes : Comes cluster (length behind) (kept_reached cluster inputs) step next
   pub at : IsAt cluster behind (next ∷ inputs) new
   pub gives : IsGiven given (step_at cluster (kept_reached cluster inputs) next).outputs
+  pub granted : GrantsKnownBy (kept_reached cluster inputs) step given.granted
 
 -- It was not taken, and nothing changed.
 pub record StaysAt (cluster : Cluster) (behind : List Packet) (inputs : List NodeInput) (step : Step) (fault : WorldFault) (new : Scene) : Type 0 where
@@ -179,8 +191,9 @@ abbrev pub Answers : Cluster → List Packet → List NodeInput → Step → Res
 Answers cluster behind inputs step (Ok given) new = GoesOn cluster behind inputs step given new
 Answers cluster behind inputs step (Err fault) new = StaysAt cluster behind inputs step fault new
 
--- Wherever the world stood in a run, the run goes on so.
+-- Wherever the world stood in a run, the run goes on so; a step that is not taken leaves also whether any was taken before.
 pub record Leads (old : Scene) (step : Step) (result : Result Given WorldFault) (new : Scene) : Type 0 where
+  pub fresh : OnErr result (new.fresh ≡ old.fresh)
   pub each : (cluster : Cluster) (behind : List Packet) (inputs : List NodeInput) → IsAt cluster behind inputs old
       → Answers cluster behind inputs step result new
 

@@ -4,7 +4,7 @@ use delivery::Outcome;
 use desk::Request;
 use mc_types::{Moment, MsgId, NodeNo, Slot};
 use node_core::Found;
-use pdu_codec::Text;
+use pdu_codec::SystemId;
 
 /// What happens in a world: one step of one node.
 #[derive(Drop)]
@@ -18,14 +18,14 @@ pub enum Step {
     /// cancel_sm.
     Request {
         node: NodeNo,
-        account: Text<16>,
+        account: SystemId,
         request: Request,
     },
     /// Time passes at a node: the moment, and the accounts of which a session may receive there.
     Tick {
         node: NodeNo,
         moment: Moment,
-        up: Vec<Text<16>>,
+        up: Vec<SystemId>,
     },
     /// The attempt in which the known chain of a message ends is asked for at a node.
     Grant {

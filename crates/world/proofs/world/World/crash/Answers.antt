@@ -1,3 +1,4 @@
+use Rattle.std.proofs.Common.{refl}
 use Rattle.world.proofs.Ending.{crash_leads, undelivered}
 use Rattle.world.proofs.Going.{stays}
 use Rattle.world.proofs.Placing.{keeps_all}
@@ -14,6 +15,7 @@ pub returns-in-Err : goal.returns-in-Err
 returns-in-Err c =
     let old = c.args.self.now in
     record {
+      fresh = refl;
       each = λ cluster behind inputs now. record {
         refused = undelivered old c.args.number c.args.node c.in-Err.fault c.addressed.ensures.least c.in-Err.ensures.fault cluster behind inputs now;
         at = stays cluster behind inputs old now old (keeps_all old);

@@ -1,4 +1,4 @@
-use Rattle.std.proofs.Common.{Result, Ok, Err, inr}
+use Rattle.std.proofs.Common.{Result, Ok, Err, inr, refl}
 use Rattle.std.specs.Prelude.{IfErr}
 use Rattle.node_core.specs.Input.{Input}
 use Rattle.node_core.specs.Input.TheVariants as given
@@ -30,6 +30,7 @@ pub returns-in-Err : goal.returns-in-Err
 returns-in-Err c =
     let old = c.args.self.now in
     record {
+      fresh = refl;
       each = λ cluster behind inputs now. record {
         refused = undelivered old c.args.number c.args.node c.in-Err.fault c.addressed.ensures.least c.in-Err.ensures.fault cluster behind inputs now;
         at = stays cluster behind inputs old now old (keeps_all old);
