@@ -19,19 +19,22 @@ use world::Given;
 pub struct Statement {
     pub id: MsgId,
     pub state: Final,
-    /// The chain of which it was told.
+    /// The chain of this message by which it was told.
     pub chain: Chain,
     /// The place of the step that told it in the list of steps, from 0.
     pub step: usize,
 }
 
 impl Model for Statement {
+    ghost use Rattle.std.specs.Prelude.{◌≡◌};
     ghost use Rattle.fate_chain.specs.Kinds.{final_of};
     ghost use Rattle.world_runs.specs.Statements.{Statement};
 
     ghost Value = { Statement };
 
     ghost view = { λ s. record { id = s.id; state = final_of s.state; chain = s.chain.decrees; step = s.step } };
+
+    ghost invariant = { λ s. s.chain.id ≡ s.id };
 }
 
 /// Adds what a step told: by its replies, and then by its receipts. An `Err` is want of memory.
@@ -83,6 +86,7 @@ fn add_chain(
     id: MsgId,
     chain: &Chain,
 ) -> Result<(), AllocError>
+    requires { chain.now.id ≡ id }
     ensures { OnOk result (statements.new.items ≡ statements.old.items ++ stated_of step id chain.now.decrees) }
 {
     let Some(state) = chain.fate() else {
