@@ -2,7 +2,7 @@
 
 use crate::lines::{longest_of_octets, repeated};
 use crate::same::assert_same;
-use script_lines::{Found, LineBuffer, MOST_OCTETS, ReadFault};
+use script_lines::{CountedReader, Found, LineBuffer, MOST_OCTETS, ReadFault};
 use std::alloc::Global;
 use std::io;
 use std::io::{ErrorKind, Read};
@@ -15,7 +15,7 @@ fn buffer(rt: &impl Abort, alloc: Global) -> LineBuffer {
 /// What is found in octets.
 fn found(rt: &impl Abort, alloc: Global, octets: &[u8]) -> Result<Found, ReadFault> {
     let mut buffer = buffer(rt, alloc);
-    let mut reader = octets;
+    let mut reader = CountedReader::make(octets);
     let found = buffer.find_line(&mut reader);
     drop(buffer);
     found
@@ -45,7 +45,7 @@ fn put_line(rt: &impl Abort, lines: &mut Vec<u8>, line: &[u8]) {
 fn is_taken<R: Read>(
     rt: &impl Abort,
     buffer: &mut LineBuffer,
-    reader: &mut R,
+    reader: &mut CountedReader<R>,
     lines: &mut Vec<u8>,
 ) -> bool {
     match buffer.find_line(reader).expect(rt, "a line") {
@@ -64,7 +64,12 @@ fn is_taken<R: Read>(
 }
 
 /// That a reader gives these lines, each with a bar after it.
-fn assert_barred<R: Read>(rt: &impl Abort, alloc: Global, reader: &mut R, wanted: &[u8]) {
+fn assert_barred<R: Read>(
+    rt: &impl Abort,
+    alloc: Global,
+    reader: &mut CountedReader<R>,
+    wanted: &[u8],
+) {
     let mut buffer = buffer(rt, alloc);
     let mut lines = Vec::new(alloc);
     for _ in 0..9 {
@@ -102,12 +107,13 @@ impl Read for Slow<'_> {
 #[test]
 fn lines_come_at_any_pace(rt: HostRuntime) {
     let text = b"nodes 1\n\n#\nsettle";
-    let mut slow = Slow {
+    let mut whole = CountedReader::make(text.as_slice());
+    let mut slow = CountedReader::make(Slow {
         text,
         interrupted: false,
-    };
+    });
     let wanted = b"nodes 1||#|settle|";
-    assert_barred(&rt, rt.alloc(), &mut text.as_slice(), wanted);
+    assert_barred(&rt, rt.alloc(), &mut whole, wanted);
     assert_barred(&rt, rt.alloc(), &mut slow, wanted);
 }
 
@@ -115,10 +121,10 @@ fn lines_come_at_any_pace(rt: HostRuntime) {
 fn a_line_of_1000_octets_comes_one_by_one(rt: HostRuntime) {
     let alloc = rt.alloc();
     let text = repeated(&rt, alloc, b'#', 1000);
-    let mut slow = Slow {
+    let mut slow = CountedReader::make(Slow {
         text: text.as_slice(),
         interrupted: false,
-    };
+    });
     let mut buffer = buffer(&rt, alloc);
     let found = buffer.find_line(&mut slow);
     let wanted = (Ok(Found::Last(1000)), text.as_slice());
@@ -142,7 +148,7 @@ impl Read for Failing<'_> {
 fn assert_found(
     rt: &impl Abort,
     buffer: &mut LineBuffer,
-    reader: &mut Failing<'_>,
+    reader: &mut CountedReader<Failing<'_>>,
     wanted: (Result<Found, ReadFault>, &[u8]),
 ) {
     let found = buffer.find_line(reader);
@@ -151,7 +157,7 @@ fn assert_found(
 
 #[test]
 fn a_failure_loses_nothing(rt: HostRuntime) {
-    let mut reader = Failing(b"nodes 1\nset");
+    let mut reader = CountedReader::make(Failing(b"nodes 1\nset"));
     let mut buffer = buffer(&rt, rt.alloc());
     let whole = (Ok(Found::Line(7)), b"nodes 1\nset".as_slice());
     assert_found(&rt, &mut buffer, &mut reader, whole);
