@@ -6,7 +6,8 @@
     python3 tools/measure_gate.py --crates A B        runs it on these crates alone and those below them, of which no edits are tried; prints
                                                       the rows of these
     python3 tools/measure_gate.py .. --cores N        the same, on so many of this machine's cores
-    python3 tools/measure_gate.py --functions CRATE   checks one crate from nothing; prints its ten dearest functions
+    python3 tools/measure_gate.py --functions CRATE   checks one crate from nothing, with its tests; prints its ten dearest functions, and
+                                                      the sum of the sizes of its `*Lts.oantt`, which does not depend on what runs beside
 
 Processor time is read off /proc four times a second for each process that the gate starts: what a process used after its last reading is lost, and stands
 under 'other' with compilers, linkers and `rt` itself. The last line of the gate is printed as it is. Beside others a process takes more processor
@@ -266,9 +267,9 @@ def function_of(file, crate):
 
 
 def dearest_functions(crate):
-    """Checks a crate from nothing by one job, and prints how long it took for each function. A check writes files on each as it goes,
-    so the time from one file to the next is that of the latter's function. (The lines 'checked' say less: the first one comes after all
-    definitions, and what lies between two of them may be a file of proofs.)"""
+    """Checks a crate from nothing by one job, with its tests if it has any, and prints how long it took for each function. A check writes
+    files on each as it goes, so the time from one file to the next is that of the latter's function. (The lines 'checked' say less: the first
+    one comes after all definitions, and what lies between two of them may be a file of proofs.)"""
     clone = clone_of_head()
     folder = clone / "crates" / crate
     # A check begins with what any checkout on this machine kept of the same text, or of an older one: with a line more and a folder of its own
@@ -276,16 +277,19 @@ def dearest_functions(crate):
     root = next(file for file in (folder / "src" / "lib.rt", folder / "src" / "main.rt") if file.is_file())
     root.write_text(root.read_text() + "// measured\n")
     (folder / "out" / "incremental").mkdir(parents=True)
-    checked = subprocess.run(["rt", "check", "--jobs", "1"], cwd=folder, capture_output=True, text=True)
+    tested = ["--test"] if any("#[test]" in file.read_text() for file in (folder / "src").rglob("*.rt")) else []
+    checked = subprocess.run(["rt", "check", *tested, "--jobs", "1"], cwd=folder, capture_output=True, text=True)
     if checked.returncode not in (0, 1):
         sys.exit(checked.stdout + checked.stderr)
-    files = sorted((file.stat().st_mtime_ns, file.name) for file in (folder / "out" / "incremental").rglob("*.oantt"))
+    files = sorted((file.stat().st_mtime_ns, file.name, file.stat().st_size) for file in (folder / "out").rglob("*.oantt"))
     times = collections.Counter()
-    for (before, _), (after, name) in zip(files, files[1:]):
+    for (before, _, _), (after, name, _) in zip(files, files[1:]):
         times[function_of(name, crate)] += (after - before) / 1e9
+    walks = sum(size for _, name, size in files if name.endswith("Lts.oantt"))
     shutil.rmtree(clone.parent)
     for name, seconds in times.most_common(11):
         print(f"{seconds:7.1f} s  {name or 'all that is no function'}")
+    print(f"{walks / 1e6:7.1f} MB  *Lts.oantt")
 
 
 def main():

@@ -20,4 +20,6 @@ mod registered;
 #[cfg(test)]
 mod same;
 #[cfg(test)]
+mod submits;
+#[cfg(test)]
 mod texts;

@@ -14,7 +14,7 @@ const DELIVERY: &[u8] = b"\0\0\0\x29\0\0\0\x05\0\0\0\0\0\0\0\x01\
 \0\x01\x01144\0\x01\x01155\0\0\0\0\0\0\0\0\0\0\x02Hi";
 
 /// That these are the octets of a PDU. It is let go by a call, which makes the proof shorter.
-fn assert_octets(rt: &impl Abort, alloc: Global, pdu: Pdu, wanted: &[u8]) {
+pub fn assert_octets(rt: &impl Abort, alloc: Global, pdu: Pdu, wanted: &[u8]) {
     let mut octets = Vec::new(alloc);
     encode(&pdu, &mut octets).expect(rt, "octets");
     drop(pdu);

@@ -79,7 +79,7 @@ fn assert_taken(rt: &impl Abort, chain: Chain) {
     assert_same(rt, &by, &(1, 1, 946684800));
     assert_same(rt, &texts, &(b"155".as_slice(), b"Hi".as_slice()));
     assert_same(rt, &(chain.id(), expiry), &(id(rt), 946944000));
-    assert_stands(rt, chain, (1, State::Enroute, 0));
+    assert_stands(rt, "as taken", chain, (1, State::Enroute, 0));
 }
 
 // How many decrees a chain has, its state and its error.
@@ -89,14 +89,14 @@ fn standing(chain: &Chain) -> Standing {
     (chain.decrees().len(), chain.state(), chain.error())
 }
 
-// That a chain stands so, and its copy has the same error.
-fn assert_stands(rt: &impl Abort, chain: Chain, wanted: Standing) {
+// That a chain stands so, and its copy has the same error. A failure tells what is shown by it.
+fn assert_stands(rt: &impl Abort, shows: &str, chain: Chain, wanted: Standing) {
     let (standing, copy) = (standing(&chain), chain.copy());
     drop(chain);
     let copy = copy.expect(rt, "memory");
     let error = copy.error();
     drop(copy);
-    assert_same(rt, &(standing, error), &(wanted, wanted.2));
+    assert_same(rt, &(shows, standing, error), &(shows, wanted, wanted.2));
 }
 
 #[test]
@@ -175,13 +175,13 @@ fn refusal(rt: &impl Abort, chain: &Chain, step: Step) -> (bool, Option<ChainFau
     (permits, chain.extended(decree).err())
 }
 
-// That each of these decrees may not follow those.
-fn assert_refused(rt: &impl Abort, alloc: Global, steps: &[Step], refused: &[Step]) {
+// That each of these decrees may not follow those. A failure tells what is shown by it.
+fn assert_refused(rt: &impl Abort, alloc: Global, shows: &str, steps: &[Step], refused: &[Step]) {
     let chain = chain_of(rt, alloc, steps);
     for (number, step) in refused.iter().enumerate() {
         let refusal = refusal(rt, &chain, *step);
         let wanted = (false, Some(ChainFault::NotPermitted));
-        assert_same(rt, &(number, refusal), &(number, wanted));
+        assert_same(rt, &(shows, number, refusal), &(shows, number, wanted));
     }
 }
 
@@ -196,11 +196,6 @@ const OF_ANOTHER_END: &[Step] = &[
 ];
 
 #[test]
-fn an_attempt_ends_by_its_author(rt: HostRuntime) {
-    assert_refused(&rt, rt.alloc(), ATTEMPTED, OF_ANOTHER_END);
-}
-
-#[test]
 fn a_later_incarnation_may_fail_an_attempt(rt: HostRuntime) {
     let chain = chain_of(&rt, rt.alloc(), ATTEMPTED);
     let failure = decree(&rt, (2, FAILED, Next::Failed(999)));
@@ -213,30 +208,13 @@ fn a_later_incarnation_may_fail_an_attempt(rt: HostRuntime) {
 // Attempted by the first incarnation of node 1, and failed by the second.
 const FAILED_ONCE: &[Step] = &[(1, TAKEN, Next::Attempt(1)), (2, FAILED, Next::Failed(999))];
 
-#[test]
-fn a_later_incarnation_fails_an_attempt(rt: HostRuntime) {
-    let chain = chain_of(&rt, rt.alloc(), FAILED_ONCE);
-    assert_stands(&rt, chain, (3, State::Enroute, 999));
-}
-
 const DELETED: &[Step] = &[(1, TAKEN, Next::Fate(Final::Deleted, 999))];
-
-#[test]
-fn a_fate_has_its_error(rt: HostRuntime) {
-    let chain = chain_of(&rt, rt.alloc(), DELETED);
-    assert_stands(&rt, chain, (2, State::Deleted, 999));
-}
 
 const TOO_EARLY: &[Step] = &[
     (2, FAILED + 59, Next::Attempt(2)),
     (2, FAILED + 60, Next::Attempt(3)),
     (2, EXPIRY - 1, Next::Fate(Final::Expired, 0)),
 ];
-
-#[test]
-fn the_second_attempt_waits_a_minute(rt: HostRuntime) {
-    assert_refused(&rt, rt.alloc(), FAILED_ONCE, TOO_EARLY);
-}
 
 const DELIVERED: &[Step] = &[
     (1, TAKEN, Next::Attempt(1)),
@@ -245,23 +223,12 @@ const DELIVERED: &[Step] = &[
     (2, FAILED + 60, Next::Fate(Final::Delivered, 0)),
 ];
 
-#[test]
-fn a_message_is_delivered_at_its_second_attempt(rt: HostRuntime) {
-    let chain = chain_of(&rt, rt.alloc(), DELIVERED);
-    assert_stands(&rt, chain, (5, State::Delivered, 0));
-}
-
 const BEHIND_A_FATE: &[Step] = &[
     (2, FAILED + 60, Next::Fate(Final::Delivered, 0)),
     (2, FAILED + 60, Next::Failed(1)),
     (2, FAILED + 600, Next::Attempt(3)),
     (2, EXPIRY, Next::Fate(Final::Expired, 0)),
 ];
-
-#[test]
-fn nothing_follows_a_fate(rt: HostRuntime) {
-    assert_refused(&rt, rt.alloc(), DELIVERED, BEHIND_A_FATE);
-}
 
 // The message of a chain, taken once more by its author at its newest moment.
 fn taken_again(rt: &impl Abort, alloc: Global, chain: &Chain) -> Decree {
@@ -288,10 +255,45 @@ const EXPIRED: &[Step] = &[
     (2, EXPIRY, Next::Fate(Final::Expired, 0)),
 ];
 
+// What each of these shows, the decrees on a message that was taken, and how its chain stands then.
+const STANDING: &[(&str, &[Step], Standing)] = &[
+    (
+        "a later incarnation fails an attempt",
+        FAILED_ONCE,
+        (3, State::Enroute, 999),
+    ),
+    ("a fate has its error", DELETED, (2, State::Deleted, 999)),
+    (
+        "a message is delivered at its second attempt",
+        DELIVERED,
+        (5, State::Delivered, 0),
+    ),
+    (
+        "a message expires at its expiry",
+        EXPIRED,
+        (4, State::Expired, 0),
+    ),
+];
+
 #[test]
-fn a_message_expires_at_its_expiry(rt: HostRuntime) {
-    let chain = chain_of(&rt, rt.alloc(), EXPIRED);
-    assert_stands(&rt, chain, (4, State::Expired, 0));
+fn chains_stand(rt: HostRuntime) {
+    for (shows, steps, wanted) in STANDING {
+        assert_stands(&rt, shows, chain_of(&rt, rt.alloc(), steps), *wanted);
+    }
+}
+
+// What each of these shows, the decrees on a message that was taken, and those each of which may not follow.
+const REFUSED: &[(&str, &[Step], &[Step])] = &[
+    ("an attempt ends by its author", ATTEMPTED, OF_ANOTHER_END),
+    ("the second attempt waits a minute", FAILED_ONCE, TOO_EARLY),
+    ("nothing follows a fate", DELIVERED, BEHIND_A_FATE),
+];
+
+#[test]
+fn decrees_are_refused(rt: HostRuntime) {
+    for (shows, steps, refused) in REFUSED {
+        assert_refused(&rt, rt.alloc(), shows, steps, refused);
+    }
 }
 
 // The chain of a message that was taken at the least moment.
@@ -337,7 +339,7 @@ fn what_is_written_is_read(rt: HostRuntime) {
     let octets = octets_of(&rt, chain_of(&rt, rt.alloc(), DELIVERED));
     let chain = read(&rt, rt.alloc(), &octets);
     drop(octets);
-    assert_stands(&rt, chain, (5, State::Delivered, 0));
+    assert_stands(&rt, "as written", chain, (5, State::Delivered, 0));
 }
 
 #[test]
@@ -494,5 +496,5 @@ fn the_longest_chain_is_copied(rt: HostRuntime) {
 #[test]
 fn the_longest_chain_is_read(rt: HostRuntime) {
     let chain = read(&rt, rt.alloc(), &TRIED_CHAIN);
-    assert_stands(&rt, chain, (18, State::Undeliverable, 999));
+    assert_stands(&rt, "longest", chain, (18, State::Undeliverable, 999));
 }

@@ -119,10 +119,11 @@ fn verdict_on(rt: &impl Abort, alloc: Global, door: Door, asked: Asked<'_>) -> J
 // A request, and what is to become of it.
 type Row = (Asked<'static>, Judged);
 
-fn assert_judged(rt: &impl Abort, alloc: Global, door: &Door, rows: &[Row]) {
+// That these requests at the door of a node become what they are to become. A failure tells what is shown by it.
+fn assert_judged(rt: &impl Abort, alloc: Global, shows: &str, door: &Door, rows: &[Row]) {
     for (number, (asked, wanted)) in rows.iter().enumerate() {
         let judged = verdict_on(rt, alloc, *door, *asked);
-        assert_same(rt, &(number, judged), &(number, *wanted));
+        assert_same(rt, &(shows, number, judged), &(shows, number, *wanted));
     }
 }
 
@@ -135,11 +136,6 @@ const WAITING: &[Row] = &[
         Judged::Cancels(1000100001),
     ),
 ];
-
-#[test]
-fn requests_wait(rt: HostRuntime) {
-    assert_judged(&rt, rt.alloc(), &door(99999, false), WAITING);
-}
 
 const REFUSED: &[Row] = &[
     (
@@ -164,17 +160,7 @@ const REFUSED: &[Row] = &[
     ),
 ];
 
-#[test]
-fn requests_are_refused_at_once(rt: HostRuntime) {
-    assert_judged(&rt, rt.alloc(), &door(1, false), REFUSED);
-}
-
 const WITHOUT_SERIAL: &[Row] = &[(Asked::Submit(0), Judged::Refused(Status::MessageQueueFull))];
-
-#[test]
-fn serials_run_out_before_the_room(rt: HostRuntime) {
-    assert_judged(&rt, rt.alloc(), &door(100000, true), WITHOUT_SERIAL);
-}
 
 const WITHOUT_ROOM: &[Row] = &[
     (Asked::Submit(0), Judged::Refused(Status::Throttled)),
@@ -188,7 +174,22 @@ const WITHOUT_ROOM: &[Row] = &[
     ),
 ];
 
+// What each of these shows, the next serial at the door, whether so many requests wait already that none more may, and what becomes of requests.
+const DOORS: &[(&str, u32, bool, &[Row])] = &[
+    ("requests wait", 99999, false, WAITING),
+    ("requests are refused at once", 1, false, REFUSED),
+    (
+        "serials run out before the room",
+        100000,
+        true,
+        WITHOUT_SERIAL,
+    ),
+    ("no more requests wait than may", 1, true, WITHOUT_ROOM),
+];
+
 #[test]
-fn no_more_requests_wait_than_may(rt: HostRuntime) {
-    assert_judged(&rt, rt.alloc(), &door(1, true), WITHOUT_ROOM);
+fn requests_are_judged(rt: HostRuntime) {
+    for (shows, serial, busy, rows) in DOORS {
+        assert_judged(&rt, rt.alloc(), shows, &door(*serial, *busy), rows);
+    }
 }

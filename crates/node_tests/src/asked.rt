@@ -5,7 +5,7 @@ use desk::Request;
 use node_core::Input;
 use pdu_codec::{Body, Text, decode};
 use std::alloc::Global;
-use std::test::Fail;
+use std::process::Abort;
 
 // A submit_sm from 144 to 155, with receipt 01 and the text Hi, and a query_sm and a cancel_sm of message 1000100001 from 144.
 const SUBMIT: &[u8] =
@@ -18,15 +18,14 @@ const CANCEL: &[u8] =
     b"\x00\x00\x00\x25\x00\x00\x00\x08\x00\x00\x00\x00\x00\x00\x00\x04\x001000100001\x00\x01\x01144\x00\x00\x00\x00";
 
 // A request of sme1: `submit`, whose message goes to itself, `submit_nowhere`, with no route for its message, `query` or `cancel`.
-pub fn request(alloc: Global, asked: &str) -> Result<Input, Fail> {
-    let account = text(alloc, "sme1")?;
+pub fn request(rt: &impl Abort, alloc: Global, asked: &str) -> Input {
     let target = match asked {
         "submit_nowhere" => None,
-        _ => Some(text(alloc, "sme1")?),
+        _ => Some(text(rt, alloc, "sme1")),
     };
-    let pdu = decode(alloc, octets(asked))?;
-    let request = request_in(pdu.body, target).ok_or("a request")?;
-    Ok(Input::Request(account, request))
+    let pdu = decode(alloc, octets(asked)).expect(rt, "a PDU");
+    let request = request_in(rt, pdu.body, target);
+    Input::Request(text(rt, alloc, "sme1"), request)
 }
 
 fn octets(asked: &str) -> &'static [u8] {
@@ -37,11 +36,11 @@ fn octets(asked: &str) -> &'static [u8] {
     }
 }
 
-fn request_in(body: Body, target: Option<Text<16>>) -> Option<Request> {
+fn request_in(rt: &impl Abort, body: Body, target: Option<Text<16>>) -> Request {
     match body {
-        Body::SubmitSm(message) => Some(Request::Submit(message, target)),
-        Body::QuerySm(query) => Some(Request::Ask(query)),
-        Body::CancelSm(cancel) => Some(Request::Cancel(cancel)),
-        _ => None,
+        Body::SubmitSm(message) => Request::Submit(message, target),
+        Body::QuerySm(query) => Request::Ask(query),
+        Body::CancelSm(cancel) => Request::Cancel(cancel),
+        _ => panic!(rt; "a request"),
     }
 }

@@ -4,8 +4,6 @@
 #[cfg(test)]
 mod asked;
 #[cfg(test)]
-mod cases;
-#[cfg(test)]
 mod nodes_by_rows;
 #[cfg(test)]
 mod opening;
@@ -13,6 +11,8 @@ mod opening;
 mod permits;
 #[cfg(test)]
 mod rows;
+#[cfg(test)]
+mod same;
 #[cfg(test)]
 mod values;
 #[cfg(test)]

@@ -2,137 +2,136 @@
 
 ghost use Rattle.node_core.specs.Nodes.{IsLifeOf};
 
-use crate::cases::{all, none};
-use crate::values::{input, second};
-use crate::walks::{otherwise_by, otherwise_over};
-use node_core::{Found, Life, Node, Setup, StepFault, open_node};
+use crate::same::assert_same;
+use crate::values::{input, opened_over, second};
+use crate::walks::{assert_part, walked};
+use node_core::{Found, Life, Node, StepFault, open_node};
 use stable_store::{FailingStore, Found as Leaves, ListStore, StableStore, StoreFault};
 use std::alloc::Global;
-use std::collections::VecDeque;
-use std::test::Fail;
+use std::process::Abort;
 use synod_acceptor::Packet;
 
-// The first row that a node answers otherwise before a stop, and that once it is opened again over its store.
-fn stopped<S: StableStore + Drop>(
+// That a node answers as the rows say before a stop, and once it is opened again over its store.
+fn assert_stopped<S: StableStore + Drop>(
+    rt: &impl Abort,
     alloc: Global,
     store: S,
     before: &str,
     after: &str,
-) -> Result<(), Fail> {
-    let (first, store) = otherwise_over(alloc, store, second()?, before)?;
-    let (last, store) = otherwise_over(alloc, store, second()?, after)?;
+) {
+    let store = walked(rt, alloc, store, second(rt), before);
+    let store = walked(rt, alloc, store, second(rt), after);
     drop(store);
-    none("before", &first)?;
-    none("after", &last)
 }
 
 #[test]
-fn what_was_voted_outlives_a_stop(rt: HostRuntime) -> Result<(), Fail> {
-    let before = "propose 1 262162 => Voted(262162)";
+fn what_was_voted_outlives_a_stop(rt: HostRuntime) {
+    let before = "\
+before
+propose 1 262162 => Voted(262162)";
     let after = "\
+after
 ask 3 => Told(262162)
 prepare 1 262161 => Refused(262162)";
-    stopped(rt.alloc(), ListStore::make(rt.alloc()), before, after)
+    let alloc = rt.alloc();
+    assert_stopped(&rt, alloc, ListStore::make(alloc), before, after);
 }
 
 #[test]
-fn a_node_whose_save_fails_is_broken(rt: HostRuntime) -> Result<(), Fail> {
+fn a_node_whose_save_fails_is_broken(rt: HostRuntime) {
     let before = "\
+before
 prepare 1 262161 => Promised
 propose 1 262161 => Uncommitted(Device)
 ask 3 => Unprepared(Broken)";
-    let after = "ask 3 => Told(262161)";
-    let store = FailingStore::make(ListStore::make(rt.alloc()), 2, Leaves::After);
-    stopped(rt.alloc(), store, before, after)
+    let after = "\
+after
+ask 3 => Told(262161)";
+    let alloc = rt.alloc();
+    let store = failing(alloc, 2, Leaves::After);
+    assert_stopped(&rt, alloc, store, before, after);
 }
 
 // The number and the incarnation of the second node of three that opens over a store, and the store once it has stopped.
-fn started(alloc: Global, store: ListStore, setup: Setup) -> Result<(u8, u16, ListStore), Fail> {
-    match open_node(alloc, store, setup) {
-        Ok((node, life)) => Ok((
-            life.node().number(),
-            life.incarnation().number(),
-            node.into_store(),
-        )),
-        Err(_) => Err("it opens".into()),
-    }
+fn started(rt: &impl Abort, alloc: Global, store: ListStore) -> ((u8, u16), ListStore) {
+    let (node, life) = opened_over(rt, alloc, store, second(rt));
+    let numbers = (life.node().number(), life.incarnation().number());
+    (numbers, node.into_store())
 }
 
 #[test]
-fn each_start_is_another_incarnation(rt: HostRuntime) -> Result<(), Fail> {
-    let setup = second()?;
-    let mut store = ListStore::make(rt.alloc());
-    for start in 1..4u16 {
-        let (node, incarnation, left) = started(rt.alloc(), store, setup)?;
-        store = left;
-        all("node and incarnation", &[node == 2, incarnation == start])?;
-    }
-    Ok(())
+fn each_start_is_another_incarnation(rt: HostRuntime) {
+    let alloc = rt.alloc();
+    let (first, store) = started(&rt, alloc, ListStore::make(alloc));
+    let (second, store) = started(&rt, alloc, store);
+    let (third, store) = started(&rt, alloc, store);
+    drop(store);
+    assert_same(&rt, &[first, second, third], &[(2, 1), (2, 2), (2, 3)]);
 }
 
-fn use_up(store: &mut ListStore) -> Result<(), Fail> {
+fn use_up(rt: &impl Abort, store: &mut ListStore) {
     for _ in 0..9999 {
-        store.next_incarnation()?;
+        let next = store.next_incarnation();
+        next.expect(rt, "an incarnation");
     }
-    Ok(())
 }
 
 // Why a node does not open over a store that is used up, and how much its store holds then.
-fn not_opened(alloc: Global, store: ListStore) -> Result<(StoreFault, usize), Fail> {
-    match open_node(alloc, store, second()?) {
-        Ok(_) => Err("no incarnation is left".into()),
-        Err((fault, mut store)) => Ok((fault, store.load()?.len())),
+fn not_opened(rt: &impl Abort, alloc: Global, store: ListStore) -> (StoreFault, usize) {
+    match open_node(alloc, store, second(rt)) {
+        Ok(_) => panic!(rt; "no incarnation is left"),
+        Err((fault, mut store)) => {
+            let records = store.load().expect(rt, "records");
+            (fault, records.len())
+        }
     }
 }
 
 #[test]
-fn a_store_is_handed_back(rt: HostRuntime) -> Result<(), Fail> {
+fn a_store_is_handed_back(rt: HostRuntime) {
     let mut store = ListStore::make(rt.alloc());
-    use_up(&mut store)?;
-    let (fault, length) = not_opened(rt.alloc(), store)?;
-    all(
-        "handed back",
-        &[fault == StoreFault::Incarnations, length == 0],
-    )
+    use_up(&rt, &mut store);
+    let left = not_opened(&rt, rt.alloc(), store);
+    assert_same(&rt, &left, &(StoreFault::Incarnations, 0));
 }
 
-// A save of the node fails, and it opens again: whether it does so with its number and another incarnation, and which row it answers otherwise then.
+// The life of a node that opens again after its save failed at what came.
 fn reopened(
+    rt: &impl Abort,
     alloc: Global,
     node: &mut Node<FailingStore>,
     first: Life,
-    rows: &str,
-) -> Result<([bool; 2], Option<usize>), Fail>
+    comes: &str,
+) -> Life
     requires { IsLifeOf node.old first }
 {
-    let pending = node.prepare_step(input(alloc, "propose 1 262161")?)?;
-    if node.commit(pending).err() != Some(StepFault::Device) {
-        return Err("its save fails".into());
-    }
-    let Ok(second) = node.reopen(first) else {
-        return Err("it opens again".into());
+    let pending = node
+        .prepare_step(input(rt, alloc, comes))
+        .expect(rt, "a step");
+    let Err(StepFault::Device) = node.commit(pending) else {
+        panic!(rt; "its save fails");
     };
-    let is_second = [
-        second.node().number() == 2,
-        second.incarnation().number() == 2,
-    ];
-    let mut left = VecDeque::new(alloc);
-    let otherwise = otherwise_by(alloc, node, &mut left, rows);
-    drop(left);
-    Ok((is_second, otherwise?))
+    let Ok(second) = node.reopen(first) else {
+        panic!(rt; "it opens again");
+    };
+    second
+}
+
+// A store of which this save fails first and leaves that.
+fn failing(alloc: Global, save: u64, leaves: Leaves) -> FailingStore {
+    FailingStore::make(ListStore::make(alloc), save, leaves)
 }
 
 #[test]
-fn a_broken_node_opens_again(rt: HostRuntime) -> Result<(), Fail> {
-    let store = FailingStore::make(ListStore::make(rt.alloc()), 1, Leaves::After);
-    let Ok((mut node, first)) = open_node(rt.alloc(), store, second()?) else {
-        return Err("it opens".into());
-    };
-    let reopened = reopened(rt.alloc(), &mut node, first, "ask 3 => Told(262161)");
+fn a_broken_node_opens_again(rt: HostRuntime) {
+    let alloc = rt.alloc();
+    let store = failing(alloc, 1, Leaves::After);
+    let (mut node, first) = opened_over(&rt, alloc, store, second(&rt));
+    let life = reopened(&rt, alloc, &mut node, first, "propose 1 262161");
+    assert_part(&rt, alloc, &mut node, "again\nask 3 => Told(262161)");
     drop(node);
-    let (is_second, otherwise) = reopened?;
-    all("node and incarnation", &is_second)?;
-    none("a row", &otherwise)
+    let numbers = (life.node().number(), life.incarnation().number());
+    assert_same(&rt, &numbers, &(2, 2));
 }
 
 // What a node tells of the save in which it stopped: the ballot of its Prepare or Propose, and what was stored.
@@ -145,55 +144,55 @@ fn told<S: StableStore>(node: &Node<S>) -> Option<(u64, Found)> {
     }
 }
 
-// The save of the node fails at what comes, and it opens again twice: what it tells each time.
+// What comes to a node, what the first save of its store, which fails, leaves, and what the node tells of that.
+type Row = (&'static str, Leaves, Found);
+
+const TOLD: &[Row] = &[
+    ("prepare 1 262161", Leaves::Before, Found::Before),
+    ("prepare 1 262161", Leaves::After, Found::After),
+    ("propose 1 262161", Leaves::Before, Found::Before),
+    ("propose 1 262161", Leaves::After, Found::After),
+];
+
+// The save of a node fails at what comes, and it opens again twice: what it tells each time.
 fn told_twice(
+    rt: &impl Abort,
     alloc: Global,
     node: &mut Node<FailingStore>,
     first: Life,
     comes: &str,
-) -> Result<(Option<(u64, Found)>, Option<(u64, Found)>), Fail>
+) -> (Option<(u64, Found)>, Option<(u64, Found)>)
     requires { IsLifeOf node.old first }
 {
-    let pending = node.prepare_step(input(alloc, comes)?)?;
-    if node.commit(pending).err() != Some(StepFault::Device) {
-        return Err("its save fails".into());
-    }
+    let pending = node
+        .prepare_step(input(rt, alloc, comes))
+        .expect(rt, "a step");
+    let Err(StepFault::Device) = node.commit(pending) else {
+        panic!(rt; "its save fails");
+    };
     let Ok(second) = node.reopen(first) else {
-        return Err("it opens again".into());
+        panic!(rt; "it opens again");
     };
     let once = told(node);
     let Ok(_third) = node.reopen(second) else {
-        return Err("it opens once more".into());
+        panic!(rt; "it opens once more");
     };
-    Ok((once, told(node)))
+    (once, told(node))
 }
 
-// The same of a node over a store of which the first save fails and leaves this.
-fn told_over(
-    alloc: Global,
-    comes: &str,
-    leaves: Leaves,
-) -> Result<(Option<(u64, Found)>, Option<(u64, Found)>), Fail> {
-    let store = FailingStore::make(ListStore::make(alloc), 1, leaves);
-    let Ok((mut node, first)) = open_node(alloc, store, second()?) else {
-        return Err("it opens".into());
-    };
-    let told = told_twice(alloc, &mut node, first, comes);
+// That the node tells it when it opens again, and nothing when it does so once more.
+fn assert_told(rt: &impl Abort, alloc: Global, (comes, leaves, found): Row) {
+    let store = failing(alloc, 1, leaves);
+    let (mut node, first) = opened_over(rt, alloc, store, second(rt));
+    let told = told_twice(rt, alloc, &mut node, first, comes);
     drop(node);
-    told
+    let wanted = (Some((262161, found)), None);
+    assert_same(rt, &(comes, told), &(comes, wanted));
 }
 
 #[test]
-fn a_node_tells_in_which_save_it_stopped(rt: HostRuntime) -> Result<(), Fail> {
-    let rows = [
-        ("prepare 1 262161", Leaves::Before, Found::Before),
-        ("prepare 1 262161", Leaves::After, Found::After),
-        ("propose 1 262161", Leaves::Before, Found::Before),
-        ("propose 1 262161", Leaves::After, Found::After),
-    ];
-    for (comes, leaves, found) in &rows {
-        let told = told_over(rt.alloc(), comes, *leaves)?;
-        all(comes, &[told == (Some((262161, *found)), None)])?;
+fn a_node_tells_in_which_save_it_stopped(rt: HostRuntime) {
+    for row in TOLD {
+        assert_told(&rt, rt.alloc(), *row);
     }
-    Ok(())
 }

@@ -1,17 +1,18 @@
 //! Walks of a node over what comes to it, a line each, and what it answers.
 
-use crate::values::input;
-use node_core::{Input, Node, Outputs, Setup, StepFault, open_node};
+use crate::same::assert_same;
+use crate::values::{input, opened_over};
+use node_core::{Input, Node, Outputs, Setup, StepFault};
 use pdu_tables::Status;
 use requests::Reply;
 use stable_store::{ListStore, StableStore};
 use std::alloc::Global;
 use std::collections::VecDeque;
-use std::test::Fail;
+use std::process::Abort;
 use synod_acceptor::Packet;
 
 // What a node answers to what comes. It is `Other` if it gives out more than this one thing.
-#[derive(Clone, Copy, Debug)]
+#[derive(Clone, Copy, Debug, PartialEq, Eq)]
 pub enum Answer {
     Nothing,
     // A packet.
@@ -38,7 +39,7 @@ pub enum Answer {
 }
 
 // What a reply says.
-#[derive(Clone, Copy, Debug)]
+#[derive(Clone, Copy, Debug, PartialEq, Eq)]
 pub enum Said {
     Accepted,
     Shown,
@@ -95,112 +96,125 @@ pub fn answer_in(outputs: &Outputs) -> Answer {
     }
 }
 
-fn put_back(outputs: Outputs, left: &mut VecDeque<Packet>) -> Result<(), Fail> {
+// Leaves the packets of outputs.
+pub fn put_back(rt: &impl Abort, outputs: Outputs, left: &mut VecDeque<Packet>) {
     for packet in outputs.packets {
-        left.push_back(packet)?;
+        left.push_back(packet).expect(rt, "memory");
     }
-    Ok(())
+}
+
+// What the copy of outputs says.
+pub fn copied(rt: &impl Abort, outputs: &Outputs) -> Answer {
+    let copy = outputs.copy().expect(rt, "memory");
+    let answer = answer_in(&copy);
+    drop(copy);
+    answer
+}
+
+// What outputs say, and that their copy says the same. Their packets are left.
+fn answer_left(rt: &impl Abort, outputs: Outputs, left: &mut VecDeque<Packet>) -> Answer {
+    let answer = answer_in(&outputs);
+    assert_same(rt, &copied(rt, &outputs), &answer);
+    put_back(rt, outputs, left);
+    answer
 }
 
 // What a node answers to an input, once it is committed. Its packets are left.
 fn answer_to<S: StableStore>(
+    rt: &impl Abort,
     node: &mut Node<S>,
     input: Input,
     left: &mut VecDeque<Packet>,
-) -> Result<Answer, Fail> {
-    let pending = match node.prepare_step(input) {
-        Ok(pending) => pending,
-        Err(fault) => return Ok(Answer::Unprepared(fault)),
-    };
-    match node.commit(pending) {
-        Ok(outputs) => {
-            let answer = answer_in(&outputs);
-            put_back(outputs, left)?;
-            Ok(answer)
-        }
-        Err(fault) => Ok(Answer::Uncommitted(fault)),
+) -> Answer {
+    match node.prepare_step(input) {
+        Ok(pending) => match node.commit(pending) {
+            Ok(outputs) => answer_left(rt, outputs, left),
+            Err(fault) => Answer::Uncommitted(fault),
+        },
+        Err(fault) => Answer::Unprepared(fault),
     }
 }
 
 // The last reply as each packet that is left comes back to the node.
 fn last_answer<S: StableStore>(
+    rt: &impl Abort,
     node: &mut Node<S>,
     left: &mut VecDeque<Packet>,
-) -> Result<Answer, Fail> {
+) -> Answer {
     let mut last = Answer::Nothing;
     for _ in 0..20 {
         let Some(packet) = left.pop_front() else {
             break;
         };
-        let answer = answer_to(node, Input::Packet(packet), left)?;
+        let answer = answer_to(rt, node, Input::Packet(packet), left);
         if matches!(answer, Answer::Replied(..)) {
             last = answer;
         }
     }
-    Ok(last)
+    last
 }
 
 // What a node answers to what comes; to `back` that is its last answer.
 pub fn what_comes_of<S: StableStore>(
+    rt: &impl Abort,
     alloc: Global,
     node: &mut Node<S>,
     left: &mut VecDeque<Packet>,
     comes: &str,
-) -> Result<Answer, Fail> {
+) -> Answer {
     match comes {
-        "back" => last_answer(node, left),
-        _ => answer_to(node, input(alloc, comes)?, left),
+        "back" => last_answer(rt, node, left),
+        _ => answer_to(rt, node, input(rt, alloc, comes), left),
     }
 }
 
-// Whether the node answers to what comes as the row says.
-fn holds<S: StableStore>(
+// What its part shows, its number in the part, from 0, and what it says.
+type Row<'a> = (&'a str, usize, &'a str);
+
+// That the node answers to what comes as the row says.
+fn assert_row<S: StableStore>(
+    rt: &impl Abort,
     alloc: Global,
     node: &mut Node<S>,
     left: &mut VecDeque<Packet>,
-    row: &str,
-) -> Result<bool, Fail> {
-    let (comes, wanted) = row.split_once(" => ").ok_or("what comes, and the answer")?;
-    let answer = what_comes_of(alloc, node, left, comes)?;
-    let told = format!(in alloc; "{answer:?}")?;
-    Ok(told.as_str() == wanted)
+    (shows, number, row): Row<'_>,
+) {
+    let (comes, wanted) = row
+        .split_once(" => ")
+        .expect(rt, "what comes, and the answer");
+    let answer = what_comes_of(rt, alloc, node, left, comes);
+    let told = format!(in alloc; "{answer:?}").expect(rt, "memory");
+    assert_same(
+        rt,
+        &(shows, number, told.as_str()),
+        &(shows, number, wanted),
+    );
 }
 
-// The number of the first row that the node answers otherwise, from 0.
-pub fn otherwise_by<S: StableStore>(
-    alloc: Global,
-    node: &mut Node<S>,
-    left: &mut VecDeque<Packet>,
-    rows: &str,
-) -> Result<Option<usize>, Fail> {
+// That the node answers as the rows of a part say, of which the first line says what they show.
+pub fn assert_part<S: StableStore>(rt: &impl Abort, alloc: Global, node: &mut Node<S>, part: &str) {
+    let (shows, rows) = part.split_once('\n').expect(rt, "what it shows, and rows");
+    let mut left = VecDeque::new(alloc);
     for (number, row) in rows.lines().enumerate() {
-        if !holds(alloc, node, left, row)? {
-            return Ok(Some(number));
-        }
+        assert_row(rt, alloc, node, &mut left, (shows, number, row));
     }
-    Ok(None)
 }
 
-// That of a node that opens over a store, and the store once it has stopped.
-pub fn otherwise_over<S: StableStore + Drop>(
+// The same of a node that opens over a store. The store, once it has stopped.
+pub fn walked<S: StableStore + Drop>(
+    rt: &impl Abort,
     alloc: Global,
     store: S,
     setup: Setup,
-    rows: &str,
-) -> Result<(Option<usize>, S), Fail> {
-    let Ok((mut node, _life)) = open_node(alloc, store, setup) else {
-        return Err("it opens".into());
-    };
-    let mut left = VecDeque::new(alloc);
-    let otherwise = otherwise_by(alloc, &mut node, &mut left, rows);
-    drop(left);
-    let store = node.into_store();
-    Ok((otherwise?, store))
+    part: &str,
+) -> S {
+    let (mut node, _life) = opened_over(rt, alloc, store, setup);
+    assert_part(rt, alloc, &mut node, part);
+    node.into_store()
 }
 
-// That of a node over a new store.
-pub fn otherwise(alloc: Global, setup: Setup, rows: &str) -> Result<Option<usize>, Fail> {
-    let (otherwise, store) = otherwise_over(alloc, ListStore::make(alloc), setup, rows)?;
+// The same over a new store.
+pub fn assert_walk(rt: &impl Abort, alloc: Global, setup: Setup, part: &str) {
+    let store = walked(rt, alloc, ListStore::make(alloc), setup, part);
     drop(store);
-    Ok(otherwise)
 }

@@ -1,12 +1,12 @@
 //! The fields of PDUs at the front of octets.
 
-use crate::cases::all;
+use crate::cases::assert_all;
 use pdu_fields::{
     Field, PduFault, counted_at, destination_at, handling_at, nothing_at, octet_at, octets_at,
     source_at, text_at,
 };
 use std::alloc::Global;
-use std::test::Fail;
+use std::process::Abort;
 
 fn read_and_told() -> [bool; 10] {
     [
@@ -25,13 +25,13 @@ fn read_and_told() -> [bool; 10] {
     ]
 }
 
-fn addresses(alloc: Global) -> Option<[bool; 8]> {
-    let (source, rest) = source_at(b"\x01\x084477\0rest").ok()?;
-    let (destination, behind) = destination_at(b"\x02\x09155\0").ok()?;
-    let address = destination.address(alloc).ok()?;
+fn addresses(rt: &impl Abort, alloc: Global) -> [bool; 8] {
+    let (source, rest) = source_at(b"\x01\x084477\0rest").expect(rt, "a source");
+    let (destination, behind) = destination_at(b"\x02\x09155\0").expect(rt, "a destination");
+    let address = destination.address(alloc).expect(rt, "memory");
     let is_address = address.digits.octets() == b"155".as_slice();
     drop(address);
-    Some([
+    [
         source.ton == 1,
         source.npi == 8,
         source.digits == b"4477".as_slice(),
@@ -40,14 +40,14 @@ fn addresses(alloc: Global) -> Option<[bool; 8]> {
         destination.npi == 9,
         behind.is_empty(),
         is_address,
-    ])
+    ]
 }
 
 /// The fields of a submit_sm from esm_class to sm_default_msg_id (SMPP 3.4, section 4.4.1).
-fn handling() -> Option<[bool; 10]> {
+fn handling(rt: &impl Abort) -> [bool; 10] {
     let octets = b"\x43\x7f\x03240131000000000+\0000007000000000R\0\x11\x06\xf5\x63rest";
-    let (handling, rest) = handling_at(octets).ok()?;
-    Some([
+    let (handling, rest) = handling_at(octets).expect(rt, "fields");
+    [
         handling.esm_class == 0x43,
         handling.protocol_id == 0x7f,
         handling.priority_flag == 3,
@@ -58,14 +58,14 @@ fn handling() -> Option<[bool; 10]> {
         handling.data_coding == 0xf5,
         handling.sm_default_msg_id == 99,
         rest == b"rest".as_slice(),
-    ])
+    ]
 }
 
 #[test]
-fn fields_of_pdus(rt: HostRuntime) -> Result<(), Fail> {
-    all(&[
-        ("read and told", &read_and_told()),
-        ("addresses", &addresses(rt.alloc()).unwrap_or([false; 8])),
-        ("handling", &handling().unwrap_or([false; 10])),
-    ])
+fn fields_of_pdus(rt: HostRuntime) {
+    let addresses = addresses(&rt, rt.alloc());
+    let handling = handling(&rt);
+    assert_all(&rt, "read and told", &read_and_told());
+    assert_all(&rt, "addresses", &addresses);
+    assert_all(&rt, "handling", &handling);
 }

@@ -1,48 +1,34 @@
-//! What a test says of its cases, and octets that several of them make. An error that a test returns is cheaper to prove than an `assert_eq!`.
+//! What a test says of its cases, and octets that several of them make.
 
-use std::alloc::{AllocError, Global};
+use std::alloc::Global;
 use std::fmt::Debug;
-use std::test::Fail;
+use std::process::Abort;
 
-/// An error that tells of a case that is otherwise, if there is one.
-pub fn none<T: Debug>(name: &str, otherwise: &Option<T>) -> Result<(), Fail> {
-    match otherwise {
-        None => Ok(()),
-        Some(case) => Err(Fail::new(format_args!("{name}: {case:?} is otherwise"))),
-    }
+/// The value is the one that is wanted. This call is cheaper to prove than an `assert_eq!`.
+pub fn assert_same<T: Debug + PartialEq>(rt: &impl Abort, found: &T, wanted: &T) {
+    assert_eq!(rt; *found, *wanted);
 }
 
-fn first_false(cases: &[bool]) -> Option<usize> {
+/// Each case holds. A failure tells the name of their group, and the number of the case in it, from 0.
+pub fn assert_all(rt: &impl Abort, name: &str, cases: &[bool]) {
     for (number, holds) in cases.iter().enumerate() {
-        if !*holds {
-            return Some(number);
-        }
+        assert_same(rt, &(name, number, *holds), &(name, number, true));
     }
-    None
-}
-
-/// An error that tells the first case that does not hold, if there is one: the name of its group, and its number in it, from 0.
-pub fn all(groups: &[(&str, &[bool])]) -> Result<(), Fail> {
-    for (name, cases) in groups {
-        if let Some(number) = first_false(cases) {
-            return none(name, &Some(number));
-        }
-    }
-    Ok(())
 }
 
 /// The octets of the pieces, one after the other.
-pub fn joined(alloc: Global, pieces: &[&[u8]]) -> Result<Vec<u8>, AllocError> {
+pub fn joined(rt: &impl Abort, alloc: Global, pieces: &[&[u8]]) -> Vec<u8> {
     let mut octets = Vec::new(alloc);
     for piece in pieces {
-        octets.extend_from_slice(piece)?;
+        octets.extend_from_slice(piece).expect(rt, "memory");
     }
-    Ok(octets)
+    octets
 }
 
 /// The octets but their first four, and those after them, behind their number, as a command_length tells it.
-pub fn framed(alloc: Global, octets: &[u8], after: &[u8]) -> Result<Vec<u8>, AllocError> {
+pub fn framed(rt: &impl Abort, alloc: Global, octets: &[u8], after: &[u8]) -> Vec<u8> {
     let length = octets.len().saturating_add(after.len());
     let number = u32::try_from(length).unwrap_or(0).to_be_bytes();
-    joined(alloc, &[&number, octets.get(4..).unwrap_or(b""), after])
+    let rest = octets.get(4..).unwrap_or(b"");
+    joined(rt, alloc, &[&number, rest, after])
 }

@@ -1,12 +1,10 @@
 //! Fields at the front of octets and after octets.
 
-use crate::cases::all;
+use crate::cases::assert_all;
 use octet_fields::{
     Defect, check_parameters, counted_at, length_of, long_counted_at, nothing_at, octet_at,
     put_counted, put_long_counted, put_octets, put_pieces, text_at, tlv_at, u16_at, u32_at, u64_at,
 };
-use std::alloc::{AllocError, Global};
-use std::test::Fail;
 
 fn read() -> [bool; 11] {
     let octets = b"\x01\x02\x03\x04\x05\x06\x07\x08rest";
@@ -46,25 +44,25 @@ fn defects_told() -> [bool; 14] {
     ]
 }
 
-/// Whether an octet, and twice two octets behind their number, are written, and pieces, which have seven octets.
-fn written(alloc: Global) -> Result<[bool; 3], AllocError> {
+/// Pieces, which have seven octets, are written; and an octet, and twice two octets behind their number.
+#[test]
+fn fields_are_written(rt: HostRuntime) {
     let pieces: &[&[u8]] = &[b"sme1", b"", b"\0", b"Hi"];
-    let mut octets = Vec::with_capacity(alloc, 7)?;
+    let mut octets = Vec::with_capacity(rt.alloc(), 7).expect(&rt, "memory");
     put_pieces(&mut octets, pieces);
     let are_pieces = octets.as_slice() == b"sme1\0Hi".as_slice();
     octets.clear();
-    put_octets(&mut octets, &[7])?;
-    put_counted(&mut octets, b"Hi")?;
-    put_long_counted(&mut octets, b"Ho")?;
+    put_octets(&mut octets, &[7]).expect(&rt, "memory");
+    put_counted(&mut octets, b"Hi").expect(&rt, "memory");
+    put_long_counted(&mut octets, b"Ho").expect(&rt, "memory");
     let are_fields = octets.as_slice() == b"\x07\x02Hi\x00\x02Ho".as_slice();
-    Ok([length_of(pieces) == 7, are_pieces, are_fields])
+    drop(octets);
+    let written = [length_of(pieces) == 7, are_pieces, are_fields];
+    assert_all(&rt, "written", &written);
 }
 
 #[test]
-fn fields(rt: HostRuntime) -> Result<(), Fail> {
-    all(&[
-        ("read", &read()),
-        ("defects told", &defects_told()),
-        ("written", &written(rt.alloc()).unwrap_or([false; 3])),
-    ])
+fn fields_are_read(rt: HostRuntime) {
+    assert_all(&rt, "read", &read());
+    assert_all(&rt, "defects told", &defects_told());
 }

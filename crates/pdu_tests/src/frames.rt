@@ -1,189 +1,153 @@
 //! Frames out of streams that are cut into pieces. What is expected is the PDUs of which a stream was made.
 
-use crate::cases::{all, joined, none};
+use crate::cases::{assert_all, assert_same, joined};
 use crate::full_vectors::ENQUIRE_LINK;
 use crate::vectors::*;
-use pdu_codec::PduFault;
 use pdu_frames::Framer;
 use std::alloc::Global;
-use std::test::Fail;
+use std::process::Abort;
 
-/// Whether the frame that is taken now is the one that is wanted; none if no frame is whole.
-fn is_next(alloc: Global, framer: &mut Framer, wanted: &[u8]) -> Result<Option<bool>, PduFault> {
-    let mut frame = Vec::new(alloc);
-    let taken = framer.take(&mut frame);
-    let is_wanted = frame.as_slice() == wanted;
-    drop(frame);
-    Ok(if taken? { Some(is_wanted) } else { None })
+fn framer(rt: &impl Abort, alloc: Global) -> Framer {
+    Framer::make(alloc).expect(rt, "memory")
 }
 
-/// Feeds the piece whole, and takes each frame as soon as it is whole. How many of the wanted ones have come then, if so many had come
-/// before; none if another one comes.
-fn fed(
-    alloc: Global,
-    framer: &mut Framer,
-    piece: &[u8],
-    wanted: &[&[u8]],
-    before: usize,
-) -> Result<Option<usize>, PduFault> {
+/// Puts the frame that is taken now, and a bar behind it, behind the frames; nothing if no frame is whole.
+fn put_frame(rt: &impl Abort, framer: &mut Framer, frames: &mut Vec<u8>) {
+    let mut frame = Vec::new(*frames.allocator());
+    if framer.take(&mut frame).expect(rt, "a frame") {
+        frames.extend_from_slice(&frame).expect(rt, "memory");
+        frames.push(b'|').expect(rt, "memory");
+    }
+}
+
+/// Feeds the piece whole, and takes each frame as soon as it is whole.
+fn feed(rt: &impl Abort, framer: &mut Framer, piece: &[u8], frames: &mut Vec<u8>) {
     let mut rest = piece;
-    let mut come = before;
     // Each turn takes at least an octet.
     for _ in 0..piece.len() {
-        let count = framer.feed(rest)?;
-        rest = &rest[count..];
-        match is_next(alloc, framer, wanted.get(come).copied().unwrap_or(b""))? {
-            None => {}
-            Some(true) => come = come.saturating_add(1),
-            Some(false) => return Ok(None),
-        }
+        let count = framer.feed(rest).expect(rt, "octets");
+        rest = rest.get(count..).expect(rt, "octets");
+        put_frame(rt, framer, frames);
     }
-    Ok(Some(come))
 }
 
-/// How many of the wanted frames come of the stream, if it is cut at this place and behind it into pieces of this size.
-fn come(
+/// The frames that come of the stream, each with a bar behind it, and how many octets are wanted then, if the stream is cut at this place
+/// and behind it into pieces of this size.
+fn cut(
+    rt: &impl Abort,
     alloc: Global,
-    framer: &mut Framer,
     stream: &[u8],
     (place, size): (usize, usize),
-    wanted: &[&[u8]],
-) -> Result<Option<usize>, PduFault> {
+) -> (Vec<u8>, usize) {
     let (first, rest) = stream.split_at(place.min(stream.len()));
-    let mut come = fed(alloc, framer, first, wanted, 0)?;
+    let mut framer = framer(rt, alloc);
+    let mut frames = Vec::new(alloc);
+    feed(rt, &mut framer, first, &mut frames);
     for piece in rest.chunks(size.max(1)) {
-        let Some(before) = come else {
-            return Ok(None);
-        };
-        come = fed(alloc, framer, piece, wanted, before)?;
+        feed(rt, &mut framer, piece, &mut frames);
     }
-    Ok(come)
+    let wanted = framer.wanted();
+    drop(framer);
+    (frames, wanted)
 }
 
-/// Whether these frames come, and no others, and so many octets are wanted then.
-fn is_cut(
+/// That these frames come, and no others, and so many octets are wanted then.
+fn assert_cut(
+    rt: &impl Abort,
     alloc: Global,
     stream: &[u8],
-    cut: (usize, usize),
-    wanted: &[&[u8]],
-    left: usize,
-) -> bool {
-    let Ok(mut framer) = Framer::make(alloc) else {
-        return false;
-    };
-    let come = come(alloc, &mut framer, stream, cut, wanted);
-    framer.wanted() == left && come == Ok(Some(wanted.len()))
+    pieces: (usize, usize),
+    wanted: (&[u8], usize),
+) {
+    let (frames, left) = cut(rt, alloc, stream, pieces);
+    let found = (frames.as_slice(), left);
+    assert_same(rt, &(pieces, found), &(pieces, wanted));
 }
 
-/// The first place at which other frames come if the stream is cut there.
-fn wrong_place(alloc: Global, stream: &[u8], wanted: &[&[u8]]) -> Option<usize> {
-    for place in 0..=stream.len() {
-        if !is_cut(alloc, stream, (place, stream.len()), wanted, 4) {
-            return Some(place);
-        }
-    }
-    None
-}
-
-/// A bind_transceiver and a submit_sm; and these, a query_sm, and twenty octets of a cancel_sm.
+/// A bind_transceiver and a submit_sm, cut anywhere.
 #[test]
-fn streams_are_cut(rt: HostRuntime) -> Result<(), Fail> {
+fn two_frames_are_cut(rt: HostRuntime) {
     let alloc = rt.alloc();
-    let pieces: [&[u8]; 4] = [
-        &BIND_TRANSCEIVER,
-        &SUBMIT_WITH_RECEIPT,
-        &QUERY,
-        &CANCEL[..20],
-    ];
-    let (two, three) = (&pieces[..2], &pieces[..3]);
-    let stream = joined(alloc, &pieces)?;
-    let first = &stream[..stream.len().min(71)];
-    let wrong_place = wrong_place(alloc, first, two);
-    let in_pieces = [
-        first.len() == 71,
-        is_cut(alloc, first, (0, 1), two, 4),
-        is_cut(alloc, first, (0, 2), two, 4),
-        is_cut(alloc, first, (0, 3), two, 4),
-        is_cut(alloc, first, (0, 7), two, 4),
-        is_cut(alloc, &stream, (stream.len(), 1), three, 17),
-    ];
-    drop(stream);
-    none("place", &wrong_place)?;
-    all(&[("pieces", &in_pieces)])
+    let stream = joined(&rt, alloc, &[BIND_TRANSCEIVER, SUBMIT_WITH_RECEIPT]);
+    let frames = joined(
+        &rt,
+        alloc,
+        &[BIND_TRANSCEIVER, b"|", SUBMIT_WITH_RECEIPT, b"|"],
+    );
+    let wanted = (frames.as_slice(), 4);
+    for place in 0..72 {
+        assert_cut(&rt, alloc, &stream, (place, 71), wanted);
+    }
+    for size in [1, 2, 3, 7] {
+        assert_cut(&rt, alloc, &stream, (0, size), wanted);
+    }
+    assert_same(&rt, &stream.len(), &71);
+}
+
+/// These, a query_sm, and twenty octets of a cancel_sm.
+#[test]
+fn three_frames_and_a_part_are_cut(rt: HostRuntime) {
+    let alloc = rt.alloc();
+    let (two, part) = ([BIND_TRANSCEIVER, SUBMIT_WITH_RECEIPT], &CANCEL[..20]);
+    let stream = joined(&rt, alloc, &[two[0], two[1], QUERY, part]);
+    let frames = joined(&rt, alloc, &[two[0], b"|", two[1], b"|", QUERY, b"|"]);
+    let wanted = (frames.as_slice(), 17);
+    assert_cut(&rt, alloc, &stream, (stream.len(), 1), wanted);
 }
 
 /// The octets of the stream from one place to another, as `0..4`.
-fn part<'a>(stream: &'a [u8], places: &str) -> Option<&'a [u8]> {
-    let (from, to) = places.split_once("..")?;
-    let from: usize = from.parse().ok()?;
-    let to: usize = to.parse().ok()?;
-    stream.get(from..to)
+fn part<'a>(rt: &impl Abort, stream: &'a [u8], places: &str) -> &'a [u8] {
+    let (from, to) = places.split_once("..").expect(rt, "two places");
+    let from: usize = from.parse().expect(rt, "a place");
+    let to: usize = to.parse().expect(rt, "a place");
+    stream.get(from..to).expect(rt, "octets")
 }
 
 /// `feed`: what it answers to the octets, and how many are wanted then. `take`: what it answers, and whether the vector holds the octets then.
 fn told(
-    alloc: Global,
+    rt: &impl Abort,
     framer: &mut Framer,
     frame: &mut Vec<u8>,
     step: &str,
     octets: &[u8],
-) -> Option<String> {
+) -> String {
+    let alloc = *frame.allocator();
     match step {
         "feed" => {
             let fed = framer.feed(octets);
-            format!(in alloc; "{fed:?} {}", framer.wanted()).ok()
+            format!(in alloc; "{fed:?} {}", framer.wanted()).expect(rt, "memory")
         }
         "take" => {
             let taken = framer.take(frame);
-            format!(in alloc; "{taken:?} {}", frame.as_slice() == octets).ok()
+            format!(in alloc; "{taken:?} {}", frame.as_slice() == octets).expect(rt, "memory")
         }
-        _ => None,
+        _ => panic!(rt; "a step"),
     }
 }
 
-/// Whether what is told of the step is what the line says.
-fn holds(
-    alloc: Global,
+/// That what is told of the step is what the line of this number says.
+fn assert_line(
+    rt: &impl Abort,
     framer: &mut Framer,
     frame: &mut Vec<u8>,
     stream: &[u8],
-    line: &str,
-) -> Option<bool> {
-    let (step, wanted) = line.split_once(": ")?;
-    let (step, places) = step.split_once(' ')?;
-    let told = told(alloc, framer, frame, step, part(stream, places)?)?;
-    Some(told.as_str() == wanted)
+    (number, line): (usize, &str),
+) {
+    let (happens, wanted) = line.split_once(": ").expect(rt, "a step and what is told");
+    let (step, places) = happens.split_once(' ').expect(rt, "a step and places");
+    let told = told(rt, framer, frame, step, part(rt, stream, places));
+    let found = (number, happens, told.as_str());
+    assert_same(rt, &found, &(number, happens, wanted));
 }
 
-/// The number of the first line that says something else, from 0.
-fn otherwise_by(
-    alloc: Global,
-    framer: &mut Framer,
-    frame: &mut Vec<u8>,
-    stream: &[u8],
-    lines: &str,
-) -> Option<usize> {
-    for (number, line) in lines.lines().enumerate() {
-        if holds(alloc, framer, frame, stream, line) != Some(true) {
-            return Some(number);
-        }
+/// That the lines hold of a new framer, and a vector that holds so many octets of the stream.
+fn assert_lines(rt: &impl Abort, alloc: Global, stream: &[u8], held: usize, lines: &str) {
+    let front = stream.get(..held).expect(rt, "octets");
+    let mut frame = Vec::from_slice(alloc, front).expect(rt, "memory");
+    let mut framer = framer(rt, alloc);
+    for line in lines.lines().enumerate() {
+        assert_line(rt, &mut framer, &mut frame, stream, line);
     }
-    None
-}
-
-/// The same of a new framer, and a vector that holds so many octets of the stream.
-fn otherwise(
-    alloc: Global,
-    stream: &[u8],
-    held: usize,
-    lines: &str,
-) -> Result<Option<usize>, PduFault> {
-    let mut frame = Vec::from_slice(alloc, stream.get(..held).unwrap_or(b""))?;
-    let mut framer = Framer::make(alloc)?;
-    let otherwise = otherwise_by(alloc, &mut framer, &mut frame, stream, lines);
-    drop(framer);
-    drop(frame);
-    Ok(otherwise)
 }
 
 /// A query_sm of 33 octets, a cancel_sm of 37, and the query_sm again.
@@ -220,21 +184,18 @@ feed 0..33: Err(Length) 0
 feed 0..0: Err(Length) 0";
 
 #[test]
-fn frames_are_fed_and_taken(rt: HostRuntime) -> Result<(), Fail> {
-    let stream = joined(rt.alloc(), &[&QUERY, &CANCEL, &QUERY])?;
-    let fed_and_taken = otherwise(rt.alloc(), &stream, 20, FED_AND_TAKEN);
-    let each_in_its_place = otherwise(rt.alloc(), &stream, 0, EACH_IN_ITS_PLACE);
+fn frames_are_fed_and_taken(rt: HostRuntime) {
+    let alloc = rt.alloc();
+    let stream = joined(&rt, alloc, &[QUERY, CANCEL, QUERY]);
+    assert_lines(&rt, alloc, &stream, 20, FED_AND_TAKEN);
+    assert_lines(&rt, alloc, &stream, 0, EACH_IN_ITS_PLACE);
     drop(stream);
-    let stream = joined(rt.alloc(), &[&QUERY, b"\x00\x00\x20\x01", &QUERY])?;
-    let wrong_length = otherwise(rt.alloc(), &stream, 0, WRONG_LENGTH);
-    drop(stream);
-    none("line", &fed_and_taken?)?;
-    none("line of frames in their place", &each_in_its_place?)?;
-    none("line of a wrong length", &wrong_length?)
+    let wrong = joined(&rt, alloc, &[QUERY, b"\x00\x00\x20\x01", QUERY]);
+    assert_lines(&rt, alloc, &wrong, 0, WRONG_LENGTH);
 }
 
-/// A header alone (SMPP 3.4, section 4.11.1), cut at this place: its first four octets say that it has 16.
-fn otherwise_at(alloc: Global, place: usize) -> Result<Option<usize>, Fail> {
+/// That a header alone (SMPP 3.4, section 4.11.1) may be cut at this place: its first four octets say that it has 16.
+fn assert_cut_at(rt: &impl Abort, alloc: Global, place: usize) {
     let rest = 16usize.saturating_sub(place);
     let wanted = if place < 4 { 4 - place } else { rest };
     let lines = format!(in alloc;
@@ -244,73 +205,64 @@ take 0..0: Ok(false) true
 feed {place}..16: Ok({rest}) 0
 take 0..16: Ok(true) true
 feed 0..0: Ok(0) 4"
-    )?;
-    let otherwise = otherwise(alloc, ENQUIRE_LINK, 0, &lines);
-    drop(lines);
-    Ok(otherwise?)
+    );
+    let lines = lines.expect(rt, "memory");
+    assert_lines(rt, alloc, ENQUIRE_LINK, 0, &lines);
 }
 
 #[test]
-fn an_enquire_link_is_cut_at_every_place(rt: HostRuntime) -> Result<(), Fail> {
+fn an_enquire_link_is_cut_at_every_place(rt: HostRuntime) {
     for place in 0..16 {
-        if otherwise_at(rt.alloc(), place)?.is_some() {
-            return none("place", &Some(place));
-        }
+        assert_cut_at(&rt, rt.alloc(), place);
     }
-    Ok(())
 }
 
-/// As many octets as a command_length says: whether they are a frame.
-fn otherwise_of(alloc: Global, length: u32, lines: &str) -> Result<Option<usize>, PduFault> {
-    let mut octets = Vec::from_slice(alloc, &length.to_be_bytes())?;
-    octets.resize(length as usize, 0xff)?;
-    let otherwise = otherwise(alloc, &octets, 0, lines);
-    drop(octets);
-    otherwise
+/// As many octets as a command_length says, and whether they are a frame.
+const LENGTHS: &[(u32, &str)] = &[
+    (16, "feed 0..16: Ok(16) 0\ntake 0..16: Ok(true) true"),
+    (
+        8192,
+        "feed 0..8192: Ok(8192) 0\ntake 0..8192: Ok(true) true",
+    ),
+    (4, "feed 0..4: Ok(4) 0\ntake 0..0: Err(Length) true"),
+    (15, "feed 0..15: Ok(4) 0\ntake 0..0: Err(Length) true"),
+    (8193, "feed 0..8193: Ok(4) 0\ntake 0..0: Err(Length) true"),
+    (
+        65_552,
+        "feed 0..65552: Ok(4) 0\ntake 0..0: Err(Length) true",
+    ),
+];
+
+fn assert_length(rt: &impl Abort, alloc: Global, length: u32, lines: &str) {
+    let mut octets = Vec::from_slice(alloc, &length.to_be_bytes()).expect(rt, "memory");
+    octets.resize(length as usize, 0xff).expect(rt, "memory");
+    assert_lines(rt, alloc, &octets, 0, lines);
 }
 
 #[test]
-fn lengths_have_limits(rt: HostRuntime) -> Result<(), Fail> {
-    let rows = [
-        (16, "feed 0..16: Ok(16) 0\ntake 0..16: Ok(true) true"),
-        (
-            8192,
-            "feed 0..8192: Ok(8192) 0\ntake 0..8192: Ok(true) true",
-        ),
-        (4, "feed 0..4: Ok(4) 0\ntake 0..0: Err(Length) true"),
-        (15, "feed 0..15: Ok(4) 0\ntake 0..0: Err(Length) true"),
-        (8193, "feed 0..8193: Ok(4) 0\ntake 0..0: Err(Length) true"),
-        (
-            65_552,
-            "feed 0..65552: Ok(4) 0\ntake 0..0: Err(Length) true",
-        ),
-    ];
-    for (length, lines) in &rows {
-        if otherwise_of(rt.alloc(), *length, lines)?.is_some() {
-            return none("length", &Some(length));
-        }
+fn lengths_have_limits(rt: HostRuntime) {
+    for (length, lines) in LENGTHS {
+        assert_length(&rt, rt.alloc(), *length, lines);
     }
-    none(
-        "zero",
-        &otherwise(rt.alloc(), b"\0\0\0\0\0\0\0\x10", 0, "feed 0..8: Ok(4) 0")?,
-    )
+    let zero = b"\0\0\0\0\0\0\0\x10";
+    assert_lines(&rt, rt.alloc(), zero, 0, "feed 0..8: Ok(4) 0");
 }
 
 /// Whether the piece is taken whole, whether it is shown, and whether nothing is shown once it is let go.
-fn shown(framer: &mut Framer) -> Result<[bool; 3], PduFault> {
-    let is_taken = framer.feed(&BIND_TRANSCEIVER) == Ok(BIND_TRANSCEIVER.len());
-    let Some(frame) = framer.frame()? else {
-        return Ok([is_taken, false, false]);
+fn shown(rt: &impl Abort, framer: &mut Framer) -> [bool; 3] {
+    let is_taken = framer.feed(BIND_TRANSCEIVER) == Ok(30);
+    let Ok(Some(frame)) = framer.frame() else {
+        panic!(rt; "a frame");
     };
-    let is_shown = frame == BIND_TRANSCEIVER.as_slice();
+    let is_shown = frame == BIND_TRANSCEIVER;
     framer.let_go();
-    Ok([is_taken, is_shown, framer.frame() == Ok(None)])
+    [is_taken, is_shown, framer.frame() == Ok(None)]
 }
 
 #[test]
-fn a_frame_is_shown_where_it_lies(rt: HostRuntime) -> Result<(), Fail> {
-    let mut framer = Framer::make(rt.alloc())?;
-    let shown = shown(&mut framer);
+fn a_frame_is_shown_where_it_lies(rt: HostRuntime) {
+    let mut framer = framer(&rt, rt.alloc());
+    let shown = shown(&rt, &mut framer);
     drop(framer);
-    all(&[("shown", &shown?)])
+    assert_all(&rt, "shown", &shown);
 }

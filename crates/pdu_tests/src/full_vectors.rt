@@ -133,7 +133,7 @@ pub const ENQUIRE_LINK_ANSWER: &[u8] =
 pub const GENERIC_NACK: &[u8] = b"\x00\x00\x00\x10\x80\x00\x00\x00\x00\x00\x00\x03\x00\x00\x00\x2c";
 
 /// All of them, and what each says (`told.rt`): a number as octets, a text as it is.
-pub const FULL_PDUS: [(&[u8], &[u8]); 19] = [
+pub const FULL_PDUS: &[(&[u8], &[u8])] = &[
     (
         BIND_RECEIVER,
         b"bind_receiver|\0\0\0\x15|\0\0\0\x16|RECEIVER1|hidden07|PULL|\x33|\x06|\x12|^155",

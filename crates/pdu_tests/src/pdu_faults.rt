@@ -1,78 +1,115 @@
 //! The first fault of octets that are no PDU, and the longest PDUs that are read.
 
-use crate::cases::{all, framed, joined, none};
-use crate::told::is_said;
+use crate::cases::{assert_same, framed, joined};
+use crate::told::assert_said;
 use crate::vectors::*;
 use pdu_codec::{Field, PduFault, decode};
 use std::alloc::Global;
-use std::test::Fail;
+use std::process::Abort;
 
-/// Octets, those that follow them, and their fault once command_length says how many they are.
-type Row<'a> = (&'a [u8], &'a [u8], PduFault);
-
-/// The first row of another fault: its number, from 0, and that fault.
-fn otherwise(alloc: Global, rows: &[Row<'_>]) -> Option<(usize, Option<PduFault>)> {
-    for (number, (octets, after, fault)) in rows.iter().enumerate() {
-        let found = fault_of(alloc, octets, after);
-        if found != Some(*fault) {
-            return Some((number, found));
-        }
-    }
-    None
-}
-
-#[test]
-fn faults(rt: HostRuntime) -> Result<(), Fail> {
-    let last = b"\0\0\0\0\0\0\0\x01";
-    let rows: [Row<'_>; 12] = [
-        (&QUERY[..15], b"", PduFault::Length),
-        // No command of SMPP 3.4; replace_sm; and one that SMPP 3.4 reserves.
-        (b"\0\0\0\0\x00\x00\xff\xff", last, PduFault::Command),
-        (b"\0\0\0\0\x00\x00\x00\x07", last, PduFault::Command),
-        (b"\0\0\0\0\x80\x00\x00\x16", last, PduFault::Command),
-        (&QUERY[..32], b"", PduFault::Cut(Field::SourceAddr)),
-        (
-            &BIND_TRANSCEIVER[..16],
-            b"sixteen octets..",
-            PduFault::LongText(Field::SystemId),
-        ),
-        (&SUBMIT[..38], b"\xff\x48\x69", PduFault::TextLength),
-        (&BIND_ANSWER[..27], b"", PduFault::Tlvs),
-        (&SUBMIT_ANSWER, b"\0", PduFault::Extra),
-        (&CANCEL, b"\0", PduFault::Extra),
-        (
-            &CANCEL[..36],
-            b"twenty-one characters\0",
-            PduFault::LongText(Field::DestinationAddr),
-        ),
-        (&CANCEL_OK, b"\0", PduFault::Extra),
-    ];
-    none("fault", &otherwise(rt.alloc(), &rows))
-}
+/// Octets, how many of them there are, those that follow them, and their fault once command_length says how many they are.
+type Row = (&'static [u8], usize, &'static [u8], PduFault);
 
 /// The fault of the octets and those that follow them, once command_length says how many they are.
-fn fault_of(alloc: Global, octets: &[u8], after: &[u8]) -> Option<PduFault> {
-    let framed = framed(alloc, octets, after).ok()?;
-    decode(alloc, &framed).err()
+fn fault_of(rt: &impl Abort, alloc: Global, octets: &[u8], after: &[u8]) -> Option<PduFault> {
+    let framed = framed(rt, alloc, octets, after);
+    let fault = decode(alloc, &framed).err();
+    drop(framed);
+    fault
+}
+
+/// That the row of this number has its fault.
+fn assert_fault(rt: &impl Abort, alloc: Global, number: usize, row: Row) {
+    let (octets, length, after, wanted) = row;
+    let front = octets.get(..length).expect(rt, "octets");
+    let fault = fault_of(rt, alloc, front, after);
+    assert_same(rt, &(number, fault), &(number, Some(wanted)));
+}
+
+/// The sequence_number and the status of a PDU.
+const LAST: &[u8] = b"\0\0\0\0\0\0\0\x01";
+
+const FAULTS: &[Row] = &[
+    (QUERY, 15, b"", PduFault::Length),
+    // No command of SMPP 3.4; replace_sm; and one that SMPP 3.4 reserves.
+    (b"\0\0\0\0\x00\x00\xff\xff", 8, LAST, PduFault::Command),
+    (b"\0\0\0\0\x00\x00\x00\x07", 8, LAST, PduFault::Command),
+    (b"\0\0\0\0\x80\x00\x00\x16", 8, LAST, PduFault::Command),
+    (QUERY, 32, b"", PduFault::Cut(Field::SourceAddr)),
+    (
+        BIND_TRANSCEIVER,
+        16,
+        b"sixteen octets..",
+        PduFault::LongText(Field::SystemId),
+    ),
+    (SUBMIT, 38, b"\xff\x48\x69", PduFault::TextLength),
+    (BIND_ANSWER, 27, b"", PduFault::Tlvs),
+    (SUBMIT_ANSWER, 27, b"\0", PduFault::Extra),
+    (CANCEL, 37, b"\0", PduFault::Extra),
+    (
+        CANCEL,
+        36,
+        b"twenty-one characters\0",
+        PduFault::LongText(Field::DestinationAddr),
+    ),
+    (CANCEL_OK, 16, b"\0", PduFault::Extra),
+];
+
+#[test]
+fn faults(rt: HostRuntime) {
+    for (number, row) in FAULTS.iter().enumerate() {
+        assert_fault(&rt, rt.alloc(), number, *row);
+    }
+}
+
+/// So many octets 0, 1, 2 and so on up to 250, and again.
+fn counting(rt: &impl Abort, alloc: Global, count: usize) -> Vec<u8> {
+    let mut octets = Vec::new(alloc);
+    for place in 0..count {
+        octets.push((place % 251) as u8).expect(rt, "memory");
+    }
+    octets
+}
+
+/// The fault of a PDU of no command that has so many octets behind its header.
+fn fault_of_zeros(rt: &impl Abort, alloc: Global, count: usize) -> Option<PduFault> {
+    let zeros = vec![in alloc; 0u8; count].expect(rt, "memory");
+    let unknown = b"\0\0\0\0\0\0\xff\xff\0\0\0\0\0\0\0\x01";
+    let fault = fault_of(rt, alloc, unknown, &zeros);
+    drop(zeros);
+    fault
+}
+
+/// The fault of a submit_sm with a message_payload of 6,997 octets.
+fn fault_of_parameters(rt: &impl Abort, alloc: Global) -> Option<PduFault> {
+    let payload = counting(rt, alloc, 6997);
+    let tlvs = joined(rt, alloc, &[b"\x04\x24\x1b\x55", &payload]);
+    drop(payload);
+    let fault = fault_of(rt, alloc, SUBMIT, &tlvs);
+    drop(tlvs);
+    fault
+}
+
+/// The fault of a query_sm that has one octet more than its command_length says.
+fn fault_of_longer(rt: &impl Abort, alloc: Global) -> Option<PduFault> {
+    let longer = joined(rt, alloc, &[QUERY, b"\0"]);
+    let fault = decode(alloc, &longer).err();
+    drop(longer);
+    fault
 }
 
 /// 8,192 octets may be a PDU, and 8,193 are none, whatever their command. Optional parameters have 7,000 octets at most.
 #[test]
-fn lengths(rt: HostRuntime) -> Result<(), Fail> {
-    let unknown = b"\0\0\0\0\0\0\xff\xff\0\0\0\0\0\0\0\x01";
-    let zeros = [0; 8177];
-    let tlvs = joined(rt.alloc(), &[b"\x04\x24\x1b\x55", &counting::<6997>()])?;
-    let longer = joined(rt.alloc(), &[&QUERY, b"\0"])?;
+fn lengths(rt: HostRuntime) {
+    let alloc = rt.alloc();
     let faults = [
-        fault_of(rt.alloc(), unknown, &zeros[1..]),
-        fault_of(rt.alloc(), unknown, &zeros),
-        fault_of(rt.alloc(), &SUBMIT, &tlvs),
+        fault_of_zeros(&rt, alloc, 8176),
+        fault_of_zeros(&rt, alloc, 8177),
+        fault_of_parameters(&rt, alloc),
         // One octet fewer than command_length says, and one more.
-        decode(rt.alloc(), &QUERY[..32]).err(),
-        decode(rt.alloc(), &longer).err(),
+        decode(alloc, QUERY.get(..32).expect(&rt, "octets")).err(),
+        fault_of_longer(&rt, alloc),
     ];
-    drop(longer);
-    drop(tlvs);
     let wanted = [
         Some(PduFault::Command),
         Some(PduFault::Length),
@@ -80,27 +117,19 @@ fn lengths(rt: HostRuntime) -> Result<(), Fail> {
         Some(PduFault::Length),
         Some(PduFault::Length),
     ];
-    let otherwise = if faults == wanted { None } else { Some(faults) };
-    none("lengths", &otherwise)
-}
-
-/// Octets 0, 1, 2 and so on up to 250, and again.
-fn counting<const COUNT: usize>() -> [u8; COUNT] {
-    let mut octets = [0; COUNT];
-    for place in 0..COUNT {
-        octets[place] = (place % 251) as u8;
-    }
-    octets
+    assert_same(&rt, &faults, &wanted);
 }
 
 /// A submit_sm (SMPP 3.4, section 4.4.1) with each text as long as it may be, the greatest short_message, and 7,000 octets
 /// of optional parameters: a message_payload of 6,996. And what is told of it.
 #[test]
-fn a_submit_of_7364_octets_is_read_and_written(rt: HostRuntime) -> Result<(), Fail> {
-    let greatest = counting::<254>();
-    let payload = counting::<6996>();
+fn a_submit_of_7364_octets_is_read_and_written(rt: HostRuntime) {
+    let alloc = rt.alloc();
+    let greatest = counting(&rt, alloc, 254);
+    let payload = counting(&rt, alloc, 6996);
     let octets = joined(
-        rt.alloc(),
+        &rt,
+        alloc,
         &[
             b"\0\0\x1c\xc4\0\0\0\x04\0\0\0\0\0\0\0\x01",
             b"aaaaa\0\x01\x02aaaaaaaaaaaaaaaaaaaa\0\x03\x04aaaaaaaaaaaaaaaaaaaa\0\x05\x06\x07",
@@ -109,9 +138,10 @@ fn a_submit_of_7364_octets_is_read_and_written(rt: HostRuntime) -> Result<(), Fa
             b"\x04\x24\x1b\x54",
             &payload,
         ],
-    )?;
+    );
     let told = joined(
-        rt.alloc(),
+        &rt,
+        alloc,
         &[
             b"submit_sm|\0\0\0\0|\0\0\0\x01|aaaaa|\x01|\x02|aaaaaaaaaaaaaaaaaaaa|\x03|\x04|aaaaaaaaaaaaaaaaaaaa|",
             b"\x05|\x06|\x07|aaaaaaaaaaaaaaaa|aaaaaaaaaaaaaaaa|\x08|\x09|\x0a|\x0b|",
@@ -119,29 +149,22 @@ fn a_submit_of_7364_octets_is_read_and_written(rt: HostRuntime) -> Result<(), Fa
             b"|\x04\x24\x1b\x54",
             &payload,
         ],
-    )?;
-    let has_all = octets.len() == 7364;
-    let is_said = is_said(rt.alloc(), &octets, &told);
-    drop(octets);
-    drop(told);
-    all(&[("longest", &[has_all, is_said])])
+    );
+    assert_said(&rt, alloc, octets.len(), &octets, &told);
+    assert_same(&rt, &octets.len(), &7364);
 }
 
-fn is_told(alloc: Global, fault: PduFault, wanted: &str) -> bool {
-    let Ok(told) = fault.to_string(alloc) else {
-        return false;
-    };
-    told.as_str() == wanted
+/// That a fault is told so.
+fn assert_told(rt: &impl Abort, alloc: Global, fault: PduFault, wanted: &str) {
+    let told = fault.to_string(alloc).expect(rt, "memory");
+    assert_same(rt, &told.as_str(), &wanted);
 }
 
 #[test]
-fn faults_are_told(rt: HostRuntime) -> Result<(), Fail> {
+fn faults_are_told(rt: HostRuntime) {
     let cut = PduFault::Cut(Field::DestinationAddr);
-    all(&[(
-        "told",
-        &[
-            is_told(rt.alloc(), cut, "the PDU ends before destination_addr does"),
-            is_told(rt.alloc(), PduFault::TextLength, "sm_length is above 254"),
-        ],
-    )])
+    let told = "the PDU ends before destination_addr does";
+    assert_told(&rt, rt.alloc(), cut, told);
+    let long = PduFault::TextLength;
+    assert_told(&rt, rt.alloc(), long, "sm_length is above 254");
 }

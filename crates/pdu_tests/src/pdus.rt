@@ -1,52 +1,60 @@
 //! What PDUs say, and that each is written as it is read.
 
-use crate::cases::{all, none};
+use crate::cases::assert_same;
 use crate::full_vectors::FULL_PDUS;
-use crate::told::is_said;
+use crate::told::assert_said;
 use crate::vectors::{CANCEL_REFUSED, VECTORS};
 use pdu_codec::{Body, Pdu, encode, read_header};
 use std::alloc::Global;
-use std::test::Fail;
+use std::process::Abort;
 
-/// The number of the first of these of which something else is said, from 0.
-fn otherwise(alloc: Global, pdus: &[(&[u8], &[u8])]) -> Option<usize> {
+/// That this is said of these octets.
+fn assert_all_said(rt: &impl Abort, alloc: Global, pdus: &[(&[u8], &[u8])]) {
     for (number, (octets, told)) in pdus.iter().enumerate() {
-        if !is_said(alloc, octets, told) {
-            return Some(number);
-        }
+        assert_said(rt, alloc, number, octets, told);
     }
-    None
 }
 
 #[test]
-fn pdus(rt: HostRuntime) -> Result<(), Fail> {
-    none("PDU", &otherwise(rt.alloc(), &FULL_PDUS))?;
-    none("vector", &otherwise(rt.alloc(), &VECTORS))
+fn pdus(rt: HostRuntime) {
+    assert_all_said(&rt, rt.alloc(), FULL_PDUS);
+    assert_all_said(&rt, rt.alloc(), VECTORS);
 }
 
-/// A response of a header alone is another PDU than one with an empty text.
+/// A response of a header alone is another PDU than one with an empty text. A submit_sm may have no octet of text, if sm_length says so.
+const EMPTY: &[(&[u8], &[u8])] = &[
+    (
+        b"\0\0\0\x10\x80\0\0\x04\0\0\0\x14\0\0\0\x02",
+        b"submit_sm_resp|\0\0\0\x14|\0\0\0\x02",
+    ),
+    (
+        b"\0\0\0\x11\x80\0\0\x04\0\0\0\x14\0\0\0\x02\0",
+        b"submit_sm_resp|\0\0\0\x14|\0\0\0\x02|",
+    ),
+    (
+        b"\0\0\0\x27\0\0\0\x04\0\0\0\0\0\0\0\x02\0\x01\x01144\0\x01\x01155\0\0\0\0\0\0\x01\0\0\0\0",
+        b"submit_sm|\0\0\0\0|\0\0\0\x02||\x01|\x01|144|\x01|\x01|155|\x00|\x00|\x00|||\x01|\x00|\x00|\x00||",
+    ),
+];
+
 #[test]
-fn headers_alone(rt: HostRuntime) -> Result<(), Fail> {
-    let bare = b"\0\0\0\x10\x80\0\0\x04\0\0\0\x14\0\0\0\x02";
-    let empty = b"\0\0\0\x11\x80\0\0\x04\0\0\0\x14\0\0\0\x02\0";
-    let header = read_header(&CANCEL_REFUSED).ok_or("it has a header")?;
-    all(&[(
-        "header",
-        &[
-            is_said(rt.alloc(), bare, b"submit_sm_resp|\0\0\0\x14|\0\0\0\x02"),
-            is_said(rt.alloc(), empty, b"submit_sm_resp|\0\0\0\x14|\0\0\0\x02|"),
-            header.length == 16,
-            header.command == 0x8000_0008,
-            header.status == 0x11,
-            header.sequence == 4,
-            read_header(&CANCEL_REFUSED[..15]).is_none(),
-        ],
-    )])
+fn headers_alone_and_empty_texts(rt: HostRuntime) {
+    let header = read_header(CANCEL_REFUSED).expect(&rt, "it has a header");
+    let numbers = (
+        header.length,
+        header.command,
+        header.status,
+        header.sequence,
+    );
+    let cut = CANCEL_REFUSED.get(..15).expect(&rt, "octets");
+    assert_all_said(&rt, rt.alloc(), EMPTY);
+    assert_same(&rt, &numbers, &(16, 0x8000_0008, 0x11, 4));
+    assert_same(&rt, &read_header(cut).is_none(), &true);
 }
 
 #[test]
-fn a_pdu_is_written_behind_what_is_there(rt: HostRuntime) -> Result<(), Fail> {
-    let mut octets = Vec::from_slice(rt.alloc(), b"before")?;
+fn a_pdu_is_written_behind_what_is_there(rt: HostRuntime) {
+    let mut octets = Vec::from_slice(rt.alloc(), b"before").expect(&rt, "memory");
     let pdu = Pdu {
         status: 0x11,
         sequence: 4,
@@ -54,8 +62,6 @@ fn a_pdu_is_written_behind_what_is_there(rt: HostRuntime) -> Result<(), Fail> {
     };
     let is_written = encode(&pdu, &mut octets).is_ok();
     drop(pdu);
-    let whole = b"before\0\0\0\x10\x80\0\0\x08\0\0\0\x11\0\0\0\x04";
-    let is_whole = octets.as_slice() == whole.as_slice();
-    drop(octets);
-    all(&[("behind", &[is_written, is_whole])])
+    let whole = b"before\0\0\0\x10\x80\0\0\x08\0\0\0\x11\0\0\0\x04".as_slice();
+    assert_same(&rt, &(is_written, octets.as_slice()), &(true, whole));
 }

@@ -1,19 +1,21 @@
 //! What a PDU has, as octets that can be compared as one: its command, its status and its sequence_number, and the fields of its body in
 //! the order of the standard, each behind a bar. Optional parameters are one field.
 
+use crate::cases::assert_same;
 use pdu_codec::{Bind, BindAnswer, Body, Message, Pdu, QueryAnswer, decode, encode};
-use std::alloc::{AllocError, Global};
+use std::alloc::Global;
+use std::process::Abort;
 
-fn put(told: &mut Vec<u8>, fields: &[&[u8]]) -> Result<(), AllocError> {
+fn put(rt: &impl Abort, told: &mut Vec<u8>, fields: &[&[u8]]) {
     for field in fields {
-        told.push(b'|')?;
-        told.extend_from_slice(field)?;
+        told.push(b'|').expect(rt, "memory");
+        told.extend_from_slice(field).expect(rt, "memory");
     }
-    Ok(())
 }
 
-fn put_bind(told: &mut Vec<u8>, bind: &Bind) -> Result<(), AllocError> {
+fn put_bind(rt: &impl Abort, told: &mut Vec<u8>, bind: &Bind) {
     put(
+        rt,
         told,
         &[
             bind.system_id.octets(),
@@ -27,15 +29,16 @@ fn put_bind(told: &mut Vec<u8>, bind: &Bind) -> Result<(), AllocError> {
     )
 }
 
-fn put_bind_answer(told: &mut Vec<u8>, answer: &Option<BindAnswer>) -> Result<(), AllocError> {
+fn put_bind_answer(rt: &impl Abort, told: &mut Vec<u8>, answer: &Option<BindAnswer>) {
     match answer {
-        None => Ok(()),
-        Some(answer) => put(told, &[answer.system_id.octets(), answer.tlvs.octets()]),
+        None => {}
+        Some(answer) => put(rt, told, &[answer.system_id.octets(), answer.tlvs.octets()]),
     }
 }
 
-fn put_message(told: &mut Vec<u8>, message: &Message) -> Result<(), AllocError> {
+fn put_message(rt: &impl Abort, told: &mut Vec<u8>, message: &Message) {
     put(
+        rt,
         told,
         &[
             message.service_type.octets(),
@@ -60,10 +63,11 @@ fn put_message(told: &mut Vec<u8>, message: &Message) -> Result<(), AllocError> 
     )
 }
 
-fn put_query_answer(told: &mut Vec<u8>, answer: &Option<QueryAnswer>) -> Result<(), AllocError> {
+fn put_query_answer(rt: &impl Abort, told: &mut Vec<u8>, answer: &Option<QueryAnswer>) {
     match answer {
-        None => Ok(()),
+        None => {}
         Some(answer) => put(
+            rt,
             told,
             &[
                 answer.message_id.octets(),
@@ -75,17 +79,22 @@ fn put_query_answer(told: &mut Vec<u8>, answer: &Option<QueryAnswer>) -> Result<
     }
 }
 
-fn put_body(told: &mut Vec<u8>, body: &Body) -> Result<(), AllocError> {
+fn put_body(rt: &impl Abort, told: &mut Vec<u8>, body: &Body) {
     match body {
         Body::BindReceiver(bind) | Body::BindTransmitter(bind) | Body::BindTransceiver(bind) => {
-            put_bind(told, bind)
+            put_bind(rt, told, bind)
         }
         Body::BindReceiverResp(answer)
         | Body::BindTransmitterResp(answer)
-        | Body::BindTransceiverResp(answer) => put_bind_answer(told, answer),
-        Body::SubmitSm(message) | Body::DeliverSm(message) => put_message(told, message),
-        Body::SubmitSmResp(Some(id)) | Body::DeliverSmResp(Some(id)) => put(told, &[id.octets()]),
+        | Body::BindTransceiverResp(answer) => put_bind_answer(rt, told, answer),
+        Body::SubmitSm(message) | Body::DeliverSm(message) => put_message(rt, told, message),
+        Body::SubmitSmResp(Some(id)) | Body::DeliverSmResp(Some(id)) => put(
+            rt,
+            told,
+            &[id.octets()],
+        ),
         Body::QuerySm(query) => put(
+            rt,
             told,
             &[
                 query.message_id.octets(),
@@ -94,8 +103,9 @@ fn put_body(told: &mut Vec<u8>, body: &Body) -> Result<(), AllocError> {
                 query.source.digits.octets(),
             ],
         ),
-        Body::QuerySmResp(answer) => put_query_answer(told, answer),
+        Body::QuerySmResp(answer) => put_query_answer(rt, told, answer),
         Body::CancelSm(cancel) => put(
+            rt,
             told,
             &[
                 cancel.service_type.octets(),
@@ -108,7 +118,7 @@ fn put_body(told: &mut Vec<u8>, body: &Body) -> Result<(), AllocError> {
                 cancel.destination.digits.octets(),
             ],
         ),
-        _ => Ok(()),
+        _ => {}
     }
 }
 
@@ -136,22 +146,21 @@ fn command(body: &Body) -> &'static [u8] {
     }
 }
 
-/// Whether this is told of the PDU.
-fn is_told(alloc: Global, pdu: &Pdu, wanted: &[u8]) -> Result<bool, AllocError> {
-    let mut told = Vec::from_slice(alloc, command(&pdu.body))?;
+/// What is told of the PDU.
+fn told(rt: &impl Abort, alloc: Global, pdu: &Pdu) -> Vec<u8> {
+    let mut told = Vec::from_slice(alloc, command(&pdu.body)).expect(rt, "memory");
     put(
+        rt,
         &mut told,
         &[&pdu.status.to_be_bytes(), &pdu.sequence.to_be_bytes()],
-    )?;
-    put_body(&mut told, &pdu.body)?;
-    Ok(told.as_slice() == wanted)
+    );
+    put_body(rt, &mut told, &pdu.body);
+    told
 }
 
 /// Whether the octets are read as the PDU.
-fn is_read_as(alloc: Global, octets: &[u8], wanted: &Pdu) -> bool {
-    let Ok(pdu) = decode(alloc, octets) else {
-        return false;
-    };
+fn is_read_as(rt: &impl Abort, alloc: Global, octets: &[u8], wanted: &Pdu) -> bool {
+    let pdu = decode(alloc, octets).expect(rt, "a PDU");
     let is_wanted = pdu == *wanted;
     drop(pdu);
     is_wanted
@@ -160,16 +169,18 @@ fn is_read_as(alloc: Global, octets: &[u8], wanted: &Pdu) -> bool {
 /// Whether the PDU is written as the octets.
 pub fn is_written_as(alloc: Global, pdu: &Pdu, wanted: &[u8]) -> bool {
     let mut octets = Vec::new(alloc);
-    encode(pdu, &mut octets).is_ok() && octets.as_slice() == wanted
+    let is_written = encode(pdu, &mut octets).is_ok() && octets.as_slice() == wanted;
+    drop(octets);
+    is_written
 }
 
-/// Whether this is told of the octets, which are read twice as the same PDU, and whether it is written as they are.
-pub fn is_said(alloc: Global, octets: &[u8], told: &[u8]) -> bool {
-    let Ok(pdu) = decode(alloc, octets) else {
-        return false;
-    };
-    let is_told = is_told(alloc, &pdu, told) == Ok(true);
-    let is_both = is_read_as(alloc, octets, &pdu) && is_written_as(alloc, &pdu, octets);
+/// That this is told of the octets, which are read twice as the same PDU, and that it is written as they are. They are of a row of this number.
+pub fn assert_said(rt: &impl Abort, alloc: Global, number: usize, octets: &[u8], wanted: &[u8]) {
+    let pdu = decode(alloc, octets).expect(rt, "a PDU");
+    let is_read = is_read_as(rt, alloc, octets, &pdu);
+    let is_written = is_written_as(alloc, &pdu, octets);
+    let told = told(rt, alloc, &pdu);
     drop(pdu);
-    is_told && is_both
+    let found = (number, told.as_slice(), is_read, is_written);
+    assert_same(rt, &found, &(number, wanted, true, true));
 }

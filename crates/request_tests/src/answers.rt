@@ -2,7 +2,7 @@
 
 use crate::same::assert_same;
 use crate::turns::{Turn, assert_turns};
-use crate::values::{Known, cancel, first, id, node, query, submit};
+use crate::values::{Begins, Known, asking, first, held, id, node, submit};
 use synod_acceptor::Packet;
 
 const ACCEPTED: &[Turn] = &[
@@ -14,7 +14,7 @@ const ACCEPTED: &[Turn] = &[
 fn a_submit_is_accepted_once_it_is_known(rt: HostRuntime) {
     let held = submit(&rt, rt.alloc());
     let begun = (held.request().asks(), held.ticket());
-    assert_turns(&rt, rt.alloc(), held, ACCEPTED);
+    assert_turns(&rt, rt.alloc(), "accepted once it is known", held, ACCEPTED);
     assert_same(&rt, &begun, &(false, 1));
 }
 
@@ -27,12 +27,6 @@ const UNTIL_A_MAJORITY: &[Turn] = &[
     Turn::Answered(Known::Nothing, "unknown", 0),
 ];
 
-#[test]
-fn a_query_waits_for_a_majority(rt: HostRuntime) {
-    let held = query(&rt, rt.alloc(), b"sme1");
-    assert_turns(&rt, rt.alloc(), held, UNTIL_A_MAJORITY);
-}
-
 const UNTIL_ALL: &[Turn] = &[
     Turn::Told(1, Known::Tried),
     Turn::Followed(None),
@@ -42,23 +36,11 @@ const UNTIL_ALL: &[Turn] = &[
     Turn::Answered(Known::Tried, "shown", 1),
 ];
 
-#[test]
-fn a_query_waits_for_all_that_was_told(rt: HostRuntime) {
-    let held = query(&rt, rt.alloc(), b"sme1");
-    assert_turns(&rt, rt.alloc(), held, UNTIL_ALL);
-}
-
 const OF_ANOTHER: &[Turn] = &[
     Turn::Told(1, Known::Nothing),
     Turn::Told(2, Known::Nothing),
     Turn::Answered(Known::Taken, "not owner", 0),
 ];
-
-#[test]
-fn a_query_of_another_account_is_not_shown(rt: HostRuntime) {
-    let held = query(&rt, rt.alloc(), b"sme2");
-    assert_turns(&rt, rt.alloc(), held, OF_ANOTHER);
-}
 
 const SETTLED: &[Turn] = &[
     Turn::Told(1, Known::Nothing),
@@ -71,12 +53,6 @@ const SETTLED: &[Turn] = &[
     Turn::Answered(Known::Tried, "kept", 1),
 ];
 
-#[test]
-fn a_cancel_is_settled_and_then_answered(rt: HostRuntime) {
-    let held = cancel(&rt, rt.alloc(), b"155");
-    assert_turns(&rt, rt.alloc(), held, SETTLED);
-}
-
 const NOT_MATCHED: &[Turn] = &[
     Turn::Told(1, Known::Nothing),
     Turn::Told(2, Known::Nothing),
@@ -85,22 +61,52 @@ const NOT_MATCHED: &[Turn] = &[
     Turn::Answered(Known::Taken, "not matched", 0),
 ];
 
+// What each of these shows, the request, and what happens to it.
+const ANSWERED: &[(&str, Begins, &[Turn])] = &[
+    (
+        "a query waits for a majority",
+        Begins::Query(b"sme1"),
+        UNTIL_A_MAJORITY,
+    ),
+    (
+        "a query waits for all that was told",
+        Begins::Query(b"sme1"),
+        UNTIL_ALL,
+    ),
+    (
+        "a query of another account is not shown",
+        Begins::Query(b"sme2"),
+        OF_ANOTHER,
+    ),
+    (
+        "a cancel is settled and then answered",
+        Begins::Cancel(b"155"),
+        SETTLED,
+    ),
+    (
+        "a cancel that does not match deletes nothing",
+        Begins::Cancel(b"156"),
+        NOT_MATCHED,
+    ),
+];
+
 #[test]
-fn a_cancel_that_does_not_match_deletes_nothing(rt: HostRuntime) {
-    let held = cancel(&rt, rt.alloc(), b"156");
-    assert_turns(&rt, rt.alloc(), held, NOT_MATCHED);
+fn requests_are_answered(rt: HostRuntime) {
+    for (shows, begins, rows) in ANSWERED {
+        assert_turns(&rt, rt.alloc(), shows, held(&rt, rt.alloc(), *begins), rows);
+    }
 }
 
 const FITTING: &[Turn] = &[Turn::Fits(Known::Tried, true)];
 
 #[test]
 fn a_tell_is_of_the_message(rt: HostRuntime) {
-    let held = query(&rt, rt.alloc(), b"sme1");
+    let held = asking(&rt, rt.alloc(), 1, b"sme1");
     let copy = held.copy();
     drop(held);
     let copy = copy.expect(&rt, "memory");
     let ids = (copy.id(), copy.request().id());
-    assert_turns(&rt, rt.alloc(), copy, FITTING);
+    assert_turns(&rt, rt.alloc(), "a tell", copy, FITTING);
     assert_same(&rt, &ids, &(id(&rt), id(&rt)));
 }
 
@@ -120,7 +126,7 @@ fn parts_of(question: &Packet) -> Option<(u8, u64, u8, u16, u64)> {
 
 #[test]
 fn a_question_names_its_request(rt: HostRuntime) {
-    let held = query(&rt, rt.alloc(), b"sme1");
+    let held = asking(&rt, rt.alloc(), 1, b"sme1");
     let question = held.question(node(&rt, 2), first(&rt));
     drop(held);
     let parts = parts_of(&question);

@@ -1,12 +1,9 @@
 //! The requests that wait, in their queue.
 
-ghost use Rattle.std.specs.Prelude.{◌≡◌};
-ghost use Rattle.std.specs.Box.{box_value};
-
 use crate::same::assert_same;
-use crate::values::{Known, after, asking, cancel, query, said, submit};
+use crate::values::{Begins, Known, after, asking, held, said};
 use crate::waits::{Wait, alone, assert_waits, replies_at, tell_at};
-use requests::{Held, Queue, Reply};
+use requests::{Queue, Reply};
 use std::alloc::Global;
 use std::process::Abort;
 
@@ -25,12 +22,6 @@ const A_SUBMIT: &[Wait] = &[
     Wait::Concluded(Known::Taken, "accepted", 0),
 ];
 
-#[test]
-fn a_submit_starts_the_round_of_its_chain(rt: HostRuntime) {
-    let held = submit(&rt, rt.alloc());
-    assert_waits(&rt, rt.alloc(), held, A_SUBMIT);
-}
-
 const A_CANCEL: &[Wait] = &[
     Wait::Told(1, Known::Taken),
     Wait::Told(2, Known::Taken),
@@ -40,22 +31,10 @@ const A_CANCEL: &[Wait] = &[
     Wait::Concluded(Known::Deleted, "removed", 0),
 ];
 
-#[test]
-fn a_cancel_is_settled_when_its_chain_is_known(rt: HostRuntime) {
-    let held = cancel(&rt, rt.alloc(), b"");
-    assert_waits(&rt, rt.alloc(), held, A_CANCEL);
-}
-
 const LATE: &[Wait] = &[
     Wait::Expired(29, "waits", 1),
     Wait::Expired(30, "too late", 0),
 ];
-
-#[test]
-fn a_request_waits_for_30_seconds(rt: HostRuntime) {
-    let held = query(&rt, rt.alloc(), b"sme1");
-    assert_waits(&rt, rt.alloc(), held, LATE);
-}
 
 const A_QUERY: &[Wait] = &[
     Wait::Asks(1),
@@ -66,21 +45,41 @@ const A_QUERY: &[Wait] = &[
     Wait::Removed(1, 0),
 ];
 
-#[test]
-fn a_query_asks_until_a_majority_told(rt: HostRuntime) {
-    let held = query(&rt, rt.alloc(), b"sme1");
-    assert_waits(&rt, rt.alloc(), held, A_QUERY);
-}
-
 const HIGHEST: &[Wait] = &[
     Wait::Told(1, Known::Tried),
     Wait::Shown(Known::Taken, Some(1)),
 ];
 
+// What each of these shows, the request, and what happens to its queue.
+const WAITED: &[(&str, Begins, &[Wait])] = &[
+    (
+        "a submit starts the round of its chain",
+        Begins::Submit,
+        A_SUBMIT,
+    ),
+    (
+        "a cancel is settled when its chain is known",
+        Begins::Cancel(b""),
+        A_CANCEL,
+    ),
+    (
+        "a request waits for 30 seconds",
+        Begins::Query(b"sme1"),
+        LATE,
+    ),
+    (
+        "a query asks until a majority told",
+        Begins::Query(b"sme1"),
+        A_QUERY,
+    ),
+    ("the highest vote is shown", Begins::Query(b"sme1"), HIGHEST),
+];
+
 #[test]
-fn the_highest_vote_is_shown(rt: HostRuntime) {
-    let held = query(&rt, rt.alloc(), b"sme1");
-    assert_waits(&rt, rt.alloc(), held, HIGHEST);
+fn queues_are_waited_in(rt: HostRuntime) {
+    for (shows, begins, rows) in WAITED {
+        assert_waits(&rt, rt.alloc(), shows, held(&rt, rt.alloc(), *begins), rows);
+    }
 }
 
 // The first id from a number on of which a request asks that waits for so many seconds.
@@ -91,7 +90,7 @@ fn asked_from(rt: &impl Abort, queue: &Queue, seconds: u32, number: u64) -> Opti
 
 #[test]
 fn a_walk_meets_the_ids_of_requests(rt: HostRuntime) {
-    let queue = alone(&rt, rt.alloc(), query(&rt, rt.alloc(), b"sme1"));
+    let queue = alone(&rt, rt.alloc(), asking(&rt, rt.alloc(), 1, b"sme1"));
     let asked = [
         asked_from(&rt, &queue, 29, 1000100001),
         asked_from(&rt, &queue, 29, 1000100002),
@@ -102,19 +101,15 @@ fn a_walk_meets_the_ids_of_requests(rt: HostRuntime) {
     assert_same(&rt, &asked, &[Some(1000100001), None, None, None]);
 }
 
-// A query_sm of an account that waits under a ticket.
-fn boxed(rt: &impl Abort, alloc: Global, ticket: u64, account: &[u8]) -> Box<Held>
-    ensures { (box_value result).waiting.ticket ≡ ticket }
-{
-    Box::new(alloc, asking(rt, alloc, ticket, account)).expect(rt, "memory")
-}
-
 // Three query_sms, the second of which is of another account than the message.
 fn three(rt: &impl Abort, alloc: Global) -> Queue {
     let mut queue = Queue::make(alloc).expect(rt, "memory");
-    queue.push(boxed(rt, alloc, 1, b"sme1"));
-    queue.push(boxed(rt, alloc, 2, b"sme2"));
-    queue.push(boxed(rt, alloc, 3, b"sme1"));
+    let first = Box::new(alloc, asking(rt, alloc, 1, b"sme1")).expect(rt, "memory");
+    queue.push(first);
+    let second = Box::new(alloc, asking(rt, alloc, 2, b"sme2")).expect(rt, "memory");
+    queue.push(second);
+    let third = Box::new(alloc, asking(rt, alloc, 3, b"sme1")).expect(rt, "memory");
+    queue.push(third);
     queue
 }
 

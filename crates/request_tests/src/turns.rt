@@ -23,11 +23,11 @@ pub enum Turn {
     Answered(Known, &'static str, u8),
 }
 
-// That it comes of each turn, one after the other.
-pub fn assert_turns(rt: &impl Abort, alloc: Global, mut held: Held, turns: &[Turn]) {
+// That it comes of each turn, one after the other. A failure tells what they show.
+pub fn assert_turns(rt: &impl Abort, alloc: Global, shows: &str, mut held: Held, turns: &[Turn]) {
     for (number, turn) in turns.iter().enumerate() {
         let comes = comes(rt, alloc, &mut held, *turn);
-        assert_same(rt, &(number, comes), &(number, true));
+        assert_same(rt, &(shows, number, comes), &(shows, number, true));
     }
 }
 

@@ -103,11 +103,7 @@ pub fn asking(rt: &impl Abort, alloc: Global, ticket: u64, account: &[u8]) -> He
     Held::begin(ticket, after(rt, 0), request)
 }
 
-pub fn query(rt: &impl Abort, alloc: Global, account: &[u8]) -> Held {
-    asking(rt, alloc, 1, account)
-}
-
-pub fn cancel(rt: &impl Abort, alloc: Global, destination: &[u8]) -> Held {
+fn cancel(rt: &impl Abort, alloc: Global, destination: &[u8]) -> Held {
     let request = Request::Cancel {
         id: id(rt),
         account: text(rt, alloc, b"sme1"),
@@ -121,6 +117,24 @@ pub fn submit(rt: &impl Abort, alloc: Global) -> Held {
     let since = after(rt, 0);
     let taken = Taken::make(alloc, id(rt), since, message(rt, alloc)).expect(rt, "a message");
     Held::begin(1, since, Request::Submit(taken))
+}
+
+// A request that begins to wait under ticket 1.
+#[derive(Clone, Copy)]
+pub enum Begins {
+    Submit,
+    // A query_sm of this account.
+    Query(&'static [u8]),
+    // A cancel_sm with this destination.
+    Cancel(&'static [u8]),
+}
+
+pub fn held(rt: &impl Abort, alloc: Global, begins: Begins) -> Held {
+    match begins {
+        Begins::Submit => submit(rt, alloc),
+        Begins::Query(account) => asking(rt, alloc, 1, account),
+        Begins::Cancel(destination) => cancel(rt, alloc, destination),
+    }
 }
 
 // What is known of the message.

@@ -28,11 +28,11 @@ pub enum Wait {
 }
 
 // That it comes of each of these, one after the other, in a queue in which this request waits alone.
-pub fn assert_waits(rt: &impl Abort, alloc: Global, held: Held, waits: &[Wait]) {
+pub fn assert_waits(rt: &impl Abort, alloc: Global, shows: &str, held: Held, waits: &[Wait]) {
     let mut queue = alone(rt, alloc, held);
     for (number, wait) in waits.iter().enumerate() {
         let comes = comes(rt, alloc, &mut queue, *wait);
-        assert_same(rt, &(number, comes), &(number, true));
+        assert_same(rt, &(shows, number, comes), &(shows, number, true));
     }
 }
 

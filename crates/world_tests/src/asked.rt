@@ -3,7 +3,7 @@
 use desk::Request;
 use pdu_codec::{Body, Text, decode};
 use std::alloc::Global;
-use std::test::Fail;
+use std::process::Abort;
 
 // A submit_sm from 144 to 155, with receipt 01 and the text Hi, and a query_sm and a cancel_sm of message 1000100001 from 144.
 const SUBMIT: &[u8] =
@@ -23,14 +23,19 @@ pub enum Asked {
     Cancel,
 }
 
-pub fn account(alloc: Global) -> Result<Text<16>, Fail> {
-    Ok(Text::make(alloc, b"sme1")?.ok_or("a text")?)
+pub fn account(rt: &impl Abort, alloc: Global) -> Text<16> {
+    let text = Text::make(alloc, b"sme1").expect(rt, "memory");
+    text.expect(rt, "a text")
 }
 
-pub fn request(alloc: Global, asked: Asked) -> Result<Request, Fail> {
-    let target = account(alloc)?;
-    let pdu = decode(alloc, octets(asked))?;
-    Ok(request_in(pdu.body, target).ok_or("a request")?)
+pub fn request(rt: &impl Abort, alloc: Global, asked: Asked) -> Request {
+    let pdu = decode(alloc, octets(asked)).expect(rt, "a PDU");
+    match pdu.body {
+        Body::SubmitSm(message) => Request::Submit(message, Some(account(rt, alloc))),
+        Body::QuerySm(query) => Request::Ask(query),
+        Body::CancelSm(cancel) => Request::Cancel(cancel),
+        _ => panic!(rt; "a request"),
+    }
 }
 
 fn octets(asked: Asked) -> &'static [u8] {
@@ -38,14 +43,5 @@ fn octets(asked: Asked) -> &'static [u8] {
         Asked::Submit => SUBMIT,
         Asked::Query => QUERY,
         Asked::Cancel => CANCEL,
-    }
-}
-
-fn request_in(body: Body, target: Text<16>) -> Option<Request> {
-    match body {
-        Body::SubmitSm(message) => Some(Request::Submit(message, Some(target))),
-        Body::QuerySm(query) => Some(Request::Ask(query)),
-        Body::CancelSm(cancel) => Some(Request::Cancel(cancel)),
-        _ => None,
     }
 }

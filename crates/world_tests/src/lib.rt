@@ -6,6 +6,8 @@ mod asked;
 #[cfg(test)]
 mod runs;
 #[cfg(test)]
+mod same;
+#[cfg(test)]
 mod walks;
 #[cfg(test)]
 mod worlds;

@@ -1,15 +1,17 @@
 //! Walks of a world over what happens in it, and what it answers.
 
 use crate::asked::{Asked, account, request};
+use crate::same::assert_same;
 use delivery::Outcome;
 use fate_chain::Final;
 use mc_types::{Moment, MsgId, NodeNo, Slot};
 use node_core::Found;
+use pdu_codec::Text;
 use requests::Reply;
 use std::alloc::Global;
-use std::test::Fail;
+use std::process::Abort;
 use world::{Given, Step, World, WorldFault};
-use world_runs::Trace;
+use world_runs::{Trace, run};
 
 // What happens in a world, at a node.
 #[derive(Clone, Copy)]
@@ -79,134 +81,161 @@ fn answer_of(given: Result<Given, WorldFault>) -> Answer {
     }
 }
 
-fn node(number: u8) -> Result<NodeNo, Fail> {
-    Ok(NodeNo::make(number)?)
+fn node(rt: &impl Abort, number: u8) -> NodeNo {
+    NodeNo::make(number).expect(rt, "a node")
 }
 
-fn first_attempt() -> Result<Slot, Fail> {
-    Ok(Slot {
-        id: MsgId::read(b"1000100001")?,
-        place: 1,
-    })
+fn first_id(rt: &impl Abort) -> MsgId {
+    MsgId::read(b"1000100001").expect(rt, "an id")
 }
 
-fn step_of(alloc: Global, comes: Comes) -> Result<Option<Step>, Fail> {
-    let step = match comes {
+// The account sme1, of which a session may receive.
+fn accounts(rt: &impl Abort, alloc: Global) -> Vec<Text<16>> {
+    let mut accounts = Vec::new(alloc);
+    let put = accounts.push(account(rt, alloc));
+    put.expect(rt, "memory");
+    accounts
+}
+
+fn step_of(rt: &impl Abort, alloc: Global, comes: Comes) -> Step {
+    match comes {
         Comes::Asks(number, asked) => Step::Request {
-            node: node(number)?,
-            account: account(alloc)?,
-            request: request(alloc, asked)?,
+            node: node(rt, number),
+            account: account(rt, alloc),
+            request: request(rt, alloc, asked),
         },
         Comes::Ticks(number, seconds) => Step::Tick {
-            node: node(number)?,
-            moment: Moment::make(seconds)?,
-            up: vec![in alloc; account(alloc)?]?,
+            node: node(rt, number),
+            moment: Moment::make(seconds).expect(rt, "a moment"),
+            up: accounts(rt, alloc),
         },
         Comes::Grants(number) => Step::Grant {
-            node: node(number)?,
-            id: first_attempt()?.id,
+            node: node(rt, number),
+            id: first_id(rt),
         },
         Comes::GoesUnanswered(number) => Step::Answered {
-            node: node(number)?,
-            slot: first_attempt()?,
+            node: node(rt, number),
+            slot: Slot {
+                id: first_id(rt),
+                place: 1,
+            },
             outcome: Outcome::unanswered(),
         },
         Comes::Delivers(number, to) => Step::Deliver {
             number,
-            node: node(to)?,
+            node: node(rt, to),
         },
         Comes::Crashes(number, packet, found) => Step::Crash {
-            node: node(number)?,
+            node: node(rt, number),
             number: packet,
             found,
         },
         Comes::Restarts(number) => Step::Restart {
-            node: node(number)?,
+            node: node(rt, number),
         },
-        Comes::StartsOver | Comes::Settles(_) => return Ok(None),
-    };
-    Ok(Some(step))
+        Comes::StartsOver | Comes::Settles(_) => panic!(rt; "a step"),
+    }
+}
+
+// The last thing that is given out as the packet of this number comes to each of three nodes; nothing if none gives out anything.
+fn delivered(rt: &impl Abort, world: &mut World, number: u64) -> Answer {
+    let mut last = Answer::Nothing;
+    for to in 1..=3 {
+        let answer = answer_of(world.deliver(number, node(rt, to)));
+        if answer != Answer::Nothing {
+            last = answer;
+        }
+    }
+    last
 }
 
 // The last thing that a settle of three nodes gives out.
-fn settled(world: &mut World, from: u64) -> Result<Answer, Fail> {
+fn settled(rt: &impl Abort, world: &mut World, from: u64) -> Answer {
     let mut last = Answer::Nothing;
     for number in from..1000 {
         if number > world.packets().len() as u64 {
             break;
         }
-        for to in 1..=3 {
-            let given = answer_of(world.deliver(number, node(to)?));
-            if given != Answer::Nothing {
-                last = given;
-            }
+        let answer = delivered(rt, world, number);
+        if answer != Answer::Nothing {
+            last = answer;
         }
     }
-    Ok(last)
+    last
 }
 
-fn answer_to(alloc: Global, world: &mut World, comes: Comes) -> Result<Answer, Fail> {
-    if let Comes::Settles(from) = comes {
-        return settled(world, from);
+fn answer_to(rt: &impl Abort, alloc: Global, world: &mut World, comes: Comes) -> Answer {
+    match comes {
+        Comes::Settles(from) => settled(rt, world, from),
+        Comes::StartsOver => match world.start_over() {
+            Ok(()) => Answer::Nothing,
+            Err(fault) => Answer::Refused(fault),
+        },
+        _ => answer_of(world.step(step_of(rt, alloc, comes))),
     }
-    if matches!(comes, Comes::StartsOver) {
-        return Ok(
-            world
-                .start_over()
-                .map_or_else(Answer::Refused, |()| Answer::Nothing),
-        );
-    }
-    let step = step_of(alloc, comes)?.ok_or("a step")?;
-    Ok(answer_of(world.step(step)))
 }
 
-// The first place at which something else comes of it, with what did.
-pub fn otherwise_by(
-    alloc: Global,
-    world: &mut World,
-    rows: &[Row],
-) -> Result<Option<(usize, Answer)>, Fail> {
-    for (place, row) in rows.iter().enumerate() {
-        let given = answer_to(alloc, world, row.0)?;
-        if given != row.1 {
-            return Ok(Some((place, given)));
-        }
-    }
-    Ok(None)
+// A world of so many nodes over new stores.
+pub fn world(rt: &impl Abort, alloc: Global, nodes: u8) -> World {
+    World::start(alloc, nodes, 1, 259_200).expect(rt, "a world")
 }
 
-// The same of so many nodes over new stores.
-pub fn otherwise(alloc: Global, rows: &[Row]) -> Result<Option<(usize, Answer)>, Fail> {
-    let mut world = World::start(alloc, 3, 1, 259_200)?;
-    let other = otherwise_by(alloc, &mut world, rows);
-    drop(world);
-    other
+// That a world of three nodes over new stores answers so, row by row. A failure tells what the rows show.
+pub fn assert_walk(rt: &impl Abort, alloc: Global, shows: &str, rows: &[Row]) {
+    let mut world = world(rt, alloc, 3);
+    for (number, (comes, wanted)) in rows.iter().enumerate() {
+        let answer = answer_to(rt, alloc, &mut world, *comes);
+        assert_same(rt, &(shows, number, answer), &(shows, number, *wanted));
+    }
 }
 
 // What a list of steps gave, step by step.
-pub fn answers_in(alloc: Global, trace: Trace) -> Result<Vec<Answer>, Fail> {
+fn answers_in(rt: &impl Abort, alloc: Global, trace: Trace) -> Vec<Answer> {
     let mut answers = Vec::new(alloc);
     for given in trace.answers {
-        answers.push(answer_of(given))?;
+        answers.push(answer_of(given)).expect(rt, "memory");
     }
-    Ok(answers)
+    answers
 }
 
 // The steps that told a final state of the first message, each with the state.
-pub fn stated_in(alloc: Global, trace: Trace) -> Result<Vec<(usize, Final)>, Fail> {
+fn stated_in(rt: &impl Abort, alloc: Global, trace: Trace) -> Vec<(usize, Final)> {
+    let statements = trace.statements();
+    drop(trace);
     let mut stated = Vec::new(alloc);
-    for one in trace.statements()? {
-        if one.id == first_attempt()?.id {
-            stated.push((one.step, one.state))?;
+    for one in statements.expect(rt, "memory") {
+        if one.id == first_id(rt) {
+            stated.push((one.step, one.state)).expect(rt, "memory");
         }
     }
-    Ok(stated)
+    stated
 }
 
-pub fn steps_of(alloc: Global, comes: &[Comes]) -> Result<Vec<Step>, Fail> {
+fn steps_of(rt: &impl Abort, alloc: Global, comes: &[Comes]) -> Vec<Step> {
     let mut steps = Vec::new(alloc);
     for one in comes {
-        steps.push(step_of(alloc, *one)?.ok_or("a step")?)?;
+        let put = steps.push(step_of(rt, alloc, *one));
+        put.expect(rt, "memory");
     }
-    Ok(steps)
+    steps
+}
+
+// What a list of steps gives in a world of so many nodes.
+fn trace_of(rt: &impl Abort, alloc: Global, nodes: u8, comes: &[Comes]) -> Trace {
+    let mut world = world(rt, alloc, nodes);
+    let trace = run(alloc, &mut world, steps_of(rt, alloc, comes));
+    drop(world);
+    trace.expect(rt, "memory")
+}
+
+// That a list of steps gives this in a world of three nodes.
+pub fn assert_answers(rt: &impl Abort, alloc: Global, comes: &[Comes], wanted: &[Answer]) {
+    let answers = answers_in(rt, alloc, trace_of(rt, alloc, 3, comes));
+    assert_same(rt, &answers.as_slice(), &wanted);
+}
+
+// That a list of steps states this in a world of one node.
+pub fn assert_stated(rt: &impl Abort, alloc: Global, comes: &[Comes], wanted: &[(usize, Final)]) {
+    let stated = stated_in(rt, alloc, trace_of(rt, alloc, 1, comes));
+    assert_same(rt, &stated.as_slice(), &wanted);
 }
