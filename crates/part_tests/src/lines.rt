@@ -1,7 +1,7 @@
 //! Lines out of readers, and what they say.
 
-use mc_types::{MsgId, NodeNo, NodeSet};
-use script_lines::{Found, Line, LineBuffer, MOST_OCTETS, ReadFault, read_line};
+use mc_types::{Moment, MsgId, NodeNo, NodeSet};
+use script_lines::{CountedReader, Found, Line, LineBuffer, MOST_OCTETS, ReadFault, read_line};
 use std::alloc::Global;
 use std::io;
 use std::io::{ErrorKind, Read};
@@ -47,12 +47,12 @@ fn moments_and_ids_are_read(rt: HostRuntime) -> Result<(), Fail> {
     let alloc = rt.alloc();
     let first = Line::Tick {
         node: NodeNo::of(1),
-        moment: 946_684_800,
+        moment: Moment::least(),
     };
     assert_eq!(rt; read_line(alloc, b"tick 1 946684800")?, Some(first));
     let last = Line::Tick {
         node: NodeNo::of(9),
-        moment: 4_102_444_799,
+        moment: Moment::make(4_102_444_799)?,
     };
     assert_eq!(rt; read_line(alloc, b"tick 9 4102444799")?, Some(last));
     let grant = Line::Grant {
@@ -240,7 +240,7 @@ fn a_line_has_20000_octets_at_most(rt: HostRuntime) -> Result<(), Fail> {
     line.push(b'#')?;
     assert_eq!(rt; read_line(alloc, line.as_slice())?, None);
     assert_eq!(rt;
-        LineBuffer::make(alloc)?.find_line(&mut line.as_slice()),
+        LineBuffer::make(alloc)?.find_line(&mut CountedReader::make(line.as_slice())),
         Ok(Found::TooLong)
     );
     Ok(())
@@ -265,14 +265,14 @@ fn the_longest_line_is_9996_octets_on_a_session(rt: HostRuntime) -> Result<(), F
     );
     line.push(b'\n')?;
     assert_eq!(rt;
-        LineBuffer::make(alloc)?.find_line(&mut line.as_slice()),
+        LineBuffer::make(alloc)?.find_line(&mut CountedReader::make(line.as_slice())),
         Ok(Found::Line(20000))
     );
     Ok(())
 }
 
 /// The lines that a reader gives, each with a bar after it.
-fn barred_lines<R: Read>(alloc: Global, reader: &mut R) -> Result<Vec<u8>, Fail> {
+fn barred_lines<R: Read>(alloc: Global, reader: &mut CountedReader<R>) -> Result<Vec<u8>, Fail> {
     let mut buffer = LineBuffer::make(alloc)?;
     let mut lines = Vec::new(alloc);
     for _ in 0..9 {
@@ -315,12 +315,12 @@ impl Read for Slow<'_> {
 #[test]
 fn lines_come_at_any_pace(rt: HostRuntime) -> Result<(), Fail> {
     let text = b"nodes 1\n\n#\nsettle";
-    let whole = barred_lines(rt.alloc(), &mut text.as_slice())?;
+    let whole = barred_lines(rt.alloc(), &mut CountedReader::make(text.as_slice()))?;
     assert_eq!(rt; whole.as_slice(), b"nodes 1||#|settle|".as_slice());
-    let mut slow = Slow {
+    let mut slow = CountedReader::make(Slow {
         text,
         interrupted: false,
-    };
+    });
     assert_eq!(rt; barred_lines(rt.alloc(), &mut slow)?, whole);
     Ok(())
 }
@@ -328,10 +328,10 @@ fn lines_come_at_any_pace(rt: HostRuntime) -> Result<(), Fail> {
 #[test]
 fn a_line_of_1000_octets_comes_one_by_one(rt: HostRuntime) -> Result<(), Fail> {
     let text = vec![in rt.alloc(); b'#'; 1000]?;
-    let mut slow = Slow {
+    let mut slow = CountedReader::make(Slow {
         text: text.as_slice(),
         interrupted: false,
-    };
+    });
     let mut buffer = LineBuffer::make(rt.alloc())?;
     assert_eq!(rt; buffer.find_line(&mut slow), Ok(Found::Last(1000)));
     assert_eq!(rt; buffer.octets(), text.as_slice());
@@ -353,7 +353,7 @@ impl Read for Failing<'_> {
 
 #[test]
 fn a_failure_loses_nothing(rt: HostRuntime) -> Result<(), Fail> {
-    let mut reader = Failing(b"nodes 1\nset");
+    let mut reader = CountedReader::make(Failing(b"nodes 1\nset"));
     let mut buffer = LineBuffer::make(rt.alloc())?;
     assert_eq!(rt; buffer.find_line(&mut reader), Ok(Found::Line(7)));
     assert_eq!(rt; buffer.octets(), b"nodes 1\nset".as_slice());

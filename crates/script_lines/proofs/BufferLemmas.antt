@@ -1,6 +1,6 @@
 -- What a buffer holds, as a part of its octets, and what a search in it found.
 use Rattle.std.proofs.Common.{◌≡◌, ℕ, ◌+◌, ◌-◌, ◌≤◌, ◌<◌, ◌==◌, Bool, true, false, cond, List, ◌++◌, length, get_or, take, drop}
-use Rattle.std.proofs.Common.{slice_range, position, Option, Some, None, arith, refl, sym, ap, ◌∙◌, inl, inr, eqb-true, ltb-false}
+use Rattle.std.proofs.Common.{slice_range, position, Some, None, arith, refl, sym, ap, ◌∙◌, inl, inr, eqb-true, ltb-false}
 use Rattle.std.proofs.Common.{length-take, length-drop}
 use Rattle.std.proofs.lemmas.Bool.{cases_lt, eqb-false}
 use Rattle.std.proofs.lemmas.List.{drop-drop, drop-take, same_lists, take_all, get_or-take, get_or-drop}
@@ -9,8 +9,7 @@ use Rattle.std.proofs.lemmas.List.Sums.{fails_before_first}
 use Rattle.std.proofs.lemmas.Option.{slice_get-get_or}
 use Rattle.std.proofs.Math.Seq.{take-add}
 use Rattle.std.specs.List.{CopiedTo, position_or_len}
-use Rattle.std.specs.Io.KnownBytes.{Consumes}
-use Rattle.script_lines.specs.Lines.{Held, Grew, IsOneLine, BeginsWithLine}
+use Rattle.script_lines.specs.Lines.{IsOneLine, BeginsWithLine}
 
 -- ---- the part that is held
 
@@ -88,13 +87,3 @@ no_line_found held searched within before e =
     let one = one_line_to held searched (length held - searched) before
     (λ k d lt. fails_before_first (λ octet. octet == 10) (drop searched held) k d (omega (arith, past, length-drop searched held))) in
     rw (← take_all (searched + (length held - searched)) held (omega arith)) one
-
--- ---- a loop of reads
-
--- What came since the loop began, and how far it was searched.
-pub record Progress (old new : Held) (before after : Option (List ℕ)) (searched : ℕ) : Type 0 where
-  pub got : List ℕ
-  pub consumed : Consumes before after got
-  pub grew : length new.octets ≤ 20001 → Grew old new got
-  pub within : searched ≤ length new.octets
-  pub line : IsOneLine (take searched new.octets)

@@ -1,4 +1,5 @@
 pub mod LineLemmas
 pub mod BufferLemmas
+pub mod FindingLemmas
 pub mod WordLemmas
 pub mod SaidLemmas

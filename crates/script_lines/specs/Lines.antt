@@ -1,9 +1,6 @@
--- The lines of a script, and what a buffer holds of them.
-use Rattle.std.specs.Prelude.{◌≡◌, ◌≢◌, ◌⊎◌, ℕ, ◌+◌, ◌<◌, ◌≤◌, ◌==◌, if◌then◌else◌, List, [], ◌∷◌, ◌++◌, length, take, drop, slice_get, Option, Some, All}
+-- The lines of a script, and what stands at the front of a part of them.
+use Rattle.std.specs.Prelude.{◌≡◌, ◌≢◌, ℕ, ◌+◌, ◌<◌, ◌≤◌, ◌==◌, if◌then◌else◌, List, [], ◌∷◌, ◌++◌, length, take, drop, slice_get, Some, All}
 pub use Rattle.std.specs.List.{onto_first}
-use Rattle.std.specs.Io.KnownBytes.{IsAtEnd}
-use Rattle.script_lines.specs.declared.buffer.Found.{Found}
-use Rattle.script_lines.specs.declared.buffer.Found.TheVariants as found
 
 -- the lines of a text, each ended by a line feed, which the last may lack
 abbrev pub lines_of : List ℕ → List (List ℕ)
@@ -13,11 +10,6 @@ lines_of (octet ∷ octets) = if octet == 10 then [] ∷ lines_of octets else on
 -- no octet is a line feed
 abbrev pub IsOneLine : List ℕ → Type 0
 IsOneLine octets = All (λ octet. octet ≢ 10) octets
-
--- what is held of a text, and how many reads are left
-pub record Held : Type 0 where
-  pub octets : List ℕ
-  pub reads_left : ℕ
 
 -- what is held is the part from start to end of 20,001 octets
 pub record HoldsPart (octets : List ℕ) (start end : ℕ) : Type 0 where
@@ -45,24 +37,6 @@ pub record BeginsTooLong (octets : List ℕ) : Type 0 where
 pub record NeedsMore (octets : List ℕ) : Type 0 where
   pub short : length octets ≤ 20000
   pub line : IsOneLine octets
-
--- What was held grew by what was read: nothing was read, or fewer reads are left.
-pub record Grew (old new : Held) (got : List ℕ) : Type 0 where
-  pub octets : new.octets ≡ old.octets ++ got
-  pub most : length new.octets ≤ 20001
-  pub reads : ((got ≡ []) × (new.reads_left ≡ old.reads_left)) ⊎ (new.reads_left < old.reads_left)
-
--- What is found at the front of what is held, of a reader with these octets left.
-abbrev pub IsFound : Found → List ℕ → Option (List ℕ) → Type 0
-IsFound (found.Line count) octets remaining = (count ≤ 20000) × BeginsWithLine count octets
-IsFound (found.Last count) octets remaining = (count ≤ 20000) × IsLastLine count octets × IsAtEnd remaining
-IsFound found.TooLong octets remaining = BeginsTooLong octets
-IsFound found.End octets remaining = (octets ≡ []) × IsAtEnd remaining
-
--- Nothing is found: what is held needs more, and the reader was asked again where it could be.
-pub record FoundNone (old new : Held) : Type 0 where
-  pub more : NeedsMore new.octets
-  pub reads : (new.reads_left ≡ 0) ⊎ (new.reads_left < old.reads_left)
 
 -- A text's lines, from the left: none of an empty text, one of octets without a line feed, and one before the others at a line feed.
 pub record LinesAreRead : Type 0 where

@@ -1,25 +1,23 @@
 //! Lines out of a reader, with one buffer of 20,001 octets.
 
-ghost use Rattle.std.specs.Prelude.{◌≡◌, ◌≢◌, ◌≤◌, ◌<◌, ◌^◌, ◌+◌, ◌-◌, ◌++◌, ◌⊎◌, List, ℕ, Option, [], true, nat_lt, take, drop};
-ghost use Rattle.std.specs.Prelude.{slice_range, length, IfOk, IfErr, IsErr, OnOk, OnErr, IfSome, IfNone};
-ghost use Rattle.std.specs.IoError.{error_kind};
-ghost use Rattle.std.specs.Io.KnownBytes.{Consumes, IsAtEnd, ReadConsumes};
-ghost use Rattle.std.specs.Bool.{OnFalse};
-ghost use Rattle.script_lines.specs.Lines.{Grew, IsOneLine, IsFound, FoundNone, NeedsMore, LinesAreRead};
+ghost use Rattle.std.specs.Prelude.{◌≡◌, ◌≤◌, ◌<◌, ◌+◌, ◌-◌, ◌++◌, ◌⊎◌, List, ℕ, [], false, true, take, drop, slice_range, length};
+ghost use Rattle.std.specs.Prelude.{IfNone, IfOk, IfSome, OnErr};
+ghost use Rattle.std.specs.Bool.{OnFalse, OnTrue};
+ghost use Rattle.std.specs.Io.KnownBytes.{Consumes};
+ghost use Rattle.octet_io.specs.Reads.{Fails, Gives, Stops, TellsEnd, most_reads};
+ghost use Rattle.script_lines.specs.Lines.{IsLastLine, IsOneLine, LinesAreRead, NeedsMore};
+ghost use Rattle.script_lines.specs.Finding.{IsFound, Reaches, ReadsAsNeeded, is_at_end};
 
 use crate::line::MOST_OCTETS;
 use crate::octets::place_of;
+use octet_io::{CountedReader, ReadFault};
 use std::alloc::{AllocError, Global};
-use std::io;
-use std::io::{ErrorKind, Read};
+use std::io::Read;
 use std::marker::Model;
 use std::ops::Range;
 
 /// How many octets are held at most: a line and its line feed.
 const ROOM: usize = MOST_OCTETS + 1;
-
-/// How often the reader is asked.
-const READS: u64 = 1 << 40;
 
 /// What stands at the front of what is held.
 #[derive(Debug, Clone, Copy, PartialEq, Eq)]
@@ -34,26 +32,21 @@ pub enum Found {
     End,
 }
 
-/// The reader failed, or gave no end within 2^40 reads.
-#[derive(Debug, Clone, Copy, PartialEq, Eq)]
-pub struct ReadFault;
-
 /// Octets that were read and not yet taken off.
 #[derive(Debug, Drop)]
 pub struct LineBuffer {
     octets: Vec<u8>,
     start: usize,
     end: usize,
-    reads_left: u64,
 }
 
 impl Model for LineBuffer {
-    ghost use Rattle.std.specs.Prelude.{slice_range};
-    ghost use Rattle.script_lines.specs.Lines.{Held, HoldsPart};
+    ghost use Rattle.std.specs.Prelude.{List, slice_range, ℕ};
+    ghost use Rattle.script_lines.specs.Lines.{HoldsPart};
 
-    ghost Value = { Held };
+    ghost Value = { List ℕ };
 
-    ghost view = { λ b. record { octets = slice_range b.octets.items b.start b.end; reads_left = b.reads_left } };
+    ghost view = { λ b. slice_range b.octets.items b.start b.end };
 
     ghost invariant = { λ b. HoldsPart b.octets.items b.start b.end };
 }
@@ -61,19 +54,18 @@ impl Model for LineBuffer {
 impl LineBuffer {
     /// An empty buffer, with all its room. An `Err` is want of memory.
     pub fn make(alloc: Global) -> Result<LineBuffer, AllocError>
-        ensures { IfOk result (λ b. (b.octets ≡ []) × (b.reads_left ≡ 2 ^ 40)) }
+        ensures { IfOk result (λ held. held ≡ []) }
     {
         Ok(LineBuffer {
             octets: zeros(alloc, ROOM)?,
             start: 0,
             end: 0,
-            reads_left: READS,
         })
     }
 
     /// What is held and not yet taken off.
     pub fn octets(&self) -> &[u8]
-        ensures octets { result.now ≡ self.now.octets }
+        ensures octets { result.now ≡ self.now }
         ensures room { length result.now ≤ 20001 }
     {
         &self.octets[self.start..self.end]
@@ -81,22 +73,24 @@ impl LineBuffer {
 
     /// Takes so many octets off the front.
     pub fn take_off(&mut self, count: usize)
-        requires { count ≤ length self.old.octets }
-        ensures octets { self.new.octets ≡ drop count self.old.octets }
-        ensures reads { self.new.reads_left ≡ self.old.reads_left }
+        requires { count ≤ length self.old }
+        ensures { self.new ≡ drop count self.old }
     {
         self.start += count;
     }
 
     /// Reads until the first line is whole, and says how long it is. A read that was interrupted is made again. An `Err`
     /// loses nothing that was read.
-    pub fn find_line<R: Read>(&mut self, reader: &mut R) -> Result<Found, ReadFault>
-        ensures grew { (got : List ℕ) × Consumes (R.remaining reader.old) (R.remaining reader.new) got × Grew self.old self.new got }
-        ensures found { IfOk result (λ found. IsFound found self.new.octets (R.remaining reader.new)) }
-        ensures fault { OnErr result (FoundNone self.old self.new) }
+    pub fn find_line<R: Read>(&mut self, reader: &mut CountedReader<R>) -> Result<Found, ReadFault>
+        ensures grew { (got : List ℕ) × Consumes (R.remaining reader.old.reader) (R.remaining reader.new.reader) got × (self.new ≡ self.old ++ got) }
+        ensures room { length self.new ≤ 20001 }
+        ensures found { IfOk result (λ found. IsFound found self.new) }
+        ensures reached { IfOk result (λ found. Reaches R.remaining found reader.old reader.new) }
+        ensures none { OnErr result (NeedsMore self.new) }
+        ensures fault { OnErr result (Stops reader.old reader.new) }
 
-        // Where what was held needs no more, nothing is read.
-        ensures unread { NeedsMore self.old.octets ⊎ ((self.new ≡ self.old) × (reader.new ≡ reader.old)) }
+        // Where what is held needs no more, nothing is read.
+        ensures needed { ReadsAsNeeded self.old self.new reader.old reader.new }
     {
         let mut searched = 0;
         'reads: loop {
@@ -112,43 +106,22 @@ impl LineBuffer {
     }
 
     /// Reads once, and says whether the reader may have more: `false` if it is at its end.
-    fn read_more<R: Read>(&mut self, reader: &mut R) -> Result<bool, ReadFault>
-        requires { length self.old.octets ≤ 20000 }
-        ensures grew { IfOk result (λ _. (got : List ℕ) × Consumes (R.remaining reader.old) (R.remaining reader.new) got ×
-            (self.new.octets ≡ self.old.octets ++ got)) }
-        ensures reads { OnOk result (self.new.reads_left + 1 ≡ self.old.reads_left) }
-        ensures end { IfOk result (λ more. OnFalse more ((self.new.octets ≡ self.old.octets) × IsAtEnd (R.remaining reader.new))) }
-        ensures err { OnErr result ((self.new.octets ≡ self.old.octets) × Consumes (R.remaining reader.old) (R.remaining reader.new) []) }
-        ensures fault { OnErr result (((self.new ≡ self.old) × (self.old.reads_left ≡ 0)) ⊎ (self.new.reads_left + 1 ≡ self.old.reads_left)) }
+    fn read_more<R: Read>(&mut self, reader: &mut CountedReader<R>) -> Result<bool, ReadFault>
+        requires { length self.old ≤ 20000 }
+        ensures more { IfOk result (λ more. OnTrue more ((got : List ℕ) × Gives R.remaining reader.old reader.new got × (self.new ≡ self.old ++ got))) }
+        ensures end { IfOk result (λ more. OnFalse more ((self.new ≡ self.old) × TellsEnd R.remaining reader.old reader.new)) }
+        ensures err { OnErr result (self.new ≡ self.old) }
+        ensures fault { OnErr result (((reader.new ≡ reader.old) × (reader.old.reads ≡ most_reads)) ⊎ Fails R.remaining reader.old reader.new) }
+        ensures most { reader.new.reads ≤ most_reads }
     {
-        if self.reads_left == 0 {
-            return Err(ReadFault);
-        }
-        self.reads_left -= 1;
         let held = self.start..self.end;
         self.end -= self.start;
         self.start = 0;
-        match read_behind(reader, self.octets.as_mut_slice(), held) {
-            Ok(count) => {
-                self.end += count;
-                may_have_more(Ok(count))
-            }
-            failed => may_have_more(failed),
-        }
-    }
-}
-
-/// Whether a reader that answered so may have more: not once it gives no octet, and again after an interruption. Any other
-/// failure is a fault.
-fn may_have_more(read: io::Result<usize>) -> Result<bool, ReadFault>
-    ensures octets { IfOk read (λ count. result ≡ Ok (nat_lt 0 count)) }
-    ensures again { IfErr read (λ error. error_kind error ≡ ErrorKind.Interrupted → result ≡ Ok true) }
-    ensures fault { IfErr read (λ error. error_kind error ≢ ErrorKind.Interrupted → IsErr result) }
-{
-    match read {
-        Ok(count) => Ok(count > 0),
-        Err(error) if error.kind() == ErrorKind::Interrupted => Ok(true),
-        Err(_) => Err(ReadFault),
+        let Some(count) = read_behind(reader, self.octets.as_mut_slice(), held)? else {
+            return Ok(false);
+        };
+        self.end += count;
+        Ok(true)
     }
 }
 
@@ -160,12 +133,20 @@ fn zeros(alloc: Global, count: usize) -> Result<Vec<u8>, AllocError>
 }
 
 /// Moves the octets that are held to the front, and reads once into the room after them.
-fn read_behind<R: Read>(reader: &mut R, octets: &mut [u8], held: Range<usize>) -> io::Result<usize>
+fn read_behind<R: Read>(
+    reader: &mut CountedReader<R>,
+    octets: &mut [u8],
+    held: Range<usize>,
+) -> Result<Option<usize>, ReadFault>
     requires order { held.start ≤ held.end }
     requires within { held.end ≤ length octets.old }
+    requires room { held.end - held.start < length octets.old }
     ensures front { take (held.end - held.start) octets.new ≡ slice_range octets.old held.start held.end }
-    ensures room { IfOk result (λ count. (held.end - held.start) + count ≤ length octets.new) }
-    ensures bytes { ReadConsumes (R.remaining reader.old) (R.remaining reader.new) result (drop (held.end - held.start) octets.new) }
+    ensures gives { IfOk result (λ told. IfSome told (λ count. ((held.end - held.start) + count ≤ length octets.new) ×
+        Gives R.remaining reader.old reader.new (take count (drop (held.end - held.start) octets.new)))) }
+    ensures end { IfOk result (λ told. IfNone told (TellsEnd R.remaining reader.old reader.new)) }
+    ensures fault { OnErr result (((reader.new ≡ reader.old) × (reader.old.reads ≡ most_reads)) ⊎ Fails R.remaining reader.old reader.new) }
+    ensures most { reader.new.reads ≤ most_reads }
 {
     let front = held.end - held.start;
     move_to_front(octets, held);
@@ -189,7 +170,8 @@ fn line_in(held: &[u8], searched: usize) -> Option<Found>
     requires line { IsOneLine (take searched held.now) }
     requires room { length held.now ≤ 20001 }
     ensures none { IfNone result (NeedsMore held.now) }
-    ensures found { (remaining : Option (List ℕ)) → IfSome result (λ found. IsFound found held.now remaining) }
+    ensures found { IfSome result (λ found. IsFound found held.now) }
+    ensures before_end { IfSome result (λ found. is_at_end found ≡ false) }
 {
     match place_of(b'\n', &held[searched..]) {
         Some(at) => Some(Found::Line(searched + at)),
@@ -201,7 +183,8 @@ fn line_in(held: &[u8], searched: usize) -> Option<Found>
 /// What is found at the reader's end, if so many octets are held.
 fn rest_of(held: usize) -> Found
     requires { held ≤ 20000 }
-    ensures { (octets : List ℕ) (remaining : Option (List ℕ)) → length octets ≡ held → IsOneLine octets → IsAtEnd remaining → IsFound result octets remaining }
+    ensures found { (octets : List ℕ) → length octets ≡ held → IsOneLine octets → IsFound result octets }
+    ensures at_end { is_at_end result ≡ true }
 {
     if held == 0 {
         Found::End

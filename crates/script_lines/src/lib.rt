@@ -5,5 +5,6 @@ mod buffer;
 mod line;
 mod octets;
 
-pub use buffer::{Found, LineBuffer, ReadFault, lines_are_read};
+pub use buffer::{Found, LineBuffer, lines_are_read};
 pub use line::{Line, MOST_OCTETS, read_line, spelled_so};
+pub use octet_io::{CountedReader, ReadFault};

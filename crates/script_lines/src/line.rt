@@ -31,7 +31,7 @@ ghost use Rattle.script_lines.specs.Said.{
 ghost use Rattle.script_lines.specs.Said as spec;
 
 use crate::octets::place_of;
-use mc_types::{MsgId, NodeNo, NodeSet};
+use mc_types::{Moment, MsgId, NodeNo, NodeSet};
 use std::alloc::{AllocError, Global};
 use std::str;
 
@@ -43,12 +43,6 @@ const MOST_SERIAL: u64 = 99_999;
 
 /// The highest number of a session.
 const MOST_SESSION: u64 = 99;
-
-/// The least moment, the start of 2000, and the greatest, the end of 2099, in whole seconds since
-/// 1970-01-01T00:00:00Z.
-const LEAST_MOMENT: u64 = 946_684_800;
-
-const MOST_MOMENT: u64 = 4_102_444_799;
 
 /// What a line of a script says.
 #[derive(Debug, PartialEq, Eq, Drop)]
@@ -78,10 +72,10 @@ pub enum Line {
         number: u64,
         after: bool,
     },
-    /// `tick NODE MOMENT`: at a node this moment has come, in whole seconds since 1970-01-01T00:00:00Z, 946684800 to 4102444799.
+    /// `tick NODE MOMENT`: at a node this moment has come.
     Tick {
         node: NodeNo,
-        moment: u32,
+        moment: Moment,
     },
     /// `grant NODE ID`: a node is asked for the attempt of the message of this id.
     Grant {
@@ -297,19 +291,20 @@ fn side_of(text: &[u8]) -> Option<bool>
     None
 }
 
-/// What stands after `tick`: a node, and a moment.
-#[tactic(auto, unfolding(crate::specs::Said::tick_said))]
+/// What stands after `tick`: a node, and a moment, in whole seconds since 1970-01-01T00:00:00Z.
+#[tactic(auto, unfolding(crate::specs::Said::tick_said, crate::specs::Said::number_at))]
 fn tick_of(words: &[u8]) -> Option<Line>
     ensures { option_map said_by result ≡ tick_said words.now }
 {
     let (node, rest) = node_at(words)?;
-    let (moment, rest) = number_at(LEAST_MOMENT, MOST_MOMENT, rest)?;
+    let (seconds, rest) = number_at(0, u32::MAX as u64, rest)?;
+    let moment = Moment::make(seconds as u32).ok()?;
     if !rest.is_empty() {
         return None;
     }
     Some(Line::Tick {
         node: NodeNo::of(node),
-        moment: moment as u32,
+        moment,
     })
 }
 

@@ -1,29 +1,43 @@
 //! Why a script ends before its end.
 
-ghost use Rattle.std.specs.Prelude.{◌≡◌};
-ghost use Rattle.script_runner.specs.Outcome.{status_after};
+ghost use Rattle.std.specs.Prelude.{◌≡◌, Some};
 
-use script_lines::ReadFault;
+use octet_io::ReadFault;
 use std::alloc::AllocError;
-use thiserror::Error;
+use std::error::Error;
+use std::fmt;
+use std::fmt::{Display, Formatter};
 
 /// Why a script ends before its end.
-#[derive(Clone, Copy, Debug, PartialEq, Eq, Error)]
+#[derive(Clone, Copy, Debug, PartialEq, Eq)]
 pub enum ScriptFault {
     /// 1: this line, counted from 1, is bad. The output of the lines before it was written, and nothing else.
-    #[error("bad line {0}")]
     BadLine(u64),
     /// 2: the script could not be read, or had no end within 2^40 reads. The output of the lines before the one that was being read was
     /// written.
-    #[error("the script could not be read")]
     Read,
-    /// 3: the output could not be written. Of what was written nothing is said.
-    #[error("the output could not be written")]
+    /// 3: the output could not be written. That of the lines before the one in work was written, and a front of that one's.
     Write,
-    /// 4: there was no memory. The output of some whole lines was written.
-    #[error("there was not enough memory")]
+    /// 4: there was no memory. The output of the lines before the one in work was written.
     Memory,
 }
+
+impl Display for ScriptFault {
+    ghost use Rattle.script_runner.specs.Faults.{fault_text};
+
+    ghost output = { λ fault. Some (fault_text fault) };
+
+    fn fmt<W: fmt::Write>(&self, f: &mut Formatter<W>) -> fmt::Result {
+        match self {
+            ScriptFault::BadLine(number) => write!(f, "bad line {number}"),
+            ScriptFault::Read => f.write_str("the script could not be read"),
+            ScriptFault::Write => f.write_str("the output could not be written"),
+            ScriptFault::Memory => f.write_str("there was not enough memory"),
+        }
+    }
+}
+
+impl Error for ScriptFault {}
 
 impl From<AllocError> for ScriptFault {
     ghost use Rattle.script_runner.specs.declared.fault.ScriptFault.TheVariants.{Memory};
@@ -42,16 +56,5 @@ impl From<ReadFault> for ScriptFault {
 
     fn from(_fault: ReadFault) -> ScriptFault {
         ScriptFault::Read
-    }
-}
-
-/// The exit status of a program that ran a script: 0 at its end, 2 at a bad line, 1 at any other fault.
-pub fn exit_status(outcome: Result<(), ScriptFault>) -> u8
-    ensures { result ≡ status_after outcome }
-{
-    match outcome {
-        Ok(()) => 0,
-        Err(ScriptFault::BadLine(_)) => 2,
-        Err(_) => 1,
     }
 }

@@ -8,6 +8,7 @@ mod program;
 mod run;
 mod station;
 
-pub use fault::{ScriptFault, exit_status};
-pub use program::run_program;
+pub use fault::ScriptFault;
+pub use octet_io::{CountedReader, CountedWriter};
+pub use program::{ProgramRun, run_program};
 pub use run::run_script;

@@ -1,42 +1,81 @@
 //! The program: what its arguments ask for, its exit status, and its line on standard error.
 
-ghost use Rattle.script_runner.specs.Outcome.{IsProgramRun};
+ghost use Rattle.std.specs.Prelude.{◌≡◌, OnOk};
+ghost use Rattle.std.specs.Option.{option_copied};
+ghost use Rattle.std.specs.Io.KnownBytes.{Appends};
+ghost use Rattle.script_runner.specs.Outcome.{IsProgramRun, asks_for_script, status_of, told_by};
 
-use crate::fault::exit_status;
+use crate::fault::ScriptFault;
 use crate::run::run_script;
-use std::env;
+use octet_io::{CountedReader, CountedWriter};
+use std::env::FillError;
+use std::io;
 use std::io::{Read, Write};
 use std::rt::Env;
 
-/// Whether the arguments ask for a script: the program's name, and `script`. Arguments that can't be read, as one that
-/// is no UTF-8, ask for nothing.
-fn asks_for_script<A: Env + AllocGlobal>(arguments: &A) -> bool {
-    let Ok(mut words) = env::args(arguments) else {
-        return false;
-    };
-    let _program = words.next();
-    let is_script = words.next().is_some_and(|word| word.as_str() == "script");
-    is_script && words.next().is_none()
+/// How many octets the word has that asks for a script.
+const WORD: usize = 6;
+
+/// What the program did.
+#[derive(Clone, Copy, Debug, PartialEq, Eq)]
+pub enum ProgramRun {
+    /// Nothing: its arguments ask for no script.
+    Usage,
+    /// It ran a script, of which this came.
+    Script(Result<(), ScriptFault>),
 }
 
-/// Runs the script that the reader gives, if the arguments ask for one, and gives the exit status: 0 at its end; 2 at
-/// a bad line; 1 at any other fault, and if the arguments ask for anything else. A status other than 0 comes with one
-/// line on `errors`; the status is the same if that can't be written.
-pub fn run_program<A: Env + AllocGlobal, R: Read, W: Write, E: Write>(
+impl ProgramRun {
+    /// The exit status of the program: 0 at the end of a script, 2 at a bad line, 1 at any other fault, and if no script was asked for.
+    pub fn status(self) -> u8
+        ensures { result ≡ status_of self }
+    {
+        match self {
+            ProgramRun::Script(Ok(())) => 0,
+            ProgramRun::Script(Err(ScriptFault::BadLine(_))) => 2,
+            ProgramRun::Script(Err(_)) | ProgramRun::Usage => 1,
+        }
+    }
+
+    /// Writes its line for standard error; nothing at the end of a script. An `Err` if that could not be written.
+    pub fn tell<E: Write>(self, errors: &mut E) -> io::Result<()>
+        ensures { OnOk result (Appends (E.contents errors.old) (E.contents errors.new) (told_by self)) }
+    {
+        match self {
+            ProgramRun::Usage => writeln!(errors, "usage: centre script"),
+            ProgramRun::Script(Ok(())) => Ok(()),
+            ProgramRun::Script(Err(fault)) => writeln!(errors, "{fault}"),
+        }
+    }
+}
+
+/// Runs the script that the reader gives, if the arguments ask for one: if there is one behind the program's name, and it is `script`.
+pub fn run_program<A: Env + AllocGlobal, R: Read, W: Write>(
     arguments: &A,
-    reader: &mut R,
-    writer: &mut W,
-    errors: &mut E,
-) -> u8
-    ensures { IsProgramRun result (R.remaining reader.old) (R.remaining reader.new) (W.contents writer.old) (W.contents writer.new) }
+    reader: &mut CountedReader<R>,
+    writer: &mut CountedWriter<W>,
+) -> ProgramRun
+    ensures { IsProgramRun R.remaining W.contents result reader.old reader.new writer.old writer.new }
 {
-    if !asks_for_script(arguments) {
-        let _ = writeln!(errors, "usage: centre script");
-        return 1;
+    if !is_script_asked_for(arguments) {
+        return ProgramRun::Usage;
     }
-    let outcome = run_script(arguments.alloc(), reader, writer);
-    if let Err(fault) = outcome {
-        let _ = writeln!(errors, "{fault}");
-    }
-    exit_status(outcome)
+    ProgramRun::Script(run_script(arguments.alloc(), reader, writer))
+}
+
+/// Whether the arguments ask for a script. It takes no memory, however long they are.
+fn is_script_asked_for(arguments: &impl Env) -> bool {
+    let mut word = [0u8; WORD];
+    let Ok(length) = arguments.arg(1, &mut word) else {
+        return false;
+    };
+    let follows = !matches!(arguments.arg(2, &mut []), Err(FillError::NotPresent));
+    asks(word.get(..length), follows)
+}
+
+/// Whether the argument behind the program's name, and that another follows it, ask for a script.
+fn asks(word: Option<&[u8]>, follows: bool) -> bool
+    ensures { result ≡ asks_for_script (option_copied word.entry) follows }
+{
+    word == Some(b"script".as_slice()) && !follows
 }

@@ -9,8 +9,8 @@ ghost use Rattle.script_runner.specs.Outcome.{IsAct, IsOutcome, IsStarted, IsSte
 use crate::centre::Centre;
 use crate::fault::ScriptFault;
 use config::Config;
-use mc_types::Moment;
 use node_core::Found;
+use octet_io::{CountedReader, CountedWriter};
 use script_lines::{Found as FoundLine, Line, LineBuffer, lines_are_read, read_line, spelled_so};
 use std::alloc::{AllocError, Global};
 use std::io::{Read, Write};
@@ -18,10 +18,10 @@ use std::io::{Read, Write};
 /// Runs a script: reads its lines, and writes the output of each before it reads the next. `Ok` at its end.
 pub fn run_script<R: Read, W: Write>(
     alloc: Global,
-    reader: &mut R,
-    writer: &mut W,
+    reader: &mut CountedReader<R>,
+    writer: &mut CountedWriter<W>,
 ) -> Result<(), ScriptFault>
-    ensures { IsOutcome result (R.remaining reader.old) (R.remaining reader.new) (W.contents writer.old) (W.contents writer.new) }
+    ensures { IsOutcome R.remaining W.contents result reader.old reader.new writer.old writer.new }
 {
     // What the proof takes of lines and of what they say; neither call does anything.
     lines_are_read();
@@ -73,10 +73,10 @@ fn write_line<W: Write>(
     line: &[u8],
     number: u64,
     text: &mut Vec<u8>,
-    writer: &mut W,
+    writer: &mut CountedWriter<W>,
 ) -> Result<(), ScriptFault>
     requires { settings_of config.now ≡ script_settings }
-    ensures { WritesLine result stage.old line.now number stage.new (W.contents writer.old) (W.contents writer.new) }
+    ensures { WritesLine W.contents result stage.old line.now number stage.new writer.old writer.new }
 {
     text.clear();
     if !step(alloc, config, stage, line, text)? {
@@ -162,9 +162,7 @@ fn act(
             let found = if after { Found::After } else { Found::Before };
             centre.crash(node, number, found, text)?;
         }
-        Line::Tick { node, moment } => {
-            centre.tick(alloc, node, Moment::make(moment).unwrap(), text)?;
-        }
+        Line::Tick { node, moment } => centre.tick(alloc, node, moment, text)?,
         Line::Grant { node, id } => centre.grant(alloc, node, id, text)?,
         Line::Settle { nodes } => centre.settle(alloc, nodes, text)?,
         Line::Restart { node } => centre.restart(alloc, node, text)?,

@@ -1,11 +1,11 @@
 //! Scripts over several nodes: each of nine is down in turn, and packets come twice and in reverse.
 
-use crate::worked::{Row, rows};
-use script_runner::run_script;
-use std::alloc::{AllocError, Global};
+use crate::ran::assert_written;
+use crate::rows::ROWS;
+use crate::worked::{Row, octets_of, row_of};
+use std::alloc::Global;
 use std::process::Abort;
-use std::str;
-use std::test::Fail;
+use std::slice;
 
 // In the scripts and the outputs below, A, B and C stand for nodes, and each line with an S for lines at which packets come.
 
@@ -129,88 +129,83 @@ refused 3 1
 ";
 
 /// A text with three nodes in the place of A, B and C, and lines in the place of S.
-fn filled(alloc: Global, text: &str, nodes: &[u8; 3], come: &[u8]) -> Result<Vec<u8>, AllocError> {
+fn filled(rt: &impl Abort, alloc: Global, text: &str, nodes: &[u8; 3], come: &[u8]) -> Vec<u8> {
     let mut octets = Vec::new(alloc);
     for octet in text.as_bytes() {
-        match *octet {
-            b'A' => octets.push(nodes[0])?,
-            b'B' => octets.push(nodes[1])?,
-            b'C' => octets.push(nodes[2])?,
-            b'S' => octets.extend_from_slice(come)?,
-            other => octets.push(other)?,
-        }
+        let put = match octet {
+            b'A' => &nodes[..1],
+            b'B' => &nodes[1..2],
+            b'C' => &nodes[2..],
+            b'S' => come,
+            _ => slice::from_ref(octet),
+        };
+        octets.extend_from_slice(put).expect(rt, "memory");
     }
-    Ok(octets)
+    octets
 }
 
 /// That a script so filled writes what is to be written, so filled too.
-fn is_written(
+fn assert_filled(
     rt: &impl Abort,
     alloc: Global,
     (script, output): (&str, &str),
     nodes: &[u8; 3],
     come: &[u8],
-) -> Result<(), Fail> {
-    let octets = filled(alloc, script, nodes, come)?;
-    let mut written = Vec::new(alloc);
-    let outcome = run_script(alloc, &mut octets.as_slice(), &mut written);
-    assert_eq!(rt; outcome, Ok(()));
-    assert!(rt; written == filled(alloc, output, nodes, come)?, "{script}");
-    Ok(())
+) {
+    let octets = filled(rt, alloc, script, nodes, come);
+    let wanted = filled(rt, alloc, output, nodes, come);
+    assert_written(rt, alloc, (script, &octets), &wanted);
 }
 
 #[test]
-fn each_of_nine_nodes_is_down(rt: HostRuntime) -> Result<(), Fail> {
+fn each_of_nine_nodes_is_down(rt: HostRuntime) {
     let alloc = rt.alloc();
     for nodes in [
         b"213", b"324", b"435", b"546", b"657", b"768", b"879", b"981", b"192",
     ] {
-        is_written(&rt, alloc, (BYSTANDER, BYSTANDER_WRITES), nodes, b"")?;
-        is_written(&rt, alloc, (AUTHOR, AUTHOR_WRITES), nodes, b"")?;
+        assert_filled(&rt, alloc, (BYSTANDER, BYSTANDER_WRITES), nodes, b"");
+        assert_filled(&rt, alloc, (AUTHOR, AUTHOR_WRITES), nodes, b"");
     }
-    Ok(())
 }
 
 /// Behind each settle, or in its place: a round takes four packets one after another, and a cancel_sm two before them.
 #[test]
-fn packets_come_twice_and_in_reverse(rt: HostRuntime) -> Result<(), Fail> {
+fn packets_come_twice_and_in_reverse(rt: HostRuntime) {
     let alloc = rt.alloc();
     let behind = b"settle\nreplay 2\nsettle".as_slice();
     let in_place =
         b"replay 1\nreplay 1\nreplay 1\nreplay 1\nreplay 1\nreplay 1\nreplay 1".as_slice();
     for come in [behind, in_place] {
-        is_written(&rt, alloc, (DELIVERED, DELIVERED_WRITES), b"123", come)?;
-        is_written(&rt, alloc, (DELETED, DELETED_WRITES), b"123", come)?;
+        assert_filled(&rt, alloc, (DELIVERED, DELIVERED_WRITES), b"123", come);
+        assert_filled(&rt, alloc, (DELETED, DELETED_WRITES), b"123", come);
     }
-    Ok(())
 }
 
-/// The script of a row over one node, over nine, of which node 2 goes down after the first settle; `None` if it is another row, or has no settle.
-fn over_nine_nodes(alloc: Global, row: &Row) -> Result<Option<String>, Fail> {
+/// The parts of the script of a row over one node, up to its first settle and behind it; `None` if it is another row, or has no settle.
+fn over_one_node(row: &Row) -> Option<(&'static str, &'static str)> {
     if row.status != 0 {
-        return Ok(None);
+        return None;
     }
-    let Some(rest) = str::from_utf8(&row.script)?.strip_prefix("nodes 1") else {
-        return Ok(None);
-    };
-    let Some((before, behind)) = rest.split_once("\nsettle\n") else {
-        return Ok(None);
-    };
-    let crash = "crash 2 1 before";
-    Ok(Some(format!(in alloc; "nodes 9{before}\nsettle\n{crash}\n{behind}")?))
+    row.script.strip_prefix("nodes 1")?.split_once(";settle;")
 }
 
-/// What the rows over one node write is the same over nine: the others only take part in the rounds.
+/// What the rows over one node write is the same over nine, of which node 2 goes down after the first settle: the others only take part in the rounds.
 #[test]
-fn rows_are_written_over_nine_nodes(rt: HostRuntime) -> Result<(), Fail> {
+fn rows_are_written_over_nine_nodes(rt: HostRuntime) {
     let alloc = rt.alloc();
-    for row in &rows(alloc)? {
-        if let Some(script) = over_nine_nodes(alloc, row)? {
-            let mut written = Vec::new(alloc);
-            let outcome = run_script(alloc, &mut script.as_bytes(), &mut written);
-            assert_eq!(rt; outcome, Ok(()), "{}", row.name);
-            assert!(rt; written == row.output, "{}", row.name);
+    for line in ROWS.lines() {
+        let row = row_of(&rt, line);
+        if let Some((before, behind)) = over_one_node(&row) {
+            let text = format!(in alloc; "nodes 9{before};settle;crash 2 1 before;{behind}").expect(
+                &rt, "memory",
+            );
+            let script = octets_of(&rt, alloc, text.as_str());
+            assert_written(
+                &rt,
+                alloc,
+                (row.name, &script),
+                &octets_of(&rt, alloc, row.output),
+            );
         }
     }
-    Ok(())
 }

@@ -43,6 +43,17 @@ impl Read for Failing<'_> {
     }
 }
 
+/// A reader that gives one octet each time.
+#[derive(Drop)]
+pub struct Slow<'a>(pub &'a [u8]);
+
+impl Read for Slow<'_> {
+    fn read(&mut self, buffer: &mut [u8]) -> io::Result<usize> {
+        let end = buffer.len().min(1);
+        self.0.read(&mut buffer[..end])
+    }
+}
+
 /// A writer that takes no octet.
 #[derive(Drop)]
 pub struct Closed;

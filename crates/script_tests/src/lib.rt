@@ -8,7 +8,11 @@ mod ends;
 #[cfg(test)]
 mod pieces;
 #[cfg(test)]
+mod places;
+#[cfg(test)]
 mod program;
+#[cfg(test)]
+mod ran;
 #[cfg(test)]
 mod rows;
 #[cfg(test)]

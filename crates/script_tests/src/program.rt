@@ -1,122 +1,144 @@
 //! Exit statuses, and the line on standard error.
 
 use crate::ends::{Arguments, Closed, Failing};
+use crate::ran::times;
+use crate::rows::ROWS;
 use crate::scripts::BIND;
-use crate::worked::{Row, rows};
-use script_runner::{ScriptFault, exit_status, run_program};
+use crate::worked::{octets_of, row_of};
+use script_runner::{CountedReader, CountedWriter, ProgramRun, ScriptFault, run_program};
 use std::alloc::Global;
+use std::io::{Read, Write};
 use std::process::Abort;
-use std::test::Fail;
 
 const SCRIPT: &[&[u8]] = &[b"centre", b"script"];
 
-/// That a row writes what it is to write.
-fn is_written(rt: &impl Abort, alloc: Global, row: &Row) -> Result<(), Fail> {
-    let mut output = Vec::new(alloc);
+/// What a program with these arguments did.
+fn run_of<R: Read + Drop, W: Write + Drop>(
+    alloc: Global,
+    words: &[&[u8]],
+    reader: R,
+    writer: W,
+) -> ProgramRun {
+    run_program(
+        &(Arguments(words), alloc),
+        &mut CountedReader::make(reader),
+        &mut CountedWriter::make(writer),
+    )
+}
+
+/// That this is the status of what a program did, and this what it tells on standard error.
+fn assert_told(rt: &impl Abort, alloc: Global, name: &str, run: ProgramRun, wanted: (u8, &[u8])) {
     let mut errors = Vec::new(alloc);
-    let arguments = (Arguments(SCRIPT), alloc);
-    let status = run_program(
-        &arguments,
-        &mut row.script.as_slice(),
-        &mut output,
-        &mut errors,
+    run.tell(&mut errors).expect(rt, "memory");
+    assert_eq!(rt;
+        (name, run.status(), errors.as_slice()),
+        (name, wanted.0, wanted.1)
     );
-    assert_eq!(rt; status, row.status, "{}", row.name);
-    assert!(rt; output == row.output, "{}", row.name);
-    assert!(rt; errors == row.told, "{}", row.name);
-    Ok(())
 }
 
 #[test]
-fn rows_are_written(rt: HostRuntime) -> Result<(), Fail> {
+fn rows_are_written(rt: HostRuntime) {
     let alloc = rt.alloc();
-    for row in &rows(alloc)? {
-        is_written(&rt, alloc, row)?;
+    for line in ROWS.lines() {
+        let row = row_of(&rt, line);
+        let script = octets_of(&rt, alloc, row.script);
+        let mut output = Vec::new(alloc);
+        let run = run_of(alloc, SCRIPT, script.as_slice(), &mut output);
+        assert_eq!(rt;
+            (row.name, output.as_slice()),
+            (row.name, octets_of(&rt, alloc, row.output).as_slice())
+        );
+        let told = octets_of(&rt, alloc, row.told);
+        assert_told(&rt, alloc, row.name, run, (row.status, &told));
     }
-    Ok(())
 }
 
 #[test]
-fn other_arguments_are_told_the_usage(rt: HostRuntime) -> Result<(), Fail> {
+fn other_arguments_are_told_the_usage(rt: HostRuntime) {
     let alloc = rt.alloc();
-    let others: [&[&[u8]]; 6] = [
+    let others: [&[&[u8]]; 8] = [
         &[],
         &[b"centre"],
+        &[b"centre", b""],
         &[b"centre", b"scripts"],
         &[b"centre", b"script", b"script"],
+        &[b"centre", b"script", b""],
         &[b"centre", b"\xff"],
         &[b"centre", b"script", b"\xff"],
     ];
     for words in others {
         let mut output = Vec::new(alloc);
-        let mut errors = Vec::new(alloc);
-        let arguments = (Arguments(words), alloc);
-        let status = run_program(
-            &arguments,
-            &mut b"nodes 1\n".as_slice(),
-            &mut output,
-            &mut errors,
-        );
-        assert_eq!(rt; status, 1);
-        assert!(rt; output.is_empty());
-        assert_eq!(rt; errors.as_slice(), b"usage: centre script\n".as_slice());
+        let run = run_of(alloc, words, b"nodes 1\n".as_slice(), &mut output);
+        assert_told(&rt, alloc, "", run, (1, b"usage: centre script\n"));
+        assert_eq!(rt; (run, output.len()), (ProgramRun::Usage, 0));
     }
-    Ok(())
+}
+
+/// However long the name of the program is, a script is run.
+#[test]
+fn a_long_program_name_asks_for_a_script(rt: HostRuntime) {
+    let alloc = rt.alloc();
+    let name = times(&rt, alloc, b"centre/", 10_000);
+    let mut output = Vec::new(alloc);
+    let run = run_of(alloc, &[&name, b"script"], BIND, &mut output);
+    assert_eq!(rt; (run, output.len()), (ProgramRun::Script(Ok(())), 65));
 }
 
 #[test]
-fn faults_are_told_in_one_line(rt: HostRuntime) -> Result<(), Fail> {
+fn faults_are_told_in_one_line(rt: HostRuntime) {
     let alloc = rt.alloc();
-    let arguments = (Arguments(SCRIPT), alloc);
     let mut output = Vec::new(alloc);
-    let mut errors = Vec::new(alloc);
-    let status = run_program(
-        &arguments,
-        &mut Failing(b"nodes 1\n"),
-        &mut output,
-        &mut errors,
+    let unread = run_of(alloc, SCRIPT, Failing(b"nodes 1\n"), &mut output);
+    assert_told(
+        &rt,
+        alloc,
+        "read",
+        unread,
+        (1, b"the script could not be read\n"),
     );
-    assert_eq!(rt; status, 1);
-    assert_eq!(rt;
-        errors.as_slice(),
-        b"the script could not be read\n".as_slice()
+    let unwritten = run_of(alloc, SCRIPT, BIND, Closed);
+    assert_told(
+        &rt,
+        alloc,
+        "write",
+        unwritten,
+        (1, b"the output could not be written\n"),
     );
-    errors.clear();
-    let mut script = BIND;
-    let status = run_program(&arguments, &mut script, &mut Closed, &mut errors);
-    assert_eq!(rt; status, 1);
-    assert_eq!(rt;
-        errors.as_slice(),
-        b"the output could not be written\n".as_slice()
+    let memory = ProgramRun::Script(Err(ScriptFault::Memory));
+    assert_told(
+        &rt,
+        alloc,
+        "memory",
+        memory,
+        (1, b"there was not enough memory\n"),
     );
-    Ok(())
 }
 
 #[test]
-fn statuses_do_not_need_standard_error(rt: HostRuntime) -> Result<(), Fail> {
+fn statuses_do_not_need_standard_error(rt: HostRuntime) {
     let alloc = rt.alloc();
-    let arguments = (Arguments(SCRIPT), alloc);
     let mut output = Vec::new(alloc);
-    let bad = run_program(
-        &arguments,
-        &mut b"nodes 10\n".as_slice(),
-        &mut output,
-        &mut Closed,
-    );
-    assert_eq!(rt; bad, 2);
-    let unread = run_program(&arguments, &mut Failing(b""), &mut output, &mut Closed);
-    assert_eq!(rt; unread, 1);
-    let other = (Arguments(&[]), alloc);
-    let unasked = run_program(&other, &mut b"".as_slice(), &mut output, &mut Closed);
-    assert_eq!(rt; unasked, 1);
-    Ok(())
+    let bad = run_of(alloc, SCRIPT, b"nodes 10\n".as_slice(), &mut output);
+    let unread = run_of(alloc, SCRIPT, Failing(b""), &mut output);
+    let unasked = run_of(alloc, &[], b"".as_slice(), &mut output);
+    for (run, status) in [(bad, 2), (unread, 1), (unasked, 1)] {
+        assert_eq!(rt;
+            (run.tell(&mut Closed).is_err(), run.status()),
+            (true, status)
+        );
+    }
 }
 
 #[test]
 fn faults_have_their_status(rt: HostRuntime) {
-    assert_eq!(rt; exit_status(Ok(())), 0);
-    assert_eq!(rt; exit_status(Err(ScriptFault::BadLine(7))), 2);
-    for fault in [ScriptFault::Read, ScriptFault::Write, ScriptFault::Memory] {
-        assert_eq!(rt; exit_status(Err(fault)), 1);
+    let outcomes = [
+        (Ok(()), 0),
+        (Err(ScriptFault::BadLine(7)), 2),
+        (Err(ScriptFault::Read), 1),
+        (Err(ScriptFault::Write), 1),
+        (Err(ScriptFault::Memory), 1),
+    ];
+    for (outcome, status) in outcomes {
+        assert_eq!(rt; ProgramRun::Script(outcome).status(), status);
     }
 }

@@ -1,9 +1,10 @@
 //! Scripts that are long, and ends that fail.
 
 use crate::ends::{Closed, Failing};
-use script_runner::{ScriptFault, run_script};
-use std::alloc::{AllocError, Global};
-use std::test::Fail;
+use crate::ran::{assert_written, joined, ran, times};
+use script_runner::{CountedReader, CountedWriter, ScriptFault, run_script};
+use std::alloc::Global;
+use std::process::Abort;
 
 /// A script that binds session 1, and what it writes.
 pub const BIND: &[u8] =
@@ -27,160 +28,144 @@ const REPORTED: &[u8] =
 const QUERY: &[u8] =
     b"pdu 1 1 000000210000000300000000000000033130303031303030303100010131343400\n";
 
-/// Octets so many times over.
-fn times(alloc: Global, octets: &[u8], count: usize) -> Result<Vec<u8>, AllocError> {
-    let mut all = Vec::new(alloc);
-    for _ in 0..count {
-        all.extend_from_slice(octets)?;
-    }
-    Ok(all)
-}
-
-/// These parts, one after another.
-fn joined(alloc: Global, parts: &[&[u8]]) -> Result<Vec<u8>, AllocError> {
-    let mut all = Vec::new(alloc);
-    for part in parts {
-        all.extend_from_slice(part)?;
-    }
-    Ok(all)
-}
-
-#[test]
-fn long_lines_are_bad(rt: HostRuntime) -> Result<(), Fail> {
-    let alloc = rt.alloc();
-    let zeros = times(alloc, b"0", 19982)?;
-    let spaced = joined(alloc, &[BIND, b"pdu 1 1 ", &zeros, b"          \n"])?;
-    let longer = joined(alloc, &[BIND, b"pdu 1 1 ", &zeros, b"00000000000"])?;
-    for script in [spaced, longer] {
-        let mut output = Vec::new(alloc);
-        let outcome = run_script(alloc, &mut script.as_slice(), &mut output);
-        assert_eq!(rt; outcome, Err(ScriptFault::BadLine(3)));
-        assert_eq!(rt; output.as_slice(), BOUND);
-    }
-    Ok(())
-}
-
-#[test]
-fn failing_ends_are_told(rt: HostRuntime) -> Result<(), Fail> {
-    let alloc = rt.alloc();
-    let mut output = Vec::new(alloc);
-    let outcome = run_script(alloc, &mut Failing(BIND), &mut output);
-    assert_eq!(rt; outcome, Err(ScriptFault::Read));
-    assert_eq!(rt; output.as_slice(), BOUND);
-    let mut script = BIND;
+/// That line 3 is bad, if it is zeros that end so.
+fn assert_too_long(rt: &impl Abort, alloc: Global, zeros: &[u8], end: &[u8]) {
+    let script = joined(rt, alloc, &[BIND, b"pdu 1 1 ", zeros, end]);
+    let (outcome, output) = ran(alloc, script.as_slice());
     assert_eq!(rt;
-        run_script(alloc, &mut script, &mut Closed),
-        Err(ScriptFault::Write)
+        (outcome, output.as_slice()),
+        (Err(ScriptFault::BadLine(3)), BOUND)
     );
-    Ok(())
+}
+
+#[test]
+fn long_lines_are_bad(rt: HostRuntime) {
+    let alloc = rt.alloc();
+    let zeros = times(&rt, alloc, b"0", 19982);
+    assert_too_long(&rt, alloc, &zeros, b"          \n");
+    assert_too_long(&rt, alloc, &zeros, b"00000000000");
+}
+
+#[test]
+fn failing_ends_are_told(rt: HostRuntime) {
+    let alloc = rt.alloc();
+    let (outcome, output) = ran(alloc, Failing(BIND));
+    assert_eq!(rt;
+        (outcome, output.as_slice()),
+        (Err(ScriptFault::Read), BOUND)
+    );
+    let unwritten = run_script(
+        alloc,
+        &mut CountedReader::make(BIND),
+        &mut CountedWriter::make(Closed),
+    );
+    assert_eq!(rt; unwritten, Err(ScriptFault::Write));
 }
 
 /// A thousand requests wait, of sessions that are gone, each with ten: the next one is answered at once, ESME_RTHROTTLED, and
 /// nothing of theirs is printed.
 #[test]
-fn a_thousand_requests_wait(rt: HostRuntime) -> Result<(), Fail> {
+fn a_thousand_requests_wait(rt: HostRuntime) {
     let alloc = rt.alloc();
-    let queries = times(alloc, QUERY, 10)?;
-    let session = joined(alloc, &[BIND_LINE, &queries, UNBIND])?;
-    let sessions = times(alloc, &session, 100)?;
+    let queries = times(&rt, alloc, QUERY, 10);
+    let session = joined(&rt, alloc, &[BIND_LINE, &queries, UNBIND]);
+    let sessions = times(&rt, alloc, &session, 100);
     let script = joined(
+        &rt,
         alloc,
         &[b"nodes 1\n", &sessions, BIND_LINE, QUERY, b"settle\n"],
-    )?;
-    let mut output = Vec::new(alloc);
-    assert_eq!(rt;
-        run_script(alloc, &mut script.as_slice(), &mut output),
-        Ok(())
     );
-    let gone = joined(alloc, &[BOUND, UNBOUND])?;
-    let all_gone = times(alloc, &gone, 100)?;
+    let gone = joined(&rt, alloc, &[BOUND, UNBOUND]);
+    let all_gone = times(&rt, alloc, &gone, 100);
     let throttled = b"pdu 1 1 00000010800000030000005800000003\n";
-    let wanted = joined(alloc, &[&all_gone, BOUND, throttled])?;
-    assert!(rt; output == wanted);
-    Ok(())
+    let wanted = joined(&rt, alloc, &[&all_gone, BOUND, throttled]);
+    assert_written(&rt, alloc, ("throttled", &script), &wanted);
 }
 
 /// A tick at which five hundred messages expire: the last of them is EXPIRED.
 #[test]
-fn many_messages_expire(rt: HostRuntime) -> Result<(), Fail> {
+fn many_messages_expire(rt: HostRuntime) {
     let alloc = rt.alloc();
-    let ten = times(alloc, SUBMIT, 10)?;
-    let submits = times(alloc, &joined(alloc, &[&ten, b"settle\n"])?, 50)?;
+    let ten = times(&rt, alloc, SUBMIT, 10);
+    let settled = joined(&rt, alloc, &[&ten, b"settle\n"]);
+    let submits = times(&rt, alloc, &settled, 50);
     let query =
         b"pdu 1 1 000000210000000300000000000000033130303031303035303000010131343400\nsettle\n";
-    let script = joined(
-        alloc,
-        &[BIND, &submits, b"tick 1 946944000\nsettle\n", query],
-    )?;
-    let mut output = Vec::new(alloc);
-    assert_eq!(rt;
-        run_script(alloc, &mut script.as_slice(), &mut output),
-        Ok(())
-    );
+    let tick = b"tick 1 946944000\nsettle\n";
+    let script = joined(&rt, alloc, &[BIND, &submits, tick, query]);
     let expired =
         b"pdu 1 1 0000002e80000003000000000000000331303030313030353030003030303130343030303030303030302b000300\n".as_slice();
-    assert!(rt; output.as_slice().ends_with(expired));
     // Each answer to a submit_sm has 27 octets.
     let answers = 500 * (b"pdu 1 1 \n".len() + 2 * 27);
-    assert_eq!(rt; output.len(), BOUND.len() + answers + expired.len());
-    Ok(())
+    let wanted = (Ok(()), true, BOUND.len() + answers + expired.len());
+    let (outcome, output) = ran(alloc, script.as_slice());
+    assert_eq!(rt;
+        (outcome, output.as_slice().ends_with(expired), output.len()),
+        wanted
+    );
 }
 
 /// The 9,999th incarnation is the last: a restart is refused then, the session stays, and the node goes on.
 #[test]
-fn the_last_incarnation_goes_on(rt: HostRuntime) -> Result<(), Fail> {
+fn the_last_incarnation_goes_on(rt: HostRuntime) {
     let alloc = rt.alloc();
-    let restarts = times(alloc, b"restart 1\n", 9998)?;
+    let restarts = times(&rt, alloc, b"restart 1\n", 9998);
+    let refused = b"restart 1\nrestart 1\n";
     let script = joined(
+        &rt,
         alloc,
         &[
             b"nodes 1\n",
             &restarts,
             BIND_LINE,
-            b"restart 1\nrestart 1\n",
+            refused,
             SUBMIT,
             b"settle\n",
         ],
-    )?;
-    let mut output = Vec::new(alloc);
-    assert_eq!(rt;
-        run_script(alloc, &mut script.as_slice(), &mut output),
-        Ok(())
     );
     let taken = b"pdu 1 1 0000001b8000000400000000000000023139393939303030303100\n";
-    let wanted = joined(alloc, &[BOUND, b"refused 6\nrefused 6\n", taken])?;
-    assert!(rt; output == wanted);
-    Ok(())
+    let wanted = joined(&rt, alloc, &[BOUND, b"refused 6\nrefused 6\n", taken]);
+    assert_written(&rt, alloc, ("incarnations", &script), &wanted);
 }
 
 /// Ten messages are asked for anew at each of 5,000 ticks: 50,010 times a round is begun and answered, which is more than a settle delivers.
 /// The next one delivers the rest.
 #[test]
-fn a_settle_ends_after_100000_deliveries(rt: HostRuntime) -> Result<(), Fail> {
+fn a_settle_ends_after_100000_deliveries(rt: HostRuntime) {
     let alloc = rt.alloc();
-    let submits = times(alloc, SUBMIT, 10)?;
-    let ticks = times(alloc, b"tick 1 946684800\n", 5000)?;
-    let script = joined(alloc, &[BIND, &submits, &ticks, b"settle\n", b"settle\n"])?;
-    let unsettled = joined(alloc, &[BOUND, b"unsettled\n"])?;
-    let mut output = Vec::new(alloc);
-    assert_eq!(rt;
-        run_script(alloc, &mut script.as_slice(), &mut output),
-        Ok(())
+    let submits = times(&rt, alloc, SUBMIT, 10);
+    let ticks = times(&rt, alloc, b"tick 1 946684800\n", 5000);
+    let script = joined(
+        &rt,
+        alloc,
+        &[BIND, &submits, &ticks, b"settle\n", b"settle\n"],
     );
-    assert!(rt; output.as_slice().starts_with(&unsettled));
+    let unsettled = joined(&rt, alloc, &[BOUND, b"unsettled\n"]);
     // Each answer to a submit_sm has 27 octets.
     let answers = 10 * (b"pdu 1 1 \n".len() + 2 * 27);
-    assert_eq!(rt; output.len(), unsettled.len() + answers);
-    Ok(())
+    let wanted = (Ok(()), true, unsettled.len() + answers);
+    let (outcome, output) = ran(alloc, script.as_slice());
+    assert_eq!(rt;
+        (
+            outcome,
+            output.as_slice().starts_with(&unsettled),
+            output.len()
+        ),
+        wanted
+    );
 }
 
 /// A script in which 10,001 messages expire of which a receipt is asked for, while no session is there, and after that 1,001 sessions bind and
 /// unbind.
-fn many_receipts(alloc: Global) -> Result<Vec<u8>, AllocError> {
-    let ten = joined(alloc, &[&times(alloc, REPORTED, 10)?, b"settle\n"])?;
-    let submits = times(alloc, &ten, 1000)?;
-    let sessions = times(alloc, &joined(alloc, &[BIND_LINE, UNBIND])?, 1001)?;
+fn many_receipts(rt: &impl Abort, alloc: Global) -> Vec<u8> {
+    let ten = times(rt, alloc, REPORTED, 10);
+    let settled = joined(rt, alloc, &[&ten, b"settle\n"]);
+    let submits = times(rt, alloc, &settled, 1000);
+    let session = joined(rt, alloc, &[BIND_LINE, UNBIND]);
+    let sessions = times(rt, alloc, &session, 1001);
+    let expire = b"tick 1 946944000\nsettle\n";
     joined(
+        rt,
         alloc,
         &[
             BIND,
@@ -188,7 +173,7 @@ fn many_receipts(alloc: Global) -> Result<Vec<u8>, AllocError> {
             REPORTED,
             b"settle\n",
             UNBIND,
-            b"tick 1 946944000\nsettle\n",
+            expire,
             &sessions,
         ],
     )
@@ -202,26 +187,24 @@ fn contains(text: &[u8], octets: &[u8]) -> bool {
 /// The receipts wait for a session, but for the 10,001st, which is dropped. Each session that binds gets ten, and takes them with it
 /// when it goes; the last one gets none.
 #[test]
-fn ten_thousand_receipts_wait(rt: HostRuntime) -> Result<(), Fail> {
+fn ten_thousand_receipts_wait(rt: HostRuntime) {
     let alloc = rt.alloc();
-    let script = many_receipts(alloc)?;
-    let mut output = Vec::new(alloc);
-    assert_eq!(rt;
-        run_script(alloc, &mut script.as_slice(), &mut output),
-        Ok(())
-    );
+    let script = many_receipts(&rt, alloc);
+    let (outcome, output) = ran(alloc, script.as_slice());
     // Each answer to a submit_sm has 27 octets, each receipt 163.
     let answers = 10001 * (b"pdu 1 1 \n".len() + 2 * 27);
     let receipts = 10000 * (b"pdu 1 1 \n".len() + 2 * 163);
     let sessions = 1002 * (BOUND.len() + UNBOUND.len());
-    assert_eq!(rt; output.len(), answers + receipts + sessions);
-    // The last texts would begin with `id:1000110000` and `id:1000110001`, and a space.
-    assert!(rt; contains(&output, b"69643a3130303031313030303020"));
-    assert!(rt; !contains(&output, b"69643a3130303031313030303120"));
-    assert!(rt;
-        output
-            .as_slice()
-            .ends_with(&joined(alloc, &[UNBOUND, BOUND, UNBOUND])?)
+    assert_eq!(rt;
+        (outcome, output.len()),
+        (Ok(()), answers + receipts + sessions)
     );
-    Ok(())
+    // The last texts would begin with `id:1000110000` and `id:1000110001`, and a space.
+    let last = contains(&output, b"69643a3130303031313030303020");
+    let dropped = contains(&output, b"69643a3130303031313030303120");
+    let end = joined(&rt, alloc, &[UNBOUND, BOUND, UNBOUND]);
+    assert_eq!(rt;
+        (last, dropped, output.as_slice().ends_with(&end)),
+        (true, false, true)
+    );
 }

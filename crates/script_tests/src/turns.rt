@@ -1,21 +1,21 @@
 //! Readers at another pace: who types a line gets its answer before the next one is read.
 
-use script_runner::run_script;
-use std::alloc::Global;
+use crate::ends::Slow;
+use crate::ran::{assert_written, joined, ran, times};
+use script_runner::{CountedReader, CountedWriter, run_script};
 use std::cell::Cell;
 use std::io;
 use std::io::{Read, Write};
-use std::process::Abort;
 
-const NODES: &[u8] = b"nodes 1\n";
+pub const NODES: &[u8] = b"nodes 1\n";
 
-const BIND: &[u8] = b"pdu 1 1 0000001e000000090000000000000001736d653100707731000034000000\n";
+pub const BIND: &[u8] = b"pdu 1 1 0000001e000000090000000000000001736d653100707731000034000000\n";
 
-const BOUND: &[u8] = b"pdu 1 1 0000001c80000009000000000000000143454e545245000210000134\n";
+pub const BOUND: &[u8] = b"pdu 1 1 0000001c80000009000000000000000143454e545245000210000134\n";
 
-const LINK: &[u8] = b"pdu 1 1 00000010000000150000000000000002\n";
+pub const LINK: &[u8] = b"pdu 1 1 00000010000000150000000000000002\n";
 
-const LINKED: &[u8] = b"pdu 1 1 00000010800000150000000000000002\n";
+pub const LINKED: &[u8] = b"pdu 1 1 00000010800000150000000000000002\n";
 
 /// A reader that gives a line each time, and looks how many octets were written before it gives the next.
 #[derive(Drop)]
@@ -66,62 +66,39 @@ fn each_answer_comes_before_the_next_line(rt: HostRuntime) {
         (LINK, BOUND.len()),
         (LINK, BOUND.len() + LINKED.len()),
     ];
-    let mut typist = Typist {
+    let mut typist = CountedReader::make(Typist {
         lines: &lines,
         given: 0,
         written: &written,
         is_early: &is_early,
-    };
-    let outcome = run_script(rt.alloc(), &mut typist, &mut Screen(&written));
-    assert_eq!(rt; outcome, Ok(()));
-    assert_eq!(rt; is_early.get(), false);
-    assert_eq!(rt; written.get(), BOUND.len() + 2 * LINKED.len());
-}
-
-/// A reader that gives one octet each time.
-#[derive(Drop)]
-struct Slow<'a>(&'a [u8]);
-
-impl Read for Slow<'_> {
-    fn read(&mut self, buffer: &mut [u8]) -> io::Result<usize> {
-        let end = buffer.len().min(1);
-        self.0.read(&mut buffer[..end])
-    }
-}
-
-/// What is written of a script that comes octet by octet.
-fn written_of(rt: &impl Abort, alloc: Global, script: &[u8]) -> Vec<u8> {
-    let mut output = Vec::new(alloc);
-    let outcome = run_script(alloc, &mut Slow(script), &mut output);
-    assert_eq!(rt; outcome, Ok(()));
-    output
+    });
+    let mut screen = CountedWriter::make(Screen(&written));
+    let outcome = run_script(rt.alloc(), &mut typist, &mut screen);
+    let wanted = (Ok(()), false, BOUND.len() + 2 * LINKED.len());
+    assert_eq!(rt; (outcome, is_early.get(), written.get()), wanted);
 }
 
 #[test]
 fn a_hundred_thousand_octets_come_one_by_one(rt: HostRuntime) {
     let alloc = rt.alloc();
-    let mut script = Vec::new(alloc);
-    for _ in 0..2500 {
-        let put = script.extend_from_slice(b"# a line that says nothing at all here.\n");
-        put.expect(&rt, "memory");
-    }
-    for line in [NODES, BIND, LINK] {
-        script.extend_from_slice(line).expect(&rt, "memory");
-    }
-    let output = written_of(&rt, alloc, &script);
-    assert_eq!(rt; output.len(), BOUND.len() + LINKED.len());
-    assert!(rt; output.as_slice().ends_with(LINKED));
+    let comments = times(
+        &rt,
+        alloc,
+        b"# a line that says nothing at all here.\n",
+        2500,
+    );
+    let script = joined(&rt, alloc, &[&comments, NODES, BIND, LINK]);
+    let (outcome, output) = ran(alloc, Slow(&script));
+    let wanted = joined(&rt, alloc, &[BOUND, LINKED]);
+    assert_eq!(rt; (outcome, output.as_slice()), (Ok(()), wanted.as_slice()));
 }
 
 #[test]
 fn a_last_line_needs_no_line_feed(rt: HostRuntime) {
     let alloc = rt.alloc();
-    let mut script = Vec::new(alloc);
-    for part in [NODES, BIND, LINK] {
-        script.extend_from_slice(part).expect(&rt, "memory");
-    }
-    script.truncate(NODES.len() + BIND.len() + LINK.len() - 1);
-    let output = written_of(&rt, alloc, &script);
-    assert!(rt; output.as_slice().starts_with(BOUND));
-    assert!(rt; output.as_slice().ends_with(LINKED));
+    let script = joined(&rt, alloc, &[NODES, BIND, &LINK[..LINK.len() - 1]]);
+    let wanted = joined(&rt, alloc, &[BOUND, LINKED]);
+    assert_written(&rt, alloc, ("at once", &script), &wanted);
+    let (outcome, output) = ran(alloc, Slow(&script));
+    assert_eq!(rt; (outcome, output.as_slice()), (Ok(()), wanted.as_slice()));
 }

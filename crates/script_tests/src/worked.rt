@@ -1,47 +1,39 @@
 //! The worked scripts, read from their text.
 
-use crate::rows::ROWS;
-use std::alloc::{AllocError, Global};
-use std::test::Fail;
+use std::alloc::Global;
+use std::process::Abort;
 
-/// A script, its output, its exit status, and its line on standard error.
-#[derive(Drop)]
+/// A script, its output, its exit status, and its line on standard error. A semicolon ends a line.
+#[derive(Clone, Copy)]
 pub struct Row {
     pub name: &'static str,
-    pub script: Vec<u8>,
-    pub output: Vec<u8>,
+    pub script: &'static str,
+    pub output: &'static str,
     pub status: u8,
-    pub told: Vec<u8>,
+    pub told: &'static str,
 }
 
-/// All of them.
-pub fn rows(alloc: Global) -> Result<Vec<Row>, Fail> {
-    let mut rows = Vec::new(alloc);
-    for line in ROWS.lines() {
-        rows.push(row_of(alloc, line)?)?;
-    }
-    Ok(rows)
-}
-
-fn row_of(alloc: Global, line: &'static str) -> Result<Row, Fail> {
-    let (name, rest) = line.split_once('|').ok_or("a name")?;
-    let (script, rest) = rest.split_once('|').ok_or("a script")?;
-    let (output, rest) = rest.split_once('|').ok_or("an output")?;
-    let (status, told) = rest.split_once('|').ok_or("a status")?;
-    Ok(Row {
+/// The row that a line is.
+pub fn row_of(rt: &impl Abort, line: &'static str) -> Row {
+    let (name, rest) = line.split_once('|').expect(rt, "a name");
+    let (script, rest) = rest.split_once('|').expect(rt, "a script");
+    let (output, rest) = rest.split_once('|').expect(rt, "an output");
+    let (status, told) = rest.split_once('|').expect(rt, "a status");
+    Row {
         name,
-        script: lines(alloc, script)?,
-        output: lines(alloc, output)?,
-        status: status.parse::<u8>()?,
-        told: lines(alloc, told)?,
-    })
+        script,
+        output,
+        status: status.parse::<u8>().expect(rt, "a number"),
+        told,
+    }
 }
 
 /// The octets of lines, each ended by a semicolon.
-fn lines(alloc: Global, text: &str) -> Result<Vec<u8>, AllocError> {
+pub fn octets_of(rt: &impl Abort, alloc: Global, text: &str) -> Vec<u8> {
     let mut octets = Vec::new(alloc);
     for octet in text.as_bytes() {
-        octets.push(if *octet == b';' { b'\n' } else { *octet })?;
+        let octet = if *octet == b';' { b'\n' } else { *octet };
+        octets.push(octet).expect(rt, "memory");
     }
-    Ok(octets)
+    octets
 }

@@ -7,97 +7,91 @@ use Rattle.script_runner.proofs.run.run_script.Goals as goal
 
 pub returns-in_err-buffer : goal.returns-in_err-buffer
 returns-in_err-buffer g c =
-    with_fault _ Memory _ _ _ _ c.from_residual-in_err-buffer.ensures.1
-    (nothing_done (g.R.Read.remaining c.args.reader.now) (g.W.Write.contents c.args.writer.now))
+    with_fault g.R.Read.remaining g.W.Write.contents _ Memory _ _ _ _ c.from_residual-in_err-buffer.ensures.1
+    (nothing_done g.R.Read.remaining g.W.Write.contents c.args.reader.now c.args.writer.now)
 
 pub returns-in_err-config : goal.returns-in_err-config
 returns-in_err-config g c =
-    with_fault _ Memory _ _ _ _ c.from_residual.ensures.1 (nothing_done (g.R.Read.remaining c.args.reader.now) (g.W.Write.contents c.args.writer.now))
+    with_fault g.R.Read.remaining g.W.Write.contents _ Memory _ _ _ _ c.from_residual.ensures.1
+    (nothing_done g.R.Read.remaining g.W.Write.contents c.args.reader.now c.args.writer.now)
 
 pub lines-init : goal.lines-init
-lines-init g c =
-    started (g.R.Read.remaining c.args.reader.now)
-    (g.W.Write.contents c.args.writer.now) c.in_ok-buffer.buffer c.in_ok-buffer.ensures.0 c.in_ok-buffer.ensures.1
+lines-init g c = started g.R.Read.remaining g.W.Write.contents c.args.reader.now c.args.writer.now c.in_ok-buffer.buffer c.in_ok-buffer.ensures
 
 pub returns-in_err-find_line : goal.returns-in_err-find_line
 returns-in_err-find_line g c =
-    let p = grown (g.R.Read.remaining c.args.reader.now) (g.R.Read.remaining c.lines.reader) (g.R.Read.remaining c.find_line.new.reader)
-    (g.W.Write.contents c.args.writer.now) (g.W.Write.contents c.lines.writer) c.lines.buffer c.find_line.new.self
-    c.lines.invariant.stage c.lines.number c.find_line.ensures.grew.0 c.lines.invariant.progress c.find_line.ensures.grew.1
-    c.find_line.ensures.grew.2 in
-    with_fault _ Read _ _ _ _ c.from_residual-in_err-find_line.ensures.1
-    (within_line (g.R.Read.remaining c.args.reader.now) (g.R.Read.remaining c.find_line.new.reader) (g.W.Write.contents c.args.writer.now)
-    (g.W.Write.contents c.lines.writer) c.find_line.new.self c.lines.invariant.stage c.lines.number p c.in_err-find_line.ensures.fault.more)
+    let p = grown g.R.Read.remaining g.W.Write.contents c.args.reader.now c.lines.reader c.find_line.new.reader c.args.writer.now c.lines.writer
+    c.lines.buffer c.find_line.new.self c.lines.invariant.stage c.lines.number c.find_line.ensures.grew.0 c.lines.invariant.progress
+    c.find_line.ensures.grew.1 c.find_line.ensures.grew.2 c.find_line.ensures.room c.find_line.ensures.needed in
+    with_fault g.R.Read.remaining g.W.Write.contents _ Read _ _ _ _ c.from_residual-in_err-find_line.ensures.1
+    (within_line g.R.Read.remaining g.W.Write.contents c.args.reader.now c.lines.reader c.find_line.new.reader c.args.writer.now c.lines.writer
+    c.find_line.new.self c.lines.invariant.stage c.lines.number p c.lines.invariant.goes_on c.in_err-find_line.ensures.none
+    c.in_err-find_line.ensures.fault)
 
 pub returns-in-TooLong : goal.returns-in-TooLong
 returns-in-TooLong g c =
-    let p = grown (g.R.Read.remaining c.args.reader.now) (g.R.Read.remaining c.lines.reader) (g.R.Read.remaining c.find_line.new.reader)
-    (g.W.Write.contents c.args.writer.now) (g.W.Write.contents c.lines.writer) c.lines.buffer c.find_line.new.self
-    c.lines.invariant.stage c.lines.number c.find_line.ensures.grew.0 c.lines.invariant.progress c.find_line.ensures.grew.1
-    c.find_line.ensures.grew.2 in
-    after_too_long c.lines_are_read.ensures c.spelled_so.ensures (g.R.Read.remaining c.args.reader.now)
-    (g.R.Read.remaining c.find_line.new.reader) (g.W.Write.contents c.args.writer.now)
-    (g.W.Write.contents c.lines.writer) c.find_line.new.self c.lines.invariant.stage c.lines.number p
-    (rw c.in-TooLong.is at c.in_ok-find_line.ensures.found)
+    let p = grown g.R.Read.remaining g.W.Write.contents c.args.reader.now c.lines.reader c.find_line.new.reader c.args.writer.now c.lines.writer
+    c.lines.buffer c.find_line.new.self c.lines.invariant.stage c.lines.number c.find_line.ensures.grew.0 c.lines.invariant.progress
+    c.find_line.ensures.grew.1 c.find_line.ensures.grew.2 c.find_line.ensures.room c.find_line.ensures.needed in
+    after_too_long g.R.Read.remaining g.W.Write.contents c.lines_are_read.ensures c.spelled_so.ensures c.args.reader.now c.lines.reader
+    c.find_line.new.reader c.args.writer.now c.lines.writer c.find_line.new.self c.lines.invariant.stage c.lines.number p c.lines.invariant.goes_on
+    (rw c.in-TooLong.is at c.in_ok-find_line.ensures.reached) (rw c.in-TooLong.is at c.in_ok-find_line.ensures.found)
 
 pub returns-in-Last : goal.returns-in-Last
 returns-in-Last g c =
-    let p = grown (g.R.Read.remaining c.args.reader.now) (g.R.Read.remaining c.lines.reader) (g.R.Read.remaining c.find_line.new.reader)
-    (g.W.Write.contents c.args.writer.now) (g.W.Write.contents c.lines.writer) c.lines.buffer c.find_line.new.self
-    c.lines.invariant.stage c.lines.number c.find_line.ensures.grew.0 c.lines.invariant.progress c.find_line.ensures.grew.1
-    c.find_line.ensures.grew.2 in
+    let p = grown g.R.Read.remaining g.W.Write.contents c.args.reader.now c.lines.reader c.find_line.new.reader c.args.writer.now c.lines.writer
+    c.lines.buffer c.find_line.new.self c.lines.invariant.stage c.lines.number c.find_line.ensures.grew.0 c.lines.invariant.progress
+    c.find_line.ensures.grew.1 c.find_line.ensures.grew.2 c.find_line.ensures.room c.find_line.ensures.needed in
     let found = rw c.in-Last.is at c.in_ok-find_line.ensures.found in
-    after_last c.lines_are_read.ensures c.write_line.result (g.R.Read.remaining c.args.reader.now)
-    (g.R.Read.remaining c.find_line.new.reader) (g.W.Write.contents c.args.writer.now) (g.W.Write.contents c.lines.writer)
-    (g.W.Write.contents c.write_line.new.writer) c.find_line.new.self c.lines.invariant.stage c.write_line.new.stage c.lines.number
-    c.in-Last.count c.octets.result.now c.octets.ensures.octets p found.1 found.2
-    (c.write_line.ensures c.lines.invariant.stage c.lines.invariant.stands)
+    after_last g.R.Read.remaining g.W.Write.contents c.lines_are_read.ensures c.write_line.result c.args.reader.now c.lines.reader
+    c.find_line.new.reader c.args.writer.now c.lines.writer c.write_line.new.writer c.find_line.new.self c.lines.invariant.stage
+    c.write_line.new.stage c.lines.number c.in-Last.count c.octets.result.now c.octets.ensures.octets p c.lines.invariant.goes_on found.0 found.1
+    (rw c.in-Last.is at c.in_ok-find_line.ensures.reached) (c.write_line.ensures c.lines.invariant.stage c.lines.invariant.stands)
 
 pub slice_bounds-line-end-in-Line : goal.slice_bounds-line-end-in-Line
 slice_bounds-line-end-in-Line g c =
     let found = rw c.in-Line.is at c.in_ok-find_line.ensures.found in
-    let within = within_held c.in-Line.count c.find_line.new.self.octets found.1 in
+    let within = within_held c.in-Line.count c.find_line.new.self found.1 in
     let enough : c.in-Line.count ≤ length c.octets-in-Line.result.now = omega (arith, within, ap length c.octets-in-Line.ensures.octets) in
     sym (length-take-le c.in-Line.count c.octets-in-Line.result.now enough)
 
 pub returns-in_err-write_line-in-Line : goal.returns-in_err-write_line-in-Line
 returns-in_err-write_line-in-Line g c =
-    let p = grown (g.R.Read.remaining c.args.reader.now) (g.R.Read.remaining c.lines.reader) (g.R.Read.remaining c.find_line.new.reader)
-    (g.W.Write.contents c.args.writer.now) (g.W.Write.contents c.lines.writer) c.lines.buffer c.find_line.new.self
-    c.lines.invariant.stage c.lines.number c.find_line.ensures.grew.0 c.lines.invariant.progress c.find_line.ensures.grew.1
-    c.find_line.ensures.grew.2 in
+    let p = grown g.R.Read.remaining g.W.Write.contents c.args.reader.now c.lines.reader c.find_line.new.reader c.args.writer.now c.lines.writer
+    c.lines.buffer c.find_line.new.self c.lines.invariant.stage c.lines.number c.find_line.ensures.grew.0 c.lines.invariant.progress
+    c.find_line.ensures.grew.1 c.find_line.ensures.grew.2 c.find_line.ensures.room c.find_line.ensures.needed in
     let found = rw c.in-Line.is at c.in_ok-find_line.ensures.found in
-    with_fault _ c.in_err-write_line-in-Line.field-0.0 _ _ _ _ c.from_residual-in_err-write_line-in-Line.ensures.1
-    (after_line c.lines_are_read.ensures c.in_err-write_line-in-Line.field-0.0 (g.R.Read.remaining c.args.reader.now)
-    (g.R.Read.remaining c.find_line.new.reader) (g.W.Write.contents c.args.writer.now) (g.W.Write.contents c.lines.writer)
-    (g.W.Write.contents c.write_line-in-Line.new.writer) c.find_line.new.self c.lines.invariant.stage c.write_line-in-Line.new.stage
-    c.lines.number c.in-Line.count c.octets-in-Line.result.now c.octets-in-Line.ensures.octets p found.1
+    with_fault g.R.Read.remaining g.W.Write.contents _ c.in_err-write_line-in-Line.field-0.0 _ _ _ _
+    c.from_residual-in_err-write_line-in-Line.ensures.1
+    (after_line g.R.Read.remaining g.W.Write.contents c.lines_are_read.ensures c.in_err-write_line-in-Line.field-0.0 c.args.reader.now c.lines.reader
+    c.find_line.new.reader c.args.writer.now c.lines.writer c.write_line-in-Line.new.writer c.find_line.new.self c.lines.invariant.stage
+    c.write_line-in-Line.new.stage c.lines.number c.in-Line.count c.octets-in-Line.result.now c.octets-in-Line.ensures.octets p
+    c.lines.invariant.goes_on found.0 found.1 (rw c.in-Line.is at c.in_ok-find_line.ensures.reached)
     (c.in_err-write_line-in-Line.ensures c.lines.invariant.stage c.lines.invariant.stands))
 
 pub take_off-requires : goal.take_off-requires
 take_off-requires g c =
     let found = rw c.in-Line.is at c.in_ok-find_line.ensures.found in
-    within_held c.in-Line.count c.find_line.new.self.octets found.1
+    within_held c.in-Line.count c.find_line.new.self found.1
 
 pub lines-preserved : goal.lines-preserved
 lines-preserved g c =
-    let p = grown (g.R.Read.remaining c.args.reader.now) (g.R.Read.remaining c.lines.reader) (g.R.Read.remaining c.find_line.new.reader)
-    (g.W.Write.contents c.args.writer.now) (g.W.Write.contents c.lines.writer) c.lines.buffer c.find_line.new.self
-    c.lines.invariant.stage c.lines.number c.find_line.ensures.grew.0 c.lines.invariant.progress c.find_line.ensures.grew.1
-    c.find_line.ensures.grew.2 in
+    let p = grown g.R.Read.remaining g.W.Write.contents c.args.reader.now c.lines.reader c.find_line.new.reader c.args.writer.now c.lines.writer
+    c.lines.buffer c.find_line.new.self c.lines.invariant.stage c.lines.number c.find_line.ensures.grew.0 c.lines.invariant.progress
+    c.find_line.ensures.grew.1 c.find_line.ensures.grew.2 c.find_line.ensures.room c.find_line.ensures.needed in
     let found = rw c.in-Line.is at c.in_ok-find_line.ensures.found in
-    after_good_line c.lines_are_read.ensures (g.R.Read.remaining c.args.reader.now) (g.R.Read.remaining c.find_line.new.reader)
-    (g.W.Write.contents c.args.writer.now) (g.W.Write.contents c.lines.writer) (g.W.Write.contents c.write_line-in-Line.new.writer)
-    c.find_line.new.self c.take_off.new.self c.lines.invariant.stage c.write_line-in-Line.new.stage c.lines.number c.in-Line.count
-    c.octets-in-Line.result.now c.octets-in-Line.ensures.octets p found.1
-    (c.in_ok-write_line-in-Line.ensures c.lines.invariant.stage c.lines.invariant.stands) c.take_off.ensures.octets c.take_off.ensures.reads
+    after_good_line g.R.Read.remaining g.W.Write.contents c.lines_are_read.ensures c.args.reader.now c.lines.reader c.find_line.new.reader
+    c.args.writer.now c.lines.writer c.write_line-in-Line.new.writer c.find_line.new.self c.take_off.new.self c.lines.invariant.stage
+    c.write_line-in-Line.new.stage c.lines.number c.in-Line.count c.octets-in-Line.result.now c.octets-in-Line.ensures.octets p
+    c.lines.invariant.goes_on found.1 (rw c.in-Line.is at c.in_ok-find_line.ensures.reached)
+    (c.in_ok-write_line-in-Line.ensures c.lines.invariant.stage c.lines.invariant.stands) c.take_off.ensures
 
 pub returns-in-End : goal.returns-in-End
 returns-in-End g c =
-    let p = grown (g.R.Read.remaining c.args.reader.now) (g.R.Read.remaining c.lines.reader) (g.R.Read.remaining c.find_line.new.reader)
-    (g.W.Write.contents c.args.writer.now) (g.W.Write.contents c.lines.writer) c.lines.buffer c.find_line.new.self
-    c.lines.invariant.stage c.lines.number c.find_line.ensures.grew.0 c.lines.invariant.progress c.find_line.ensures.grew.1
-    c.find_line.ensures.grew.2 in
-    let found = rw c.in-End.is at c.in_ok-find_line.ensures.found in
-    whole (g.R.Read.remaining c.args.reader.now) (g.R.Read.remaining c.find_line.new.reader) (g.W.Write.contents c.args.writer.now)
-    (g.W.Write.contents c.lines.writer) c.find_line.new.self c.lines.invariant.stage c.lines.number p found.0 found.1
+    let p = grown g.R.Read.remaining g.W.Write.contents c.args.reader.now c.lines.reader c.find_line.new.reader c.args.writer.now c.lines.writer
+    c.lines.buffer c.find_line.new.self c.lines.invariant.stage c.lines.number c.find_line.ensures.grew.0 c.lines.invariant.progress
+    c.find_line.ensures.grew.1 c.find_line.ensures.grew.2 c.find_line.ensures.room c.find_line.ensures.needed in
+    let reached = rw c.in-End.is at c.in_ok-find_line.ensures.reached in
+    whole g.R.Read.remaining g.W.Write.contents c.args.reader.now c.lines.reader c.find_line.new.reader c.args.writer.now c.lines.writer
+    c.find_line.new.self c.lines.invariant.stage c.lines.number p c.lines.invariant.goes_on (rw c.in-End.is at c.in_ok-find_line.ensures.found)
+    reached.0 reached.1
