@@ -538,6 +538,7 @@ module _ {R W : Type 0} (remaining : R → Option (List ℕ)) (contents : W → 
     where
       line : List ℕ
       line = take count held
+
       by_fault : (f : ScriptFault) → WritesLineAt contents (Err f) stage (take count held) (number + 1) new after out
           → IsOutcome remaining contents (Err f) old now before out
       by_fault (BadLine told) w =

@@ -28,18 +28,22 @@ const REPORTED: &[u8] =
 const QUERY: &[u8] =
     b"pdu 1 1 000000210000000300000000000000033130303031303030303100010131343400\n";
 
+/// That line 3 is bad, if it is zeros that end so.
+fn assert_too_long(rt: &impl Abort, alloc: Global, zeros: &[u8], end: &[u8]) {
+    let script = joined(rt, alloc, &[BIND, b"pdu 1 1 ", zeros, end]);
+    let (outcome, output) = ran(alloc, script.as_slice());
+    assert_eq!(rt;
+        (outcome, output.as_slice()),
+        (Err(ScriptFault::BadLine(3)), BOUND)
+    );
+}
+
 #[test]
 fn long_lines_are_bad(rt: HostRuntime) {
     let alloc = rt.alloc();
     let zeros = times(&rt, alloc, b"0", 19982);
-    for end in [b"          \n".as_slice(), b"00000000000".as_slice()] {
-        let script = joined(&rt, alloc, &[BIND, b"pdu 1 1 ", &zeros, end]);
-        let (outcome, output) = ran(alloc, script.as_slice());
-        assert_eq!(rt;
-            (outcome, output.as_slice()),
-            (Err(ScriptFault::BadLine(3)), BOUND)
-        );
-    }
+    assert_too_long(&rt, alloc, &zeros, b"          \n");
+    assert_too_long(&rt, alloc, &zeros, b"00000000000");
 }
 
 #[test]
