@@ -11,3 +11,4 @@ pub mod LifeStates
 pub mod ShownLemmas
 pub mod ReadLemmas
 pub mod SlotReads
+pub mod SlotOrder

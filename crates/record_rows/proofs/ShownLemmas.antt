@@ -81,7 +81,7 @@ below_all a b c p q = fact_below a c (joined (below_fact a b p) (below_fact b c 
     joined (inr x) (inl y) = inl (subst (λ z. z <ℤ c.id) (sym x.0) y)
     joined (inr x) (inr y) = inr (x.0 ∙ y.0, omega (arith, ints))
 
-lower_still : (a b : Slot) (more : List Entry) → is_below a b ≡ true → AllByRecursion (λ e. is_below b e.0 ≡ true) more
+pub lower_still : (a b : Slot) (more : List Entry) → is_below a b ≡ true → AllByRecursion (λ e. is_below b e.0 ≡ true) more
     → AllByRecursion (λ e. is_below a e.0 ≡ true) more
 lower_still a b [] first all = tt
 lower_still a b (e ∷ more) first all = (below_all a b e.0 first all.0, lower_still a b more first all.1)

@@ -71,7 +71,7 @@ slots_are_one a b same =
     let both = both_true (int_eq a.id b.id) (int_eq a.place b.place) same in
     slot_by a b ((Decides-int_eq a.id b.id).0 both.0) ((Decides-int_eq a.place b.place).0 both.1)
 
-same_itself : (slot : Slot) → same_slot slot slot ≡ true
+pub same_itself : (slot : Slot) → same_slot slot slot ≡ true
 same_itself slot = rw ((Decides-int_eq slot.id slot.id).1 refl, (Decides-int_eq slot.place slot.place).1 refl)
 
 -- a row with these columns stands at their key alone

@@ -24,15 +24,15 @@ use Rattle.record_rows.proofs.ShownLemmas.{below_itself}
 use Rattle.record_rows.proofs.ReadLemmas.{every}
 
 -- a row as the query shows it
-abbrev slot_row : Row → Row
+abbrev pub slot_row : Row → Row
 slot_row r = column r 0 ∷ column r 1 ∷ column r 2 ∷ column r 3 ∷ column r 4 ∷ column r 5 ∷ []
 
-slot_rows : (tree : ℕ) (found rows : List Row) → IsShown (on_table tree [] slots_shown by_slot) [] found rows → IsPermutation (map slot_row found) rows
+pub slot_rows : (tree : ℕ) (found rows : List Row) → IsShown (on_table tree [] slots_shown by_slot) [] found rows → IsPermutation (map slot_row found) rows
 slot_rows tree found rows it = subst (IsPermutation (map slot_row found)) (sym it.are) (subst (λ xs. IsPermutation xs (map (λ
     (o : Output). o.1) it.ordered)) (map-map (λ (o : Output). o.1) (λ r. output (on_table tree [] slots_shown by_slot) ([] ∷ r ∷ [])) found)
     (IsPermutation-map (λ (o : Output). o.1) (map (λ r. output (on_table tree [] slots_shown by_slot) ([] ∷ r ∷ [])) found) it.ordered it.same))
 
-slots_shown_by : (layout : Layout) (old new : State) (rows : List Row) → IsOurs layout old → Shown read_slots_text [] old new rows
+pub slots_shown_by : (layout : Layout) (old new : State) (rows : List Row) → IsOurs layout old → Shown read_slots_text [] old new rows
     → IsShown (on_table (slots_tree layout) [] slots_shown by_slot) [] (old.now.trees (slots_tree layout)) rows
 slots_shown_by layout old new rows ours h =
     let read = reads_as read_slots_text [] old new (schema_of layout) ours.schema (read_slots_command layout) (read_slots_is layout).0

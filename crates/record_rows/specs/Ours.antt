@@ -62,6 +62,10 @@ HasRead entries s = (layout : Layout) → IsOurs layout s → AreSlots (s.now.tr
 abbrev pub HasReadLife : Option ℤ → State → Type 0
 HasReadLife last s = (layout : Layout) → IsOurs layout s → AreLife (s.now.trees (life_tree layout)) last
 
+-- it holds no slots, whatever they were
+abbrev pub HoldsNoSlots : State → Type 0
+HoldsNoSlots s = (layout : Layout) → IsOurs layout s → (slots : Slots) → AreSlots (s.now.trees (slots_tree layout)) slots → ⊥
+
 -- it holds no incarnation, and not none either
 abbrev pub HoldsNoLife : State → Type 0
 HoldsNoLife s = (layout : Layout) → IsOurs layout s → (last : Option ℤ) → AreLife (s.now.trees (life_tree layout)) last → ⊥

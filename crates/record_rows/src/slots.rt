@@ -3,10 +3,10 @@
 ghost use Rattle.std.specs.Prelude.{◌≡◌, ◌≢◌, map, IfOk, IfErr, OnOk};
 ghost use Rattle.sqlite.specs.State.{HasCleanDisk, Survives};
 ghost use Rattle.sqlite.specs.Held.{state};
-ghost use Rattle.record_rows.specs.Ours.{IsSettled, IsOurs, Stands, PutsRow, HasPut, HasRead, IsStrange};
+ghost use Rattle.record_rows.specs.Ours.{IsSettled, IsOurs, Stands, PutsRow, HasPut, HasRead, HoldsNoSlots, IsStrange};
 ghost use Rattle.record_rows.specs.Content.{entry_of, AreAscending};
 ghost use Rattle.record_rows.specs.declared.fault.Fault.TheVariants.{Shut};
-ghost use Rattle.record_rows.specs.declared.fault.ReadFault.TheVariants.{Failed};
+ghost use Rattle.record_rows.specs.declared.fault.ReadFault.TheVariants.{Damaged, Failed};
 
 use crate::fault::{Fault, ReadFault};
 use crate::probe::fault_after;
@@ -46,6 +46,7 @@ pub fn read_slots<S: Alter>(
 ) -> Result<Vec<SlotRow>, ReadFault>
     ensures read { HasCleanDisk (state S.Store conn.new) → IfOk result (λ rows. HasRead (map entry_of rows.items) (state S.Store conn.old)) }
     ensures ascending { IfOk result (λ rows. AreAscending (map entry_of rows.items)) }
+    ensures damaged { HasCleanDisk (state S.Store conn.new) → result ≡ Err Damaged → HoldsNoSlots (state S.Store conn.old) }
     ensures kept { HasCleanDisk (state S.Store conn.new) → result ≢ Err (Failed Shut) → (layout : _) → IsOurs layout (state S.Store conn.old) → Stands (state S.Store conn.old) (state S.Store conn.new) }
     ensures survives { Survives (state S.Store conn.old) (state S.Store conn.new) (IsStrange (state S.Store conn.old)) }
 {

@@ -1,3 +1,7 @@
+use Rattle.std.proofs.Common.{◌≡◌, Err, List}
+use Rattle.record_rows.specs.declared.fault.ReadFault.TheVariants.{Damaged}
+use Rattle.record_rows.specs.Content.{Entry, AreAscending}
+use Rattle.record_rows.proofs.SlotOrder.{told_no_slots}
 use Rattle.std.proofs.Common.{IfOk, map, [], subst, arith}
 use Rattle.sqlite.specs.State.{HasCleanDisk}
 use Rattle.sqlite.specs.Held.{state}
@@ -43,3 +47,10 @@ returns-in-Err-clause-survives g c =
     let new = state g.S.Store c.fault_after.new.conn in
     survives_probed old mid new (IsStrange old)
     (strange_survives read_slots_text [] old mid read_slots_plain c.in-Err.ensures.survives) c.fault_after.ensures.survives
+
+pub returns-in-Ok-clause-damaged : goal.returns-in-Ok-clause-damaged
+returns-in-Ok-clause-damaged g c clean told =
+    told_no_slots (state g.S.Store c.args.conn.now) (state g.S.Store c.query_all.new.self) c.in-Ok.shown.items c.ascending_rows.result
+    (c.in-Ok.ensures.ok clean)
+    (subst (λ rows. c.ascending_rows.result ≡ Err Damaged → (entries : List Entry) → AreShownAs rows entries → AreAscending entries → ⊥)
+    c.as_slice.ensures.value c.ascending_rows.ensures.damaged) told
