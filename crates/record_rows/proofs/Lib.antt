@@ -12,3 +12,4 @@ pub mod ShownLemmas
 pub mod ReadLemmas
 pub mod SlotReads
 pub mod SlotOrder
+pub mod TableLemmas

@@ -73,3 +73,23 @@ slots_tree slots_first = 0
 abbrev pub schema_of : Layout → Schema
 schema_of life_first = record { tables = life_table 0 ∷ slots_table 1 ∷ []; indexes = slots_index 1 2 ∷ []; views = [] }
 schema_of slots_first = record { tables = slots_table 0 ∷ life_table 2 ∷ []; indexes = slots_index 0 1 ∷ []; views = [] }
+
+-- which of the tables are there
+pub data Present : Type 0 where
+  neither : Present
+  life_alone : Present
+  slots_alone : Present
+  both : Layout → Present
+
+abbrev pub schema_in : Present → Schema
+schema_in neither = record { tables = []; indexes = []; views = [] }
+schema_in life_alone = record { tables = life_table 0 ∷ []; indexes = []; views = [] }
+schema_in slots_alone = record { tables = slots_table 0 ∷ []; indexes = slots_index 0 1 ∷ []; views = [] }
+schema_in (both layout) = schema_of layout
+
+-- how they stand once both are there
+abbrev pub completed : Present → Layout
+completed neither = life_first
+completed life_alone = life_first
+completed slots_alone = slots_first
+completed (both layout) = layout

@@ -1,4 +1,6 @@
-use record_rows::{ReadFault, SlotRow, put_incarnation, put_slot, read_incarnation, read_slots};
+use record_rows::{
+    Found, ReadFault, SlotRow, find_tables, put_incarnation, put_slot, read_incarnation, read_slots,
+};
 use sqlite::{Connection, MemStore};
 use std::alloc::Global;
 use std::process::Abort;
@@ -162,5 +164,29 @@ fn damaged_incarnation_is_refused(rt: HostRuntime) -> Result<(), Fail> {
     let mut conn = tables(rt.alloc(), LIFE, SLOTS)?;
     conn.execute("INSERT INTO life VALUES (1, 'x')", &[])?;
     assert_eq!(rt; read_incarnation(&mut conn), Err(ReadFault::Damaged));
+    Ok(())
+}
+
+/// The tables are recognised, and no other form of them.
+#[test]
+fn tables_are_found(rt: HostRuntime) -> Result<(), Fail> {
+    let alloc = rt.alloc();
+    let mut conn = Connection::open_in_memory(alloc)?;
+    assert_eq!(rt; find_tables(alloc, &conn)?, Found::Neither);
+    conn.execute(LIFE, &[])?;
+    assert_eq!(rt; find_tables(alloc, &conn)?, Found::LifeAlone);
+    conn.execute(SLOTS, &[])?;
+    assert_eq!(rt; find_tables(alloc, &conn)?, Found::LifeFirst);
+    conn.execute("CREATE TABLE other (x)", &[])?;
+    assert_eq!(rt; find_tables(alloc, &conn)?, Found::Foreign);
+    assert_eq!(rt;
+        find_tables(alloc, &tables(alloc, SLOTS, LIFE)?)?,
+        Found::SlotsFirst
+    );
+    let unchecked = "CREATE TABLE life (one INTEGER PRIMARY KEY, incarnation INTEGER NOT NULL)";
+    assert_eq!(rt;
+        find_tables(alloc, &tables(alloc, unchecked, SLOTS)?)?,
+        Found::Foreign
+    );
     Ok(())
 }
