@@ -1,0 +1,15 @@
+pub mod Texts
+pub mod SlotLemmas
+pub mod SqlLemmas
+pub mod QueryLemmas
+pub mod PutLemmas
+pub mod LifeLemmas
+pub mod StateLemmas
+pub mod WriteLemmas
+pub mod PutStates
+pub mod LifeStates
+pub mod ShownLemmas
+pub mod ReadLemmas
+pub mod SlotReads
+pub mod SlotOrder
+pub mod TableLemmas

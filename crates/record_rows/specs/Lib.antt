@@ -1,0 +1,4 @@
+pub mod Tables
+pub mod Content
+pub mod Ours
+pub mod Found

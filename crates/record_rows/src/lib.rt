@@ -1,0 +1,15 @@
+//! The two tables of a node's store as raw rows over `sqlite`: made, recognised, read and written.
+#![tactic(auto)]
+
+mod fault;
+mod life;
+mod probe;
+mod row;
+mod slots;
+mod tables;
+
+pub use fault::{Fault, ReadFault};
+pub use life::{put_incarnation, read_incarnation};
+pub use row::SlotRow;
+pub use slots::{put_slot, read_slots};
+pub use tables::{Found, find_tables};
