@@ -1,8 +1,8 @@
 -- What came so far.
 use Rattle.std.proofs.Common.{◌≡◌, ◌⊎◌, ◌+◌, ◌<◌, ◌++◌, ℕ, Bool, true, false, Result, Ok, Err, IfErr, List, [], ◌∷◌, length, Option, inl, inr, refl, sym, ap, subst, ◌∙◌, append_assoc}
 use Rattle.std.proofs.lemmas.List.{append-nil}
-use Rattle.std.specs.Io.KnownBytes.{Consumes, IsAtEnd}
-use Rattle.octet_io.specs.Reads.{Ends, Fails, Gives, GoesOn, Reads, Stops, TellsEnd, most_reads}
+use Rattle.std.specs.Io.KnownBytes.{Consumes}
+use Rattle.octet_io.specs.Reads.{Ends, Fails, GoesOn, Reads, TellsEnd, most_reads}
 use Rattle.octet_io.proofs.KnownOctets.{consumed_none, consumed_on}
 use Rattle.pdu_frames.specs.Frames.{HasWrongLength, IsFrame, IsPart}
 use Rattle.frame_io.specs.declared.fault.FrameFault.{FrameFault}

@@ -1,5 +1,5 @@
 -- What comes of a frame that is read (own).
-use Rattle.std.specs.Prelude.{◌≡◌, ◌≢◌, ◌⊎◌, ◌<◌, ℕ, Bool, true, false, List, [], ◌++◌, length, Option, Result, Ok, Err}
+use Rattle.std.specs.Prelude.{◌≡◌, ◌≢◌, ◌<◌, ℕ, Bool, true, false, List, [], ◌++◌, length, Option, Result, Ok, Err}
 use Rattle.std.specs.Io.KnownBytes.{Consumes, IsAtEnd}
 use Rattle.octet_io.specs.Reads.{Ends, Gives, GoesOn, Reads, Stops}
 use Rattle.pdu_frames.specs.Frames.{HasWrongLength, IsFrame, IsPart}

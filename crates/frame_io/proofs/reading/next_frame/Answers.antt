@@ -1,4 +1,4 @@
-use Rattle.std.proofs.Common.{◌≡◌, List, ℕ, Bool, Result, Ok, true, false, ap, sym, subst, ◌∙◌, arith}
+use Rattle.std.proofs.Common.{◌≡◌, List, ℕ, Bool, Ok, ap, sym, subst, ◌∙◌, arith}
 use Rattle.octet_io.specs.Reads.{Reads}
 use Rattle.pdu_frames.specs.Frames.{IsPart}
 use Rattle.frame_io.proofs.Progress.{Progress, at_end, goes_on}
