@@ -13,3 +13,4 @@ pub mod ReadLemmas
 pub mod SlotReads
 pub mod SlotOrder
 pub mod TableLemmas
+pub mod CreateLemmas

@@ -37,7 +37,8 @@ order_by a b false false false false ep eq er es low apart =
     let place : int_eq a.place b.place ≡ true = rw (es, er) in
     absurd (apart (slots_are_one a b (rw (id, place))))
 
-keys_order : (a b : Slot) → is_lt (ordering_then (int_cmp b.id a.id) (ordering_then (int_cmp b.place a.place) Equal)) ≡ false → (a ≡ b → ⊥) → is_below a b ≡ true
+keys_order : (a b : Slot) → is_lt (ordering_then (int_cmp b.id a.id) (ordering_then (int_cmp b.place a.place) Equal)) ≡ false → (a ≡ b → ⊥)
+    → is_below a b ≡ true
 keys_order a b = order_by a b (int_lt b.id a.id) (int_lt a.id b.id) (int_lt b.place a.place) (int_lt a.place b.place) refl refl refl refl
 
 abbrev query : ℕ → Query
@@ -63,7 +64,8 @@ few_later slot r rows few = by_test (is_at slot r) few
     by_test true low = omega arith
     by_test false low = low
 
-first_below : (tree : ℕ) (o p : Output) (rows : List Row) (e f : Entry) → IsKeyed o → IsKeyed p → IsShownAs o.1 e → IsShownAs p.1 f → is_lt (output_cmp (query tree) p o) ≡ false
+first_below : (tree : ℕ) (o p : Output) (rows : List Row) (e f : Entry) → IsKeyed o → IsKeyed p → IsShownAs o.1 e → IsShownAs p.1 f
+    → is_lt (output_cmp (query tree) p o) ≡ false
     → ((slot : Slot) → length (filter (is_at slot) (o.1 ∷ p.1 ∷ rows)) ≤ 1) → is_below e.0 f.0 ≡ true
 first_below tree o p rows e f ko kp so sp low few =
     let oi : o.0 ≡ Int e.0.id ∷ Int e.0.place ∷ [] = ko.is ∙ ap (λ (r : Row). column r 0 ∷ column r 1 ∷ []) so.is in
@@ -71,7 +73,8 @@ first_below tree o p rows e f ko kp so sp low few =
     let plain : is_lt (ordering_then (int_cmp f.0.id e.0.id) (ordering_then (int_cmp f.0.place e.0.place) Equal)) ≡ false =
     rw (pi, oi, value_cmp-Int f.0.id e.0.id, value_cmp-Int f.0.place e.0.place) at low in
     keys_order e.0 f.0 plain (λ same.
-    two_at e.0 o.1 p.1 rows (at_columns o.1 e.0 e.0 e.1 so.is ∙ same_itself e.0) (at_columns p.1 f.0 e.0 f.1 sp.is ∙ subst (λ s. same_slot s e.0 ≡ true) same (same_itself e.0)) (few e.0))
+    two_at e.0 o.1 p.1 rows (at_columns o.1 e.0 e.0 e.1 so.is ∙ same_itself e.0) (at_columns p.1 f.0 e.0 f.1 sp.is
+        ∙ subst (λ s. same_slot s e.0 ≡ true) same (same_itself e.0)) (few e.0))
 
 ascends : (tree : ℕ) (os : List Output) (es : List Entry) → AllByRecursion IsKeyed os → AreShownAs (rows_of os) es → IsSorted (output_cmp (query tree)) os
     → ((slot : Slot) → length (filter (is_at slot) (rows_of os)) ≤ 1) → AreAscending es
@@ -82,7 +85,8 @@ ascends tree (o ∷ []) (e ∷ []) keyed shown sorted few = (tt, tt)
 ascends tree (o ∷ []) (e ∷ f ∷ es) keyed shown sorted few = absurd shown.1
 ascends tree (o ∷ p ∷ os) (e ∷ []) keyed shown sorted few = absurd shown.1
 ascends tree (o ∷ p ∷ os) (e ∷ f ∷ es) keyed shown sorted few =
-    let rest = ascends tree (p ∷ os) (f ∷ es) keyed.1 shown.1 (λ k d low up. let more : suc k + 1 < length (o ∷ p ∷ os) = omega arith in rw add-one (rw add-one at (sorted (suc k) d (omega arith) more)))
+    let rest = ascends tree (p ∷ os) (f ∷ es) keyed.1 shown.1 (λ k d low up. let more : suc k + 1 < length (o ∷ p ∷ os) = omega arith in rw add-one
+        (rw add-one at (sorted (suc k) d (omega arith) more)))
     (λ slot. few_later slot o.1 (rows_of (p ∷ os)) (few slot)) in
     let first = first_below tree o p (rows_of os) e f keyed.0 keyed.1.0 shown.0 shown.1.0 (sorted 0 o (omega arith) (omega arith)) few in
     ((first, lower_still e.0 f.0 es first rest.0), rest)
@@ -101,14 +105,17 @@ keyed_over : (tree : ℕ) (found : List Row) → AllByRecursion IsKeyed (map (λ
 keyed_over tree [] = tt
 keyed_over tree (r ∷ found) = (record { is = refl }, keyed_over tree found)
 
-few_shown : (found rows : List Row) (slots : Slots) (slot : Slot) → AreSlots found slots → IsPermutation (map slot_row found) rows → length (filter (is_at slot) rows) ≤ 1
+few_shown : (found rows : List Row) (slots : Slots) (slot : Slot) → AreSlots found slots → IsPermutation (map slot_row found) rows
+    → length (filter (is_at slot) rows) ≤ 1
 few_shown found rows slots slot are same =
     let moved : IsPermutation (map slot_row (filter (is_at slot) found)) (filter (is_at slot) rows) =
-    subst (λ xs. IsPermutation xs (filter (is_at slot) rows)) (filter-map (is_at slot) slot_row found) (IsPermutation-filter (is_at slot) (map slot_row found) rows same) in
+    subst (λ xs. IsPermutation xs (filter (is_at slot) rows)) (filter-map (is_at slot) slot_row found) (IsPermutation-filter (is_at slot)
+        (map slot_row found) rows same) in
     omega (arith, length_permutation _ _ moved, length_map slot_row (filter (is_at slot) found), few_at slot found slots are)
 
 -- slots that are stored are read
-pub holds_no_slots : (old new : State) (rows : List Row) → Shown read_slots_text [] old new rows → ((entries : List Entry) → AreShownAs rows entries → AreAscending entries → ⊥) → HoldsNoSlots old
+pub holds_no_slots : (old new : State) (rows : List Row) → Shown read_slots_text [] old new rows → ((entries : List Entry)
+    → AreShownAs rows entries → AreAscending entries → ⊥) → HoldsNoSlots old
 holds_no_slots old new rows h none layout ours slots are =
     let tree = slots_tree layout in
     let found = old.now.trees tree in

@@ -86,10 +86,3 @@ schema_in neither = record { tables = []; indexes = []; views = [] }
 schema_in life_alone = record { tables = life_table 0 ∷ []; indexes = []; views = [] }
 schema_in slots_alone = record { tables = slots_table 0 ∷ []; indexes = slots_index 0 1 ∷ []; views = [] }
 schema_in (both layout) = schema_of layout
-
--- how they stand once both are there
-abbrev pub completed : Present → Layout
-completed neither = life_first
-completed life_alone = life_first
-completed slots_alone = slots_first
-completed (both layout) = layout

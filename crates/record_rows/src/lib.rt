@@ -1,6 +1,7 @@
 //! The two tables of a node's store as raw rows over `sqlite`: made, recognised, read and written.
 #![tactic(auto)]
 
+mod adding;
 mod fault;
 mod life;
 mod probe;
@@ -8,6 +9,7 @@ mod row;
 mod slots;
 mod tables;
 
+pub use adding::{add_life, add_slots};
 pub use fault::{Fault, ReadFault};
 pub use life::{put_incarnation, read_incarnation};
 pub use row::SlotRow;

@@ -1,5 +1,6 @@
 use record_rows::{
-    Found, ReadFault, SlotRow, find_tables, put_incarnation, put_slot, read_incarnation, read_slots,
+    Found, ReadFault, SlotRow, add_life, add_slots, find_tables, put_incarnation, put_slot,
+    read_incarnation, read_slots,
 };
 use sqlite::{Connection, MemStore};
 use std::alloc::Global;
@@ -188,5 +189,20 @@ fn tables_are_found(rt: HostRuntime) -> Result<(), Fail> {
         find_tables(alloc, &tables(alloc, unchecked, SLOTS)?)?,
         Found::Foreign
     );
+    Ok(())
+}
+
+/// Each table is made beside the other.
+#[test]
+fn tables_are_added(rt: HostRuntime) -> Result<(), Fail> {
+    let alloc = rt.alloc();
+    let mut conn = Connection::open_in_memory(alloc)?;
+    conn.execute(LIFE, &[])?;
+    assert_eq!(rt; add_slots(&mut conn), Ok(()));
+    assert_eq!(rt; find_tables(alloc, &conn)?, Found::LifeFirst);
+    let mut conn = Connection::open_in_memory(alloc)?;
+    conn.execute(SLOTS, &[])?;
+    assert_eq!(rt; add_life(&mut conn), Ok(()));
+    assert_eq!(rt; find_tables(alloc, &conn)?, Found::SlotsFirst);
     Ok(())
 }
