@@ -78,10 +78,10 @@ makes = record { runs = λ old new text params count h. h; commit = λ e. cc; re
 module _ (old : State) where
   slots_left : (has : old.now.schema ≡ schema_in life_alone) (after : Database)
       → Wrote slots_text [] old (schema_in life_alone) has CreateTable slots_made.0 slots_made_plain makes after
-          → (after.schema ≡ schema_of life_first) × (after.trees 1 ≡ []) × (after.trees 0 ≡ old.now.trees 0)
+      → (after.schema ≡ schema_of life_first) × (after.trees 1 ≡ []) × (after.trees 0 ≡ old.now.trees 0)
   slots_left has after w =
       let it = made old (schema_in life_alone) (slots_table 0) _ w.tally old.now.trees after slots_made.2 refl (subst (λ t. Does old.step_limit
-          (mode_of old) [] (record { schema = schema_in life_alone; trees = old.now.trees }) t None CreateTable (Ok (w.tally, after))) slots_made.1 w.does) in
+      (mode_of old) [] (record { schema = schema_in life_alone; trees = old.now.trees }) t None CreateTable (Ok (w.tally, after))) slots_made.1 w.does) in
       (it.0 ∙ slots_created, it.1, it.2.0)
 
   pub has_slots : (new : State) (count : ℕ) → Executes slots_text [] old new (Ok count) → HasAddedSlots old new
@@ -97,18 +97,22 @@ module _ (old : State) where
   may_add_slots db h has =
       let it = may_write slots_text [] old (schema_in life_alone) has CreateTable slots_made.0 slots_made_plain makes db h in
       let left = slots_left has it.0 it.1 in
-      subst (SlotsAdded old) (sym it.2) (record { empty = left.1; life = left.2; sound = subst (λ k. IsDatabase
-          (record { schema = k; trees = it.0.trees })) left.0 it.1.sound })
+      subst (SlotsAdded old) (sym it.2) (record {
+        empty = left.1;
+        life = left.2;
+        sound = subst (λ k. IsDatabase
+            (record { schema = k; trees = it.0.trees })) left.0 it.1.sound;
+      })
 
 -- ---- the incarnation beside the slots
 
 module _ (old : State) where
   life_left : (has : old.now.schema ≡ schema_in slots_alone) (after : Database)
       → Wrote life_text [] old (schema_in slots_alone) has CreateTable life_made.0 life_made_plain makes after
-          → (after.schema ≡ schema_of slots_first) × (after.trees 2 ≡ []) × (after.trees 0 ≡ old.now.trees 0)
+      → (after.schema ≡ schema_of slots_first) × (after.trees 2 ≡ []) × (after.trees 0 ≡ old.now.trees 0)
   life_left has after w =
       let it = made old (schema_in slots_alone) (life_table 0) _ w.tally old.now.trees after life_made.2 refl (subst (λ t. Does old.step_limit
-          (mode_of old) [] (record { schema = schema_in slots_alone; trees = old.now.trees }) t None CreateTable (Ok (w.tally, after))) life_made.1 w.does) in
+      (mode_of old) [] (record { schema = schema_in slots_alone; trees = old.now.trees }) t None CreateTable (Ok (w.tally, after))) life_made.1 w.does) in
       (it.0 ∙ life_created, it.1, it.2.0)
 
   pub has_life_table : (new : State) (count : ℕ) → Executes life_text [] old new (Ok count) → HasAddedLife old new
@@ -124,5 +128,9 @@ module _ (old : State) where
   may_add_life db h has =
       let it = may_write life_text [] old (schema_in slots_alone) has CreateTable life_made.0 life_made_plain makes db h in
       let left = life_left has it.0 it.1 in
-      subst (LifeAdded old) (sym it.2) (record { empty = left.1; slots = left.2; sound = subst (λ k. IsDatabase
-          (record { schema = k; trees = it.0.trees })) left.0 it.1.sound })
+      subst (LifeAdded old) (sym it.2) (record {
+        empty = left.1;
+        slots = left.2;
+        sound = subst (λ k. IsDatabase
+            (record { schema = k; trees = it.0.trees })) left.0 it.1.sound;
+      })

@@ -74,7 +74,7 @@ first_below tree o p rows e f ko kp so sp low few =
     rw (pi, oi, value_cmp-Int f.0.id e.0.id, value_cmp-Int f.0.place e.0.place) at low in
     keys_order e.0 f.0 plain (λ same.
     two_at e.0 o.1 p.1 rows (at_columns o.1 e.0 e.0 e.1 so.is ∙ same_itself e.0) (at_columns p.1 f.0 e.0 f.1 sp.is
-        ∙ subst (λ s. same_slot s e.0 ≡ true) same (same_itself e.0)) (few e.0))
+    ∙ subst (λ s. same_slot s e.0 ≡ true) same (same_itself e.0)) (few e.0))
 
 ascends : (tree : ℕ) (os : List Output) (es : List Entry) → AllByRecursion IsKeyed os → AreShownAs (rows_of os) es → IsSorted (output_cmp (query tree)) os
     → ((slot : Slot) → length (filter (is_at slot) (rows_of os)) ≤ 1) → AreAscending es
@@ -86,7 +86,7 @@ ascends tree (o ∷ []) (e ∷ f ∷ es) keyed shown sorted few = absurd shown.1
 ascends tree (o ∷ p ∷ os) (e ∷ []) keyed shown sorted few = absurd shown.1
 ascends tree (o ∷ p ∷ os) (e ∷ f ∷ es) keyed shown sorted few =
     let rest = ascends tree (p ∷ os) (f ∷ es) keyed.1 shown.1 (λ k d low up. let more : suc k + 1 < length (o ∷ p ∷ os) = omega arith in rw add-one
-        (rw add-one at (sorted (suc k) d (omega arith) more)))
+    (rw add-one at (sorted (suc k) d (omega arith) more)))
     (λ slot. few_later slot o.1 (rows_of (p ∷ os)) (few slot)) in
     let first = first_below tree o p (rows_of os) e f keyed.0 keyed.1.0 shown.0 shown.1.0 (sorted 0 o (omega arith) (omega arith)) few in
     ((first, lower_still e.0 f.0 es first rest.0), rest)
@@ -110,7 +110,7 @@ few_shown : (found rows : List Row) (slots : Slots) (slot : Slot) → AreSlots f
 few_shown found rows slots slot are same =
     let moved : IsPermutation (map slot_row (filter (is_at slot) found)) (filter (is_at slot) rows) =
     subst (λ xs. IsPermutation xs (filter (is_at slot) rows)) (filter-map (is_at slot) slot_row found) (IsPermutation-filter (is_at slot)
-        (map slot_row found) rows same) in
+    (map slot_row found) rows same) in
     omega (arith, length_permutation _ _ moved, length_map slot_row (filter (is_at slot) found), few_at slot found slots are)
 
 -- slots that are stored are read

@@ -31,5 +31,5 @@ returns-in-Err-clause-survives g c =
     let mid = state g.S.Store c.execute.new.self in
     let new = state g.S.Store c.fault_after.new.conn in
     survives_probed old mid new (AddsSlots old) (survives_as old mid (CommitsBy slots_text [] old) (AddsSlots old)
-        (may_add_slots old) c.in-Err.ensures.survives)
+    (may_add_slots old) c.in-Err.ensures.survives)
     c.fault_after.ensures.survives
