@@ -5,7 +5,7 @@ use crate::same::assert_same;
 use delivery::{DueDecree, Outcome};
 use fate_chain::{Author, Chain, ErrorCode, Final, Kind};
 use mc_types::{Ballot, Incarnation, Moment, NodeNo};
-use pdu_codec::Text;
+use pdu_codec::{SystemId, Text};
 use rules::{Attempted, Closing, Due, Standpoint, follow};
 use std::alloc::Global;
 use std::process::Abort;
@@ -59,7 +59,7 @@ enum Up {
     Sme2,
 }
 
-fn accounts(rt: &impl Abort, alloc: Global, up: Up) -> Vec<Text<16>> {
+fn accounts(rt: &impl Abort, alloc: Global, up: Up) -> Vec<SystemId> {
     let name = match up {
         Up::Sme1 => b"sme1",
         Up::Sme2 => b"sme2",

@@ -5,7 +5,7 @@ use crate::chains::*;
 use crate::same::assert_same;
 use desk::{Door, Request};
 use mc_types::Moment;
-use pdu_codec::{Body, Text, decode};
+use pdu_codec::{Body, SystemId, Text, decode};
 use receipts::{ReceiptFault, receipt_text};
 use std::alloc::Global;
 use std::process::Abort;
@@ -37,7 +37,7 @@ fn request(rt: &impl Abort, alloc: Global, registered_delivery: u8) -> Request {
     Request::Submit(message, Some(account(rt, alloc)))
 }
 
-fn account(rt: &impl Abort, alloc: Global) -> Text<16> {
+fn account(rt: &impl Abort, alloc: Global) -> SystemId {
     let text = Text::make(alloc, b"sme1").expect(rt, "memory");
     text.expect(rt, "a text")
 }

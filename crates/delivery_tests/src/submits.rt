@@ -8,7 +8,7 @@ use delivery::deliver_pdu;
 use desk::{Admitted, Door, Request};
 use fate_chain::{Author, Chain, Decree, ErrorCode, Final, Kind, Submission};
 use mc_types::{Incarnation, Moment, MsgId, NodeNo};
-use pdu_codec::{Body, Message, Text, decode};
+use pdu_codec::{Body, Message, SystemId, Text, decode};
 use receipts::receipt_text;
 use std::alloc::Global;
 use std::process::Abort;
@@ -17,7 +17,7 @@ fn moment(rt: &impl Abort) -> Moment {
     Moment::make(TAKEN).expect(rt, "a moment")
 }
 
-fn account(rt: &impl Abort, alloc: Global) -> Text<16> {
+fn account(rt: &impl Abort, alloc: Global) -> SystemId {
     let text = Text::make(alloc, b"a_longest_name_").expect(rt, "memory");
     text.expect(rt, "a text")
 }

@@ -3,7 +3,7 @@
 use crate::values::text;
 use desk::Request;
 use node_core::Input;
-use pdu_codec::{Body, Text, decode};
+use pdu_codec::{Body, SystemId, decode};
 use std::alloc::Global;
 use std::process::Abort;
 
@@ -36,7 +36,7 @@ fn octets(asked: &str) -> &'static [u8] {
     }
 }
 
-fn request_in(rt: &impl Abort, body: Body, target: Option<Text<16>>) -> Request {
+fn request_in(rt: &impl Abort, body: Body, target: Option<SystemId>) -> Request {
     match body {
         Body::SubmitSm(message) => Request::Submit(message, target),
         Body::QuerySm(query) => Request::Ask(query),

@@ -7,7 +7,7 @@ use delivery::Outcome;
 use fate_chain::{Author, Chain, Decree, ErrorCode, Final, Kind};
 use mc_types::{Ballot, Incarnation, Moment, MsgId, NodeNo, Slot};
 use node_core::{Input, Life, Node, Setup, open_node};
-use pdu_codec::Text;
+use pdu_codec::{SystemId, Text};
 use stable_store::{ListStore, StableStore};
 use std::alloc::Global;
 use std::process::Abort;
@@ -218,7 +218,7 @@ fn tick(rt: &impl Abort, alloc: Global, words: &str) -> Input {
     Input::Tick(moment, up)
 }
 
-pub fn text(rt: &impl Abort, alloc: Global, octets: &str) -> Text<16> {
+pub fn text(rt: &impl Abort, alloc: Global, octets: &str) -> SystemId {
     let text = Text::make(alloc, octets.as_bytes()).expect(rt, "memory");
     text.expect(rt, "a text")
 }

@@ -18,7 +18,7 @@ use delivery::Outcome;
 use desk::Request;
 use fate_chain::Chain;
 use mc_types::{Moment, MsgId, Slot};
-use pdu_codec::Text;
+use pdu_codec::SystemId;
 use requests::Reply;
 use sessions::{Delivery, Pushed};
 use sim_net::Packets;
@@ -78,7 +78,7 @@ impl ScriptNode {
     }
 
     /// A request of an account comes to the node. After an `Err`, which is want of memory, nothing is said of the node.
-    pub fn request(&mut self, account: &Text<16>, request: Request) -> Result<Given, AllocError>
+    pub fn request(&mut self, account: &SystemId, request: Request) -> Result<Given, AllocError>
         ensures { IfOk result (λ given.
             HasStepped (step_at (node_of self.old) (request_at (node_of self.old) account.now request)) (node_of self.old) given (node_of self.new)) }
     {
@@ -88,7 +88,7 @@ impl ScriptNode {
 
     /// A moment has come, at which these accounts have a session that may receive: the replies of that step. After an `Err`, which is want
     /// of memory, nothing is said of the node.
-    pub fn tick(&mut self, moment: Moment, up: Vec<Text<16>>) -> Result<Vec<Reply>, AllocError>
+    pub fn tick(&mut self, moment: Moment, up: Vec<SystemId>) -> Result<Vec<Reply>, AllocError>
         ensures { IfOk result (λ replies. HasReplied (step_at (node_of self.old) (tick_at moment up.items)) (node_of self.old) replies (node_of self.new)) }
     {
         let given = self.step(Input::Tick(moment, up))?;

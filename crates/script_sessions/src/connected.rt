@@ -12,7 +12,7 @@ ghost use Rattle.script_sessions.specs.Pushing.{IsPushed};
 use crate::session_place::SessionPlace;
 use crate::{overdue, receiving};
 use mc_types::{Moment, NodeNo};
-use pdu_codec::Text;
+use pdu_codec::SystemId;
 use sessions::{Delivery, OpenRequest, Pushed, Session};
 use std::alloc::{AllocError, Global};
 use std::collections::BTreeMap;
@@ -120,7 +120,7 @@ impl Connected {
     }
 
     /// The account of each session that may receive, by the numbers of the sessions. An `Err` is want of memory.
-    pub fn accounts_up(&self, alloc: Global) -> Result<Vec<Text<16>>, AllocError>
+    pub fn accounts_up(&self, alloc: Global) -> Result<Vec<SystemId>, AllocError>
         ensures { IfOk result (λ up. up.items ≡ accounts_up self.now) }
     {
         receiving::accounts_up(alloc, &self.sessions)
@@ -128,7 +128,7 @@ impl Connected {
 
     /// Pushes a deliver_sm over the session with the lowest number that takes it for this account. `None` if none does; then nothing
     /// changes. It takes no memory.
-    pub fn push(&mut self, target: &Text<16>, now: Moment, delivery: Delivery) -> Option<PushedOn>
+    pub fn push(&mut self, target: &SystemId, now: Moment, delivery: Delivery) -> Option<PushedOn>
         ensures { IsPushed self.old target.now now delivery self.new result }
     {
         receiving::push(&mut self.sessions, target, now, delivery)

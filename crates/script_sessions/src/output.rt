@@ -22,7 +22,7 @@ use crate::session_place::SessionPlace;
 use fate_chain::Chain;
 use itoa::Buffer;
 use mc_types::NodeNo;
-use pdu_codec::Text;
+use pdu_codec::SystemId;
 use requests::Reply;
 use sessions::{Outgoing, encoded};
 use std::alloc::{AllocError, Global};
@@ -35,7 +35,7 @@ pub fn write_outgoing(
     alloc: Global,
     text: &mut Vec<u8>,
     place: SessionPlace,
-    system_id: &Text<16>,
+    system_id: &SystemId,
     outgoing: Outgoing,
 ) -> Result<(), AllocError>
     ensures { OnOk result (text.new.items ≡ text.old.items ++ pdu_line place.node place.number (pdu_of system_id.now outgoing)) }

@@ -10,7 +10,7 @@ use crate::output::write_receipt;
 use crate::waiting::Waiting;
 use fate_chain::Chain;
 use mc_types::{Moment, NodeNo};
-use pdu_codec::Text;
+use pdu_codec::SystemId;
 use sessions::Delivery;
 use std::alloc::{AllocError, Global};
 
@@ -22,7 +22,7 @@ pub fn post_for(
     connected: &mut Connected,
     waiting: &mut Waiting,
     now: Moment,
-    account: &Text<16>,
+    account: &SystemId,
 ) -> Result<(), AllocError>
     ensures { OnOk result (IsPosted node (posted_for now (mail connected.old waiting.old) account.now)
         connected.new waiting.new text.old.items text.new.items) }
@@ -49,7 +49,7 @@ pub fn post_for_all(
     connected: &mut Connected,
     waiting: &mut Waiting,
     now: Moment,
-    accounts: &[Text<16>],
+    accounts: &[SystemId],
 ) -> Result<(), AllocError>
     ensures { OnOk result (IsPosted node (posted_for_all now (mail connected.old waiting.old) accounts.now)
         connected.new waiting.new text.old.items text.new.items) }

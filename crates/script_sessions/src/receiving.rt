@@ -7,7 +7,7 @@ ghost use Rattle.script_sessions.specs.Pushing.{IsPushed};
 
 use crate::connected::PushedOn;
 use mc_types::Moment;
-use pdu_codec::Text;
+use pdu_codec::SystemId;
 use sessions::{Delivery, Session};
 use std::alloc::{AllocError, Global};
 use std::collections::BTreeMap;
@@ -21,7 +21,7 @@ const LAST_SESSION: u8 = 99;
 pub(crate) fn accounts_up(
     alloc: Global,
     sessions: &BTreeMap<u8, Session>,
-) -> Result<Vec<Text<16>>, AllocError>
+) -> Result<Vec<SystemId>, AllocError>
     ensures { IfOk result (λ up. up.items ≡ accounts_up sessions.now.entries) }
 {
     let mut accounts = Vec::new(alloc);
@@ -34,7 +34,7 @@ pub(crate) fn accounts_up(
 }
 
 /// The account of a session, if it may receive.
-fn receiver_of(session: Option<&Session>) -> Option<&Text<16>>
+fn receiver_of(session: Option<&Session>) -> Option<&SystemId>
     ensures { option_copied result ≡ receiver_of (option_copied session.entry) }
 {
     let session = session?;
@@ -47,7 +47,7 @@ fn receiver_of(session: Option<&Session>) -> Option<&Text<16>>
 /// Pushes a deliver_sm over the session with the lowest number that takes it for this account.
 pub(crate) fn push(
     sessions: &mut BTreeMap<u8, Session>,
-    target: &Text<16>,
+    target: &SystemId,
     now: Moment,
     delivery: Delivery,
 ) -> Option<PushedOn>
@@ -69,7 +69,7 @@ pub(crate) fn push(
 }
 
 /// The lowest number of a session that takes a deliver_sm for this account.
-fn target_in(sessions: &BTreeMap<u8, Session>, target: &Text<16>) -> Option<u8>
+fn target_in(sessions: &BTreeMap<u8, Session>, target: &SystemId) -> Option<u8>
     ensures { result ≡ target_in sessions.now.entries target.now }
 {
     for number in FIRST_SESSION..=LAST_SESSION {
@@ -81,7 +81,7 @@ fn target_in(sessions: &BTreeMap<u8, Session>, target: &Text<16>) -> Option<u8>
 }
 
 /// Whether a session is of the account, may receive, and has room.
-fn takes_for(target: &Text<16>, session: Option<&Session>) -> bool
+fn takes_for(target: &SystemId, session: Option<&Session>) -> bool
     ensures { result ≡ takes_for target.now (option_copied session.entry) }
 {
     let Some(session) = session else {
@@ -91,7 +91,7 @@ fn takes_for(target: &Text<16>, session: Option<&Session>) -> bool
 }
 
 /// Whether it is the account.
-fn is_of(target: &Text<16>, account: Option<&Text<16>>) -> bool
+fn is_of(target: &SystemId, account: Option<&SystemId>) -> bool
     ensures { result ≡ is_of target.now (option_copied account.entry) }
 {
     match account {

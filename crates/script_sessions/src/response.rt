@@ -7,7 +7,7 @@ ghost use Rattle.requests.specs.Replying.{answer_given};
 
 use desk::{Answer, shown};
 use mc_types::{Moment, MsgId};
-use pdu_codec::{Body, Pdu, QueryAnswer, Text};
+use pdu_codec::{Body, MessageIdText, Pdu, QueryAnswer, Text, TimeText};
 use pdu_tables::{State, Status};
 use requests::{Answer as Given, Reply};
 use sessions::{OpenRequest, encoded, pdu_with};
@@ -102,14 +102,14 @@ fn query_answer(
 }
 
 /// The digits of an id.
-fn text_of_id(alloc: Global, id: MsgId) -> Result<Text<65>, AllocError>
+fn text_of_id(alloc: Global, id: MsgId) -> Result<MessageIdText, AllocError>
     ensures { IfOk result (λ text. text ≡ decimal id) }
 {
     Text::of(alloc, &id.text())
 }
 
 /// The text of the moment of a final state; empty before one.
-fn final_date(alloc: Global, ended: Option<Moment>) -> Result<Text<17>, AllocError>
+fn final_date(alloc: Global, ended: Option<Moment>) -> Result<TimeText, AllocError>
     ensures { IfOk result (λ text. text ≡ final_date_of ended) }
 {
     times_fit_their_field();

@@ -18,7 +18,7 @@ use config::Config;
 use delivery::outcome_of;
 use desk::Request;
 use mc_types::NodeNo;
-use pdu_codec::{Body, Header, Pdu, PduFault, Text, decode, read_header};
+use pdu_codec::{Body, Header, Pdu, PduFault, SystemId, decode, read_header};
 use pdu_tables::Status;
 use script_node::ScriptNode;
 use script_sessions::{SessionPlace, write_gone, write_outgoing};
@@ -228,7 +228,7 @@ fn request_in(config: &Config, body: Body) -> Result<Option<Request>, AllocError
 }
 
 /// The account that a route leads to, if one does. An `Err` is want of memory.
-fn target(routes: &Routes, destination: &[u8]) -> Result<Option<Text<16>>, AllocError>
+fn target(routes: &Routes, destination: &[u8]) -> Result<Option<SystemId>, AllocError>
     ensures { IfOk result (λ account. account ≡ target_of routes.now destination.now) }
 {
     match routes.target(destination) {

@@ -12,7 +12,7 @@ use delivery::Outcome;
 use fate_chain::Chain;
 use mc_types::{Moment, MsgId, NodeNo, Slot};
 use node_core::{Found, Setup};
-use pdu_codec::Text;
+use pdu_codec::SystemId;
 use pdu_frames::Framer;
 use script_node::{Given, Granting, ScriptNode, StoppedNode};
 use script_sessions::{
@@ -207,7 +207,7 @@ impl Site {
         &mut self,
         alloc: Global,
         node: NodeNo,
-        account: &Text<16>,
+        account: &SystemId,
         text: &mut Vec<u8>,
     ) -> Result<(), AllocError>
         ensures { OnOk result (IsDone node (posts_for (runner_of self.old) (Some account.now)) (runner_of self.new) text.old.items text.new.items) }

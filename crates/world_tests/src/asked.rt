@@ -1,7 +1,7 @@
 //! The requests of the tests, from the PDU.
 
 use desk::Request;
-use pdu_codec::{Body, Text, decode};
+use pdu_codec::{Body, SystemId, Text, decode};
 use std::alloc::Global;
 use std::process::Abort;
 
@@ -23,7 +23,7 @@ pub enum Asked {
     Cancel,
 }
 
-pub fn account(rt: &impl Abort, alloc: Global) -> Text<16> {
+pub fn account(rt: &impl Abort, alloc: Global) -> SystemId {
     let text = Text::make(alloc, b"sme1").expect(rt, "memory");
     text.expect(rt, "a text")
 }

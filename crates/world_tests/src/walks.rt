@@ -6,7 +6,7 @@ use delivery::Outcome;
 use fate_chain::Final;
 use mc_types::{Moment, MsgId, NodeNo, Slot};
 use node_core::Found;
-use pdu_codec::Text;
+use pdu_codec::SystemId;
 use requests::Reply;
 use std::alloc::Global;
 use std::process::Abort;
@@ -90,7 +90,7 @@ fn first_id(rt: &impl Abort) -> MsgId {
 }
 
 // The account sme1, of which a session may receive.
-fn accounts(rt: &impl Abort, alloc: Global) -> Vec<Text<16>> {
+fn accounts(rt: &impl Abort, alloc: Global) -> Vec<SystemId> {
     let mut accounts = Vec::new(alloc);
     let put = accounts.push(account(rt, alloc));
     put.expect(rt, "memory");
