@@ -1,5 +1,7 @@
 //! Octets that are read and written, one by one.
 
+ghost use Rattle.std.specs.Prelude.{◌≤◌, IfOk};
+
 use octet_io::{CountedReader, CountedWriter, ReadFault, WriteFault};
 use std::io;
 use std::io::{ErrorKind, Read, Write};
@@ -22,7 +24,9 @@ struct Stepping<'a> {
 
 impl Stepping<'_> {
     /// What comes of the next step, of so many octets at most.
-    fn next(&mut self, most: usize) -> io::Result<usize> {
+    fn next(&mut self, most: usize) -> io::Result<usize>
+        ensures { IfOk result (λ count. count ≤ most) }
+    {
         let Some((step, rest)) = self.steps.split_first() else {
             return Ok(0);
         };
