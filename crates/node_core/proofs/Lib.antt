@@ -5,3 +5,4 @@ pub mod Stopping
 pub mod Committing
 pub mod Storing
 pub mod Restarts
+pub mod Lists

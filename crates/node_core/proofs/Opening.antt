@@ -1,6 +1,6 @@
 -- A node that opens keeps what the model's opens over.
 use Rattle.std.proofs.Common.{◌≡◌, suc, ℕ, false, List, [], ◌∷◌, map, Option, refl, sym}
-use Rattle.std.proofs.Common.{ap, ◌∙◌}
+use Rattle.std.proofs.Common.{ap, subst, ◌∙◌, ◌+◌, arith, inl, inr, true≢false}
 use Rattle.std.proofs.Math.Path.{fun_ext}
 use Rattle.std.specs.Map.{keys_of}
 use Rattle.mc_model.specs.synod.Acceptor.{Records}
@@ -9,10 +9,15 @@ use Rattle.node_model.specs.Message.{unseen}
 use Rattle.node_model.specs.Stepped.{opened_over}
 use Rattle.synod_acceptor.specs.Records.{record_at}
 use Rattle.node_parts.specs.declared.message.Message.{Message as Filed}
+use Rattle.node_kept.specs.declared.kept.Kept.{Kept}
 use Rattle.node_kept.specs.Keeping.{AreUnseen, IsOpen, acceptor_in, filed_as}
 use Rattle.node_kept.proofs.Listing.{listed_in}
+use Rattle.node_kept.proofs.Opening.{open_over}
 use Rattle.node_core.specs.declared.life.Life.{Life}
-use Rattle.node_core.specs.Nodes.{HasOpened, Standing}
+use Rattle.stable_store.specs.Stored.{GoesOn, KeepsRecords, Leaves, LeavesNext, Stays, Stored}
+use Rattle.stable_store.specs.declared.fault.StoreFault.{StoreFault}
+use Rattle.stable_store.specs.declared.fault.StoreFault.TheVariants as faults
+use Rattle.node_core.specs.Nodes.{HasFound, HasOpened, Standing, StaysAt, breaks, records_in}
 
 messages_are : (entries : List (ℕ × Filed)) → AreUnseen entries → map filed_as entries ≡ map (λ id. (id, unseen)) (keys_of entries)
 messages_are [] fresh = refl
@@ -39,3 +44,43 @@ opened with records starts node life is works of_node of_start = record {
   of_node = of_node;
   of_start = of_start;
 }
+
+-- it opened with what it keeps
+pub opens_with : (with : Setup) (starts : ℕ) (records : Records) (k : Kept) → IsOpen with starts records k → IsOpen with k.incarnation (records_in k) k
+opens_with with starts records k is =
+    subst (λ (n : ℕ). IsOpen with n (records_in k) k) (sym is.incarnation) (open_over with starts records (records_in k) k is (λ slot. sym (is.kept slot)))
+
+-- ---- what is loaded, and then the incarnation raised
+
+module _ (old mid new : Stored) (stays : Stays old mid) (leaves : Leaves old mid) where
+  pub has_found : (records : Records) (k : Kept) → mid.holds records → (mid.doubt ≡ 0 → mid.holds records → mid.may_hold records) →
+      records_in k ≡ records → ((started : ℕ) → new.doubt ≡ 0 → mid.has_started started → k.incarnation ≡ started + 1) → new.has_started k.incarnation →
+      KeepsRecords mid new → GoesOn mid new → HasFound old new k
+  has_found records k holds found same next started keeps goes_on =
+      let sure : new.doubt ≡ 0 → mid.doubt ≡ 0 = λ (none : new.doubt ≡ 0). let less = goes_on.doubt in omega (arith, none, less) in
+      record {
+        found = λ none. subst old.may_hold (sym same) (leaves.records records (found (sure none) holds));
+        holds = subst new.holds (sym same) (keeps records holds);
+        next = λ n none has. next n none (stays.started n has);
+        started = started;
+        kept = λ rs held. keeps rs (stays.records rs held);
+      }
+
+  pub left_next : LeavesNext mid new → LeavesNext old new
+  left_next next = record {
+    records = λ left may. leaves.records left (next.records left may);
+    started = λ left may. elim (next.started left may) [
+      | inl was ↦ inl (leaves.started left was)
+      | inr raised ↦ inr (λ started has. raised started (stays.started started has))
+    ];
+  }
+
+pub left_as_before : (old new : Stored) → Leaves old new → LeavesNext old new
+left_as_before old new leaves = record { records = leaves.records; started = λ left may. inl (leaves.started left may) }
+
+-- a fault that leaves a node that works as it was left its store so, too
+pub stays_if : (fault : StoreFault) (old new : Stored) → breaks fault ≡ false → StaysAt fault old new → Stays old new
+stays_if faults.Device old new is stays = absurd (true≢false is)
+stays_if faults.Damaged old new is stays = absurd (true≢false is)
+stays_if faults.Incarnations old new is stays = stays
+stays_if faults.Memory old new is stays = stays

@@ -15,7 +15,7 @@ use Rattle.node_model.specs.Stepped.{opened_over, restarted, saved_by, sender_of
 use Rattle.node_model.proofs.Recorded.{are_recorded, recorded_once}
 use Rattle.node_model.proofs.Stops.{saved_so}
 use Rattle.shelf.proofs.Entries.{still_ascends}
-use Rattle.stable_store.specs.Stored.{AreSame}
+use Rattle.stable_store.specs.Stored.{AreSame, Stored}
 use Rattle.synod_acceptor.specs.Packets.{packet_of}
 use Rattle.synod_acceptor.specs.declared.packet.Packet.{Packet as Sent}
 use Rattle.node_parts.specs.declared.input.Input.{Input}
@@ -28,8 +28,8 @@ use Rattle.node_kept.specs.Keeping.{kept_of, records_of}
 use Rattle.node_kept.specs.Listing.{ListsRecorded}
 use Rattle.node_kept.proofs.Listing.{key_put, listed_of, was_recorded}
 use Rattle.node_core.specs.declared.life.Life.{Life}
-use Rattle.node_core.specs.Nodes.{HasOpened, HasStopped, Seen, Standing}
-use Rattle.node_core.specs.Restarts.{KeepsAsTold, next_life}
+use Rattle.node_core.specs.Nodes.{HasOpened, HasStopped, Seen, Standing, records_in}
+use Rattle.node_core.specs.Restarts.{KeepsAsTold, OpensOverWhatIsHeld, next_life}
 use Rattle.node_core.specs.Stops.{IsTold, IsToldOf, is_after, left_by}
 
 -- ---- a restart
@@ -119,19 +119,15 @@ crashed_behind k stored packet lost node life lists opened same =
       each = λ slot. same.each slot ∙ ap (λ (records : Records). records slot) (saved_so k.setup (kept_of k) (packet_of packet));
     })
 
-pub as_crashed : {S : Type 0} (old mid : Seen) (packet : Sent) (lost : ℕ) (node : Standing S) (life : Life) → ListsRecorded (kept_of old.kept) →
-    AreSame old.stored (records_of old.kept.messages.entries) → HasStopped old (given.Packet packet) mid →
-    HasOpened old.kept.setup mid.stored (next_life (kept_of old.kept) lost) node life →
+pub as_crashed : {S : Type 0} (old mid : Seen) (packet : Sent) (left : Records) (lost : ℕ) (node : Standing S) (life : Life) →
+    ListsRecorded (kept_of old.kept) → HasStopped old (given.Packet packet) mid → mid.stored.may_hold left →
+    HasOpened old.kept.setup left (next_life (kept_of old.kept) lost) node life →
     (after : Bool) × (kept_of node.kept ≡ (stepped old.kept.setup
     (stepped old.kept.setup (kept_of old.kept) (Crash (packet_of packet) after)).kept (Restart lost)).kept)
-as_crashed old mid packet lost node life lists stored has_stopped opened =
-    elim has_stopped.stored [
-      | inl before ↦ (
-        false,
-        crashed_before old.kept mid.stored packet lost node life lists opened
-            (record { each = λ slot. before.each slot ∙ stored.each slot }),
-      )
-      | inr behind ↦ (true, crashed_behind old.kept mid.stored packet lost node life lists opened behind)
+as_crashed old mid packet left lost node life lists has_stopped may opened =
+    elim (has_stopped.found left may) [
+      | inl before ↦ (false, crashed_before old.kept left packet lost node life lists opened before)
+      | inr behind ↦ (true, crashed_behind old.kept left packet lost node life lists opened behind)
     ]
 
 -- ---- what is told of a stop
@@ -157,10 +153,19 @@ keeps_told k stored input packet lost node life (Some told) lists opened came te
       (sym is.is) (told_as k stored packet lost node life told lists opened is told.found refl);
 }
 
-pub as_told : {S : Type 0} (old halted : Seen) (input : Input) (lost : ℕ) (node : Standing S) (life : Life) → ListsRecorded (kept_of old.kept) →
-    HasStopped old input halted → HasOpened old.kept.setup halted.stored (next_life (kept_of old.kept) lost) node life →
-    IsTold halted.kept halted.stored halted.unfinished node.stopped → KeepsAsTold old.kept input lost node
-as_told old halted input lost node life lists has_stopped opened told =
-    keeps_told old.kept halted.stored input has_stopped.packet lost node life node.stopped lists opened has_stopped.came refl
-    (subst (λ (unfinished : Option Sent). IsTold old.kept halted.stored unfinished node.stopped) has_stopped.unfinished
-    (subst (λ (k : Holding). IsTold k halted.stored halted.unfinished node.stopped) has_stopped.kept told))
+pub as_told : {S : Type 0} (old halted : Seen) (input : Input) (left : Records) (lost : ℕ) (node : Standing S) (life : Life) →
+    ListsRecorded (kept_of old.kept) → HasStopped old input halted → HasOpened old.kept.setup left (next_life (kept_of old.kept) lost) node life →
+    IsTold halted.kept left halted.unfinished node.stopped → KeepsAsTold old.kept input lost node
+as_told old halted input left lost node life lists has_stopped opened told =
+    keeps_told old.kept left input has_stopped.packet lost node life node.stopped lists opened has_stopped.came refl
+    (subst (λ (unfinished : Option Sent). IsTold old.kept left unfinished node.stopped) has_stopped.unfinished
+    (subst (λ (k : Holding). IsTold k left halted.unfinished node.stopped) has_stopped.kept told))
+
+-- ---- what a store held
+
+pub over_held : {S : Type 0} (stored : S → Stored) →
+    ((s : S) (records left : Records) → (stored s).holds records → (stored s).may_hold left → AreSame left records) → OpensOverWhatIsHeld stored
+over_held stored settled store after with node life records started over doubt holds has =
+    let same : records_in node.kept ≡ records = fun_ext (settled store records (records_in node.kept) holds (over.found.found doubt)).each in
+    subst (λ (rs : Records). HasOpened with rs (started + 1) node life) same
+    (subst (λ (n : ℕ). HasOpened with (records_in node.kept) n node life) (over.found.next started doubt has) over.opened)

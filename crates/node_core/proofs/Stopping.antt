@@ -8,7 +8,7 @@ use Rattle.mc_model.specs.synod.Acceptor.{Records, SlotRecord}
 use Rattle.node_model.specs.Kept.{Kept}
 use Rattle.node_model.specs.Stepped.{stepped, stopped}
 use Rattle.node_model.proofs.Stops.{saved_so}
-use Rattle.stable_store.specs.Stored.{AreSame}
+use Rattle.stable_store.specs.Stored.{AreSame, Stored}
 use Rattle.synod_acceptor.specs.Packets.{packet_of}
 use Rattle.synod_acceptor.specs.Votes.{record_of, slot_recorded}
 use Rattle.synod_acceptor.specs.declared.packet.Packet.{Packet as Sent}
@@ -25,69 +25,65 @@ use Rattle.node_kept.specs.Keeping.{kept_of, records_of}
 use Rattle.node_kept.specs.Preparing.{IsPrepared}
 use Rattle.node_kept.specs.Steps.{IsStepFor, input_of}
 use Rattle.node_kept.specs.Finding.{HasSaved, IsFound}
+use Rattle.node_core.specs.Nodes.{LeavesAny, records_in}
 use Rattle.node_core.specs.Stops.{IsHalted, IsTold, IsUnfinished, is_after, left_by}
 use Rattle.node_core.proofs.Saves.{saved_after, saved_before}
 use Rattle.node_core.proofs.Unsaved.{altered, saves_for}
-
-change_over : (change : Option Change) (one other : Records) → AreSame one other → (slot : Slot) → changed_by change one slot ≡ changed_by change other slot
-change_over None one other same slot = same.each slot
-change_over (Some change) one other same slot =
-    ap (λ (r : SlotRecord). if same_slot slot (slot_recorded change.after) then record_of change.after else r) (same.each slot)
 
 abbrev pub Left : Holding → Input → Records
 Left k input = (stepped k.setup (kept_of k) (input_of k.setup (kept_of k) input)).kept.records
 
 -- The save of a step failed, which was that of a packet.
-pub record IsCut (k : Holding) (input : Input) (unfinished : Option Sent) (stored new : Records) : Type 0 where
+pub record IsCut (k : Holding) (input : Input) (unfinished : Option Sent) (after : Stored) : Type 0 where
   pub packet : Sent
   pub came : input ≡ given.Packet packet
   pub is : unfinished ≡ Some packet
-  pub left : AreSame new stored ⊎ AreSame new (Left k input)
-  pub halted : IsUnfinished k new unfinished
+  pub found : (left : Records) → after.may_hold left → AreSame left (records_in k) ⊎ AreSame left (Left k input)
+  pub halted : (left : Records) → after.may_hold left → IsUnfinished k left unfinished
 
-after_step : (k : Holding) (input : Input) (step : Step) (stored new : Records) → IsStepFor k input step → AreSame stored (records_of k.messages.entries) →
-    AreSame new stored ⊎ AreSame new (changed_by step.change stored) → AreSame new stored ⊎ AreSame new (Left k input)
-after_step k input step stored new is same (inl before) = inl before
-after_step k input step stored new is same (inr changed) = inr (record {
-  each = λ slot.
-      changed.each slot
-      ∙ change_over step.change stored (records_of k.messages.entries) same slot
-      ∙ sym (is.is.saves slot)
-      ∙ ap (λ (kept : Kept). kept.records slot) is.is.kept;
-})
+after_step : (k : Holding) (input : Input) (step : Step) (left : Records) → IsStepFor k input step →
+    AreSame left (changed_by step.change (records_in k)) → AreSame left (Left k input)
+after_step k input step left is changed =
+    record { each = λ slot. changed.each slot ∙ sym (is.is.saves slot) ∙ ap (λ (kept : Kept). kept.records slot) is.is.kept }
 
-over_kept : (stored new kept left : Records) → AreSame stored kept → AreSame new stored ⊎ AreSame new left → AreSame new kept ⊎ AreSame new left
-over_kept stored new kept left same (inl before) = inl (record { each = λ slot. before.each slot ∙ same.each slot })
-over_kept stored new kept left same (inr after) = inr after
+found_after : (k : Holding) (input : Input) (step : Step) (before after : Stored) → IsStepFor k input step → before.holds (records_in k) →
+    ((records left : Records) → before.holds records → before.may_hold left → AreSame left records) → LeavesAny step.change before after →
+    (left : Records) → after.may_hold left → AreSame left (records_in k) ⊎ AreSame left (Left k input)
+found_after k input step before after is holds settled leaves left found = elim (leaves.records left found) [
+  | inl was ↦ inl (settled (records_in k) left holds was)
+  | inr done ↦ inr (after_step k input step left is (done (records_in k) holds))
+]
 
-cut_with : (k : Holding) (input : Input) (step : Step) (unfinished : Option Sent) (stored new : Records) (change : Option Change) → step.change ≡ change →
-    change ≢ None → IsPrepared k input step unfinished → AreSame stored (records_of k.messages.entries) →
-    AreSame new stored ⊎ AreSame new (changed_by step.change stored) → IsCut k input unfinished stored new
-cut_with k input step unfinished stored new None is some prepared same left = absurd (some refl)
-cut_with k input step unfinished stored new (Some change) is some prepared same left =
+cut_with : (k : Holding) (input : Input) (step : Step) (unfinished : Option Sent) (before after : Stored) (change : Option Change) →
+    step.change ≡ change → change ≢ None → IsPrepared k input step unfinished → before.holds (records_in k) →
+    ((records left : Records) → before.holds records → before.may_hold left → AreSame left records) → LeavesAny step.change before after →
+    IsCut k input unfinished after
+cut_with k input step unfinished before after None is some prepared holds settled leaves = absurd (some refl)
+cut_with k input step unfinished before after (Some change) is some prepared holds settled leaves =
     let from = saves_for k input step unfinished change prepared is in
-    let either = after_step k input step stored new prepared.is same left in
+    let found = found_after k input step before after prepared.is holds settled leaves in
     let of_packet : IsStepFor k (given.Packet from.packet) step = subst (λ (i : Input). IsStepFor k i step) from.came prepared.is in
-    let halted : IsHalted k new from.packet = record {
-      found = subst (λ (i : Input). AreSame new (records_of k.messages.entries) ⊎ AreSame new (Left k i)) from.came
-          (over_kept stored new (records_of k.messages.entries) (Left k input) same either);
+    let halted : (left : Records) → after.may_hold left → IsHalted k left from.packet =
+    λ (left : Records) (may : after.may_hold left). record {
+      found = subst (λ (i : Input). AreSame left (records_in k) ⊎ AreSame left (Left k i)) from.came (found left may);
       changes = λ unchanged. altered k _ step change of_packet.is is unchanged.each;
     } in
     record {
       packet = from.packet;
       came = from.came;
       is = from.is;
-      left = either;
-      halted = subst (λ (packet : Option Sent). IsUnfinished k new packet) (sym from.is) halted;
+      found = found;
+      halted = λ left may. subst (λ (packet : Option Sent). IsUnfinished k left packet) (sym from.is) (halted left may);
     }
 
-pub cut : (k was : Holding) (input given : Input) (step : Step) (unfinished : Option Sent) (stored new : Records) → was ≡ k → given ≡ input →
-    IsPrepared was given step unfinished → AreSame stored (records_of k.messages.entries) → step.change ≢ None →
-    AreSame new stored ⊎ AreSame new (changed_by step.change stored) → IsCut k input unfinished stored new
-cut k was input given step unfinished stored new same_kept same_input prepared same some left =
-    cut_with k input step unfinished stored new step.change refl some
+pub cut : (k was : Holding) (input given : Input) (step : Step) (unfinished : Option Sent) (before after : Stored) → was ≡ k → given ≡ input →
+    IsPrepared was given step unfinished → before.holds (records_in k) →
+    ((records left : Records) → before.holds records → before.may_hold left → AreSame left records) → step.change ≢ None →
+    LeavesAny step.change before after → IsCut k input unfinished after
+cut k was input given step unfinished before after same_kept same_input prepared holds settled some leaves =
+    cut_with k input step unfinished before after step.change refl some
     (subst (λ (i : Input). IsPrepared k i step unfinished) same_input
-    (subst (λ (h : Holding). IsPrepared h given step unfinished) same_kept prepared)) same left
+    (subst (λ (h : Holding). IsPrepared h given step unfinished) same_kept prepared)) holds settled leaves
 
 -- ---- what is told of it
 

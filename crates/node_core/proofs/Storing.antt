@@ -1,6 +1,7 @@
--- A step that saves nothing leaves what is stored.
+-- What a node keeps is stored, once its step is.
 use Rattle.std.proofs.Common.{◌≡◌, ◌≤◌, ℕ, suc, false, List, Option, Some, None, refl, sym, ap, subst, ◌∙◌}
 use Rattle.std.specs.Prelude.{is_some}
+use Rattle.std.proofs.Math.Path.{fun_ext}
 use Rattle.std.proofs.lemmas.Bool.{true≢false}
 use Rattle.mc_model.specs.node.Setup.{Setup}
 use Rattle.node_kept.specs.Waiting.{held_in}
@@ -17,7 +18,8 @@ use Rattle.node_kept.specs.Keeping.{AreOf, AreOwn, records_of}
 use Rattle.node_kept.specs.Preparing.{IsPrepared, packet_in}
 use Rattle.node_kept.specs.Queueing.{AreAsked}
 use Rattle.node_kept.specs.Steps.{AreOwnThen, IsInstalled}
-use Rattle.node_core.specs.Nodes.{IsStored}
+use Rattle.stable_store.specs.Stored.{AreSame, Stored}
+use Rattle.node_core.specs.Nodes.{IsStored, SavesAny, records_in}
 use Rattle.node_core.specs.Stops.{IsUnfinished}
 use Rattle.node_core.proofs.Unsaved.{saves_for}
 
@@ -43,22 +45,28 @@ own_then k new step is own = record {
   serial = subst (λ (n : ℕ). 1 ≤ n) (sym is.serial) own.serial;
 }
 
--- what is stored is what it keeps, as before the step
-pub kept_unsaved : (k was new : Holding) (input given : Input) (step : Step) (packet unfinished : Option Sent) (stored : Records) → was ≡ k → given ≡ input →
-    IsPrepared was given step packet → packet_in input ≡ None → IsInstalled k step.next new →
-    IsStored false stored unfinished k → IsStored false stored unfinished new
-kept_unsaved k was new input given step packet unfinished stored same_kept same_input prepared none is old =
+-- a step that saves nothing leaves what is stored
+pub saves_none : (k was : Holding) (input given : Input) (step : Step) (packet : Option Sent) (stored : Stored) → was ≡ k → given ≡ input →
+    IsPrepared was given step packet → packet_in input ≡ None → SavesAny step.change stored stored
+saves_none k was input given step packet stored same_kept same_input prepared none =
     let now : IsPrepared k input step packet =
     subst (λ (i : Input). IsPrepared k i step packet) same_input (subst (λ (h : Holding). IsPrepared h given step packet) same_kept prepared) in
-    let same = unchanged k input step packet step.change refl now none in
+    subst (λ (c : Option Change). SavesAny c stored stored) (sym (unchanged k input step packet step.change refl now none)) (λ records holds. holds)
+
+-- what is stored is what it keeps, as before the step
+pub stored_once : (k was new : Holding) (input given : Input) (step : Step) (packet unfinished : Option Sent) (before after : Stored) → was ≡ k →
+    given ≡ input → IsPrepared was given step packet → IsInstalled k step.next new → SavesAny step.change before after →
+    ((records left : Records) → after.holds records → after.may_hold left → AreSame left records) →
+    IsStored false before unfinished k → IsStored false after unfinished new
+stored_once k was new input given step packet unfinished before after same_kept same_input prepared is saves settled old =
+    let now : IsPrepared k input step packet =
+    subst (λ (i : Input). IsPrepared k i step packet) same_input (subst (λ (h : Holding). IsPrepared h given step packet) same_kept prepared) in
+    let records : records_in new ≡ changed_by step.change (records_in k) =
+    fun_ext (λ slot. ap (λ (es : List (ℕ × Filed)). records_of es slot) is.entries ∙ now.is.is.saves slot) in
+    let holds : after.holds (records_in new) = subst after.holds (sym records) (saves (records_in k) (old.saved refl)) in
     record {
-      saved = λ works. record {
-        each = λ slot.
-            (old.saved works).each slot
-            ∙ sym (ap (λ (es : List (ℕ × Filed)). records_of es slot) is.entries ∙ now.is.is.saves slot
-            ∙ ap (λ (c : Option Change). changed_by c (records_of k.messages.entries) slot) same);
-      };
+      saved = λ works. holds;
       own = own_then k new step is (now.is.is.own old.own);
       finished = old.finished;
-      halted = subst (λ (p : Option Sent). IsUnfinished new stored p) (sym (old.finished refl)) tt;
+      halted = λ left found. subst (λ (p : Option Sent). IsUnfinished new left p) (sym (old.finished refl)) (settled (records_in new) left holds found);
     }

@@ -6,15 +6,17 @@ use Rattle.mc_model.specs.synod.Acceptor.{Records, blank}
 use Rattle.mc_model.specs.node.Setup.{Setup}
 use Rattle.node_model.specs.Recorded.{AreRecorded}
 use Rattle.node_model.specs.Stepped.{opened_over, stepped}
-use Rattle.stable_store.specs.Stored.{AreSame, GoesOn, HasFailed, KeepsRecords, Leaves, LeavesNext, LeavesStarted, Stays, Stored}
+use Rattle.stable_store.specs.Stored.{AreSame, GoesOn, HasFailed, KeepsRecords, LeavesNext, LeavesStarted, Stays, Stored}
 use Rattle.stable_store.specs.declared.fault.StoreFault.{StoreFault}
 use Rattle.stable_store.specs.declared.fault.StoreFault.TheVariants as faults
 use Rattle.synod_acceptor.specs.declared.packet.Packet.{Packet}
+use Rattle.synod_acceptor.specs.declared.record.Change.{Change}
 use Rattle.node_parts.specs.declared.fault.StepFault.{StepFault}
 use Rattle.node_parts.specs.declared.fault.StepFault.TheVariants.{Broken}
 use Rattle.node_parts.specs.declared.input.Input.{Input}
 use Rattle.node_parts.specs.declared.input.Input.TheVariants as given
 use Rattle.node_parts.specs.declared.outputs.Outputs.{Outputs}
+use Rattle.node_parts.specs.Messages.{changed_by}
 use Rattle.node_kept.specs.declared.kept.Kept.{Kept}
 use Rattle.node_kept.specs.declared.stopped.Stopped.{Stopped}
 use Rattle.node_kept.specs.Keeping.{AreOwn, kept_of, records_of}
@@ -52,9 +54,18 @@ pub record IsUnmoved (old new : Seen) : Type 0 where
   pub kept : new.kept ≡ old.kept
   pub broken : new.broken ≡ old.broken
   pub stored : Stays old.stored new.stored
-  pub left : Leaves old.stored new.stored
   pub unfinished : new.unfinished ≡ old.unfinished
   pub stopped : new.stopped ≡ old.stopped
+
+-- the change of a step is stored, if it has one
+abbrev pub SavesAny : Option Change → Stored → Stored → Type 0
+SavesAny change old new = (records : Records) → old.holds records → new.holds (changed_by change records)
+
+-- whoever opens the store after a stop in that save finds what they might have found before, or that change
+pub record LeavesAny (change : Option Change) (old new : Stored) : Type 0 where
+  pub records : (left : Records) → new.may_hold left →
+      old.may_hold left ⊎ ((records : Records) → old.holds records → AreSame left (changed_by change records))
+  pub started : LeavesStarted old new
 
 -- The device failed at the save of a step, which is that of a packet: whoever opens the store finds what the node keeps, or what the step
 -- leaves. The node keeps what it kept, and the packet is unfinished.

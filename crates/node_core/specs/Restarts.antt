@@ -5,8 +5,9 @@ use Rattle.mc_model.specs.node.Input.{Crash, Restart}
 use Rattle.mc_model.specs.node.Setup.{Setup}
 use Rattle.node_model.specs.Kept.{Kept}
 use Rattle.node_model.specs.Stepped.{stepped}
-use Rattle.stable_store.specs.Stored.{AreSame, Stored}
+use Rattle.stable_store.specs.Stored.{AreSame, Listed, Stored, stored_in}
 use Rattle.synod_acceptor.specs.Packets.{packet_of}
+use Rattle.synod_acceptor.specs.Records.{record_at}
 use Rattle.synod_acceptor.specs.declared.packet.Packet.{Packet}
 use Rattle.node_parts.specs.declared.input.Input.{Input}
 use Rattle.node_parts.specs.declared.input.Input.TheVariants as given
@@ -15,7 +16,7 @@ use Rattle.node_kept.specs.declared.stopped.Stopped.{Stopped}
 use Rattle.node_kept.specs.Keeping.{kept_of}
 use Rattle.node_kept.specs.Listing.{ListsRecorded}
 use Rattle.node_core.specs.declared.life.Life.{Life}
-use Rattle.node_core.specs.Nodes.{HasOpened, HasStopped, OpensOver, Seen, Standing}
+use Rattle.node_core.specs.Nodes.{HasOpened, HasStopped, OpensOver, Standing, seen}
 use Rattle.node_core.specs.Stops.{IsTold, is_after}
 
 -- the incarnation after the one of what is kept, if so many are lost between
@@ -41,14 +42,26 @@ OpensOverWhatIsHeld {S} stored =
     → (stored store).has_started started
     → HasOpened with records (started + 1) node life
 
+-- of a list, which has the records of before and the next incarnation then
+pub record HasOpenedList {S : Type 0} (old new : Listed) (with : Setup) (node : Standing S) (life : Life) : Type 0 where
+  pub opened : HasOpened with (record_at old.entries) (old.started + 1) node life
+  pub started : new.started ≡ old.started + 1
+  pub records : AreSame (record_at new.entries) (record_at old.entries)
+
+abbrev pub OpensOverLists : Type 0 → Type 0
+OpensOverLists S =
+    (old new : Listed) (before after : ℕ) (with : Setup) (node : Standing S) (life : Life)
+    → OpensOver (stored_in old before) with (stored_in new after) node life
+    → HasOpenedList old new with node life
+
 -- A node stopped in the save of a packet, and one opened over what was found of its store, by whatever way: it keeps what is kept after a crash,
 -- before or behind the save, and a restart.
-abbrev pub OpensAsCrashed : Type 0 → Type 1
-OpensAsCrashed S =
-    (old stopped : Seen) (packet : Packet) (left : Records) (lost : ℕ) (node : Standing S) (life : Life)
+abbrev pub OpensAsCrashed : {S : Type 0} → (S → Stored) → Type 0
+OpensAsCrashed {S} stored =
+    (old halted : Standing S) (packet : Packet) (left : Records) (lost : ℕ) (node : Standing S) (life : Life)
     → ListsRecorded (kept_of old.kept)
-    → HasStopped old (given.Packet packet) stopped
-    → stopped.stored.may_hold left
+    → HasStopped (seen stored old) (given.Packet packet) (seen stored halted)
+    → (stored halted.store).may_hold left
     → HasOpened old.kept.setup left (next_life (kept_of old.kept) lost) node life
     → (after : Bool)
     × (kept_of node.kept ≡ (stepped old.kept.setup (stepped old.kept.setup (kept_of old.kept) (Crash (packet_of packet) after)).kept (Restart lost)).kept)
@@ -62,11 +75,11 @@ pub record KeepsAsTold {S : Type 0} (k : Holding) (input : Input) (lost : ℕ) (
       ≡ (stepped k.setup (stepped k.setup (kept_of k) (Crash (packet_of told.packet) (is_after told.found))).kept (Restart lost)).kept
 
 -- A node stopped in a save, and the same node was opened again, over what was found of its store.
-abbrev pub ReopensAsCrashed : Type 0 → Type 1
-ReopensAsCrashed S =
-    (old halted : Seen) (input : Input) (left : Records) (lost : ℕ) (node : Standing S) (life : Life)
+abbrev pub ReopensAsCrashed : {S : Type 0} → (S → Stored) → Type 0
+ReopensAsCrashed {S} stored =
+    (old halted : Standing S) (input : Input) (left : Records) (lost : ℕ) (node : Standing S) (life : Life)
     → ListsRecorded (kept_of old.kept)
-    → HasStopped old input halted
+    → HasStopped (seen stored old) input (seen stored halted)
     → HasOpened old.kept.setup left (next_life (kept_of old.kept) lost) node life
     → IsTold halted.kept left halted.unfinished node.stopped
     → KeepsAsTold old.kept input lost node

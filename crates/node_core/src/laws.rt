@@ -1,6 +1,6 @@
 //! Laws of a node that opens again: nothing to call, but to cite.
 
-ghost use Rattle.node_core.specs.Restarts.{OpensAsCrashed, OpensAsRestarted, OpensOverWhatIsHeld, ReopensAsCrashed};
+ghost use Rattle.node_core.specs.Restarts.{OpensAsCrashed, OpensAsRestarted, OpensOverLists, OpensOverWhatIsHeld, ReopensAsCrashed};
 
 use stable_store::StableStore;
 
@@ -15,14 +15,19 @@ pub fn opens_over_what_is_held<S: StableStore>()
     ensures { OpensOverWhatIsHeld S.stored }
 {}
 
+/// A node that opens over a list keeps exactly its records, in the incarnation after the last one of the list, which has both then.
+pub fn opens_over_a_list<S: StableStore>()
+    ensures { OpensOverLists S }
+{}
+
 /// A node that was stopped in the save of a packet's step, and one that opens over what is found of its store: it keeps what the model's does after
 /// a crash at that packet, which comes before the save or after it, and a restart.
 pub fn opens_as_crashed<S: StableStore>()
-    ensures { OpensAsCrashed S }
+    ensures { OpensAsCrashed S.stored }
 {}
 
 /// A node that was stopped in a save and opened again tells the packet that came, and keeps what the model's does after a crash at that
 /// packet, before the save or after it as it tells, and a restart.
 pub fn reopens_as_crashed<S: StableStore>()
-    ensures { ReopensAsCrashed S }
+    ensures { ReopensAsCrashed S.stored }
 {}

@@ -9,7 +9,10 @@ mod pending;
 mod permit;
 mod permitting;
 
-pub use laws::{opens_as_crashed, opens_as_restarted, reopens_as_crashed};
+pub use laws::{
+    opens_as_crashed, opens_as_restarted, opens_over_a_list, opens_over_what_is_held,
+    reopens_as_crashed,
+};
 pub use life::Life;
 pub use node::Node;
 pub use node_kept::{Found, Setup, Stopped};

@@ -1,20 +1,20 @@
 //! One node.
 
-ghost use Rattle.std.specs.Prelude.{◌≡◌, ◌≢◌, ◌↔◌, ◌⊎◌, None, true, false, IfOk, IfErr, IsErrOf, IsOk, IsSome, OnErr, OnOk, ◌+◌, ◌≤◌};
+ghost use Rattle.std.specs.Prelude.{◌≡◌, ◌≢◌, ◌↔◌, ◌⊎◌, None, true, false, IfOk, IfErr, IsErrOf, IsOk, IsSome, OnErr, OnOk, ◌≤◌};
+ghost use Rattle.mc_model.specs.synod.Acceptor.{Records};
 ghost use Rattle.mc_model.specs.message.Ids.{IsIncarnation, IsNode};
 ghost use Rattle.node_parts.specs.declared.fault.StepFault.TheVariants.{Broken, Device, Memory};
 ghost use Rattle.std.specs.Option.{option_copied};
-ghost use Rattle.stable_store.specs.Stored.{AreSame, HasFailed};
-ghost use Rattle.node_parts.specs.Messages.{changed_by};
+ghost use Rattle.stable_store.specs.Stored.{GoesOn, HasFailed, KeepsStarted, Stays};
 ghost use Rattle.node_kept.specs.Idling.{FindsNothing};
-ghost use Rattle.node_kept.specs.Keeping.{kept_of, records_of};
+ghost use Rattle.node_kept.specs.Keeping.{kept_of};
 ghost use Rattle.node_kept.specs.Listing.{ListsRecorded};
 ghost use Rattle.node_kept.specs.Setups.{IsSetup};
 ghost use Rattle.node_kept.specs.Steps.{IsFault};
 ghost use Rattle.node_kept.specs.Preparing.{packet_in};
-ghost use Rattle.node_core.specs.Stops.{IsTold};
+ghost use Rattle.node_core.specs.Stops.{IsTold, IsUnfinished};
 ghost use Rattle.node_core.specs.Permits.{is_life_of};
-ghost use Rattle.node_core.specs.Nodes.{HasOpened, HasStopped, HasTaken, IsAwaited, IsCaused, IsLeft, IsLifeOf, IsStored, IsUnmoved, breaks, fault_in, seen};
+ghost use Rattle.node_core.specs.Nodes.{HasStopped, HasTaken, IsAwaited, IsLeft, IsLifeOf, IsStored, IsUnmoved, LeavesAny, OpensOver, SavesAny, breaks, fault_in, records_in, seen};
 
 use crate::life::Life;
 use crate::open::begin;
@@ -113,7 +113,7 @@ impl<S: StableStore> Node<S> {
         requires { pending.was ≡ self.old.kept }
         ensures ok { IfOk result (HasTaken self.old pending.input self.new) }
         ensures broken { IsErrOf result Broken ↔ (self.old.broken ≡ true) }
-        ensures stays { IsErrOf result Broken → IsUnmoved (seen S.stored self.old) (seen S.stored self.new) }
+        ensures stays { IsErrOf result Broken → self.new ≡ self.old }
         ensures memory { IsErrOf result Memory → IsUnmoved (seen S.stored self.old) (seen S.stored self.new) }
         ensures device { IsErrOf result Device → HasStopped (seen S.stored self.old) pending.input (seen S.stored self.new) }
         ensures faults { IfErr result (λ fault. (fault ≡ Broken) ⊎ (fault ≡ Device) ⊎ (fault ≡ Memory)) }

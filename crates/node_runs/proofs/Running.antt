@@ -60,7 +60,7 @@ up_for k (Tick moment test) up = up
 up_for k (Grant slot) up = up
 up_for k (Response slot outcome) up = up
 
-module _ {S : Type 0} (setup : Setup) (records : S → Records) (old new : Standing S) (inputs : List Input) (outputs : List Outputs)
+module _ {S : Type 0} (setup : Setup) (old new : Standing S) (inputs : List Input) (outputs : List Outputs)
     (at : IsAt setup old inputs outputs) where
   abbrev k : Kept
   k = kept_of old.kept
@@ -79,7 +79,7 @@ module _ {S : Type 0} (setup : Setup) (records : S → Records) (old new : Stand
   may_then input may =
       subst (λ (s : Setup). MayCome s kept_now input) at.setup_is (subst (λ (kept : Kept). MayCome old.kept.setup kept input) at.kept may)
 
-  takes : (input : Given) (sent : Sent) → Happens records old (Takes input sent) new →
+  takes : (input : Given) (sent : Sent) → Happens old (Takes input sent) new →
       IsAt setup new (inputs_by old.kept.setup k (Takes input sent) ++ inputs) (given_by (Takes input sent) ++ outputs)
   takes input sent happens =
       let given = input_of old.kept.setup k input in
@@ -105,12 +105,12 @@ module _ {S : Type 0} (setup : Setup) (records : S → Records) (old new : Stand
       let same : k.incarnation ≡ kept_now.incarnation = ap (λ (kept : Kept). kept.incarnation) at.kept in
       subst (λ (n : ℕ). n + lost < 9999) same within
 
-  starts : (lost : ℕ) → Happens records old (Starts lost) new →
+  starts : (lost : ℕ) → Happens old (Starts lost) new →
       IsAt setup new (inputs_by old.kept.setup k (Starts lost) ++ inputs) (given_by (Starts lost) ++ outputs)
   starts lost happens =
       let started = happens.1 in
       let restarted_so : kept_of new.kept ≡ (stepped old.kept.setup k (Restart lost)).kept =
-      as_restarted old.kept.setup k (records old.store) lost new started.life happens.0.lists happens.0.saved started.opened in
+      as_restarted old.kept.setup k k.records lost new started.life happens.0.lists (record { each = λ slot. refl }) started.opened in
       record {
         setup_is = started.opened.setup ∙ at.setup_is;
         kept = restarted_so ∙ ap (λ (step : Stepped). step.kept) (stepped_so (Restart lost));
@@ -128,24 +128,22 @@ module _ {S : Type 0} (setup : Setup) (records : S → Records) (old new : Stand
       by_up false = refl
 
   -- what is stored kept_now is what a stop leaves
-  saved_then : (packet : Packet) (behind : Bool) → AreSame (records old.store) k.records →
-      AreSame (stored_after records old packet behind) (stopped old.kept.setup k (packet_of packet) behind).records
-  saved_then packet false saved = record { each = saved.each }
-  saved_then packet true saved = record { each = λ slot. ap (λ (rs : Records). rs slot) (saved_so old.kept.setup k (packet_of packet)) }
+  saved_then : (packet : Packet) (behind : Bool) →
+      AreSame (stored_after old packet behind) (stopped old.kept.setup k (packet_of packet) behind).records
+  saved_then packet false = record { each = λ slot. refl }
+  saved_then packet true = record { each = λ slot. ap (λ (rs : Records). rs slot) (saved_so old.kept.setup k (packet_of packet)) }
 
-  stops : (packet : Packet) (behind : Bool) (lost : ℕ) → Happens records old (Stops packet behind lost) new →
+  stops : (packet : Packet) (behind : Bool) (lost : ℕ) → Happens old (Stops packet behind lost) new →
       IsAt setup new (inputs_by old.kept.setup k (Stops packet behind lost) ++ inputs) (given_by (Stops packet behind lost) ++ outputs)
   stops packet behind lost happens =
       let down = stopped old.kept.setup k (packet_of packet) behind in
       let still = stop_lists old.kept.setup k (packet_of packet) behind happens.0.lists in
       let crashed : down ≡ (stepped setup kept_now (Crash (packet_of packet) behind)).kept =
       crash_is old.kept.setup k (packet_of packet) behind refl ∙ ap (λ (step : Stepped). step.kept) (stepped_so (Crash (packet_of packet) behind)) in
-      let same : AreSame happens.2.0 down.records =
-      record { each = λ slot. happens.2.1.each slot ∙ (saved_then packet behind happens.0.saved).each slot } in
-      let started = happens.2.2 in
+      let started = happens.2 in
       let restarted_so : kept_of new.kept ≡ (stepped old.kept.setup down (Restart lost)).kept =
-      as_restarted old.kept.setup down happens.2.0 lost new started.life still.lists same
-      (subst (λ (n : ℕ). HasOpened old.kept.setup happens.2.0 (suc (n + lost)) new started.life) (sym still.life) started.opened) in
+      as_restarted old.kept.setup down (stored_after old packet behind) lost new started.life still.lists (saved_then packet behind)
+      (subst (λ (n : ℕ). HasOpened old.kept.setup (stored_after old packet behind) (suc (n + lost)) new started.life) (sym still.life) started.opened) in
       record {
         setup_is = started.opened.setup ∙ at.setup_is;
         kept = restarted_so ∙ (λ i. (stepped (at.setup_is i) (crashed i) (Restart lost)).kept);
@@ -158,7 +156,7 @@ module _ {S : Type 0} (setup : Setup) (records : S → Records) (old new : Stand
         );
       }
 
-  happened : (event : Event) → Happens records old event new →
+  happened : (event : Event) → Happens old event new →
       IsAt setup new (inputs_by old.kept.setup k event ++ inputs) (given_by event ++ outputs)
   happened (Takes input sent) happens = takes input sent happens
   happened (Starts lost) happens = starts lost happens
@@ -166,17 +164,17 @@ module _ {S : Type 0} (setup : Setup) (records : S → Records) (old new : Stand
 
 -- ---- whole runs
 
-run_so : {S : Type 0} (setup : Setup) (records : S → Records) (first : Standing S) → OpensNew setup first → (events : List (Event × Standing S)) →
-    IsRun records first events → IsAt setup (last_in first events) (inputs_in first events) (given_in events)
-run_so setup records first opens [] run =
+run_so : {S : Type 0} (setup : Setup) (first : Standing S) → OpensNew setup first → (events : List (Event × Standing S)) →
+    IsRun first events → IsAt setup (last_in first events) (inputs_in first events) (given_in events)
+run_so setup first opens [] run =
     record { setup_is = opens.opened.setup; kept = opened_so setup first opens; given = refl; may = tt }
-run_so setup records first opens (newest ∷ older) run =
-    happened setup records (last_in first older) newest.1 (inputs_in first older) (given_in older) (run_so setup records first opens older run.1) newest.0 run.0
+run_so setup first opens (newest ∷ older) run =
+    happened setup (last_in first older) newest.1 (inputs_in first older) (given_in older) (run_so setup first opens older run.1) newest.0 run.0
 
-pub one_actor : {S : Type 0} (records : S → Records) (setup : Setup) → IsOneOf setup → (first : Standing S) → OpensNew setup first →
-    (events : List (Event × Standing S)) → IsRun records first events → IsRunOfOne setup first events
-one_actor records setup one first opens events run =
-    let at = run_so setup records first opens events run in
+pub one_actor : {S : Type 0} (setup : Setup) → IsOneOf setup → (first : Standing S) → OpensNew setup first →
+    (events : List (Event × Standing S)) → IsRun first events → IsRunOfOne setup first events
+one_actor setup one first opens events run =
+    let at = run_so setup first opens events run in
     record {
       kept = at.kept;
       given = at.given;

@@ -11,7 +11,7 @@ use Rattle.node_model.specs.Outputs.{nothing}
 use Rattle.node_model.specs.Stepped.{opened_new, stepped}
 use Rattle.node_laws.specs.Runs.{MayCome, RunsAs, kept_after, kept_outputs}
 use Rattle.node_laws.specs.Steps.{IsWellMade}
-use Rattle.stable_store.specs.Stored.{AreSame}
+use Rattle.stable_store.specs.Stored.{AreSame, Stored}
 use Rattle.synod_acceptor.specs.Packets.{packet_of}
 use Rattle.synod_acceptor.specs.declared.packet.Packet.{Packet}
 use Rattle.delivery.specs.Kept.{outcome_kept}
@@ -24,7 +24,7 @@ use Rattle.node_core.specs.Keeping.{kept_of}
 use Rattle.node_core.specs.Listing.{ListsRecorded}
 use Rattle.node_core.specs.Steps.{input_of, outputs_of}
 use Rattle.node_core.specs.declared.life.Life.{Life}
-use Rattle.node_core.specs.Nodes.{HasOpened, HasStopped, HasTaken, IsUnmoved, Seen, Standing}
+use Rattle.node_core.specs.Nodes.{HasOpened, HasStopped, HasTaken, IsUnmoved, OpensOver, Seen, Standing, seen}
 use Rattle.node_core.specs.Restarts.{next_life}
 
 -- the last incarnation that there is
@@ -52,11 +52,10 @@ IsSound (given.Tick moment up) = Unit {0}
 abbrev pub may_come_to : {S : Type 0} → Standing S → Given → Type 0
 may_come_to node input = MayCome node.kept.setup (kept_of node.kept) (input_of node.kept.setup (kept_of node.kept) input)
 
--- A node that is not Broken: its messages are those of which it has a record, and each record is saved.
-pub record IsWorking {S : Type 0} (records : S → Records) (node : Standing S) : Type 0 where
+-- A node that is not Broken: its messages are those of which it has a record.
+pub record IsWorking {S : Type 0} (node : Standing S) : Type 0 where
   pub works : node.broken ≡ false
   pub lists : ListsRecorded (kept_of node.kept)
-  pub saved : AreSame (records node.store) (kept_of node.kept).records
 
 -- it opened over these records, in an incarnation that there is
 pub record HasStarted {S : Type 0} (stored : Records) (old : Standing S) (lost : ℕ) (new : Standing S) : Type 0 where
@@ -65,17 +64,15 @@ pub record HasStarted {S : Type 0} (stored : Records) (old : Standing S) (lost :
   pub opened : HasOpened old.kept.setup stored (next_life (kept_of old.kept) lost) new life
 
 -- what is stored after a stop in the save of a packet's step
-abbrev pub stored_after : {S : Type 0} → (S → Records) → Standing S → Packet → Bool → Records
-stored_after records old packet behind =
+abbrev pub stored_after : {S : Type 0} → Standing S → Packet → Bool → Records
+stored_after old packet behind =
     if behind then (stepped old.kept.setup (kept_of old.kept) (input_of old.kept.setup (kept_of old.kept) (given.Packet packet))).kept.records
-    else records old.store
+    else (kept_of old.kept).records
 
-abbrev pub Happens : {S : Type 0} → (S → Records) → Standing S → Event → Standing S → Type 0
-Happens records old (Takes input outputs) new = may_come_to old input × HasTaken old input new outputs
-Happens records old (Starts lost) new = IsWorking records old × HasStarted (records old.store) old lost new
-Happens records old (Stops packet behind lost) new =
-    IsWorking records old × IsWellMade (packet_of packet) ×
-    ((stored : Records) × AreSame stored (stored_after records old packet behind) × HasStarted stored old lost new)
+abbrev pub Happens : {S : Type 0} → Standing S → Event → Standing S → Type 0
+Happens old (Takes input outputs) new = may_come_to old input × HasTaken old input new outputs
+Happens old (Starts lost) new = IsWorking old × HasStarted (kept_of old.kept).records old lost new
+Happens old (Stops packet behind lost) new = IsWorking old × IsWellMade (packet_of packet) × HasStarted (stored_after old packet behind) old lost new
 
 -- the node did not take a step: its store failed in the save, or nothing changed
 abbrev pub IsLeftBy : StepFault → Seen → Given → Seen → Type 0
@@ -92,9 +89,9 @@ abbrev pub last_in : {S : Type 0} → Standing S → List (Event × Standing S) 
 last_in first [] = first
 last_in first (newest ∷ older) = newest.1
 
-abbrev pub IsRun : {S : Type 0} → (S → Records) → Standing S → List (Event × Standing S) → Type 0
-IsRun records first [] = Unit {0}
-IsRun records first (newest ∷ older) = Happens records (last_in first older) newest.0 newest.1 × IsRun records first older
+abbrev pub IsRun : {S : Type 0} → Standing S → List (Event × Standing S) → Type 0
+IsRun first [] = Unit {0}
+IsRun first (newest ∷ older) = Happens (last_in first older) newest.0 newest.1 × IsRun first older
 
 -- it opened with a new store
 pub record OpensNew {S : Type 0} (setup : Setup) (node : Standing S) : Type 0 where
@@ -130,3 +127,45 @@ pub record IsRunOfOne {S : Type 0} (setup : Setup) (first : Standing S) (events 
   pub kept : kept_of (last_in first events).kept ≡ kept_after setup (opened_new setup) (inputs_in first events)
   pub given : given_in events ≡ kept_outputs setup (opened_new setup) (inputs_in first events)
   pub runs : RunsAs setup (opened_new setup) (node_new setup.first_serial) (inputs_in first events)
+
+-- ---- what the code does, as an event
+
+-- it worked, and so much is known of its last incarnation and of the next one
+pub record IsNext {S : Type 0} (old : Standing S) (lost : ℕ) (new : Standing S) : Type 0 where
+  pub lists : ListsRecorded (kept_of old.kept)
+  pub works : old.broken ≡ false
+  pub next : new.kept.incarnation ≡ next_life (kept_of old.kept) lost
+  pub within : new.kept.incarnation ≤ last_incarnation
+
+-- A node that works, and one that opened over its store, or over one in which that is found which was in it: it started anew.
+abbrev pub StartsAsOpened : {S : Type 0} → (S → Stored) → Type 0
+StartsAsOpened {S} stored =
+    (old new : Standing S) (before : S) (life : Life) (lost : ℕ)
+    → IsNext old lost new
+    → (stored old.store).holds (kept_of old.kept).records
+    → ((left : Records) → (stored before).may_hold left → (stored old.store).may_hold left)
+    → OpensOver (stored before) old.kept.setup (stored new.store) new life
+    → (stored new.store).doubt ≡ 0
+    → Happens old (Starts lost) new
+
+-- The same of a node that stopped in the save of a packet's step: it stopped there, before the save or after it, and started anew.
+abbrev pub StopsAsOpened : {S : Type 0} → (S → Stored) → Type 0
+StopsAsOpened {S} stored =
+    (old halted new : Standing S) (before : S) (packet : Packet) (life : Life) (lost : ℕ)
+    → IsNext old lost new
+    → IsWellMade (packet_of packet)
+    → HasStopped (seen stored old) (given.Packet packet) (seen stored halted)
+    → ((left : Records) → (stored before).may_hold left → (stored halted.store).may_hold left)
+    → OpensOver (stored before) old.kept.setup (stored new.store) new life
+    → (stored new.store).doubt ≡ 0
+    → (behind : Bool) × Happens old (Stops packet behind lost) new
+
+-- A run, an event after it, and a run that goes on from there are one run: so a node that opens over a store which an earlier run left is a part of
+-- that run.
+abbrev pub AreOneRun : Type 0 → Type 0
+AreOneRun S =
+    (first again : Standing S) (earlier later : List (Event × Standing S)) (event : Event)
+    → IsRun first earlier
+    → Happens (last_in first earlier) event again
+    → IsRun again later
+    → IsRun first (later ++ (event, again) ∷ earlier)

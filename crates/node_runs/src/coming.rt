@@ -21,10 +21,10 @@ use synod_acceptor::Packet;
 /// Grant and NotGranted exactly as `Node::prepare_step` says. These and Memory change nothing; at Device the change is saved or not, and the node is
 /// Broken.
 pub fn take<S: StableStore>(node: &mut Node<S>, input: Input) -> Result<Outputs, StepFault>
-    ensures ok { IfOk result (λ outputs. Happens S.records node.old (Takes input outputs) node.new) }
+    ensures ok { IfOk result (λ outputs. Happens node.old (Takes input outputs) node.new) }
     ensures broken { IsErrOf result Broken ↔ (node.old.broken ≡ true) }
     ensures faults { IfErr result (λ fault. ((fault ≡ Device) × (fault_in node.old input ≡ None)) ⊎ IsFault (fault_in node.old input) fault) }
-    ensures left { IfErr result (λ fault. IsLeftBy fault (seen S.records S.started node.old) input (seen S.records S.started node.new)) }
+    ensures left { IfErr result (λ fault. IsLeftBy fault (seen S.stored node.old) input (seen S.stored node.new)) }
 {
     may_come(node, &input);
     let pending = node.prepare_step(input)?;

@@ -5,4 +5,4 @@ mod coming;
 mod laws;
 
 pub use coming::{is_well_made, may_come, take};
-pub use laws::a_node_is_one_actor;
+pub use laws::{a_node_goes_on, a_node_is_one_actor, a_start_happens, a_stop_happens};

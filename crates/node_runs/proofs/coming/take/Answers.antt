@@ -10,8 +10,7 @@ returns-clause-faults g c =
 
 pub returns-clause-left : goal.returns-clause-left
 returns-clause-left g c =
-    let records = g.S.StableStore.records in
-    let started = g.S.StableStore.started in
+    let stored = g.S.StableStore.stored in
     take_left c.commit.result _ _ c.args.input c.commit.ensures.faults c.commit.ensures.stays c.commit.ensures.memory
-    (λ failed. subst (λ (came : Input). HasStopped (seen records started c.args.node.now) came (seen records started c.commit.new.self))
+    (λ failed. subst (λ (came : Input). HasStopped (seen stored c.args.node.now) came (seen stored c.commit.new.self))
     c.in_ok-pending.ensures.ok.given (c.commit.ensures.device failed))

@@ -1,9 +1,16 @@
-use Rattle.std.proofs.Common.{rules, ◌≡◌, refl, sym, ap, subst, ◌∙◌, true, false}
+use Rattle.std.proofs.Common.{rules, ◌≡◌, refl, sym, ap, subst, ◌∙◌, Bool, true, false}
 use Rattle.std.proofs.lemmas.Bool.{true≢false}
-use Rattle.node_core.specs.Nodes.{HasStopped, HasTaken, Standing, seen}
+use Rattle.mc_model.specs.node.Setup.{Setup}
+use Rattle.node_model.specs.Kept.{Kept}
+use Rattle.node_parts.specs.declared.input.Input.{Input}
+use Rattle.node_kept.specs.declared.kept.Kept.{Kept as Holding}
+use Rattle.node_kept.specs.Idling.{IsQuiet, IsQuietFor}
+use Rattle.node_kept.specs.Keeping.{kept_of}
+use Rattle.node_core.specs.Nodes.{HasStopped, HasTaken, IsStored, IsUnmoved, Standing, seen}
 use Rattle.node_core.specs.Pendings.{Awaited}
 use Rattle.node_core.proofs.Committing.{taken}
 use Rattle.node_core.proofs.Stopping.{cut}
+use Rattle.node_core.proofs.Storing.{stored_once}
 use Rattle.node_core.proofs.Unsaved.{saved_for}
 use Rattle.node_core.proofs.node.Node.commit.Goals as goal
 
@@ -32,14 +39,14 @@ returns-in-Ok-clause-ok g c =
 
 pub invariant_of-self-in-Err-Device : goal.invariant_of-self-in-Err-Device
 invariant_of-self-in-Err-Device g c =
-    let records = g.S.StableStore.records in
+    let stored = g.S.StableStore.stored in
     let works : c.self.inside.broken ≡ false = search rules in
     let kept : c.pending.inside.was.value ≡ c.self.inside.kept =
     ap (λ (p : Awaited). p.was) c.pending.view_is ∙ c.requires ∙ sym (ap (λ (n : Standing g.row.S.Denot). n.kept) c.self.view_is) in
     let is = cut c.self.inside.kept c.pending.inside.was.value c.args.pending.input c.pending.inside.given.value
     c.pending.inside.foreseen.step c.pending.inside.packet
-    (records c.self.inside.store) (records c.save.new.store) kept (ap (λ (p : Awaited). p.input) c.pending.view_is) c.pending.invariant.prepared
-    (c.self.invariant.0.saved works) c.in-Err-Device.ensures.change c.in-Err-Device.ensures.device in (
+    (stored c.self.inside.store) (stored c.save.new.store) kept (ap (λ (p : Awaited). p.input) c.pending.view_is) c.pending.invariant.prepared
+    (c.self.invariant.0.saved works) (g.S.StableStore.settled c.self.inside.store) c.in-Err-Device.ensures.change c.save.ensures.left in (
       record {
         saved = λ works. absurd (true≢false works);
         own = c.self.invariant.0.own;
@@ -51,8 +58,7 @@ invariant_of-self-in-Err-Device g c =
 
 pub returns-in-Err-Device-clause-device : goal.returns-in-Err-Device-clause-device
 returns-in-Err-Device-clause-device g c = λ device.
-    let records = g.S.StableStore.records in
-    let started = g.S.StableStore.started in
+    let stored = g.S.StableStore.stored in
     let new : Standing g.row.S.Denot = record {
       kept = c.self.inside.kept;
       broken = true;
@@ -65,14 +71,14 @@ returns-in-Err-Device-clause-device g c = λ device.
     ap (λ (p : Awaited). p.was) c.pending.view_is ∙ c.requires ∙ sym (ap (λ (n : Standing g.row.S.Denot). n.kept) c.self.view_is) in
     let is = cut c.self.inside.kept c.pending.inside.was.value c.args.pending.input c.pending.inside.given.value
     c.pending.inside.foreseen.step c.pending.inside.packet
-    (records c.self.inside.store) (records c.save.new.store) kept (ap (λ (p : Awaited). p.input) c.pending.view_is) c.pending.invariant.prepared
-    (c.self.invariant.0.saved works) c.in-Err-Device.ensures.change c.in-Err-Device.ensures.device in
-    subst (λ (old : Standing g.row.S.Denot). HasStopped (seen records started old) c.args.pending.input (seen records started new)) c.self.view_is
+    (stored c.self.inside.store) (stored c.save.new.store) kept (ap (λ (p : Awaited). p.input) c.pending.view_is) c.pending.invariant.prepared
+    (c.self.invariant.0.saved works) (g.S.StableStore.settled c.self.inside.store) c.in-Err-Device.ensures.change c.save.ensures.left in
+    subst (λ (old : Standing g.row.S.Denot). HasStopped (seen stored old) c.args.pending.input (seen stored new)) c.self.view_is
     (record {
       kept = refl;
       broken = refl;
-      stored = is.left;
-      started = c.save.ensures.started;
+      found = is.found;
+      started = c.save.ensures.left.started;
       packet = is.packet;
       came = is.came;
       unfinished = is.is;
@@ -83,7 +89,17 @@ pub returns-clause-broken : goal.returns-clause-broken
 returns-clause-broken g c = search rules
 
 pub returns-clause-memory : goal.returns-clause-memory
-returns-clause-memory g c = search rules
+returns-clause-memory g c = λ wanted.
+    let stored = g.S.StableStore.stored in
+    let new : Standing g.row.S.Denot = record {
+      kept = c.self.inside.kept;
+      broken = c.self.inside.broken;
+      store = c.save.new.store;
+      unfinished = c.self.inside.unfinished;
+      stopped = c.self.inside.stopped;
+    } in
+    subst (λ (old : Standing g.row.S.Denot). IsUnmoved (seen stored old) (seen stored new)) c.self.view_is
+    (record { kept = refl; broken = refl; stored = c.in-Err.ensures.memory (search rules); unfinished = refl; stopped = refl })
 
 pub returns-clause-device : goal.returns-clause-device
 returns-clause-device g c = search rules
@@ -92,3 +108,43 @@ pub returns-clause-wants : goal.returns-clause-wants
 returns-clause-wants g c = λ wanted.
     saved_for c.pending.inside.was.value c.args.pending.input c.pending.inside.given.value c.pending.inside.foreseen.step c.pending.inside.packet
     (ap (λ (p : Awaited). p.input) c.pending.view_is) c.pending.invariant.prepared c.in-Err.ensures.change
+
+pub returns-clause-stays : goal.returns-clause-stays
+returns-clause-stays g c = λ broken. absurd (search rules)
+
+pub invariant_of-self : goal.invariant_of-self
+invariant_of-self g c =
+    let stored = g.S.StableStore.stored in
+    let new : Standing g.row.S.Denot = record {
+      kept = c.install.new.self;
+      broken = c.self.inside.broken;
+      store = c.save.new.store;
+      unfinished = c.self.inside.unfinished;
+      stopped = c.self.inside.stopped;
+    } in
+    let before : Standing g.row.S.Denot = record {
+      kept = c.self.inside.kept;
+      broken = c.self.inside.broken;
+      store = c.self.inside.store;
+      unfinished = c.self.inside.unfinished;
+      stopped = c.self.inside.stopped;
+    } in
+    let works : c.self.inside.broken ≡ false = search rules in
+    let kept : c.pending.inside.was.value ≡ c.self.inside.kept =
+    ap (λ (p : Awaited). p.was) c.pending.view_is ∙ c.requires ∙ sym (ap (λ (n : Standing g.row.S.Denot). n.kept) c.self.view_is) in
+    let input : c.pending.inside.given.value ≡ c.args.pending.input = ap (λ (p : Awaited). p.input) c.pending.view_is in
+    let once : IsStored false (stored c.save.new.store) c.self.inside.unfinished c.install.new.self =
+    stored_once c.self.inside.kept c.pending.inside.was.value c.install.new.self c.args.pending.input c.pending.inside.given.value
+    c.pending.inside.foreseen.step c.pending.inside.packet c.self.inside.unfinished (stored c.self.inside.store) (stored c.save.new.store) kept input
+    c.pending.invariant.prepared c.install.ensures c.in-Ok.ensures.ok (g.S.StableStore.settled c.save.new.store)
+    (subst (λ (b : Bool). IsStored b (stored c.self.inside.store) c.self.inside.unfinished c.self.inside.kept) works c.self.invariant.0) in
+    let is : HasTaken before c.args.pending.input new c.pending.inside.foreseen.step.outputs =
+    taken before new c.pending.inside.was.value c.args.pending.input c.pending.inside.given.value c.pending.inside.foreseen.step kept input
+    c.pending.invariant.prepared.is c.install.ensures works refl refl in
+    let quiet : IsQuietFor c.self.inside.kept c.args.pending.input c.pending.inside.foreseen.idle =
+    subst (λ (i : Input). IsQuietFor c.self.inside.kept i c.pending.inside.foreseen.idle) input
+    (subst (λ (k : Holding). IsQuietFor k c.pending.inside.given.value c.pending.inside.foreseen.idle) kept c.pending.invariant.quiet) in (
+      subst (λ (b : Bool). IsStored b (stored c.save.new.store) c.self.inside.unfinished c.install.new.self) (sym works) once,
+      subst (λ (s : Setup). IsQuiet s (kept_of c.install.new.self) c.pending.inside.foreseen.idle) (sym is.setup)
+          (subst (λ (m : Kept). IsQuiet c.self.inside.kept.setup m c.pending.inside.foreseen.idle) (sym is.kept) quiet),
+    )
