@@ -33,8 +33,8 @@ starts_as_opened stored settled old new before life lost next holds leaves over 
 pub stops_as_opened : {S : Type 0} (stored : S → Stored) → StopsAsOpened stored
 stops_as_opened stored old halted new before packet life lost next well has_stopped leaves over doubt =
     elim (has_stopped.found (records_in new.kept) (leaves (records_in new.kept) (over.found.found doubt))) [
-      | inl was ↦ (false, working old new lost next, well, started old new life lost _ next over.opened was)
-      | inr done ↦ (true, working old new lost next, well, started old new life lost _ next over.opened done)
+      | inl was ↦ (false, (working old new lost next, well, started old new life lost _ next over.opened was))
+      | inr done ↦ (true, (working old new lost next, well, started old new life lost _ next over.opened done))
     ]
 
 -- ---- two runs that are one

@@ -68,6 +68,15 @@ has_place id decrees permitted = let short : length decrees ≤ 18 = most_decree
 
 -- ---- a step that is not taken
 
+pub unmoved : (s : Seen) → IsUnmoved s s
+unmoved s = record {
+  kept = refl;
+  broken = refl;
+  stored = record { records = λ records held. held; started = λ started has. has };
+  unfinished = refl;
+  stopped = refl;
+}
+
 pub take_faults : {A : Type 0} (result : Result A StepFault) (broken : Bool) (other : Option StepFault) → IsErrOf result faults.Broken ↔ (broken ≡ true) →
     other ≡ None → IfErr result (λ fault. (fault ≡ faults.Broken) ⊎ (fault ≡ faults.Device) ⊎ (fault ≡ faults.Memory)) →
     IfErr result (λ fault. ((fault ≡ faults.Device) × ((if broken then Some faults.Broken else other) ≡ None)) ⊎

@@ -7,3 +7,4 @@ pub mod Answering
 pub mod Ending
 pub mod Starting
 pub mod Restarting
+pub mod Committing
