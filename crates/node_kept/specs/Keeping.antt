@@ -11,8 +11,7 @@ use Rattle.node_model.specs.Recorded.{AreRecorded}
 use Rattle.requests.specs.Waiting.{held_in}
 use Rattle.shelf.specs.Shelved.{value_at}
 use Rattle.synod_acceptor.specs.Records.{record_at}
-use Rattle.synod_acceptor.specs.Votes.{record_of, slot_recorded}
-use Rattle.synod_acceptor.specs.declared.record.Record.{Record}
+use Rattle.synod_acceptor.specs.Votes.{Record, record_of, slot_recorded}
 use Rattle.node_parts.specs.declared.message.Message.{Message as Filed}
 use Rattle.node_parts.specs.Messages.{IsOf, message_of}
 use Rattle.node_kept.specs.declared.kept.Kept.{Kept as Holding}

@@ -12,7 +12,7 @@ ghost use Rattle.node_kept.specs.Finding.{HasSaved, IsFound};
 
 use crate::kept::Kept;
 use mc_types::{Ballot, Slot};
-use synod_acceptor::{Packet, Record, Report, Vote};
+use synod_acceptor::{Packet, Record, Vote};
 
 /// What is stored after a save that failed: what was stored before it, or what it was to store.
 #[derive(Clone, Copy, Debug, PartialEq, Eq)]
@@ -55,7 +55,7 @@ impl Kept {
         ensures { IsTrue result ↔ ((records_of self.now.messages.entries slot).promised ≡ ballot) }
     {
         match self.record(slot) {
-            Some(record) => record.promised == ballot,
+            Some(record) => record.promised() == ballot,
             None => false,
         }
     }
@@ -65,7 +65,7 @@ impl Kept {
         ensures { IsTrue result ↔ (records_of self.now.messages.entries (slot_in vote.now) ≡ after_vote (vote_of vote.now)) }
     {
         match self.record(vote.slot()) {
-            Some(record) => is_left_by(record, vote),
+            Some(record) => record.is_left_by(vote),
             None => false,
         }
     }
@@ -76,15 +76,5 @@ impl Kept {
         ensures slot { IfSome (option_copied result) (λ kept. slot_recorded kept ≡ slot) }
     {
         self.find(slot.id)?.record(slot)
-    }
-}
-
-/// Whether it is the record that this vote leaves.
-fn is_left_by(kept: &Record, vote: &Vote) -> bool
-    ensures { slot_recorded kept.now ≡ slot_in vote.now → IsTrue result ↔ (record_of kept.now ≡ after_vote (vote_of vote.now)) }
-{
-    match &kept.report {
-        Report::Nothing(_) => false,
-        Report::Held(held) => kept.promised == vote.ballot && held.is(vote),
     }
 }

@@ -179,7 +179,7 @@ impl Message {
             place: chain.place(),
         };
         let own = match self.acceptor.record(slot) {
-            Some(record) => record.promised.round(),
+            Some(record) => record.promised().round(),
             None => 0,
         };
         self.proposer.start(chain, own).ok()

@@ -8,8 +8,7 @@ use Rattle.std.proofs.lemmas.Bool.{and_from, cases_Bool, eq-eqb, true≢false}
 use Rattle.mc_model.specs.synod.Packet.{Slot, same_slot}
 use Rattle.mc_model.specs.synod.Acceptor.{SlotRecord, with_record}
 use Rattle.mc_parts.proofs.Membership.{slots_same}
-use Rattle.synod_acceptor.specs.declared.record.Record.{Record}
-use Rattle.synod_acceptor.specs.Votes.{record_of, slot_recorded}
+use Rattle.synod_acceptor.specs.Votes.{Record, record_of, slot_recorded}
 use Rattle.synod_acceptor.specs.Records.{entries_of, entry_of, held_at, or_blank, record_at, AreApart, IsFoundAt, IsPlace}
 
 pub is_same : (a b : Slot) → a ≡ b → same_slot a b ≡ true

@@ -6,10 +6,9 @@ use Rattle.mc_model.specs.synod.OneSlot.{Vote}
 use Rattle.mc_model.specs.synod.Packet.{Slot, TopVote, slot_at, top_at}
 use Rattle.mc_model.specs.synod.Acceptor.{SlotRecord, IsTold}
 use Rattle.mc_parts.proofs.Membership.{in_right, in_left, in_two}
-use Rattle.synod_acceptor.specs.declared.record.Record.{Record}
+use Rattle.synod_acceptor.specs.Votes.{Record, slot_in, told_vote, vote_of}
 use Rattle.synod_acceptor.specs.declared.vote.Vote.{Vote as Cast}
 use Rattle.synod_acceptor.specs.declared.vote.Report.TheVariants.{Nothing, Held}
-use Rattle.synod_acceptor.specs.Votes.{slot_in, told_vote, vote_of}
 use Rattle.synod_acceptor.specs.Records.{entries_of, entry_of, held_at, or_blank, record_at, AreApart, IsAbove, IsTopEntry, IsTopOf, Passes}
 use Rattle.synod_acceptor.proofs.Slots.{by_first, held_first, held_later}
 

@@ -5,8 +5,7 @@ use Rattle.mc_model.specs.synod.OneSlot.{Vote}
 use Rattle.mc_model.specs.synod.Packet.{Slot, TopVote, same_slot, slot_at}
 use Rattle.mc_model.specs.synod.Acceptor.{SlotRecord, blank}
 use Rattle.node_model.specs.Acceptor.{ArePlaced}
-use Rattle.synod_acceptor.specs.Votes.{record_of, report_of, slot_in, slot_recorded, slot_reported}
-use Rattle.synod_acceptor.specs.declared.record.Record.{Record}
+use Rattle.synod_acceptor.specs.Votes.{Record, record_of, report_of, slot_in, slot_recorded, slot_reported}
 use Rattle.synod_acceptor.specs.declared.vote.Report.{Report}
 use Rattle.synod_acceptor.specs.declared.vote.Vote.{Vote as Cast}
 

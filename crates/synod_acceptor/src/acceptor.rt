@@ -98,13 +98,14 @@ impl Acceptor {
         ensures votes { OnErr result (IsSome (record_at self.now slot).vote) }
     {
         let Some(record) = self.record(slot) else {
-            return Ok(promise(node, ballot, Report::Nothing(slot), Report::Nothing(slot)));
+            let after = Record::without_vote(ballot, slot);
+            return Ok(promise(node, Report::Nothing(slot), after));
         };
-        if ballot <= record.promised {
-            return Ok(refusal(node, slot, ballot, record.promised));
+        if ballot <= record.promised() {
+            return Ok(refusal(node, slot, ballot, record.promised()));
         }
-        let reported = record.report.copy()?;
-        Ok(promise(node, ballot, reported, record.report.copy()?))
+        let reported = record.report().copy()?;
+        Ok(promise(node, reported, record.promising(ballot)?))
     }
 
     /// What the node of this number answers to a Propose: its vote, if the ballot is not below the one promised; else a
@@ -120,8 +121,8 @@ impl Acceptor {
         let Some(record) = self.record(vote.slot()) else {
             return voted(node, vote);
         };
-        if vote.ballot < record.promised {
-            return Ok(refusal(node, vote.slot(), vote.ballot, record.promised));
+        if vote.ballot < record.promised() {
+            return Ok(refusal(node, vote.slot(), vote.ballot, record.promised()));
         }
         if record.is_left_by(vote) {
             return voted_before(node, vote);
@@ -182,7 +183,7 @@ fn top_of(records: &[Record], id: MsgId) -> Option<&Vote>
 {
     let mut top = None;
     for record in records {
-        top = higher(&record.report, id, top);
+        top = higher(record.report(), id, top);
     }
     top
 }
@@ -213,23 +214,18 @@ fn is_above(vote: &Vote, other: Option<&Vote>) -> bool
     }
 }
 
-/// A promise, and the record that it leaves. Both reports are the same.
-fn promise(node: NodeNo, ballot: Ballot, told: Report, kept: Report) -> Verdict
-    ensures answer { result.answer ≡ sent.Promise node ballot told }
-    ensures change { result.change ≡ Some (record { after = record { promised = ballot; report = kept } }) }
+/// A promise at the ballot of the record that it leaves, with a report.
+fn promise(node: NodeNo, told: Report, after: Record) -> Verdict
+    ensures answer { result.answer ≡ sent.Promise node after.promised told }
+    ensures change { result.change ≡ Some (record { after = after }) }
 {
     Verdict {
         answer: Packet::Promise {
             from: node,
-            ballot,
+            ballot: after.promised(),
             report: told,
         },
-        change: Some(Change {
-            after: Record {
-                promised: ballot,
-                report: kept,
-            },
-        }),
+        change: Some(Change { after }),
     }
 }
 
@@ -256,10 +252,7 @@ fn voted(node: NodeNo, vote: &Vote) -> Result<Verdict, AllocError>
       after = record { promised = vote.now.ballot; report = reports.Held vote.now };
     })) }
 {
-    let after = Record {
-        promised: vote.ballot,
-        report: Report::Held(vote.copy()?),
-    };
+    let after = Record::left_by(vote.copy()?);
     Ok(Verdict {
         answer: Packet::Voted {
             from: node,

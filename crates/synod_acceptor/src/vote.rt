@@ -1,8 +1,8 @@
 //! Votes, and what is reported of them.
 
-ghost use Rattle.std.specs.Prelude.{◌≡◌, ◌<◌, ◌⊎◌, ◌↔◌, None, IfOk, IsSome, IsTrue, OnErr};
+ghost use Rattle.std.specs.Prelude.{◌≡◌, ◌<◌, ◌⊎◌, ◌↔◌, None, false, IfOk, IsSome, IsTrue, OnErr};
 ghost use Rattle.node_model.specs.Message.{most_places};
-ghost use Rattle.synod_acceptor.specs.Votes.{report_of, slot_in, slot_reported};
+ghost use Rattle.synod_acceptor.specs.Votes.{IsInOrder, report_of, slot_in, slot_reported};
 
 use fate_chain::Chain;
 use mc_types::{Ballot, Slot};
@@ -61,6 +61,16 @@ impl Report {
         match self {
             Report::Nothing(slot) => *slot,
             Report::Held(vote) => vote.slot(),
+        }
+    }
+
+    /// Whether a vote is reported, at a ballot above this one.
+    pub(crate) fn is_above(&self, promised: Ballot) -> bool
+        ensures { (result ≡ false) ↔ IsInOrder (record { promised = promised; vote = report_of self.now }) }
+    {
+        match self {
+            Report::Nothing(_) => false,
+            Report::Held(vote) => vote.ballot > promised,
         }
     }
 

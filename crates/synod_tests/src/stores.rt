@@ -8,12 +8,9 @@ use std::process::Abort;
 use synod_acceptor::{Change, Record, Report};
 
 fn change(rt: &impl Abort, alloc: Global, promised: u64) -> Change {
-    Change {
-        after: Record {
-            promised: ballot(rt, promised),
-            report: Report::Held(vote(rt, alloc, 262161)),
-        },
-    }
+    let report = Report::Held(vote(rt, alloc, 262161));
+    let after = Record::make(ballot(rt, promised), report).expect(rt, "a record in order");
+    Change { after }
 }
 
 fn next_incarnation(rt: &impl Abort, store: &mut ListStore) -> u16 {
@@ -57,7 +54,7 @@ fn fault_of<S: StableStore>(
 // How many records are loaded, and which ballot is promised in the first.
 fn loaded<S: StableStore>(rt: &impl Abort, store: &mut S) -> (usize, Option<u64>) {
     let records = store.load().expect(rt, "records");
-    let promised = records.first().map(|record| record.promised.number());
+    let promised = records.first().map(|record| record.promised().number());
     let loaded = (records.len(), promised);
     drop(records);
     loaded

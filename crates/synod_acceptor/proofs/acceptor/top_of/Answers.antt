@@ -8,7 +8,7 @@ use Rattle.synod_acceptor.proofs.acceptor.top_of.Goals as goal
 pub loop-record-preserved : goal.loop-record-preserved
 loop-record-preserved c =
     passes_next c.args.records.now c.loop-record.record-index c.record-item.result c.args.id (told_vote (option_copied c.loop-record.top))
-    (told_vote (option_copied c.higher-top.result)) (omega arith) c.record-item.is c.higher-top.ensures c.loop-record.invariant
+    (told_vote (option_copied c.higher-top.result)) (omega arith) c.record-item.is (rw c.report.ensures at c.higher-top.ensures) c.loop-record.invariant
 
 pub returns : goal.returns
 returns c =

@@ -3,8 +3,7 @@ use Rattle.std.specs.Vec.{vec_len}
 use Rattle.mc_model.specs.synod.Packet.{Slot}
 use Rattle.node_model.specs.Message.{most_places}
 use Rattle.node_model.proofs.Told.{placed_with}
-use Rattle.synod_acceptor.specs.declared.record.Record.{Record}
-use Rattle.synod_acceptor.specs.Votes.{record_of, slot_recorded}
+use Rattle.synod_acceptor.specs.Votes.{Record, record_of, slot_recorded}
 use Rattle.synod_acceptor.specs.Records.{IsFoundAt, entries_of, held_at, record_at}
 use Rattle.synod_acceptor.proofs.Slots.{place_none, place_within, apart_put, records_put, apart_pushed, records_pushed}
 use Rattle.synod_acceptor.proofs.acceptor.Acceptor.apply.Goals as goal
