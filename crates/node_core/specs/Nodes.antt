@@ -6,7 +6,7 @@ use Rattle.mc_model.specs.synod.Acceptor.{Records, blank}
 use Rattle.mc_model.specs.node.Setup.{Setup}
 use Rattle.node_model.specs.Recorded.{AreRecorded}
 use Rattle.node_model.specs.Stepped.{opened_over, stepped}
-use Rattle.stable_store.specs.Stored.{AreSame, HasFailed}
+use Rattle.stable_store.specs.Stored.{AreSame, GoesOn, HasFailed, KeepsRecords, Leaves, LeavesNext, LeavesStarted, Stays, Stored}
 use Rattle.stable_store.specs.declared.fault.StoreFault.{StoreFault}
 use Rattle.stable_store.specs.declared.fault.StoreFault.TheVariants as faults
 use Rattle.synod_acceptor.specs.declared.packet.Packet.{Packet}
@@ -32,54 +32,50 @@ pub record Standing (S : Type 0) : Type 0 where
   pub unfinished : Option Packet
   pub stopped : Option Stopped
 
--- the same with what is stored: the records and the last incarnation
-pub record Seen : Type 0 where
+-- the same with what is stored
+pub record Seen : Type 1 where
   pub kept : Kept
   pub broken : Bool
-  pub stored : Records
-  pub started : ℕ
+  pub stored : Stored
   pub unfinished : Option Packet
   pub stopped : Option Stopped
 
-abbrev pub seen : {S : Type 0} → (S → Records) → (S → ℕ) → Standing S → Seen
-seen records started n = record {
-  kept = n.kept;
-  broken = n.broken;
-  stored = records n.store;
-  started = started n.store;
-  unfinished = n.unfinished;
-  stopped = n.stopped;
-}
+abbrev pub seen : {S : Type 0} → (S → Stored) → Standing S → Seen
+seen stored n = record { kept = n.kept; broken = n.broken; stored = stored n.store; unfinished = n.unfinished; stopped = n.stopped }
+
+-- the records that it keeps
+abbrev pub records_in : Kept → Records
+records_in k = records_of k.messages.entries
 
 -- nothing of it changed
 pub record IsUnmoved (old new : Seen) : Type 0 where
   pub kept : new.kept ≡ old.kept
   pub broken : new.broken ≡ old.broken
-  pub stored : AreSame new.stored old.stored
-  pub started : new.started ≡ old.started
+  pub stored : Stays old.stored new.stored
+  pub left : Leaves old.stored new.stored
   pub unfinished : new.unfinished ≡ old.unfinished
   pub stopped : new.stopped ≡ old.stopped
 
--- The device failed at the save of a step, which is that of a packet: what is stored is what was, or what the step leaves, and the node
--- keeps what it kept. The packet is unfinished.
+-- The device failed at the save of a step, which is that of a packet: whoever opens the store finds what the node keeps, or what the step
+-- leaves. The node keeps what it kept, and the packet is unfinished.
 pub record HasStopped (old : Seen) (input : Input) (new : Seen) : Type 0 where
   pub kept : new.kept ≡ old.kept
   pub broken : new.broken ≡ true
-  pub stored : AreSame new.stored old.stored ⊎ AreSame new.stored
+  pub found : (left : Records) → new.stored.may_hold left → AreSame left (records_in old.kept) ⊎ AreSame left
       (stepped old.kept.setup (kept_of old.kept) (input_of old.kept.setup (kept_of old.kept) input)).kept.records
-  pub started : new.started ≡ old.started
+  pub started : LeavesStarted old.stored new.stored
   pub packet : Packet
   pub came : input ≡ given.Packet packet
   pub unfinished : new.unfinished ≡ Some packet
   pub stopped : new.stopped ≡ old.stopped
 
--- Its messages are its own, and unless a save failed, its records are those that are stored and no packet is unfinished. If one is, what is
--- stored is what it keeps, or what the packet's step leaves.
-pub record IsStored (broken : Bool) (stored : Records) (unfinished : Option Packet) (k : Kept) : Type 0 where
-  pub saved : broken ≡ false → AreSame stored (records_of k.messages.entries)
+-- Its messages are its own, and unless a save failed, its records are those that are stored and no packet is unfinished. Whoever opens its
+-- store finds what it keeps, or what the step of the packet leaves that is unfinished.
+pub record IsStored (broken : Bool) (stored : Stored) (unfinished : Option Packet) (k : Kept) : Type 0 where
+  pub saved : broken ≡ false → stored.holds (records_in k)
   pub own : AreOwn k
   pub finished : broken ≡ false → unfinished ≡ None
-  pub halted : IsUnfinished k stored unfinished
+  pub halted : (left : Records) → stored.may_hold left → IsUnfinished k left unfinished
 
 -- It opened in this incarnation with these records and nothing else; its messages are those of which there is a record, at whatever place.
 pub record HasOpened {S : Type 0} (with : Setup) (records : Records) (starts : ℕ) (node : Standing S) (life : Life) : Type 0 where
@@ -121,19 +117,42 @@ pub record IsLifeOf {S : Type 0} (node : Standing S) (life : Life) : Type 0 wher
   pub node_is : life.node ≡ node.kept.setup.node
   pub start_is : life.incarnation ≡ node.kept.incarnation
 
--- the store's incarnation after a fault of opening: the same, or at Device and Damaged one more
-abbrev pub IsRaised : StoreFault → ℕ → ℕ → Type 0
-IsRaised faults.Device old new = (new ≡ old) ⊎ (new ≡ old + 1)
-IsRaised faults.Damaged old new = (new ≡ old) ⊎ (new ≡ old + 1)
-IsRaised faults.Incarnations old new = new ≡ old
-IsRaised faults.Memory old new = new ≡ old
+-- What it keeps was found in its store: the records, which it holds, and the incarnation after the one that was stored, which is stored now.
+pub record HasFound (old new : Stored) (k : Kept) : Type 0 where
+  pub found : new.doubt ≡ 0 → old.may_hold (records_in k)
+  pub holds : new.holds (records_in k)
+  pub next : (started : ℕ) → new.doubt ≡ 0 → old.has_started started → k.incarnation ≡ started + 1
+  pub started : new.has_started k.incarnation
+  pub kept : KeepsRecords old new
 
--- why a node did not open: the device failed, what is stored is damaged, or all incarnations were used; else for want of memory
-abbrev pub IsCaused : StoreFault → ℕ → ℕ → Bool → ℕ → Type 0
-IsCaused faults.Device before after damaged started = HasFailed before after
-IsCaused faults.Damaged before after damaged started = damaged ≡ true
-IsCaused faults.Incarnations before after damaged started = 9999 ≤ started
-IsCaused faults.Memory before after damaged started = Unit {0}
+-- It opened over a store, with what it found there and nothing else.
+pub record OpensOver {S : Type 0} (old : Stored) (with : Setup) (new : Stored) (node : Standing S) (life : Life) : Type 0 where
+  pub opened : HasOpened with (records_in node.kept) node.kept.incarnation node life
+  pub found : HasFound old new node.kept
+  pub left : LeavesNext old new
+  pub goes_on : GoesOn old new
+
+-- what is stored after a fault of opening: at Incarnations and Memory it is what was
+abbrev pub StaysAt : StoreFault → Stored → Stored → Type 0
+StaysAt faults.Device old new = Unit {0}
+StaysAt faults.Damaged old new = Unit {0}
+StaysAt faults.Incarnations old new = Stays old new
+StaysAt faults.Memory old new = Stays old new
+
+-- why a node did not open: the device failed; no records that were ever saved are stored, or no incarnation; or all incarnations were used; else for
+-- want of memory
+abbrev pub IsCaused : StoreFault → Stored → Stored → Type 0
+IsCaused faults.Device old new = HasFailed old new
+IsCaused faults.Damaged old new = (records : Records) (started : ℕ) → old.holds records → old.has_started started → 1 ≤ new.doubt
+IsCaused faults.Incarnations old new = (started : ℕ) → new.doubt ≡ 0 → old.has_started started → 9999 ≤ started
+IsCaused faults.Memory old new = Unit {0}
+
+-- what is left of a store over which no node opened
+pub record FailsToOpen (fault : StoreFault) (old new : Stored) : Type 0 where
+  pub stays : StaysAt fault old new
+  pub left : LeavesNext old new
+  pub cause : IsCaused fault old new
+  pub goes_on : GoesOn old new
 
 -- a fault of the store itself leaves the node broken
 abbrev pub breaks : StoreFault → Bool
@@ -146,7 +165,6 @@ breaks faults.Memory = false
 pub record IsLeft (old : Seen) (fault : StoreFault) (new : Seen) : Type 0 where
   pub kept : new.kept ≡ old.kept
   pub broken : new.broken ≡ (old.broken || breaks fault)
-  pub stored : AreSame new.stored old.stored
-  pub started : IsRaised fault old.started new.started
+  pub stored : FailsToOpen fault old.stored new.stored
   pub unfinished : new.unfinished ≡ old.unfinished
   pub stopped : new.stopped ≡ old.stopped

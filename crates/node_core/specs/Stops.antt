@@ -21,9 +21,9 @@ pub record IsHalted (k : Holding) (stored : Records) (packet : Sent) : Type 0 wh
   pub found : AreSame stored (records_of k.messages.entries) ⊎ AreSame stored (left_by k packet)
   pub changes : AreSame (left_by k packet) (records_of k.messages.entries) → ⊥
 
--- no save failed, or that of this packet's step
+-- no save failed, and what is stored is what is kept; or that of this packet's step failed
 abbrev pub IsUnfinished : Holding → Records → Option Sent → Type 0
-IsUnfinished k stored None = Unit {0}
+IsUnfinished k stored None = AreSame stored (records_of k.messages.entries)
 IsUnfinished k stored (Some packet) = IsHalted k stored packet
 
 -- ---- what is told of it

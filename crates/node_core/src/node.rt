@@ -61,13 +61,13 @@ impl<S: StableStore> Model for Node<S> {
     } };
 
     ghost invariant = { λ n.
-        IsStored n.broken (S.records n.store) n.unfinished n.kept × IsQuiet n.kept.setup (kept_of n.kept) n.idle };
+        IsStored n.broken (S.stored n.store) n.unfinished n.kept × IsQuiet n.kept.setup (kept_of n.kept) n.idle };
 }
 
 impl<S: StableStore> Node<S> {
     /// A node that keeps what its store has the records of.
     pub(crate) fn make(store: S, kept: Kept) -> Node<S>
-        requires { IsStored false (S.records store) None kept }
+        requires { IsStored false (S.stored store) None kept }
         ensures kept { result.kept ≡ kept }
         ensures broken { result.broken ≡ false }
         ensures store { result.store ≡ store }
@@ -113,13 +113,14 @@ impl<S: StableStore> Node<S> {
         requires { pending.was ≡ self.old.kept }
         ensures ok { IfOk result (HasTaken self.old pending.input self.new) }
         ensures broken { IsErrOf result Broken ↔ (self.old.broken ≡ true) }
-        ensures stays { IsErrOf result Broken → IsUnmoved (seen S.records S.started self.old) (seen S.records S.started self.new) }
-        ensures memory { IsErrOf result Memory → IsUnmoved (seen S.records S.started self.old) (seen S.records S.started self.new) }
-        ensures device { IsErrOf result Device → HasStopped (seen S.records S.started self.old) pending.input (seen S.records S.started self.new) }
+        ensures stays { IsErrOf result Broken → IsUnmoved (seen S.stored self.old) (seen S.stored self.new) }
+        ensures memory { IsErrOf result Memory → IsUnmoved (seen S.stored self.old) (seen S.stored self.new) }
+        ensures device { IsErrOf result Device → HasStopped (seen S.stored self.old) pending.input (seen S.stored self.new) }
         ensures faults { IfErr result (λ fault. (fault ≡ Broken) ⊎ (fault ≡ Device) ⊎ (fault ≡ Memory)) }
         ensures wants { IsErrOf result Memory → IsSome (packet_in pending.input) }
-        ensures rose { IsErrOf result Device → HasFailed (S.failed self.old.store) (S.failed self.new.store) }
-        ensures started { S.started self.new.store ≡ S.started self.old.store }
+        ensures rose { IsErrOf result Device → HasFailed (S.stored self.old.store) (S.stored self.new.store) }
+        ensures started { OnOk result (KeepsStarted (S.stored self.old.store) (S.stored self.new.store)) }
+        ensures goes_on { GoesOn (S.stored self.old.store) (S.stored self.new.store) }
     {
         self.judge()?;
         let Pending {
@@ -177,14 +178,11 @@ impl<S: StableStore> Node<S> {
     /// `stopped` tells of the save that failed before, if one did.
     pub fn reopen(&mut self, life: Life) -> Result<Life, (StoreFault, Life)>
         requires { IsLifeOf self.old life }
-        ensures ok { IfOk result (HasOpened self.old.kept.setup (S.records self.old.store) (S.started self.old.store + 1) self.new) }
-        ensures started { OnOk result (S.started self.new.store ≡ S.started self.old.store + 1) }
-        ensures told { OnOk result (IsTold self.old.kept (S.records self.old.store) self.old.unfinished self.new.stopped) }
+        ensures ok { IfOk result (OpensOver (S.stored self.old.store) self.old.kept.setup (S.stored self.new.store) self.new) }
+        ensures told { OnOk result ((S.stored self.new.store).doubt ≡ 0 → IsTold self.old.kept (records_in self.new.kept) self.old.unfinished self.new.stopped) }
         ensures finished { OnOk result (self.new.unfinished ≡ None) }
-        ensures err { IfErr result (λ failed. IsLeft (seen S.records S.started self.old) failed.0 (seen S.records S.started self.new)) }
+        ensures err { IfErr result (λ failed. IsLeft (seen S.stored self.old) failed.0 (seen S.stored self.new)) }
         ensures life { IfErr result (λ failed. failed.1 ≡ life) }
-        ensures cause { IfErr result (λ failed. IsCaused failed.0 (S.failed self.old.store) (S.failed self.new.store)
-            (S.is_damaged self.old.store) (S.started self.old.store)) }
     {
         let setup = self.kept.setup();
         match begin(self.kept.alloc(), &mut self.store, setup) {
@@ -232,7 +230,7 @@ impl<S: StableStore> Node<S> {
     /// those of its store. The call does nothing.
     pub fn lists(&self)
         ensures lists { ListsRecorded (kept_of self.now.kept) }
-        ensures saved { self.now.broken ≡ false → AreSame (S.records self.now.store) (kept_of self.now.kept).records }
+        ensures saved { self.now.broken ≡ false → (S.stored self.now.store).holds (kept_of self.now.kept).records }
     {
         self.kept.lists();
     }
@@ -251,7 +249,8 @@ impl<S: StableStore> Node<S> {
     /// The store, once the node is done with: it is the one that the node has, as its last save left it.
     pub fn into_store(self) -> S
         ensures store { result ≡ self.store }
-        ensures saved { self.broken ≡ false → AreSame (S.records result) (records_of self.kept.messages.entries) }
+        ensures saved { self.broken ≡ false → (S.stored result).holds (records_in self.kept) }
+        ensures left { (left : Records) → (S.stored result).may_hold left → IsUnfinished self.kept left self.unfinished }
     {
         self.store
     }
@@ -259,13 +258,13 @@ impl<S: StableStore> Node<S> {
 
 /// Saves a change, if there is one. An `Err` is Device or Memory; then nothing is saved, or it is saved at Device.
 fn save<S: StableStore>(store: &mut S, change: &Option<Change>) -> Result<(), StepFault>
-    ensures ok { OnOk result (AreSame (S.records store.new) (changed_by change.now (S.records store.old))) }
-    ensures memory { IsErrOf result Memory → AreSame (S.records store.new) (S.records store.old) }
-    ensures device { OnErr result (AreSame (S.records store.new) (S.records store.old)
-        ⊎ AreSame (S.records store.new) (changed_by change.now (S.records store.old))) }
-    ensures started { S.started store.new ≡ S.started store.old }
+    ensures ok { OnOk result (SavesAny change.now (S.stored store.old) (S.stored store.new)) }
+    ensures started { OnOk result (KeepsStarted (S.stored store.old) (S.stored store.new)) }
+    ensures memory { IsErrOf result Memory → Stays (S.stored store.old) (S.stored store.new) }
+    ensures left { LeavesAny change.now (S.stored store.old) (S.stored store.new) }
+    ensures goes_on { GoesOn (S.stored store.old) (S.stored store.new) }
     ensures faults { IfErr result (λ fault. (fault ≡ Device) ⊎ (fault ≡ Memory)) }
-    ensures rose { IsErrOf result Device → HasFailed (S.failed store.old) (S.failed store.new) }
+    ensures rose { IsErrOf result Device → HasFailed (S.stored store.old) (S.stored store.new) }
     ensures change { OnErr result (change.now ≢ None) }
 {
     let Some(change) = change else {

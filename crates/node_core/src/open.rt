@@ -1,9 +1,9 @@
 //! The opening of a node.
 
-ghost use Rattle.std.specs.Prelude.{◌≡◌, ◌+◌, None, IfOk, IfErr, OnOk};
-ghost use Rattle.stable_store.specs.Stored.{AreSame};
+ghost use Rattle.std.specs.Prelude.{◌≡◌, None, IfOk, IfErr};
+ghost use Rattle.stable_store.specs.Stored.{GoesOn, LeavesNext};
 ghost use Rattle.node_kept.specs.Keeping.{IsOpen};
-ghost use Rattle.node_core.specs.Nodes.{HasOpened, IsCaused, IsRaised};
+ghost use Rattle.node_core.specs.Nodes.{FailsToOpen, HasFound, IsCaused, OpensOver, StaysAt, records_in};
 
 use crate::life::Life;
 use crate::node::Node;
@@ -15,19 +15,16 @@ use std::alloc::Global;
 /// Opens a node over a store, in the incarnation after the last one that is stored: it keeps the records of the store and nothing else.
 /// The incarnation is raised last. An `Err` is the store's fault or want of memory, and hands the store back; its records are as they
 /// were, and so is its incarnation at Incarnations and Memory; at Device and Damaged it is the same or one more. Device comes only if the
-/// device failed, Damaged only of what is damaged, and Incarnations only if all were used.
+/// device failed, Damaged only if none that was ever stored is, and Incarnations only if all were used.
 pub fn open_node<S: StableStore>(
     alloc: Global,
     mut store: S,
     setup: Setup,
 ) -> Result<(Node<S>, Life), (StoreFault, S)>
-    ensures ok { IfOk result (λ opened. HasOpened setup (S.records store) (S.started store + 1) opened.0 opened.1) }
-    ensures raised { IfOk result (λ opened. S.started opened.0.store ≡ S.started store + 1) }
+    ensures ok { IfOk result (λ opened. OpensOver (S.stored store) setup (S.stored opened.0.store) opened.0 opened.1) }
     ensures finished { IfOk result (λ opened. opened.0.unfinished ≡ None) }
     ensures untold { IfOk result (λ opened. opened.0.stopped ≡ None) }
-    ensures records { IfErr result (λ failed. AreSame (S.records failed.1) (S.records store)) }
-    ensures started { IfErr result (λ failed. IsRaised failed.0 (S.started store) (S.started failed.1)) }
-    ensures cause { IfErr result (λ failed. IsCaused failed.0 (S.failed store) (S.failed failed.1) (S.is_damaged store) (S.started store)) }
+    ensures err { IfErr result (λ failed. FailsToOpen failed.0 (S.stored store) (S.stored failed.1)) }
 {
     match begin(alloc, &mut store, setup) {
         Ok(kept) => {
@@ -44,11 +41,12 @@ pub(crate) fn begin<S: StableStore>(
     store: &mut S,
     setup: Setup,
 ) -> Result<Kept, StoreFault>
-    ensures ok { IfOk result (IsOpen setup (S.started store.old + 1) (S.records store.old)) }
-    ensures records { AreSame (S.records store.new) (S.records store.old) }
-    ensures started { OnOk result (S.started store.new ≡ S.started store.old + 1) }
-    ensures err { IfErr result (λ fault. IsRaised fault (S.started store.old) (S.started store.new)) }
-    ensures cause { IfErr result (λ fault. IsCaused fault (S.failed store.old) (S.failed store.new) (S.is_damaged store.old) (S.started store.old)) }
+    ensures ok { IfOk result (λ kept. IsOpen setup kept.incarnation (records_in kept) kept) }
+    ensures found { IfOk result (HasFound (S.stored store.old) (S.stored store.new)) }
+    ensures left { LeavesNext (S.stored store.old) (S.stored store.new) }
+    ensures goes_on { GoesOn (S.stored store.old) (S.stored store.new) }
+    ensures stays { IfErr result (λ fault. StaysAt fault (S.stored store.old) (S.stored store.new)) }
+    ensures cause { IfErr result (λ fault. IsCaused fault (S.stored store.old) (S.stored store.new)) }
 {
     let records = store.load()?;
     let mut kept = Kept::open(alloc, setup, Incarnation::of(1), records)?;

@@ -1,6 +1,6 @@
 //! A store whose device fails, for tests.
 
-ghost use Rattle.std.specs.Prelude.{◌≡◌, ◌≤◌, ◌↔◌, ◌⊎◌, ◌-◌, false, IfErr, IsErr, IsErrOf, IsTrue, OnErr, OnOk};
+ghost use Rattle.std.specs.Prelude.{◌≡◌, ◌↔◌, ◌⊎◌, ◌-◌, IfErr, IsErr, IsErrOf, IsTrue, OnOk};
 
 use crate::fault::StoreFault;
 use crate::list::ListStore;
@@ -58,17 +58,20 @@ impl FailingStore {
 
 impl StableStore for FailingStore {
     ghost use Rattle.synod_acceptor.specs.Records.{record_at};
-    ghost use Rattle.stable_store.specs.Stored.{AreSame, HasFailed, saved};
+    ghost use Rattle.stable_store.specs.Stored.{AreSame, GoesOn, HasFailed, KeepsStarted, LeavesSaved, Saves, Stays, saved, stored_in};
+    ghost use Rattle.stable_store.specs.Listing.{settled_in, settled_started_in};
     ghost use Rattle.stable_store.specs.declared.failing.Found.TheVariants.{After, Before};
     ghost use Rattle.stable_store.specs.declared.fault.StoreFault.TheVariants.{Device, Memory};
 
-    ghost records = { λ s. record_at s.store.entries };
+    ghost stored = { λ s. stored_in s.store s.failed };
 
-    ghost started = { λ s. s.store.started };
+    ghost found = { λ _ _ _ holds. holds };
 
-    ghost failed = { λ s. s.failed };
+    ghost found_started = { λ _ _ _ started. started };
 
-    ghost is_damaged = { λ _. false };
+    ghost settled = { λ s records left. settled_in s.store records left };
+
+    ghost settled_started = { λ s started left. settled_started_in s.store started left };
 
     fn load(&mut self) -> Result<Vec<Record>, StoreFault> {
         self.store.load()
@@ -76,13 +79,12 @@ impl StableStore for FailingStore {
 
     /// The save of its number, counted from 1, fails, and no other; it leaves what was found.
     fn save(&mut self, change: &Change) -> Result<(), StoreFault>
-        ensures ok { OnOk result (AreSame (record_at self.new.store.entries) (saved change.now self.old.store.entries)) }
-        ensures memory { IsErrOf result Memory → AreSame (record_at self.new.store.entries) (record_at self.old.store.entries) }
-        ensures device { IsErrOf result Device → HasFailed self.old.failed self.new.failed }
-        ensures stopped { OnErr result (AreSame (record_at self.new.store.entries) (record_at self.old.store.entries)
-            ⊎ AreSame (record_at self.new.store.entries) (saved change.now self.old.store.entries)) }
-        ensures started { self.new.store.started ≡ self.old.store.started }
-        ensures rises { self.old.failed ≤ self.new.failed }
+        ensures ok { OnOk result (Saves change.now (stored_in self.old.store self.old.failed) (stored_in self.new.store self.new.failed)) }
+        ensures kept { OnOk result (KeepsStarted (stored_in self.old.store self.old.failed) (stored_in self.new.store self.new.failed)) }
+        ensures memory { IsErrOf result Memory → Stays (stored_in self.old.store self.old.failed) (stored_in self.new.store self.new.failed) }
+        ensures stop { LeavesSaved change.now (stored_in self.old.store self.old.failed) (stored_in self.new.store self.new.failed) }
+        ensures goes_on { GoesOn (stored_in self.old.store self.old.failed) (stored_in self.new.store self.new.failed) }
+        ensures device { IsErrOf result Device → HasFailed (stored_in self.old.store self.old.failed) (stored_in self.new.store self.new.failed) }
         ensures faults { IfErr result (λ fault. (fault ≡ Device) ⊎ (fault ≡ Memory)) }
         ensures fails { self.old.fails_in ≡ 1 → IsErr result }
         ensures fails_alone { IsErrOf result Device → (self.old.fails_in ≡ 1) × (self.new.fails_in ≡ 0) }

@@ -1,6 +1,6 @@
 //! A store that holds a save up, for tests.
 
-ghost use Rattle.std.specs.Prelude.{◌≡◌, ◌≢◌, ◌+◌, ◌-◌, ◌^◌, ◌⊎◌, ℕ, min, false, IfErr, IsErrOf, OnErr, OnOk};
+ghost use Rattle.std.specs.Prelude.{◌≡◌, ◌≢◌, ◌+◌, ◌-◌, ◌^◌, ℕ, min, IfErr, IsErrOf, OnOk};
 
 use crate::fault::StoreFault;
 use crate::list::ListStore;
@@ -42,17 +42,19 @@ impl<H: Hold> HoldingStore<H> {
 }
 
 impl<H: Hold> StableStore for HoldingStore<H> {
-    ghost use Rattle.synod_acceptor.specs.Records.{record_at};
-    ghost use Rattle.stable_store.specs.Stored.{AreSame, saved};
+    ghost use Rattle.stable_store.specs.Stored.{GoesOn, KeepsStarted, LeavesSaved, Saves, Stays, stored_in};
+    ghost use Rattle.stable_store.specs.Listing.{settled_in, settled_started_in};
     ghost use Rattle.stable_store.specs.declared.fault.StoreFault.TheVariants.{Memory};
 
-    ghost records = { λ s. record_at s.store.entries };
+    ghost stored = { λ s. stored_in s.store 0 };
 
-    ghost started = { λ s. s.store.started };
+    ghost found = { λ _ _ _ holds. holds };
 
-    ghost failed = { λ _. 0 };
+    ghost found_started = { λ _ _ _ started. started };
 
-    ghost is_damaged = { λ _. false };
+    ghost settled = { λ s records left. settled_in s.store records left };
+
+    ghost settled_started = { λ s started left. settled_started_in s.store started left };
 
     fn load(&mut self) -> Result<Vec<Record>, StoreFault> {
         self.store.load()
@@ -60,11 +62,11 @@ impl<H: Hold> StableStore for HoldingStore<H> {
 
     /// The save of its number, counted from 1, is held up, and no other.
     fn save(&mut self, change: &Change) -> Result<(), StoreFault>
-        ensures ok { OnOk result (AreSame (record_at self.new.store.entries) (saved change.now self.old.store.entries)) }
-        ensures memory { IsErrOf result Memory → AreSame (record_at self.new.store.entries) (record_at self.old.store.entries) }
-        ensures stopped { OnErr result (AreSame (record_at self.new.store.entries) (record_at self.old.store.entries)
-            ⊎ AreSame (record_at self.new.store.entries) (saved change.now self.old.store.entries)) }
-        ensures started { self.new.store.started ≡ self.old.store.started }
+        ensures ok { OnOk result (Saves change.now (stored_in self.old.store 0) (stored_in self.new.store 0)) }
+        ensures kept { OnOk result (KeepsStarted (stored_in self.old.store 0) (stored_in self.new.store 0)) }
+        ensures memory { IsErrOf result Memory → Stays (stored_in self.old.store 0) (stored_in self.new.store 0) }
+        ensures stop { LeavesSaved change.now (stored_in self.old.store 0) (stored_in self.new.store 0) }
+        ensures goes_on { GoesOn (stored_in self.old.store 0) (stored_in self.new.store 0) }
         ensures faults { IfErr result (λ fault. fault ≡ Memory) }
         ensures holds { self.old.holds_in ≡ 1 → H.held self.new.hold ≡ min (H.held self.old.hold + 1) (2 ^ 64 - 1) }
         ensures holds_alone { self.old.holds_in ≢ 1 → self.new.hold ≡ self.old.hold }

@@ -4,11 +4,13 @@
 mod failing;
 mod fault;
 mod holding;
+mod laws;
 mod list;
 mod store;
 
 pub use failing::{FailingStore, Found};
 pub use fault::StoreFault;
 pub use holding::{Hold, HoldingStore};
+pub use laws::a_list_is_exact;
 pub use list::ListStore;
 pub use store::StableStore;

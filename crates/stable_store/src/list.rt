@@ -1,6 +1,6 @@
 //! A store in memory.
 
-ghost use Rattle.std.specs.Prelude.{◌≡◌, [], reverse, false, IfOk};
+ghost use Rattle.std.specs.Prelude.{◌≡◌, [], reverse, IfOk};
 ghost use Rattle.synod_acceptor.specs.Records.{entries_of, record_at};
 
 use crate::fault::StoreFault;
@@ -54,13 +54,18 @@ impl ListStore {
 }
 
 impl StableStore for ListStore {
-    ghost records = { λ s. record_at s.entries };
+    ghost use Rattle.stable_store.specs.Stored.{stored_in};
+    ghost use Rattle.stable_store.specs.Listing.{settled_in, settled_started_in};
 
-    ghost started = { λ s. s.started };
+    ghost stored = { λ s. stored_in s 0 };
 
-    ghost failed = { λ _. 0 };
+    ghost found = { λ _ _ _ holds. holds };
 
-    ghost is_damaged = { λ _. false };
+    ghost found_started = { λ _ _ _ started. started };
+
+    ghost settled = { λ s records left. settled_in s records left };
+
+    ghost settled_started = { λ s started left. settled_started_in s started left };
 
     fn load(&mut self) -> Result<Vec<Record>, StoreFault> {
         let saved = self.saved()?;
