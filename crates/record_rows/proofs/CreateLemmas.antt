@@ -76,7 +76,7 @@ makes = record { runs = λ old new text params count h. h; commit = λ e. cc; re
 -- ---- the slots beside the incarnation
 
 module _ (old : State) where
-  slots_left : (has : old.now.schema ≡ schema_in life_alone) (after : Database)
+  pub slots_left : (has : old.now.schema ≡ schema_in life_alone) (after : Database)
       → Wrote slots_text [] old (schema_in life_alone) has CreateTable slots_made.0 slots_made_plain makes after
       → (after.schema ≡ schema_of life_first) × (after.trees 1 ≡ []) × (after.trees 0 ≡ old.now.trees 0)
   slots_left has after w =

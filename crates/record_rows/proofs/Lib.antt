@@ -14,3 +14,4 @@ pub mod SlotReads
 pub mod SlotOrder
 pub mod TableLemmas
 pub mod CreateLemmas
+pub mod MakeLemmas

@@ -11,10 +11,10 @@ use crate::fault::Fault;
 use crate::probe::fault_after;
 use sqlite::{Alter, Connection};
 
-const LIFE: &str =
+pub(crate) const LIFE: &str =
     "CREATE TABLE life (one INTEGER PRIMARY KEY CHECK (one = 1), incarnation INTEGER NOT NULL)";
 
-const SLOTS: &str =
+pub(crate) const SLOTS: &str =
     "CREATE TABLE slots (id INTEGER NOT NULL, place INTEGER NOT NULL, promised INTEGER NOT NULL, voted INTEGER NOT NULL, \
     chain BLOB NOT NULL, PRIMARY KEY (id, place))";
 

@@ -4,6 +4,7 @@
 mod adding;
 mod fault;
 mod life;
+mod making;
 mod probe;
 mod row;
 mod slots;
@@ -12,6 +13,7 @@ mod tables;
 pub use adding::{add_life, add_slots};
 pub use fault::{Fault, ReadFault};
 pub use life::{put_incarnation, read_incarnation};
+pub use making::make_tables;
 pub use row::SlotRow;
 pub use slots::{put_slot, read_slots};
 pub use tables::{Found, find_tables};

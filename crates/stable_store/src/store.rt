@@ -17,14 +17,6 @@ pub trait StableStore {
     /// What is stored, and what whoever opens it after a stop may find.
     ghost stored: { Self → Stored };
 
-    /// What is stored may be found after a stop.
-    ghost found: { (s : Self) (records : Records) → (stored s).doubt ≡ 0 → (stored s).holds records → (stored s).may_hold records };
-    ghost found_started: { (s : Self) (started : ℕ) → (stored s).doubt ≡ 0 → (stored s).has_started started → (stored s).may_have_started started };
-
-    /// While it answers, nothing else may.
-    ghost settled: { (s : Self) (records left : Records) → (stored s).holds records → (stored s).may_hold left → AreSame left records };
-    ghost settled_started: { (s : Self) (started left : ℕ) → (stored s).has_started started → (stored s).may_have_started left → left ≡ started };
-
     /// The record of each slot that is stored, the newest first: of several of a slot the first counts. It changes nothing that is stored.
     /// It answers Damaged only if none that was ever saved is stored, since somebody else wrote it or it is spoilt, and never Incarnations.
     fn load(&mut self) -> Result<Vec<Record>, StoreFault>
@@ -65,4 +57,12 @@ pub trait StableStore {
     /// How often the device failed: 2^64 - 1 if it failed more often.
     fn failures(&self) -> u64
         ensures { result ≡ (stored self.now).failed };
+
+    /// What is stored may be found after a stop.
+    ghost found: { (s : Self) (records : Records) → (stored s).doubt ≡ 0 → (stored s).holds records → (stored s).may_hold records };
+    ghost found_started: { (s : Self) (started : ℕ) → (stored s).doubt ≡ 0 → (stored s).has_started started → (stored s).may_have_started started };
+
+    /// While it answers, nothing else may.
+    ghost settled: { (s : Self) (records left : Records) → (stored s).holds records → (stored s).may_hold left → AreSame left records };
+    ghost settled_started: { (s : Self) (started left : ℕ) → (stored s).has_started started → (stored s).may_have_started left → left ≡ started };
 }
