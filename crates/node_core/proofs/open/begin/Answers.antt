@@ -19,6 +19,6 @@ returns-clause-found g c =
     let number = c.in_ok-incarnation.incarnation in
     let is : IsOpen c.args.setup number loaded c.begin.new.self = c.begin.ensures c.args.setup c.of.result loaded c.in_ok-kept.ensures in
     has_found old mid new c.in_ok-records.ensures.kept c.in_ok-records.ensures.stop loaded c.begin.new.self c.in_ok-records.ensures.loaded
-    (g.S.StableStore.found c.load.new.self loaded) (fun_ext is.kept)
+    (g.met.S.StableStore.found c.load.new.self loaded) (fun_ext is.kept)
     (λ started none has. is.incarnation ∙ c.in_ok-incarnation.ensures.next started none has)
     (subst new.has_started (sym is.incarnation) c.in_ok-incarnation.ensures.raised) c.in_ok-incarnation.ensures.records c.in_ok-incarnation.ensures.goes_on

@@ -30,5 +30,5 @@ make-requires g c = record {
   saved = λ works. c.in-Ok.ensures.found.holds;
   own = c.in-Ok.ensures.ok.own;
   finished = λ works. refl;
-  halted = λ left may. g.S.StableStore.settled c.begin.new.store (records_in c.in-Ok.kept) left c.in-Ok.ensures.found.holds may;
+  halted = λ left may. g.met.S.StableStore.settled c.begin.new.store (records_in c.in-Ok.kept) left c.in-Ok.ensures.found.holds may;
 }

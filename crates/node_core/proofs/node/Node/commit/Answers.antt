@@ -46,7 +46,7 @@ invariant_of-self-in-Err-Device g c =
     let is = cut c.self.inside.kept c.pending.inside.was.value c.args.pending.input c.pending.inside.given.value
     c.pending.inside.foreseen.step c.pending.inside.packet
     (stored c.self.inside.store) (stored c.save.new.store) kept (ap (λ (p : Awaited). p.input) c.pending.view_is) c.pending.invariant.prepared
-    (c.self.invariant.0.saved works) (g.S.StableStore.settled c.self.inside.store) c.in-Err-Device.ensures.change c.save.ensures.left in (
+    (c.self.invariant.0.saved works) (g.met.S.StableStore.settled c.self.inside.store) c.in-Err-Device.ensures.change c.save.ensures.left in (
       record {
         saved = λ works. absurd (true≢false works);
         own = c.self.invariant.0.own;
@@ -72,7 +72,7 @@ returns-in-Err-Device-clause-device g c = λ device.
     let is = cut c.self.inside.kept c.pending.inside.was.value c.args.pending.input c.pending.inside.given.value
     c.pending.inside.foreseen.step c.pending.inside.packet
     (stored c.self.inside.store) (stored c.save.new.store) kept (ap (λ (p : Awaited). p.input) c.pending.view_is) c.pending.invariant.prepared
-    (c.self.invariant.0.saved works) (g.S.StableStore.settled c.self.inside.store) c.in-Err-Device.ensures.change c.save.ensures.left in
+    (c.self.invariant.0.saved works) (g.met.S.StableStore.settled c.self.inside.store) c.in-Err-Device.ensures.change c.save.ensures.left in
     subst (λ (old : Standing g.row.S.Denot). HasStopped (seen stored old) c.args.pending.input (seen stored new)) c.self.view_is
     (record {
       kept = refl;
@@ -136,7 +136,7 @@ invariant_of-self g c =
     let once : IsStored false (stored c.save.new.store) c.self.inside.unfinished c.install.new.self =
     stored_once c.self.inside.kept c.pending.inside.was.value c.install.new.self c.args.pending.input c.pending.inside.given.value
     c.pending.inside.foreseen.step c.pending.inside.packet c.self.inside.unfinished (stored c.self.inside.store) (stored c.save.new.store) kept input
-    c.pending.invariant.prepared c.install.ensures c.in-Ok.ensures.ok (g.S.StableStore.settled c.save.new.store)
+    c.pending.invariant.prepared c.install.ensures c.in-Ok.ensures.ok (g.met.S.StableStore.settled c.save.new.store)
     (subst (λ (b : Bool). IsStored b (stored c.self.inside.store) c.self.inside.unfinished c.self.inside.kept) works c.self.invariant.0) in
     let is : HasTaken before c.args.pending.input new c.pending.inside.foreseen.step.outputs =
     taken before new c.pending.inside.was.value c.args.pending.input c.pending.inside.given.value c.pending.inside.foreseen.step kept input

@@ -39,7 +39,7 @@ invariant_of-self g c =
     c.install.ensures
     (saves_none c.self.inside.kept c.pending.inside.was.value c.args.pending.input c.pending.inside.given.value c.pending.inside.foreseen.step
     c.pending.inside.packet now kept input c.pending.invariant.prepared c.requires.unsaved)
-    (g.S.StableStore.settled store)
+    (g.met.S.StableStore.settled store)
     (subst (λ (b : Bool). IsStored b now c.self.inside.unfinished c.self.inside.kept) works c.self.invariant.0) in
     let is : HasTaken before c.args.pending.input new c.pending.inside.foreseen.step.outputs =
     taken before new c.pending.inside.was.value c.args.pending.input c.pending.inside.given.value c.pending.inside.foreseen.step kept input
