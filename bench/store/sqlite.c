@@ -1,5 +1,5 @@
 /* The same saves and loads by C sqlite, for bench/store.py: the arguments are `save`, `load` or `open`, the path of a file or `:memory:`, and how many
-   slots and saves there are. `sync` writes a page and waits for the disk, as often as there are saves. */
+   slots and saves there are. `fill` saves all in one transaction, and `sync` writes a page and waits for the disk, as often as there are saves. */
 #include <fcntl.h>
 #include <sqlite3.h>
 #include <stdio.h>
@@ -7,7 +7,15 @@
 #include <string.h>
 #include <unistd.h>
 
-enum { CHAIN = 150, PAGE = 4096 };
+enum { TEXT = 92, PAGE = 4096 };
+
+/* The chain of one Taken on message 1000100001, from 144 to 155, up to its text and behind its length. */
+static const unsigned char HEAD[] =
+    "\x01\x00\x00\x00\x00\x3b\x9c\x50\xa1\x00\x01\x01\x01\x00\x01\x38\x6d\x43\x80\x04sme1\x04sme1\x00\x01\x01\x03"
+    "144\x01\x01\x03"
+    "155\x00\x00\x00\x01\x00\x38\x6d\x43\x80\x38\x71\x38\x00\x5c";
+
+enum { CHAIN = sizeof HEAD - 1 + TEXT + 2 };
 
 static const char *TABLES =
     "CREATE TABLE IF NOT EXISTS life (one INTEGER PRIMARY KEY CHECK (one = 1), incarnation INTEGER NOT NULL);"
@@ -25,12 +33,19 @@ static void check(int is, int wanted, const char *what) {
     }
 }
 
+static void name_message(unsigned char *chain, unsigned long id) {
+    for (int place = 8; place >= 1; place--, id >>= 8)
+        chain[place] = id & 0xff;
+}
+
 static void save(sqlite3 *db, long slots, long saves) {
     sqlite3_stmt *put;
-    char chain[CHAIN];
-    memset(chain, 1, CHAIN);
+    unsigned char chain[CHAIN] = {0};
+    memcpy(chain, HEAD, sizeof HEAD - 1);
+    memset(chain + sizeof HEAD - 1, 'x', TEXT);
     check(sqlite3_prepare_v2(db, PUT, -1, &put, 0), SQLITE_OK, "prepare");
     for (long turn = 0; turn < saves; turn++) {
+        name_message(chain, 1000100001 + turn % slots);
         sqlite3_bind_int64(put, 1, 1000100001 + turn % slots);
         sqlite3_bind_int64(put, 2, 0);
         sqlite3_bind_int64(put, 3, 262161);
@@ -80,8 +95,12 @@ int main(int count, char **words) {
     check(sqlite3_open(path, &db), SQLITE_OK, "open");
     check(sqlite3_exec(db, "PRAGMA journal_mode=WAL; PRAGMA synchronous=FULL", 0, 0, 0), SQLITE_OK, "pragma");
     check(sqlite3_exec(db, TABLES, 0, 0, 0), SQLITE_OK, "tables");
-    if (!strcmp(way, "save"))
+    if (!strcmp(way, "fill"))
+        check(sqlite3_exec(db, "BEGIN", 0, 0, 0), SQLITE_OK, "begin");
+    if (!strcmp(way, "save") || !strcmp(way, "fill"))
         save(db, slots, saves);
+    if (!strcmp(way, "fill"))
+        check(sqlite3_exec(db, "COMMIT", 0, 0, 0), SQLITE_OK, "commit");
     if (!strcmp(way, "load"))
         load(db);
     sqlite3_close(db);

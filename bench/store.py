@@ -1,0 +1,90 @@
+#!/usr/bin/env python3
+"""Prints how many records a second a node's store saves, in memory and to a file, beside C sqlite with the same statements and the disk's own rate.
+
+    python3 bench/store.py
+
+It builds bench/store/main.rt.in with the crates of HEAD in a folder of its own, which proves sql_store first and takes minutes, and bench/store/sqlite.c with gcc
+(Debian's libsqlite3-dev). All run in one run of the script, each three times, and the best counts. A run of no saves is taken off, so that neither the
+start of a process nor the making of the records counts. Files are in WAL mode with synchronous=FULL. Seconds are of the clock for files, since a save waits for the disk, and of
+the processor in memory and for loads. GNU time (Debian's `time`) measures memory.
+"""
+import pathlib
+import shutil
+import subprocess
+import sys
+import tempfile
+import time
+
+TOP = pathlib.Path(__file__).resolve().parent.parent
+RUNS = 3
+FILE_SAVES, MEMORY_SAVES = 10_000, 200_000
+FEW, MANY = 1_000, 99_999
+
+
+def built_here(work):
+    """The program over sql_store, in a clone of HEAD with one crate more."""
+    clone = work / "clone"
+    subprocess.run(["git", "clone", "-q", str(TOP), str(clone)], check=True)
+    crate = clone / "crates" / "store_bench"
+    (crate / "src").mkdir(parents=True)
+    shutil.copy(TOP / "bench" / "store" / "main.rt.in", crate / "src" / "main.rt")
+    with (clone / "crates.txt").open("a") as crates:
+        crates.write("store_bench: mc_types fate_chain synod_acceptor stable_store sql_store sqlite\n")
+    built = subprocess.run(["rt", "run", "--", "save", ":memory:", "1", "1"], cwd=crate, capture_output=True, text=True)
+    if built.returncode != 0:
+        sys.exit(built.stdout + built.stderr)
+    return crate / "out" / "store_bench"
+
+
+def built_c(work):
+    program = work / "sqlite"
+    subprocess.run(["gcc", "-O2", "-o", program, TOP / "bench" / "store" / "sqlite.c", "-lsqlite3"], check=True)
+    return program
+
+
+def used(program, way, path, slots, saves):
+    """Seconds of the clock, of the processor, and the most memory in KiB, of one run."""
+    begun = time.monotonic()
+    run = subprocess.run(["/usr/bin/time", "-f", "%U %S %M", program, way, path, str(slots), str(saves)], capture_output=True, text=True, check=True)
+    clock = time.monotonic() - begun
+    user, system, memory = run.stderr.split()[-3:]
+    return clock, float(user) + float(system), int(memory)
+
+
+def best(which, program, way, path, slots, saves):
+    """The best of some runs, less one of no saves."""
+    def once(count):
+        return min(used(program, way, path, slots, count)[which] for _ in range(RUNS))
+    return once(saves) - once(0)
+
+
+def fresh(work, name):
+    """The path of a file that is not there."""
+    for path in work.glob(f"{name}*"):
+        path.unlink()
+    return str(work / name)
+
+
+def main():
+    work = pathlib.Path(tempfile.mkdtemp(prefix="store-"))
+    programs = {"sql_store": built_here(work), "C sqlite": built_c(work)}
+    synced = best(0, programs["C sqlite"], "sync", fresh(work, "sync"), 1, FILE_SAVES)
+    print(f"the disk itself: {FILE_SAVES / synced:.0f} fdatasync a second", flush=True)
+    for name, program in programs.items():
+        for slots in (FEW, MANY):
+            seconds = best(1, program, "save", ":memory:", slots, MEMORY_SAVES)
+            print(f"{name}, in memory, {slots} slots: {MEMORY_SAVES / seconds:.0f} saves a second of the processor", flush=True)
+        seconds = best(0, program, "save", fresh(work, "saves"), FEW, FILE_SAVES)
+        print(f"{name}, to a file, {FEW} slots: {FILE_SAVES / seconds:.0f} saves a second of the clock", flush=True)
+    filled = fresh(work, "filled")
+    used(programs["C sqlite"], "fill", filled, MANY, MANY)
+    for name, program in programs.items():
+        opened = min(used(program, "open", filled, MANY, 0) for _ in range(RUNS))
+        loaded = min(used(program, "load", filled, MANY, 0) for _ in range(RUNS))
+        print(f"{name}, a file of {MANY} slots: opened in {opened[1]:.2f} s of the processor, {opened[2]} KiB; loaded in {loaded[1] - opened[1]:.2f} s more,"
+              f" {loaded[2] - opened[2]} KiB more", flush=True)
+    shutil.rmtree(work)
+
+
+if __name__ == "__main__":
+    main()
