@@ -4,7 +4,8 @@
     tools/weaken.py [--rt COMMAND] [--jobs N] [NAME ..]
 
 With N jobs, N copies are worked on at once. A weakening is a file of tools/weakenings: a line `law: PATH`, and `file:`, `old:` and `new:`, where the text stands once in the file.
-(A line's end within a text is written as the character U+23CE.) The last line printed is `N refused, M let through`.
+(A line's end within a text is written as the character U+23CE.) If a crate below the law's is refused first, the lemma that failed there is told.
+The last line printed is `N refused, M let through`.
 """
 import argparse
 import concurrent.futures
@@ -63,9 +64,12 @@ def check(copy, law, command):
         return "proved"
     if re.search(r"^[./]*(crates/\w+/)?specs/.*error", said, re.M):
         return "no definition"
-    # a law of a crate below may fail first, and the crate above is not checked then
-    failed = re.search(r"^fn (\S+): (?!proved)", said, re.M)
-    return "refused" if failed else "no such law"
+    # a law or a lemma of a crate below may fail first, and the crate above is not checked then
+    if re.search(r"^fn (\S+): (?!proved)", said, re.M):
+        return "refused"
+    below = re.search(r"^rt: the library (\w+) did not build", said, re.M)
+    lemma = re.search(r"^[./]*(?:crates/\w+/)?proofs/\S+: error: `([^`]+)`", said, re.M)
+    return f"refused, by the lemma `{lemma[1]}` of {below[1]}" if below and lemma else "no such law"
 
 
 def try_one(copy, name, command):
@@ -107,7 +111,7 @@ def main():
         said = list(pool.map(tried, names))
     for _ in range(arguments.jobs):
         shutil.rmtree(copies.get())
-    refused = said.count("refused")
+    refused = sum(one.startswith("refused") for one in said)
     print(f"{refused} refused, {len(said) - refused} let through")
     return 0 if refused == len(said) else 1
 
