@@ -3,7 +3,7 @@ use Rattle.std.proofs.Common.{◌≡◌, ℕ, pos, Bool, true, false, ◌==◌, 
 use Rattle.std.proofs.lemmas.Bool.Decides.{nat_tests}
 use Rattle.mc_model.specs.synod.Packet.{Slot, same_slot}
 use Rattle.record_rows.specs.Content.{Slot as Key}
-use Rattle.sql_store.specs.Standing.{key_of, IsKeyOf}
+use Rattle.sql_records.specs.Standing.{key_of, IsKeyOf}
 
 pub same_number : (a b : ℕ) → pos a ≡ pos b → a ≡ b
 same_number a b is = cc

@@ -5,7 +5,7 @@ use Rattle.mc_model.specs.synod.Lists.{In}
 use Rattle.synod_acceptor.specs.Votes.{Record}
 use Rattle.record_rows.specs.declared.row.SlotRow.{SlotRow}
 use Rattle.record_rows.specs.Content.{Entry, entry_of}
-use Rattle.sql_store.specs.Standing.{StandForEach, StandsFor}
+use Rattle.sql_records.specs.Standing.{StandForEach, StandsFor}
 
 each_more : (rows : List Entry) (records : List Record) (row : Entry) (new : Record) → StandForEach rows records → StandsFor row new
     → StandForEach (rows ++ row ∷ []) (records ++ new ∷ [])

@@ -16,8 +16,8 @@ use Rattle.record_rows.specs.declared.row.SlotRow.{SlotRow}
 use Rattle.record_rows.specs.Content.{AreAscending, Body, Entry, body_of, entry_of, with_row, Slot as Key, Slots, is_below, same_slot as same_key, slots_of}
 use Rattle.record_rows.proofs.SlotLemmas.{slots_are_one as keys_are_one, same_itself}
 use Rattle.stable_store.specs.Stored.{AreSame}
-use Rattle.sql_store.specs.Standing.{IsRowOf, IsVoteBy, StandFor, StandForEach, StandsFor, StandsForNone, chain_in, key_of}
-use Rattle.sql_store.proofs.Keys.{keys_are_apart, same_number, slots_are_one}
+use Rattle.sql_records.specs.Standing.{IsRowOf, IsVoteBy, StandFor, StandForEach, StandsFor, StandsForNone, chain_in, key_of}
+use Rattle.sql_records.proofs.Keys.{keys_are_apart, same_number, slots_are_one}
 
 -- ---- a row is of one record
 

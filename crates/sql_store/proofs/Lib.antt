@@ -1,3 +1,1 @@
-pub mod Keys
-pub mod Standings
-pub mod Lists
+pub mod Tables

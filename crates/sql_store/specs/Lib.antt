@@ -1,1 +1,3 @@
-pub mod Standing
+pub mod Orders
+pub mod Sql
+pub mod Adopted

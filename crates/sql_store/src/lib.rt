@@ -1,4 +1,9 @@
-//! A node's store on disk, over `sqlite`: its rows as the records of an acceptor.
+//! A node's store on disk, over `sqlite`.
 #![tactic(auto)]
 
-mod row;
+mod filling;
+mod order;
+mod settling;
+mod store;
+
+pub use store::SqlStore;

@@ -1,8 +1,8 @@
 use Rattle.std.proofs.Common.{rules, ◌≡◌, false, true, not, Bool, refl, sym, subst, ◌∙◌}
 use Rattle.mc_model.specs.message.Chain.{Chain, IsPermitted}
 use Rattle.mc_model.specs.synod.Packet.{slot_at}
-use Rattle.sql_store.proofs.Keys.{slots_are_one}
-use Rattle.sql_store.proofs.row.chain_of.Goals as goal
+use Rattle.sql_records.proofs.Keys.{slots_are_one}
+use Rattle.sql_records.proofs.row.chain_of.Goals as goal
 
 pub returns-in-Err-NotPermitted-clause-damaged : goal.returns-in-Err-NotPermitted-clause-damaged
 returns-in-Err-NotPermitted-clause-damaged c is chain stands =

@@ -1,8 +1,8 @@
 use Rattle.std.proofs.Common.{rules, subst}
 use Rattle.record_rows.specs.Content.{slot_of, body_of}
-use Rattle.sql_store.specs.Standing.{IsVoteIn}
-use Rattle.sql_store.proofs.Keys.{key_of_one}
-use Rattle.sql_store.proofs.row.record_of.Goals as goal
+use Rattle.sql_records.specs.Standing.{IsVoteIn}
+use Rattle.sql_records.proofs.Keys.{key_of_one}
+use Rattle.sql_records.proofs.row.record_of.Goals as goal
 
 pub returns-in_err-report-clause-damaged : goal.returns-in_err-report-clause-damaged
 returns-in_err-report-clause-damaged c is slot r row =

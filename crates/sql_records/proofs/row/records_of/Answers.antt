@@ -1,7 +1,7 @@
 use Rattle.std.proofs.Common.{rules}
 use Rattle.record_rows.specs.Content.{entry_of}
-use Rattle.sql_store.proofs.Lists.{row_in, stand_more}
-use Rattle.sql_store.proofs.row.records_of.Goals as goal
+use Rattle.sql_records.proofs.Lists.{row_in, stand_more}
+use Rattle.sql_records.proofs.row.records_of.Goals as goal
 
 pub loop-row-preserved : goal.loop-row-preserved
 loop-row-preserved c =

@@ -2,8 +2,8 @@ use Rattle.std.proofs.Common.{rules, ◌≡◌, pos, Some, None, Option}
 use Rattle.mc_model.specs.synod.OneSlot.{Vote}
 use Rattle.mc_model.specs.synod.Packet.{Slot}
 use Rattle.record_rows.specs.Content.{Body, body_of}
-use Rattle.sql_store.specs.Standing.{IsChainIn, IsVoteIn, chain_in}
-use Rattle.sql_store.proofs.row.report_in.Goals as goal
+use Rattle.sql_records.specs.Standing.{IsChainIn, IsVoteIn, chain_in}
+use Rattle.sql_records.proofs.row.report_in.Goals as goal
 
 -- a ballot that is not 0 is that of a vote, and so of a chain
 no_vote : (slot : Slot) (body : Body) → (body.voted ≡ pos 0 → ⊥) → ((vote : Vote) → IsChainIn slot body.chain (chain_in slot vote) → ⊥)

@@ -1,0 +1,3 @@
+pub mod Standing
+pub mod Stores
+pub mod Calls

@@ -1,0 +1,9 @@
+//! The records of an acceptor, and its last incarnation, as the rows of a node's store over `sqlite`.
+#![tactic(auto)]
+
+mod calls;
+mod fault;
+mod row;
+
+pub use calls::{load_records, raise_incarnation, save_record};
+pub use fault::NextFault;

@@ -1,0 +1,92 @@
+-- What making the tables that a database lacks leaves.
+use Rattle.std.proofs.Common.{◌≡◌, ℕ, ◌+◌, ◌*◌, ◌==◌, cond, List, [], ◌∷◌, length, None, refl, sym, ap, subst, ◌∙◌}
+use Rattle.mc_model.specs.synod.Acceptor.{Records}
+use Rattle.sqlite.specs.Tree.{Trees}
+use Rattle.sqlite.specs.Schema.{Schema}
+use Rattle.sqlite.specs.State.{State}
+use Rattle.sqlite_schema.specs.declared.schema.Index.{Index}
+use Rattle.record_rows.specs.Added.{AddsBoth, AddsLife, AddsSlots, BothAdded, LifeAdded, SlotsAdded}
+use Rattle.record_rows.specs.Content.{AreSlots, no_slots}
+use Rattle.record_rows.specs.Tables.{Layout, Present, life_first, slots_first, neither, life_alone, slots_alone, both, schema_in, slots_tree}
+use Rattle.stable_store.specs.Stored.{AreSame}
+use Rattle.sql_records.specs.Standing.{StandFor}
+use Rattle.sql_records.specs.Stores.{HasRecords, IsStarted}
+use Rattle.sql_store.specs.Adopted.{Adds, Completes, layout_in, no_records}
+
+-- ---- a schema has one set of the tables
+
+abbrev first_tree : List Index → ℕ
+first_tree [] = 0
+first_tree (index ∷ more) = index.tree
+
+abbrev coded : Schema → ℕ
+coded s = 4 * length s.tables + 2 * length s.indexes + first_tree s.indexes
+
+abbrev decoded : ℕ → Present
+decoded n = cond (n == 0) neither (cond (n == 4) life_alone (cond (n == 7) slots_alone (cond (n == 12) (both life_first) (both slots_first))))
+
+present_by : (present : Present) → decoded (coded (schema_in present)) ≡ present
+present_by neither = refl
+present_by life_alone = refl
+present_by slots_alone = refl
+present_by (both life_first) = refl
+present_by (both slots_first) = refl
+
+pub present_is : (one other : Present) → schema_in one ≡ schema_in other → one ≡ other
+present_is one other same = sym (present_by one) ∙ ap (λ (s : Schema). decoded (coded s)) same ∙ present_by other
+
+pub adds_at : (present : Present) (old : State) (db : Trees) → old.now.schema ≡ schema_in present → Completes present old.now.trees db → Adds old db
+adds_at present old db is completes other also =
+    subst (λ p. Completes p old.now.trees db) (present_is present other (sym is ∙ also)) completes
+
+-- ---- a table that is made is empty
+
+nothing_stands : (records : Records) → AreSame records no_records → StandFor no_slots records
+nothing_stands records same = record { rows = λ key body found. absurd (cc); blanks = λ slot none. same.each slot }
+
+nothing_found : (layout : Layout) (db : Trees) (records : Records) → db (slots_tree layout) ≡ [] → AreSame records no_records
+    → HasRecords layout db records
+nothing_found layout db records empty same = record {
+  slots = no_slots;
+  are = subst (λ rows. AreSlots rows no_slots) (sym empty) (record { typed = tt; exact = λ slot. refl });
+  stand = nothing_stands records same;
+}
+
+completes_neither : (old : State) (db : Trees) → BothAdded db → Completes neither old.now.trees db
+completes_neither old db added = record {
+  records = λ records same. nothing_found life_first db records added.slots same;
+  started = λ started is. record { last = None; are = added.life; is = is };
+}
+
+completes_life : (old : State) (db : Trees) → SlotsAdded old db → Completes life_alone old.now.trees db
+completes_life old db added = record {
+  records = λ records same. nothing_found life_first db records added.empty same;
+  started = λ started is. record { last = is.last; are = rw added.life is.are; is = is.is };
+}
+
+completes_slots : (old : State) (db : Trees) → LifeAdded old db → Completes slots_alone old.now.trees db
+completes_slots old db added = record {
+  records = λ records has. record { slots = has.slots; are = rw added.slots has.are; stand = has.stand };
+  started = λ started is. record { last = None; are = added.empty; is = is };
+}
+
+pub completes_both : (layout : Layout) (old db : Trees) → db ≡ old → Completes (both layout) old db
+completes_both layout old db same = record {
+  records = λ records has. subst (λ d. HasRecords layout d records) (sym same) has;
+  started = λ started is. subst (λ d. IsStarted layout d started) (sym same) is;
+}
+
+-- ---- what it adds
+
+pub adds_neither : (old : State) → old.now.schema ≡ schema_in neither → (db : Trees) → AddsBoth old db → Adds old db
+adds_neither old is db adds = adds_at neither old db is (completes_neither old db (adds is))
+
+pub adds_life : (old : State) → old.now.schema ≡ schema_in life_alone → (db : Trees) → AddsSlots old db → Adds old db
+adds_life old is db adds = adds_at life_alone old db is (completes_life old db (adds is))
+
+pub adds_slots : (old : State) → old.now.schema ≡ schema_in slots_alone → (db : Trees) → AddsLife old db → Adds old db
+adds_slots old is db adds = adds_at slots_alone old db is (completes_slots old db (adds is))
+
+pub laid_at : (present : Present) (old : State) → old.now.schema ≡ schema_in present → (other : Present) → old.now.schema ≡ schema_in other
+    → layout_in present ≡ layout_in other
+laid_at present old is other also = ap layout_in (present_is present other (sym is ∙ also))
