@@ -75,7 +75,7 @@ fn what_is_prepared_goes_out_and_changes_nothing_before(rt: HostRuntime) {
     let answers = let_go(&rt, alloc, &node);
     assert_part(&rt, alloc, &mut node, "afterwards\nask 3 => ToldNothing");
     drop(node);
-    let voted = Answer::Voted(262161);
+    let voted = ("Voted", [262161, 0, 0]);
     assert_same(&rt, &answers, &(voted, voted));
 }
 

@@ -16,9 +16,9 @@ use synod_acceptor::Packet;
 // A submit_sm is taken, and its first attempt is chosen.
 const ATTEMPT: &str = "\
 an attempt is chosen
-submit => Waits(1)
-back => Replied(1, Accepted)
-tick 946684800 sme1 => Started(1000100001, 1, 262161)
+submit => Waits 1
+back => Accepted 1
+tick 946684800 sme1 => Started 1000100001 1 262161
 back => Nothing";
 
 fn outputs_of(rt: &impl Abort, node: &mut Node<ListStore>, packet: Packet) -> Outputs {

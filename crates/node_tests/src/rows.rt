@@ -5,45 +5,45 @@
 // Of a node alone.
 pub const ALONE: &str = "\
 a submit is taken
-submit => Waits(1)
-back => Replied(1, Accepted)
+submit => Waits 1
+back => Accepted 1
 
 a query is shown what is known
-query => Waits(1)
-back => Replied(1, Unknown)
-submit => Waits(2)
-back => Replied(2, Accepted)
-query => Waits(3)
-back => Replied(3, Shown)
+query => Waits 1
+back => Unknown 1
+submit => Waits 2
+back => Accepted 2
+query => Waits 3
+back => Shown 3
 
 a cancel deletes its message
-submit => Waits(1)
-back => Replied(1, Accepted)
-cancel => Waits(2)
-back => Replied(2, Removed)
-cancel => Waits(3)
-back => Replied(3, Removed)
+submit => Waits 1
+back => Accepted 1
+cancel => Waits 2
+back => Removed 2
+cancel => Waits 3
+back => Removed 3
 
 a submit without a route is refused
-submit_nowhere => Turned(InvalidDestinationAddress)
+submit_nowhere => Turned 11
 back => Nothing
-submit => Waits(1)
-back => Replied(1, Accepted)
+submit => Waits 1
+back => Accepted 1
 
 a request is asked of again and answered after 30 seconds
-query => Waits(1)
+query => Waits 1
 tick 946684829 => Asked
-tick 946684830 => Replied(1, TooLate)";
+tick 946684830 => TooLate 1";
 
 // Of the second node of three.
 pub const PACKETS: &str = "\
 a node promises, votes and tells
 ask 3 => ToldNothing
 prepare 1 262162 => Promised
-prepare 3 262161 => Refused(262162)
-propose 1 262161 => Refused(262162)
-propose 1 262162 => Voted(262162)
-ask 3 => Told(262162)
+prepare 3 262161 => Refused 262162
+propose 1 262161 => Refused 262162
+propose 1 262162 => Voted 262162
+ask 3 => Told 262162
 
 a stranger is not heard
 prepare 4 262161 => Nothing
@@ -64,28 +64,28 @@ pub const ATTEMPTS: &str = "\
 an attempt is granted once and concluded once
 attempted 1 2 1 => Nothing
 attempted 3 2 1 => Nothing
-grant => Granted(1, 1)
-grant => Unprepared(Grant(AlreadyGranted))
-delivered => Started(1000100001, 2, 262162)
-delivered => Unprepared(NotGranted)
+grant => Granted 1 1
+grant => Unprepared 2 4
+delivered => Started 1000100001 2 262162
+delivered => Unprepared 3
 
 an attempt that is not chosen is refused
-grant => Unprepared(Grant(NotChosen))
+grant => Unprepared 2 1
 
 an attempt of another node is refused
 attempted 1 1 1 => Nothing
 attempted 3 1 1 => Nothing
-grant => Unprepared(Grant(NotMine))
+grant => Unprepared 2 2
 
 an attempt of another incarnation is refused
 attempted 1 2 2 => Nothing
 attempted 3 2 2 => Nothing
-grant => Unprepared(Grant(OlderIncarnation))
+grant => Unprepared 2 3
 
 what came of no attempt is refused
 attempted 1 2 1 => Nothing
 attempted 3 2 1 => Nothing
-delivered => Unprepared(NotGranted)";
+delivered => Unprepared 3";
 
 // Of the second node of three.
 pub const TICKS: &str = "\
@@ -93,23 +93,23 @@ a message expires at its expiry
 voted 1 => Nothing
 voted 3 => Nothing
 tick 946943999 => Nothing
-tick 946944000 => Started(1000100001, 1, 262162)
+tick 946944000 => Started 1000100001 1 262162
 
 an attempt is due while its account is up
 voted 1 => Nothing
 voted 3 => Nothing
 tick 946943999 sme2 => Nothing
-tick 946943999 sme2 sme1 => Started(1000100001, 1, 262162)
+tick 946943999 sme2 sme1 => Started 1000100001 1 262162
 
 the clock never falls and each tick starts anew
 voted 1 => Nothing
 voted 3 => Nothing
-tick 946944000 => Started(1000100001, 1, 262162)
-tick 946943999 => Started(1000100001, 1, 524306)
+tick 946944000 => Started 1000100001 1 262162
+tick 946943999 => Started 1000100001 1 524306
 
 its own vote is followed
-propose 1 262161 => Voted(262161)
-tick 946943999 => Started(1000100001, 0, 524306)
+propose 1 262161 => Voted 262161
+tick 946943999 => Started 1000100001 0 524306
 
 a node that heard of nothing starts nothing
 tick 946944000 sme1 => Nothing
@@ -120,13 +120,13 @@ voted 3 => Nothing
 tick 946943999 => Nothing
 tick 946943999 => Nothing
 tick 946943998 => Nothing
-tick 946943999 sme1 => Started(1000100001, 1, 262162)
+tick 946943999 sme1 => Started 1000100001 1 262162
 
 a message that comes behind a tick is not forgotten
 tick 946944000 => Nothing
 voted 1 => Nothing
 voted 3 => Nothing
-tick 946944000 => Started(1000100001, 1, 262162)
+tick 946944000 => Started 1000100001 1 262162
 
 a message that was decided is heard again
 deleted 1 0 => Nothing
@@ -142,4 +142,4 @@ voted 1 => Nothing
 voted 3 => Nothing
 tick 946943998 => Nothing
 tick 946943999 => Nothing
-tick 946944000 => Started(1000100001, 1, 262162)";
+tick 946944000 => Started 1000100001 1 262162";

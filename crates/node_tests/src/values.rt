@@ -82,7 +82,8 @@ pub fn input(rt: &impl Abort, alloc: Global, comes: &str) -> Input {
     }
 }
 
-fn numbers(rt: &impl Abort, words: &str) -> [u64; 3] {
+// Up to three numbers; 0 for each that is not there.
+pub fn numbers(rt: &impl Abort, words: &str) -> [u64; 3] {
     let mut numbers = [0; 3];
     for (number, word) in numbers.iter_mut().zip(words.split_whitespace()) {
         *number = word.parse().expect(rt, "a number");

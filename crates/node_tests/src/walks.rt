@@ -1,9 +1,8 @@
 //! Walks of a node over what comes to it, a line each, and what it answers.
 
 use crate::same::assert_same;
-use crate::values::{input, opened_over};
+use crate::values::{input, numbers, opened_over};
 use node_core::{Input, Node, Outputs, Setup, StepFault};
-use pdu_tables::Status;
 use requests::Reply;
 use stable_store::{ListStore, StableStore};
 use std::alloc::Global;
@@ -11,88 +10,92 @@ use std::collections::VecDeque;
 use std::process::Abort;
 use synod_acceptor::Packet;
 
-// What a node answers to what comes. It is `Other` if it gives out more than this one thing.
-#[derive(Clone, Copy, Debug, PartialEq, Eq)]
-pub enum Answer {
-    Nothing,
-    // A packet.
-    Promised,
-    Refused(u64),
-    Voted(u64),
-    Told(u64),
-    ToldNothing,
-    Asked,
-    // A Prepare: the id and the place of its slot, and its ballot.
-    Started(u64, u8, u64),
-    // The ticket of a request that came, which may send packets besides.
-    Waits(u64),
-    // The status with which a request that came is refused.
-    Turned(Status),
-    // A reply, with its ticket; a receipt may be due besides.
-    Replied(u64, Said),
-    // The place of the attempt that is granted, and its number.
-    Granted(u8, u8),
-    // Nothing, since the step was not prepared, or not committed.
-    Unprepared(StepFault),
-    Uncommitted(StepFault),
-    Other,
+// What a node answers to what comes: a word, and numbers behind it. If it gives out more than one thing, the word is `Other`.
+pub type Answer = (&'static str, [u64; 3]);
+
+const NOTHING: Answer = ("Nothing", [0; 3]);
+
+const OTHER: Answer = ("Other", [0; 3]);
+
+fn with_number(word: &'static str, number: u64) -> Answer {
+    (word, [number, 0, 0])
 }
 
-// What a reply says.
-#[derive(Clone, Copy, Debug, PartialEq, Eq)]
-pub enum Said {
-    Accepted,
-    Shown,
-    Removed,
-    Unknown,
-    TooLate,
-    Other,
+// A reply, with its ticket. A receipt may be due besides.
+fn replied(reply: &Reply) -> Answer {
+    let word = match &reply.answer {
+        requests::Answer::Accepted => "Accepted",
+        requests::Answer::Shown(_) => "Shown",
+        requests::Answer::Removed(_) => "Removed",
+        requests::Answer::Unknown => "Unknown",
+        requests::Answer::TooLate => "TooLate",
+        _ => "OtherReply",
+    };
+    with_number(word, reply.ticket)
 }
 
-fn word_of(reply: &Reply) -> Said {
-    match &reply.answer {
-        requests::Answer::Accepted => Said::Accepted,
-        requests::Answer::Shown(_) => Said::Shown,
-        requests::Answer::Removed(_) => Said::Removed,
-        requests::Answer::Unknown => Said::Unknown,
-        requests::Answer::TooLate => Said::TooLate,
-        _ => Said::Other,
-    }
-}
+const REPLIES: &[&str] = &[
+    "Accepted",
+    "Shown",
+    "Removed",
+    "Unknown",
+    "TooLate",
+    "OtherReply",
+];
 
+// A packet, with its ballot if it has one; of a Prepare the id and the place of its slot stand in front of that.
 fn sent(packet: &Packet) -> Answer {
     match packet {
-        Packet::Prepare { slot, ballot, .. } => {
-            Answer::Started(slot.id.number(), slot.place, ballot.number())
-        }
-        Packet::Promise { .. } => Answer::Promised,
-        Packet::Refused { promised, .. } => Answer::Refused(promised.number()),
-        Packet::Voted { vote, .. } => Answer::Voted(vote.ballot.number()),
-        Packet::Ask { .. } => Answer::Asked,
-        Packet::Tell { told: None, .. } => Answer::ToldNothing,
+        Packet::Prepare { slot, ballot, .. } => (
+            "Started",
+            [slot.id.number(), slot.place as u64, ballot.number()],
+        ),
+        Packet::Promise { .. } => ("Promised", [0; 3]),
+        Packet::Refused { promised, .. } => with_number("Refused", promised.number()),
+        Packet::Voted { vote, .. } => with_number("Voted", vote.ballot.number()),
+        Packet::Ask { .. } => ("Asked", [0; 3]),
+        Packet::Tell { told: None, .. } => ("ToldNothing", [0; 3]),
         Packet::Tell {
             told: Some(vote),
             ..
-        } => Answer::Told(vote.ballot.number()),
-        Packet::Propose { .. } => Answer::Other,
+        } => with_number("Told", vote.ballot.number()),
+        Packet::Propose { .. } => OTHER,
     }
 }
 
+// The number of the fault, and of the reason for which an attempt is not granted. Nothing was given out, since the step was not prepared, or not
+// committed.
+fn failed(word: &'static str, fault: StepFault) -> Answer {
+    match fault {
+        StepFault::Broken => with_number(word, 1),
+        StepFault::Grant(refusal) => (word, [2, refusal.number() as u64, 0]),
+        StepFault::NotGranted => with_number(word, 3),
+        StepFault::Device => with_number(word, 4),
+        StepFault::StrangeLife => with_number(word, 5),
+        StepFault::Memory => with_number(word, 6),
+    }
+}
+
+// `Waits`, with the ticket of a request that came, which may send packets besides; `Granted`, with the place of the attempt and its number; a
+// packet; a reply; `Turned`, with the command_status with which a request that came is refused; or nothing.
 pub fn answer_in(outputs: &Outputs) -> Answer {
     if let Some(ticket) = outputs.ticket {
-        return Answer::Waits(ticket);
+        return with_number("Waits", ticket);
     }
     if let Some(chain) = &outputs.granted {
-        return Answer::Granted(chain.place(), chain.attempts());
+        return (
+            "Granted",
+            [chain.place() as u64, chain.attempts() as u64, 0],
+        );
     }
     match (outputs.packets.as_slice(), outputs.replies.as_slice()) {
         ([], []) if outputs.receipts.is_empty() => match outputs.refused {
-            Some(status) => Answer::Turned(status),
-            None => Answer::Nothing,
+            Some(status) => with_number("Turned", status.code() as u64),
+            None => NOTHING,
         },
         ([packet], []) if outputs.receipts.is_empty() => sent(packet),
-        ([], [reply]) => Answer::Replied(reply.ticket, word_of(reply)),
-        _ => Answer::Other,
+        ([], [reply]) => replied(reply),
+        _ => OTHER,
     }
 }
 
@@ -129,9 +132,9 @@ fn answer_to<S: StableStore>(
     match node.prepare_step(input) {
         Ok(pending) => match node.commit(pending) {
             Ok(outputs) => answer_left(rt, outputs, left),
-            Err(fault) => Answer::Uncommitted(fault),
+            Err(fault) => failed("Uncommitted", fault),
         },
-        Err(fault) => Answer::Unprepared(fault),
+        Err(fault) => failed("Unprepared", fault),
     }
 }
 
@@ -141,13 +144,13 @@ fn last_answer<S: StableStore>(
     node: &mut Node<S>,
     left: &mut VecDeque<Packet>,
 ) -> Answer {
-    let mut last = Answer::Nothing;
+    let mut last = NOTHING;
     for _ in 0..20 {
         let Some(packet) = left.pop_front() else {
             break;
         };
         let answer = answer_to(rt, node, Input::Packet(packet), left);
-        if matches!(answer, Answer::Replied(..)) {
+        if REPLIES.contains(&answer.0) {
             last = answer;
         }
     }
@@ -183,12 +186,9 @@ fn assert_row<S: StableStore>(
         .split_once(" => ")
         .expect(rt, "what comes, and the answer");
     let answer = what_comes_of(rt, alloc, node, left, comes);
-    let told = format!(in alloc; "{answer:?}").expect(rt, "memory");
-    assert_same(
-        rt,
-        &(shows, number, told.as_str()),
-        &(shows, number, wanted),
-    );
+    let (word, rest) = wanted.split_once(' ').unwrap_or((wanted, ""));
+    let wanted = (word, numbers(rt, rest));
+    assert_same(rt, &(shows, number, answer), &(shows, number, wanted));
 }
 
 // That the node answers as the rows of a part say, of which the first line says what they show.

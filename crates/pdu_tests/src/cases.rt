@@ -9,13 +9,6 @@ pub fn assert_same<T: Debug + PartialEq>(rt: &impl Abort, found: &T, wanted: &T)
     assert_eq!(rt; *found, *wanted);
 }
 
-/// Each case holds. A failure tells the name of their group, and the number of the case in it, from 0.
-pub fn assert_all(rt: &impl Abort, name: &str, cases: &[bool]) {
-    for (number, holds) in cases.iter().enumerate() {
-        assert_same(rt, &(name, number, *holds), &(name, number, true));
-    }
-}
-
 /// The octets of the pieces, one after the other.
 pub fn joined(rt: &impl Abort, alloc: Global, pieces: &[&[u8]]) -> Vec<u8> {
     let mut octets = Vec::new(alloc);

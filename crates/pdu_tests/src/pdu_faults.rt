@@ -90,6 +90,12 @@ fn fault_of_parameters(rt: &impl Abort, alloc: Global) -> Option<PduFault> {
     fault
 }
 
+/// The fault of a query_sm that has one octet fewer than its command_length says.
+fn fault_of_shorter(rt: &impl Abort, alloc: Global) -> Option<PduFault> {
+    let shorter = QUERY.get(..32).expect(rt, "octets");
+    decode(alloc, shorter).err()
+}
+
 /// The fault of a query_sm that has one octet more than its command_length says.
 fn fault_of_longer(rt: &impl Abort, alloc: Global) -> Option<PduFault> {
     let longer = joined(rt, alloc, &[QUERY, b"\0"]);
@@ -98,58 +104,64 @@ fn fault_of_longer(rt: &impl Abort, alloc: Global) -> Option<PduFault> {
     fault
 }
 
-/// 8,192 octets may be a PDU, and 8,193 are none, whatever their command. Optional parameters have 7,000 octets at most.
-#[test]
-fn lengths(rt: HostRuntime) {
-    let alloc = rt.alloc();
-    let faults = [
-        fault_of_zeros(&rt, alloc, 8176),
-        fault_of_zeros(&rt, alloc, 8177),
-        fault_of_parameters(&rt, alloc),
-        // One octet fewer than command_length says, and one more.
-        decode(alloc, QUERY.get(..32).expect(&rt, "octets")).err(),
-        fault_of_longer(&rt, alloc),
-    ];
-    let wanted = [
-        Some(PduFault::Command),
-        Some(PduFault::Length),
-        Some(PduFault::Tlvs),
-        Some(PduFault::Length),
-        Some(PduFault::Length),
-    ];
-    assert_same(&rt, &faults, &wanted);
+const LENGTHS: [Option<PduFault>; 5] = [
+    Some(PduFault::Command),
+    Some(PduFault::Length),
+    Some(PduFault::Tlvs),
+    Some(PduFault::Length),
+    Some(PduFault::Length),
+];
+
+/// 8,192 octets may be a PDU, and 8,193 are none, whatever their command. Optional parameters have 7,000 octets at most. And a query_sm
+/// of one octet fewer than command_length says, and of one more.
+fn lengths(rt: &impl Abort, alloc: Global) -> [Option<PduFault>; 5] {
+    [
+        fault_of_zeros(rt, alloc, 8176),
+        fault_of_zeros(rt, alloc, 8177),
+        fault_of_parameters(rt, alloc),
+        fault_of_shorter(rt, alloc),
+        fault_of_longer(rt, alloc),
+    ]
 }
 
-/// A submit_sm (SMPP 3.4, section 4.4.1) with each text as long as it may be, the greatest short_message, and 7,000 octets
-/// of optional parameters: a message_payload of 6,996. And what is told of it.
+#[test]
+fn lengths_have_limits(rt: HostRuntime) {
+    assert_same(&rt, &lengths(&rt, rt.alloc()), &LENGTHS);
+}
+
+/// A submit_sm (SMPP 3.4, section 4.4.1) with each text as long as it may be, the greatest short_message, and these octets of optional
+/// parameters: a message_payload of 6,996.
+fn greatest(rt: &impl Abort, alloc: Global, message: &[u8], payload: &[u8]) -> Vec<u8> {
+    let pieces: [&[u8]; 6] = [
+        b"\0\0\x1c\xc4\0\0\0\x04\0\0\0\0\0\0\0\x01",
+        b"aaaaa\0\x01\x02aaaaaaaaaaaaaaaaaaaa\0\x03\x04aaaaaaaaaaaaaaaaaaaa\0\x05\x06\x07",
+        b"aaaaaaaaaaaaaaaa\0aaaaaaaaaaaaaaaa\0\x08\x09\x0a\x0b\xfe",
+        message,
+        b"\x04\x24\x1b\x54",
+        payload,
+    ];
+    joined(rt, alloc, &pieces)
+}
+
+/// What is told of it.
+fn told_of_greatest(rt: &impl Abort, alloc: Global, message: &[u8], payload: &[u8]) -> Vec<u8> {
+    let pieces: [&[u8]; 5] = [
+        b"submit_sm|\0\0\0\0|\0\0\0\x01|aaaaa|\x01|\x02|aaaaaaaaaaaaaaaaaaaa|\x03|\x04|aaaaaaaaaaaaaaaaaaaa|",
+        b"\x05|\x06|\x07|aaaaaaaaaaaaaaaa|aaaaaaaaaaaaaaaa|\x08|\x09|\x0a|\x0b|",
+        message,
+        b"|\x04\x24\x1b\x54",
+        payload,
+    ];
+    joined(rt, alloc, &pieces)
+}
+
 #[test]
 fn a_submit_of_7364_octets_is_read_and_written(rt: HostRuntime) {
     let alloc = rt.alloc();
-    let greatest = counting(&rt, alloc, 254);
+    let message = counting(&rt, alloc, 254);
     let payload = counting(&rt, alloc, 6996);
-    let octets = joined(
-        &rt,
-        alloc,
-        &[
-            b"\0\0\x1c\xc4\0\0\0\x04\0\0\0\0\0\0\0\x01",
-            b"aaaaa\0\x01\x02aaaaaaaaaaaaaaaaaaaa\0\x03\x04aaaaaaaaaaaaaaaaaaaa\0\x05\x06\x07",
-            b"aaaaaaaaaaaaaaaa\0aaaaaaaaaaaaaaaa\0\x08\x09\x0a\x0b\xfe",
-            &greatest,
-            b"\x04\x24\x1b\x54",
-            &payload,
-        ],
-    );
-    let told = joined(
-        &rt,
-        alloc,
-        &[
-            b"submit_sm|\0\0\0\0|\0\0\0\x01|aaaaa|\x01|\x02|aaaaaaaaaaaaaaaaaaaa|\x03|\x04|aaaaaaaaaaaaaaaaaaaa|",
-            b"\x05|\x06|\x07|aaaaaaaaaaaaaaaa|aaaaaaaaaaaaaaaa|\x08|\x09|\x0a|\x0b|",
-            &greatest,
-            b"|\x04\x24\x1b\x54",
-            &payload,
-        ],
-    );
+    let octets = greatest(&rt, alloc, &message, &payload);
+    let told = told_of_greatest(&rt, alloc, &message, &payload);
     assert_said(&rt, alloc, octets.len(), &octets, &told);
     assert_same(&rt, &octets.len(), &7364);
 }

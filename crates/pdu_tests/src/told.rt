@@ -2,7 +2,9 @@
 //! the order of the standard, each behind a bar. Optional parameters are one field.
 
 use crate::cases::assert_same;
-use pdu_codec::{Bind, BindAnswer, Body, Message, Pdu, QueryAnswer, decode, encode};
+use pdu_codec::{
+    Address, Bind, BindAnswer, Body, Cancel, Message, Pdu, Query, QueryAnswer, decode, encode,
+};
 use std::alloc::Global;
 use std::process::Abort;
 
@@ -13,70 +15,93 @@ fn put(rt: &impl Abort, told: &mut Vec<u8>, fields: &[&[u8]]) {
     }
 }
 
-fn put_bind(rt: &impl Abort, told: &mut Vec<u8>, bind: &Bind) {
-    put(
-        rt,
-        told,
-        &[
-            bind.system_id.octets(),
-            bind.password.octets(),
-            bind.system_type.octets(),
-            &[bind.interface_version],
-            &[bind.addr_ton],
-            &[bind.addr_npi],
-            bind.address_range.octets(),
-        ],
-    )
+/// Each octet as a field.
+fn put_each(rt: &impl Abort, told: &mut Vec<u8>, octets: &[u8]) {
+    for octet in octets {
+        put(rt, told, &[&[*octet]]);
+    }
 }
 
-fn put_bind_answer(rt: &impl Abort, told: &mut Vec<u8>, answer: &Option<BindAnswer>) {
-    match answer {
-        None => {}
-        Some(answer) => put(rt, told, &[answer.system_id.octets(), answer.tlvs.octets()]),
-    }
+fn put_address(rt: &impl Abort, told: &mut Vec<u8>, address: &Address) {
+    put_each(rt, told, &[address.ton, address.npi]);
+    put(rt, told, &[address.digits.octets()]);
+}
+
+fn put_bind(rt: &impl Abort, told: &mut Vec<u8>, bind: &Bind) {
+    let texts = [
+        bind.system_id.octets(),
+        bind.password.octets(),
+        bind.system_type.octets(),
+    ];
+    put(rt, told, &texts);
+    put_each(
+        rt,
+        told,
+        &[bind.interface_version, bind.addr_ton, bind.addr_npi],
+    );
+    put(rt, told, &[bind.address_range.octets()]);
+}
+
+fn put_bind_answer(rt: &impl Abort, told: &mut Vec<u8>, answer: &BindAnswer) {
+    put(rt, told, &[answer.system_id.octets(), answer.tlvs.octets()]);
+}
+
+/// The fields of a message between its addresses and its text.
+fn put_handling(rt: &impl Abort, told: &mut Vec<u8>, message: &Message) {
+    let before = [
+        message.esm_class,
+        message.protocol_id,
+        message.priority_flag,
+    ];
+    let times = [
+        message.schedule_delivery_time.octets(),
+        message.validity_period.octets(),
+    ];
+    let behind = [
+        message.registered_delivery,
+        message.replace_if_present_flag,
+        message.data_coding,
+        message.sm_default_msg_id,
+    ];
+    put_each(rt, told, &before);
+    put(rt, told, &times);
+    put_each(rt, told, &behind);
 }
 
 fn put_message(rt: &impl Abort, told: &mut Vec<u8>, message: &Message) {
+    put(rt, told, &[message.service_type.octets()]);
+    put_address(rt, told, &message.source);
+    put_address(rt, told, &message.destination);
+    put_handling(rt, told, message);
     put(
         rt,
         told,
-        &[
-            message.service_type.octets(),
-            &[message.source.ton],
-            &[message.source.npi],
-            message.source.digits.octets(),
-            &[message.destination.ton],
-            &[message.destination.npi],
-            message.destination.digits.octets(),
-            &[message.esm_class],
-            &[message.protocol_id],
-            &[message.priority_flag],
-            message.schedule_delivery_time.octets(),
-            message.validity_period.octets(),
-            &[message.registered_delivery],
-            &[message.replace_if_present_flag],
-            &[message.data_coding],
-            &[message.sm_default_msg_id],
-            message.short_message.octets(),
-            message.tlvs.octets(),
-        ],
-    )
+        &[message.short_message.octets(), message.tlvs.octets()],
+    );
 }
 
-fn put_query_answer(rt: &impl Abort, told: &mut Vec<u8>, answer: &Option<QueryAnswer>) {
-    match answer {
-        None => {}
-        Some(answer) => put(
-            rt,
-            told,
-            &[
-                answer.message_id.octets(),
-                answer.final_date.octets(),
-                &[answer.message_state],
-                &[answer.error_code],
-            ],
-        ),
-    }
+fn put_query(rt: &impl Abort, told: &mut Vec<u8>, query: &Query) {
+    put(rt, told, &[query.message_id.octets()]);
+    put_address(rt, told, &query.source);
+}
+
+fn put_query_answer(rt: &impl Abort, told: &mut Vec<u8>, answer: &QueryAnswer) {
+    put(
+        rt,
+        told,
+        &[answer.message_id.octets(), answer.final_date.octets()],
+    );
+    put_each(rt, told, &[answer.message_state, answer.error_code]);
+}
+
+fn put_cancel(rt: &impl Abort, told: &mut Vec<u8>, cancel: &Cancel) {
+    put(
+        rt,
+        told,
+        &[cancel.service_type.octets(), cancel.message_id.octets()],
+    );
+    put_address(rt, told, &cancel.source);
+    put_address(rt, told, &cancel.destination);
 }
 
 fn put_body(rt: &impl Abort, told: &mut Vec<u8>, body: &Body) {
@@ -84,40 +109,16 @@ fn put_body(rt: &impl Abort, told: &mut Vec<u8>, body: &Body) {
         Body::BindReceiver(bind) | Body::BindTransmitter(bind) | Body::BindTransceiver(bind) => {
             put_bind(rt, told, bind)
         }
-        Body::BindReceiverResp(answer)
-        | Body::BindTransmitterResp(answer)
-        | Body::BindTransceiverResp(answer) => put_bind_answer(rt, told, answer),
+        Body::BindReceiverResp(Some(answer))
+        | Body::BindTransmitterResp(Some(answer))
+        | Body::BindTransceiverResp(Some(answer)) => put_bind_answer(rt, told, answer),
         Body::SubmitSm(message) | Body::DeliverSm(message) => put_message(rt, told, message),
-        Body::SubmitSmResp(Some(id)) | Body::DeliverSmResp(Some(id)) => put(
-            rt,
-            told,
-            &[id.octets()],
-        ),
-        Body::QuerySm(query) => put(
-            rt,
-            told,
-            &[
-                query.message_id.octets(),
-                &[query.source.ton],
-                &[query.source.npi],
-                query.source.digits.octets(),
-            ],
-        ),
-        Body::QuerySmResp(answer) => put_query_answer(rt, told, answer),
-        Body::CancelSm(cancel) => put(
-            rt,
-            told,
-            &[
-                cancel.service_type.octets(),
-                cancel.message_id.octets(),
-                &[cancel.source.ton],
-                &[cancel.source.npi],
-                cancel.source.digits.octets(),
-                &[cancel.destination.ton],
-                &[cancel.destination.npi],
-                cancel.destination.digits.octets(),
-            ],
-        ),
+        Body::SubmitSmResp(Some(id)) | Body::DeliverSmResp(Some(id)) => {
+            put(rt, told, &[id.octets()])
+        }
+        Body::QuerySm(query) => put_query(rt, told, query),
+        Body::QuerySmResp(Some(answer)) => put_query_answer(rt, told, answer),
+        Body::CancelSm(cancel) => put_cancel(rt, told, cancel),
         _ => {}
     }
 }
