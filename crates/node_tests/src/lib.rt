@@ -4,7 +4,11 @@
 #[cfg(test)]
 mod asked;
 #[cfg(test)]
+mod clusters;
+#[cfg(test)]
 mod nodes_by_rows;
+#[cfg(test)]
+mod on_disk;
 #[cfg(test)]
 mod opening;
 #[cfg(test)]

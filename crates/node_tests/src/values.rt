@@ -14,7 +14,7 @@ use std::process::Abort;
 use synod_acceptor::{Name, Packet, Report, Vote};
 
 // The chain of one Taken on message 1000100001: from 144 to 155, with the text Hi.
-const TAKEN: &[u8] =
+pub const TAKEN: &[u8] =
     b"\x01\x00\x00\x00\x00\x3b\x9c\x50\xa1\x00\x01\x01\x01\x00\x01\x38\x6d\x43\x80\x04sme1\x04sme1\x00\x01\x01\x03144\x01\x01\x03155\x00\x00\x00\x01\x00\x38\x6d\x43\x80\x38\x71\x38\x00\x02Hi\x00\x00";
 
 pub fn node(rt: &impl Abort, number: u8) -> NodeNo {

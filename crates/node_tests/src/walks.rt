@@ -13,7 +13,7 @@ use synod_acceptor::Packet;
 // What a node answers to what comes: a word, and numbers behind it. If it gives out more than one thing, the word is `Other`.
 pub type Answer = (&'static str, [u64; 3]);
 
-const NOTHING: Answer = ("Nothing", [0; 3]);
+pub const NOTHING: Answer = ("Nothing", [0; 3]);
 
 const OTHER: Answer = ("Other", [0; 3]);
 
@@ -27,6 +27,7 @@ fn replied(reply: &Reply) -> Answer {
         requests::Answer::Accepted => "Accepted",
         requests::Answer::Shown(_) => "Shown",
         requests::Answer::Removed(_) => "Removed",
+        requests::Answer::Kept(_) => "Kept",
         requests::Answer::Unknown => "Unknown",
         requests::Answer::TooLate => "TooLate",
         _ => "OtherReply",
@@ -34,10 +35,11 @@ fn replied(reply: &Reply) -> Answer {
     with_number(word, reply.ticket)
 }
 
-const REPLIES: &[&str] = &[
+pub const REPLIES: &[&str] = &[
     "Accepted",
     "Shown",
     "Removed",
+    "Kept",
     "Unknown",
     "TooLate",
     "OtherReply",
@@ -123,7 +125,7 @@ fn answer_left(rt: &impl Abort, outputs: Outputs, left: &mut VecDeque<Packet>) -
 }
 
 // What a node answers to an input, once it is committed. Its packets are left.
-fn answer_to<S: StableStore>(
+pub fn answer_to<S: StableStore>(
     rt: &impl Abort,
     node: &mut Node<S>,
     input: Input,

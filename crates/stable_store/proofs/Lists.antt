@@ -1,8 +1,8 @@
 -- What the promises of a store say of a list.
-use Rattle.std.proofs.Common.{◌≡◌, ◌⊎◌, ◌+◌, ℕ, refl, sym, inl, inr}
+use Rattle.std.proofs.Common.{refl, sym, inl, inr}
 use Rattle.mc_model.specs.synod.Acceptor.{Records}
 use Rattle.synod_acceptor.specs.Records.{record_at}
-use Rattle.stable_store.specs.Stored.{AreSame, Listed, saved}
+use Rattle.stable_store.specs.Stored.{AreSame}
 use Rattle.stable_store.specs.Listing.{SaysOfLeavesNext, SaysOfLeavesSaved, SaysOfSaves, SaysOfStays}
 
 itself : (records : Records) → AreSame records records

@@ -60,9 +60,11 @@ pub trait StableStore {
 
     /// What is stored may be found after a stop.
     ghost found: { (s : Self) (records : Records) → (stored s).doubt ≡ 0 → (stored s).holds records → (stored s).may_hold records };
+
     ghost found_started: { (s : Self) (started : ℕ) → (stored s).doubt ≡ 0 → (stored s).has_started started → (stored s).may_have_started started };
 
     /// While it answers, nothing else may.
     ghost settled: { (s : Self) (records left : Records) → (stored s).holds records → (stored s).may_hold left → AreSame left records };
+
     ghost settled_started: { (s : Self) (started left : ℕ) → (stored s).has_started started → (stored s).may_have_started left → left ≡ started };
 }
