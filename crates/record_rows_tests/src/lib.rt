@@ -3,3 +3,9 @@
 
 #[cfg(test)]
 mod rows;
+#[cfg(test)]
+mod same;
+#[cfg(test)]
+mod tables;
+#[cfg(test)]
+mod values;

@@ -1,125 +1,73 @@
-use record_rows::{
-    Found, ReadFault, SlotRow, add_life, add_slots, find_tables, put_incarnation, put_slot,
-    read_incarnation, read_slots,
-};
-use sqlite::{Connection, MemStore};
+//! Rows that are put and read.
+
+use crate::same::assert_same;
+use crate::values::{LIFE, SLOTS, database, put, seen};
+use record_rows::{ReadFault, put_incarnation, read_incarnation};
 use std::alloc::Global;
 use std::process::Abort;
-use std::rt::HostRuntime;
-use std::test::Fail;
 
-const LIFE: &str =
-    "CREATE TABLE life (one INTEGER PRIMARY KEY CHECK (one = 1), incarnation INTEGER NOT NULL)";
+const NO_ROWS: Result<[Option<crate::values::Seen>; 4], ReadFault> = Ok([None, None, None, None]);
 
-const SLOTS: &str =
-    "CREATE TABLE slots (id INTEGER NOT NULL, place INTEGER NOT NULL, promised INTEGER NOT NULL, voted INTEGER NOT NULL, chain BLOB NOT NULL, PRIMARY KEY (id, place))";
-
-fn tables(alloc: Global, first: &str, second: &str) -> Result<Connection<MemStore>, Fail> {
-    let mut conn = Connection::open_in_memory(alloc)?;
-    conn.execute(first, &[])?;
-    conn.execute(second, &[])?;
-    Ok(conn)
-}
-
-fn row(
-    alloc: Global,
-    id: i64,
-    place: i64,
-    ballots: (i64, i64),
-    chain: &[u8],
-) -> Result<SlotRow, Fail> {
-    Ok(SlotRow {
-        id,
-        place,
-        promised: ballots.0,
-        voted: ballots.1,
-        chain: Vec::from_slice(alloc, chain)?,
-    })
-}
-
-fn seen(alloc: Global, conn: &mut Connection<MemStore>) -> Result<String, Fail> {
-    match read_slots(alloc, conn) {
-        Ok(rows) => {
-            let mut text = String::new(alloc);
-            for r in rows.as_slice() {
-                let chain = r.chain.as_slice();
-                let line = format!(in alloc;
-                    "{} {} {} {} {chain:?};",
-                    r.id, r.place, r.promised, r.voted
-                )?;
-                text.push_str(line.as_str())?;
-            }
-            Ok(text)
-        }
-        Err(fault) => Ok(format!(in alloc; "{fault:?}")?),
-    }
-}
-
-/// Rows that were put are read by id and place, and one that is put again takes the place of the first.
-fn puts_and_reads(
-    rt: &impl Abort,
-    alloc: Global,
-    mut conn: Connection<MemStore>,
-) -> Result<(), Fail> {
-    assert_eq!(rt; seen(alloc, &mut conn)?.as_str(), "");
-    assert_eq!(rt;
-        put_slot(&mut conn, &row(alloc, 1000200001, 0, (262161, 0), &[])?),
-        Ok(())
-    );
-    assert_eq!(rt;
-        put_slot(
+// Rows that were put are read by id and place, and one that is put again takes the place of the first.
+fn puts_and_reads(rt: &impl Abort, alloc: Global, texts: &[&str]) {
+    let mut conn = database(rt, alloc, texts);
+    let before = seen(alloc, &mut conn);
+    let puts = (
+        put(rt, &mut conn, alloc, (1000200001, 0, 262161, 0), &[]),
+        put(
+            rt,
             &mut conn,
-            &row(alloc, 1000100001, 1, (524305, 262161), &[1, 2])?
+            alloc,
+            (1000100001, 1, 524305, 262161),
+            &[1, 2],
         ),
-        Ok(())
+        put(rt, &mut conn, alloc, (1000100001, 0, 262161, 262161), &[1]),
+        put(rt, &mut conn, alloc, (1000200001, 0, 262177, 262177), &[7]),
     );
-    assert_eq!(rt;
-        put_slot(
-            &mut conn,
-            &row(alloc, 1000100001, 0, (262161, 262161), &[1])?
-        ),
-        Ok(())
-    );
-    assert_eq!(rt;
-        put_slot(
-            &mut conn,
-            &row(alloc, 1000200001, 0, (262177, 262177), &[7])?
-        ),
-        Ok(())
-    );
-    assert_eq!(rt;
-        seen(alloc, &mut conn)?.as_str(),
-        "1000100001 0 262161 262161 [1];1000100001 1 524305 262161 [1, 2];1000200001 0 262177 262177 [7];"
-    );
-    Ok(())
+    let after = seen(alloc, &mut conn);
+    drop(conn);
+    assert_same(rt, &before, &NO_ROWS);
+    assert_same(rt, &puts, &(Ok(()), Ok(()), Ok(()), Ok(())));
+    let first = Some(((1000100001, 0, 262161, 262161), (1, Some(1), None)));
+    let second = Some(((1000100001, 1, 524305, 262161), (2, Some(1), Some(2))));
+    let third = Some(((1000200001, 0, 262177, 262177), (1, Some(7), None)));
+    assert_same(rt, &after, &Ok([first, second, third, None]));
 }
 
 #[test]
-fn rows_are_read_in_order(rt: HostRuntime) -> Result<(), Fail> {
-    puts_and_reads(&rt, rt.alloc(), tables(rt.alloc(), LIFE, SLOTS)?)?;
-    puts_and_reads(&rt, rt.alloc(), tables(rt.alloc(), SLOTS, LIFE)?)
+fn rows_are_read_in_order(rt: HostRuntime) {
+    puts_and_reads(&rt, rt.alloc(), &[LIFE, SLOTS]);
+    puts_and_reads(&rt, rt.alloc(), &[SLOTS, LIFE]);
 }
 
 #[test]
-fn incarnations_rise(rt: HostRuntime) -> Result<(), Fail> {
-    let mut conn = tables(rt.alloc(), SLOTS, LIFE)?;
-    assert_eq!(rt; read_incarnation(&mut conn), Ok(None));
-    assert_eq!(rt; put_incarnation(&mut conn, None, 1), Ok(()));
-    assert_eq!(rt; read_incarnation(&mut conn), Ok(Some(1)));
-    assert_eq!(rt; put_incarnation(&mut conn, Some(1), 2), Ok(()));
-    assert_eq!(rt; read_incarnation(&mut conn), Ok(Some(2)));
-    Ok(())
+fn incarnations_rise(rt: HostRuntime) {
+    let mut conn = database(&rt, rt.alloc(), &[SLOTS, LIFE]);
+    let none = read_incarnation(&mut conn);
+    let first = (
+        put_incarnation(&mut conn, None, 1),
+        read_incarnation(&mut conn),
+    );
+    let second = (
+        put_incarnation(&mut conn, Some(1), 2),
+        read_incarnation(&mut conn),
+    );
+    drop(conn);
+    assert_same(&rt, &none, &Ok(None));
+    assert_same(&rt, &first, &(Ok(()), Ok(Some(1))));
+    assert_same(&rt, &second, &(Ok(()), Ok(Some(2))));
 }
 
-fn after(alloc: Global, text: &str) -> Result<String, Fail> {
-    let mut conn = tables(alloc, LIFE, SLOTS)?;
-    conn.execute(text, &[])?;
-    seen(alloc, &mut conn)
+fn assert_damaged(rt: &impl Abort, alloc: Global, text: &str) {
+    let mut conn = database(rt, alloc, &[LIFE, SLOTS, text]);
+    let seen = seen(alloc, &mut conn);
+    drop(conn);
+    assert_same(rt, &seen, &Err(ReadFault::Damaged));
 }
 
-/// What the columns of `slots` let through and no record is.
+// What the columns of `slots` let through and no record is.
 #[test]
-fn damaged_rows_are_refused(rt: HostRuntime) -> Result<(), Fail> {
+fn damaged_rows_are_refused(rt: HostRuntime) {
     for value in ["1.5", "'x'", "x'01'"] {
         for at in 0..4 {
             let one = |k: i32| if k == at { value } else { "1" };
@@ -129,80 +77,42 @@ fn damaged_rows_are_refused(rt: HostRuntime) -> Result<(), Fail> {
                 one(1),
                 one(2),
                 one(3)
-            )?;
-            assert_eq!(rt;
-                after(rt.alloc(), text.as_str())?.as_str(),
-                "Damaged",
-                "{text}"
-            );
+            )
+            .expect(&rt, "a text");
+            assert_damaged(&rt, rt.alloc(), text.as_str());
         }
     }
     for chain in ["1", "1.5", "'x'"] {
-        let text = format!(in rt.alloc(); "INSERT INTO slots VALUES (1, 0, 1, 0, {chain})")?;
-        assert_eq!(rt;
-            after(rt.alloc(), text.as_str())?.as_str(),
-            "Damaged",
-            "{text}"
+        let text = format!(in rt.alloc(); "INSERT INTO slots VALUES (1, 0, 1, 0, {chain})").expect(
+            &rt, "a text",
         );
+        assert_damaged(&rt, rt.alloc(), text.as_str());
     }
-    Ok(())
 }
 
-/// Numbers out of range are left to the reader.
+// Numbers out of range are left to the reader.
 #[test]
-fn numbers_are_raw(rt: HostRuntime) -> Result<(), Fail> {
+fn numbers_are_raw(rt: HostRuntime) {
     let text =
         "INSERT INTO slots VALUES (-1, 9223372036854775807, -9223372036854775808, '5', x'00ff')";
-    assert_eq!(rt;
-        after(rt.alloc(), text)?.as_str(),
-        "-1 9223372036854775807 -9223372036854775808 5 [0, 255];"
-    );
-    Ok(())
+    let mut conn = database(&rt, rt.alloc(), &[LIFE, SLOTS, text]);
+    let seen = seen(rt.alloc(), &mut conn);
+    drop(conn);
+    let row = Some((
+        (-1, 9223372036854775807, -9223372036854775808, 5),
+        (2, Some(0), Some(255)),
+    ));
+    assert_same(&rt, &seen, &Ok([row, None, None, None]));
 }
 
 #[test]
-fn damaged_incarnation_is_refused(rt: HostRuntime) -> Result<(), Fail> {
-    let mut conn = tables(rt.alloc(), LIFE, SLOTS)?;
-    conn.execute("INSERT INTO life VALUES (1, 'x')", &[])?;
-    assert_eq!(rt; read_incarnation(&mut conn), Err(ReadFault::Damaged));
-    Ok(())
-}
-
-/// The tables are recognised, and no other form of them.
-#[test]
-fn tables_are_found(rt: HostRuntime) -> Result<(), Fail> {
-    let alloc = rt.alloc();
-    let mut conn = Connection::open_in_memory(alloc)?;
-    assert_eq!(rt; find_tables(alloc, &conn)?, Found::Neither);
-    conn.execute(LIFE, &[])?;
-    assert_eq!(rt; find_tables(alloc, &conn)?, Found::LifeAlone);
-    conn.execute(SLOTS, &[])?;
-    assert_eq!(rt; find_tables(alloc, &conn)?, Found::LifeFirst);
-    conn.execute("CREATE TABLE other (x)", &[])?;
-    assert_eq!(rt; find_tables(alloc, &conn)?, Found::Foreign);
-    assert_eq!(rt;
-        find_tables(alloc, &tables(alloc, SLOTS, LIFE)?)?,
-        Found::SlotsFirst
+fn damaged_incarnation_is_refused(rt: HostRuntime) {
+    let mut conn = database(
+        &rt,
+        rt.alloc(),
+        &[LIFE, SLOTS, "INSERT INTO life VALUES (1, 'x')"],
     );
-    let unchecked = "CREATE TABLE life (one INTEGER PRIMARY KEY, incarnation INTEGER NOT NULL)";
-    assert_eq!(rt;
-        find_tables(alloc, &tables(alloc, unchecked, SLOTS)?)?,
-        Found::Foreign
-    );
-    Ok(())
-}
-
-/// Each table is made beside the other.
-#[test]
-fn tables_are_added(rt: HostRuntime) -> Result<(), Fail> {
-    let alloc = rt.alloc();
-    let mut conn = Connection::open_in_memory(alloc)?;
-    conn.execute(LIFE, &[])?;
-    assert_eq!(rt; add_slots(&mut conn), Ok(()));
-    assert_eq!(rt; find_tables(alloc, &conn)?, Found::LifeFirst);
-    let mut conn = Connection::open_in_memory(alloc)?;
-    conn.execute(SLOTS, &[])?;
-    assert_eq!(rt; add_life(&mut conn), Ok(()));
-    assert_eq!(rt; find_tables(alloc, &conn)?, Found::SlotsFirst);
-    Ok(())
+    let read = read_incarnation(&mut conn);
+    drop(conn);
+    assert_same(&rt, &read, &Err(ReadFault::Damaged));
 }
