@@ -1,9 +1,9 @@
 #!/usr/bin/env python3
 """Prints how many records a second a node's store saves, in memory and to a file, beside C sqlite with the same statements and the disk's own rate.
 
-    python3 bench/store.py
+    python3 bench/store.py [PROGRAM]
 
-It builds bench/store/main.rt.in with the crates of HEAD in a folder of its own, which proves sql_store first and takes minutes, and bench/store/sqlite.c with gcc
+Without PROGRAM it builds bench/store/main.rt.in with the crates of HEAD in a folder of its own, which proves sql_store first and takes minutes. It builds bench/store/sqlite.c with gcc
 (Debian's libsqlite3-dev). All run in one run of the script, each three times, and the best counts. A run of no saves is taken off, so that neither the
 start of a process nor the making of the records counts. Files are in WAL mode with synchronous=FULL. Seconds are of the clock for files, since a save waits for the disk, and of
 the processor in memory and for loads. GNU time (Debian's `time`) measures memory.
@@ -67,7 +67,7 @@ def fresh(work, name):
 
 def main():
     work = pathlib.Path(tempfile.mkdtemp(prefix="store-"))
-    programs = {"sql_store": built_here(work), "C sqlite": built_c(work)}
+    programs = {"sql_store": pathlib.Path(sys.argv[1]) if sys.argv[1:] else built_here(work), "C sqlite": built_c(work)}
     synced = best(0, programs["C sqlite"], "sync", fresh(work, "sync"), 1, FILE_SAVES)
     print(f"the disk itself: {FILE_SAVES / synced:.0f} fdatasync a second", flush=True)
     for name, program in programs.items():

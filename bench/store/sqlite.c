@@ -48,8 +48,9 @@ static void save(sqlite3 *db, long slots, long saves) {
         name_message(chain, 1000100001 + turn % slots);
         sqlite3_bind_int64(put, 1, 1000100001 + turn % slots);
         sqlite3_bind_int64(put, 2, 0);
-        sqlite3_bind_int64(put, 3, 262161);
-        sqlite3_bind_int64(put, 4, 262161);
+        /* the first round, and then the second, so that no save finds what it saves: SQLite would not write it */
+        sqlite3_bind_int64(put, 3, 262144 * (turn / slots % 2 + 1) + 17);
+        sqlite3_bind_int64(put, 4, 262144 * (turn / slots % 2 + 1) + 17);
         sqlite3_bind_blob(put, 5, chain, CHAIN, SQLITE_STATIC);
         check(sqlite3_step(put), SQLITE_DONE, "save");
         sqlite3_reset(put);

@@ -44,9 +44,7 @@ fn come<S: StableStore>(
     left: &mut VecDeque<Packet>,
     mut last: (u64, Answer),
 ) -> (u64, Answer) {
-    let mut number = 0;
-    for node in nodes.iter_mut() {
-        number += 1;
+    for (node, number) in nodes.iter_mut().zip(1u64..) {
         let copy = packet.copy().expect(rt, "memory");
         let answer = answer_to(rt, node, Input::Packet(copy), left);
         if REPLIES.contains(&answer.0) {
@@ -99,7 +97,8 @@ fn assert_line<S: StableStore>(
         return;
     }
     let (number, comes) = numbered(rt, comes);
-    let place = usize::try_from(number).expect(rt, "a place") - 1;
+    let before = number.checked_sub(1).expect(rt, "the number of a node");
+    let place = usize::try_from(before).expect(rt, "a place");
     let node = nodes.get_mut(place).expect(rt, "a node");
     let answer = answer_to(rt, node, input(rt, alloc, comes), left);
     assert_same(rt, &(line, answer), &(line, answer_said(rt, wanted)));

@@ -143,6 +143,6 @@ fn told(rt: &impl Abort, acceptor: &Acceptor, chain: &Chain) -> (u64, bool, u64)
     (
         told.ballot.number(),
         told.chain.is(chain),
-        record.promised.number(),
+        record.promised().number(),
     )
 }
