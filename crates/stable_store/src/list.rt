@@ -54,6 +54,8 @@ impl ListStore {
 }
 
 impl StableStore for ListStore {
+    ghost use Rattle.std.specs.Prelude.{◌+◌, ◌≤◌, IfErr, OnErr};
+    ghost use Rattle.stable_store.specs.declared.fault.StoreFault.TheVariants.{Incarnations};
     ghost use Rattle.stable_store.specs.Stored.{stored_in};
     ghost use Rattle.stable_store.specs.Listing.{settled_in, settled_started_in};
 
@@ -77,7 +79,15 @@ impl StableStore for ListStore {
         Ok(())
     }
 
-    fn next_incarnation(&mut self) -> Result<Incarnation, StoreFault> {
+    /// The incarnation after the last one. Incarnations exactly if 9,999 were used; it answers no other fault, and takes no memory.
+    fn next_incarnation(&mut self) -> Result<Incarnation, StoreFault>
+        ensures next { IfOk result (λ next. next ≡ self.old.started + 1) }
+        ensures raised { IfOk result (λ next. self.new.started ≡ next) }
+        ensures spent { OnErr result (9999 ≤ self.old.started) }
+        ensures faults { IfErr result (λ fault. fault ≡ Incarnations) }
+        ensures kept { OnErr result (self.new ≡ self.old) }
+        ensures records { self.new.entries ≡ self.old.entries }
+    {
         let Ok(next) = Incarnation::make(self.started.saturating_add(1)) else {
             return Err(StoreFault::Incarnations);
         };
