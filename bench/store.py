@@ -29,7 +29,7 @@ def built_here(work):
     (crate / "src").mkdir(parents=True)
     shutil.copy(TOP / "bench" / "store" / "main.rt.in", crate / "src" / "main.rt")
     with (clone / "crates.txt").open("a") as crates:
-        crates.write("store_bench: mc_types fate_chain synod_acceptor stable_store sql_store sqlite\n")
+        crates.write("store_bench: mc_types fate_chain synod_acceptor stable_store sql_store node_core\n")
     built = subprocess.run(["rt", "run", "--", "save", ":memory:", "1", "1"], cwd=crate, capture_output=True, text=True)
     if built.returncode != 0:
         sys.exit(built.stdout + built.stderr)
@@ -83,6 +83,8 @@ def main():
         loaded = min(used(program, "load", filled, MANY, 0) for _ in range(RUNS))
         print(f"{name}, a file of {MANY} slots: opened in {opened[1]:.2f} s of the processor, {opened[2]} KiB; loaded in {loaded[1] - opened[1]:.2f} s more,"
               f" {loaded[2] - opened[2]} KiB more", flush=True)
+    restarted = min(used(programs["sql_store"], "restart", filled, MANY, 0) for _ in range(RUNS))
+    print(f"a node over it, {MANY} messages: restarted in {restarted[1]:.2f} s of the processor, {restarted[2]} KiB in all", flush=True)
     shutil.rmtree(work)
 
 
