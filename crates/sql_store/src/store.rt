@@ -117,7 +117,7 @@ impl SqlStore<MemStore> {
     ghost use Rattle.sql_store.specs.Sql.{stored_in};
 
     /// A new store in memory: no record, and no incarnation. It ends with the program. A refusal is want of memory, told as Device
-    /// if memory is wanted by a statement.
+    /// if nothing says that the connection is open after it.
     pub fn in_memory(alloc: Global) -> Result<SqlStore<MemStore>, StoreFault>
         ensures records { IfOk result (λ store. (stored_in over_memory store).holds no_records) }
         ensures started { IfOk result (λ store. (stored_in over_memory store).has_started 0) }
