@@ -71,8 +71,10 @@ impl<S: Alter> SqlStore<S> {
         mut conn: Connection<S>,
     ) -> Result<SqlStore<S>, (StoreFault, Connection<S>)>
         ensures fresh { IfOk result (λ store. (store.spent ≡ false) × (store.failed ≡ 0)) }
-        ensures filled { IfOk result (λ store. HasCleanDisk (state S.Store store.conn) → IsFilled store.layout (state S.Store conn) (state S.Store store.conn)) }
-        ensures known { IfOk result (λ store. HasCleanDisk (state S.Store store.conn) → (present : Present) × ((state S.Store conn).now.schema ≡ schema_in present)) }
+        ensures filled { IfOk result (λ store. HasCleanDisk (state S.Store store.conn)
+            → IsFilled store.layout (state S.Store conn) (state S.Store store.conn)) }
+        ensures known { IfOk result (λ store. HasCleanDisk (state S.Store store.conn)
+            → (present : Present) × ((state S.Store conn).now.schema ≡ schema_in present)) }
         ensures records { IfOk result (λ store. (present : Present) (records : Records) → (state S.Store conn).now.schema ≡ schema_in present
             → FoundRecords present (state S.Store conn).now.trees records → (stored_in S.Store store).holds records) }
         ensures started { IfOk result (λ store. (present : Present) (started : ℕ) → (state S.Store conn).now.schema ≡ schema_in present
@@ -80,7 +82,8 @@ impl<S: Alter> SqlStore<S> {
         ensures survives { IfOk result (λ store. Survives (state S.Store conn) (state S.Store store.conn) (Adds (state S.Store conn))) }
         ensures refused { IfErr result (λ refusal. (refusal.0 ≡ Device) ⊎ (refusal.0 ≡ Memory)) }
         ensures handed { IfErr result (λ refusal. Survives (state S.Store conn) (state S.Store refusal.1) (Adds (state S.Store conn))) }
-        ensures kept { IfErr result (λ refusal. HasCleanDisk (state S.Store refusal.1) → refusal.0 ≡ Memory → Stands (state S.Store conn) (state S.Store refusal.1)) }
+        ensures kept { IfErr result (λ refusal. HasCleanDisk (state S.Store refusal.1) → refusal.0 ≡ Memory
+            → Stands (state S.Store conn) (state S.Store refusal.1)) }
     {
         match fill_tables(alloc, &mut conn) {
             Ok(order) => Ok(SqlStore {
@@ -170,11 +173,14 @@ impl<S: Alter> StableStore for SqlStore<S> {
 
     ghost found = { λ s records clean holds. found_at s.layout (state ⟦<S as Store>⟧ s.conn) s.spent s.failed (S.stays s.conn.store) records clean holds };
 
-    ghost found_started = { λ s started clean holds. found_started_at s.layout (state ⟦<S as Store>⟧ s.conn) s.spent s.failed (S.stays s.conn.store) started clean holds };
+    ghost found_started = { λ s started clean holds.
+        found_started_at s.layout (state ⟦<S as Store>⟧ s.conn) s.spent s.failed (S.stays s.conn.store) started clean holds };
 
-    ghost settled = { λ s records left holds found. settled_at s.layout (state ⟦<S as Store>⟧ s.conn) s.spent s.failed (S.settled s.conn.store) records left holds found };
+    ghost settled = { λ s records left holds found.
+        settled_at s.layout (state ⟦<S as Store>⟧ s.conn) s.spent s.failed (S.settled s.conn.store) records left holds found };
 
-    ghost settled_started = { λ s started left holds found. settled_started_at s.layout (state ⟦<S as Store>⟧ s.conn) s.spent s.failed (S.settled s.conn.store) started left holds found };
+    ghost settled_started = { λ s started left holds found.
+        settled_started_at s.layout (state ⟦<S as Store>⟧ s.conn) s.spent s.failed (S.settled s.conn.store) started left holds found };
 
     fn load(&mut self) -> Result<Vec<Record>, StoreFault> {
         if self.spent {
