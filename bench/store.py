@@ -5,7 +5,7 @@
 
 Without PROGRAM it builds bench/store/main.rt.in with the crates of HEAD in a folder of its own, which proves sql_store first and takes
 minutes. It builds bench/store/sqlite.c with gcc (Debian's libsqlite3-dev). All run in one run of the script, each three times, and the best
-counts. A run of no saves is taken off, so that neither the start of a process nor the making of the records counts. Files are in WAL mode
+counts; to a file they take turns, eight times, since a disk is not the same from one second to the next. A run of no saves is taken off, so that neither the start of a process nor the making of the records counts. Files are in WAL mode
 with synchronous=FULL. Seconds are of the clock for files, since a save waits for the disk, and of the processor in memory and for loads. GNU
 time (Debian's `time`) measures memory.
 """
@@ -17,8 +17,8 @@ import tempfile
 import time
 
 TOP = pathlib.Path(__file__).resolve().parent.parent
-RUNS = 3
-FILE_SAVES, MEMORY_SAVES = 10_000, 200_000
+RUNS, TURNS = 3, 8
+FILE_SAVES, MEMORY_SAVES = 3_000, 200_000
 FEW, MANY = 1_000, 99_999
 
 
@@ -52,11 +52,21 @@ def used(program, way, path, slots, saves):
     return clock, float(user) + float(system), int(memory)
 
 
-def best(which, program, way, path, slots, saves):
-    """The best of some runs, less one of no saves."""
+def best(program, way, path, slots, saves):
+    """Seconds of the processor: the best of some runs, less one of no saves."""
     def once(count):
-        return min(used(program, way, path, slots, count)[which] for _ in range(RUNS))
+        return min(used(program, way, path, slots, count)[1] for _ in range(RUNS))
     return once(saves) - once(0)
+
+
+def to_files(work, programs):
+    """Seconds of the clock for so many saves to a file, and for as many fdatasync, each the best of its turns."""
+    ways = {**{name: (program, "save") for name, program in programs.items()}, "the disk itself": (programs["C sqlite"], "sync")}
+    taken = {name: [] for name in ways}
+    for _ in range(TURNS):
+        for name, (program, way) in ways.items():
+            taken[name].append(used(program, way, fresh(work, "turn"), FEW, FILE_SAVES)[0])
+    return {name: min(seconds) for name, seconds in taken.items()}
 
 
 def fresh(work, name):
@@ -69,14 +79,12 @@ def fresh(work, name):
 def main():
     work = pathlib.Path(tempfile.mkdtemp(prefix="store-"))
     programs = {"sql_store": pathlib.Path(sys.argv[1]) if sys.argv[1:] else built_here(work), "C sqlite": built_c(work)}
-    synced = best(0, programs["C sqlite"], "sync", fresh(work, "sync"), 1, FILE_SAVES)
-    print(f"the disk itself: {FILE_SAVES / synced:.0f} fdatasync a second", flush=True)
+    for name, seconds in to_files(work, programs).items():
+        print(f"{name}, to a file, {FEW} slots: {FILE_SAVES / seconds:.0f} saves a second of the clock", flush=True)
     for name, program in programs.items():
         for slots in (FEW, MANY):
-            seconds = best(1, program, "save", ":memory:", slots, MEMORY_SAVES)
+            seconds = best(program, "save", ":memory:", slots, MEMORY_SAVES)
             print(f"{name}, in memory, {slots} slots: {MEMORY_SAVES / seconds:.0f} saves a second of the processor", flush=True)
-        seconds = best(0, program, "save", fresh(work, "saves"), FEW, FILE_SAVES)
-        print(f"{name}, to a file, {FEW} slots: {FILE_SAVES / seconds:.0f} saves a second of the clock", flush=True)
     filled = fresh(work, "filled")
     used(programs["C sqlite"], "fill", filled, MANY, MANY)
     for name, program in programs.items():
