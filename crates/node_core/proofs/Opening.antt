@@ -1,6 +1,6 @@
 -- A node that opens keeps what the model's opens over.
 use Rattle.std.proofs.Common.{◌≡◌, suc, ℕ, false, List, [], ◌∷◌, map, Option, refl, sym}
-use Rattle.std.proofs.Common.{ap, subst, ◌∙◌, ◌+◌, arith, inl, inr, true≢false}
+use Rattle.std.proofs.Common.{ap, subst, ◌∙◌, ◌+◌, arith, true≢false}
 use Rattle.std.proofs.Math.Path.{fun_ext}
 use Rattle.std.specs.Map.{keys_of}
 use Rattle.mc_model.specs.synod.Acceptor.{Records}
@@ -14,7 +14,7 @@ use Rattle.node_kept.specs.Keeping.{AreUnseen, IsOpen, acceptor_in, filed_as}
 use Rattle.node_kept.proofs.Listing.{listed_in}
 use Rattle.node_kept.proofs.Opening.{open_over}
 use Rattle.node_core.specs.declared.life.Life.{Life}
-use Rattle.stable_store.specs.Stored.{GoesOn, KeepsRecords, Leaves, LeavesNext, Stays, Stored}
+use Rattle.stable_store.specs.Stored.{GoesOn, KeepsRecords, Leaves, Stays, Stored}
 use Rattle.stable_store.specs.declared.fault.StoreFault.{StoreFault}
 use Rattle.stable_store.specs.declared.fault.StoreFault.TheVariants as faults
 use Rattle.node_core.specs.Nodes.{HasFound, HasOpened, Standing, StaysAt, breaks, records_in}
@@ -65,18 +65,6 @@ module _ (old mid new : Stored) (stays : Stays old mid) (leaves : Leaves old mid
         started = started;
         kept = λ rs held. keeps rs (stays.records rs held);
       }
-
-  pub left_next : LeavesNext mid new → LeavesNext old new
-  left_next next = record {
-    records = λ left may. leaves.records left (next.records left may);
-    started = λ left may. elim (next.started left may) [
-      | inl was ↦ inl (leaves.started left was)
-      | inr raised ↦ inr (λ started has. raised started (stays.started started has))
-    ];
-  }
-
-pub left_as_before : (old new : Stored) → Leaves old new → LeavesNext old new
-left_as_before old new leaves = record { records = leaves.records; started = λ left may. inl (leaves.started left may) }
 
 -- a fault that leaves a node that works as it was left its store so, too
 pub stays_if : (fault : StoreFault) (old new : Stored) → breaks fault ≡ false → StaysAt fault old new → Stays old new

@@ -1,16 +1,14 @@
 -- What a save leaves that was stopped, and what is told of it.
-use Rattle.std.proofs.Common.{◌≡◌, ◌≢◌, ◌⊎◌, true, sym, ap, subst, ◌∙◌, inl, inr, refl, Option, Some, None, if◌then◌else◌}
+use Rattle.std.proofs.Common.{◌≡◌, ◌≢◌, ◌⊎◌, true, sym, ap, subst, ◌∙◌, inl, inr, refl, Option, Some, None}
 use Rattle.std.specs.Prelude.{◌↔◌}
 use Rattle.std.proofs.Math.Path.{fun_ext}
 use Rattle.std.proofs.lemmas.Bool.{true≢false}
-use Rattle.mc_model.specs.synod.Packet.{Slot, same_slot}
-use Rattle.mc_model.specs.synod.Acceptor.{Records, SlotRecord}
+use Rattle.mc_model.specs.synod.Acceptor.{Records}
 use Rattle.node_model.specs.Kept.{Kept}
 use Rattle.node_model.specs.Stepped.{stepped, stopped}
 use Rattle.node_model.proofs.Stops.{saved_so}
 use Rattle.stable_store.specs.Stored.{AreSame, Stored}
 use Rattle.synod_acceptor.specs.Packets.{packet_of}
-use Rattle.synod_acceptor.specs.Votes.{record_of, slot_recorded}
 use Rattle.synod_acceptor.specs.declared.packet.Packet.{Packet as Sent}
 use Rattle.synod_acceptor.specs.declared.record.Change.{Change}
 use Rattle.node_parts.specs.declared.input.Input.{Input}

@@ -1,12 +1,11 @@
 -- What opens over a store, as an event of a node.
-use Rattle.std.proofs.Common.{◌≡◌, ℕ, ◌≤◌, Bool, true, false, List, [], ◌∷◌, ◌++◌, refl, sym, subst, inl, inr}
+use Rattle.std.proofs.Common.{◌≡◌, ℕ, ◌≤◌, true, false, List, [], ◌∷◌, ◌++◌, refl, sym, subst, inl, inr}
 use Rattle.std.proofs.Math.Path.{fun_ext}
 use Rattle.mc_model.specs.synod.Acceptor.{Records}
-use Rattle.mc_model.specs.node.Setup.{Setup}
 use Rattle.stable_store.specs.Stored.{AreSame, Stored}
 use Rattle.node_core.specs.Keeping.{kept_of}
 use Rattle.node_core.specs.declared.life.Life.{Life}
-use Rattle.node_core.specs.Nodes.{HasOpened, OpensOver, Standing, records_in}
+use Rattle.node_core.specs.Nodes.{HasOpened, Standing, records_in}
 use Rattle.node_core.specs.Restarts.{next_life}
 use Rattle.node_runs.specs.Runs.{AreOneRun, Event, Happens, HasStarted, IsNext, IsWorking, StartsAsOpened, StopsAsOpened, last_in, last_incarnation}
 

@@ -15,9 +15,7 @@ use Rattle.node_model.specs.Attempts.{grant_refusal}
 use Rattle.node_model.specs.Kept.{Kept}
 use Rattle.node_model.specs.Granted.{is_open, known_slot}
 use Rattle.node_laws.specs.Runs.{IsGrantable, IsOpen}
-use Rattle.node_laws.specs.Steps.{IsWellMade}
 use Rattle.delivery.specs.Kept.{outcome_kept}
-use Rattle.synod_acceptor.specs.Packets.{packet_of}
 use Rattle.arrival_laws.proofs.Asking.{request_comes}
 use Rattle.arrival_laws.proofs.Attempts.{grant_comes, outcome_comes}
 use Rattle.node_core.specs.StepFault.{StepFault}

@@ -1,7 +1,6 @@
 -- Keys of slots.
-use Rattle.std.proofs.Common.{◌≡◌, ℕ, pos, Bool, true, false, ◌==◌, ◌&&◌, refl, sym, ap, ◌∙◌, arith}
-use Rattle.std.proofs.lemmas.Bool.Decides.{nat_tests}
-use Rattle.mc_model.specs.synod.Packet.{Slot, same_slot}
+use Rattle.std.proofs.Common.{◌≡◌, ℕ, pos, sym, ap, ◌∙◌}
+use Rattle.mc_model.specs.synod.Packet.{Slot}
 use Rattle.record_rows.specs.Content.{Slot as Key}
 use Rattle.sql_records.specs.Standing.{key_of, IsKeyOf}
 
@@ -17,11 +16,3 @@ keys_are_apart a b is = slot_by a b (same_number a.id b.id (ap (λ (k : Key). k.
 -- a row stands under the key of one slot
 pub key_of_one : (a b : Slot) (key : Key) → IsKeyOf a key → IsKeyOf b key → a ≡ b
 key_of_one a b key one other = keys_are_apart a b (sym one.is ∙ other.is)
-
-by_tests : (a b : Slot) (p q : Bool) → (a.id == b.id) ≡ p → (a.place == b.place) ≡ q → (p && q) ≡ true → a ≡ b
-by_tests a b true true id place both = slot_by a b (grind (arith, nat_tests)) (grind (arith, nat_tests))
-by_tests a b true false id place both = absurd (cc)
-by_tests a b false q id place both = absurd (cc)
-
-pub slots_are_one : (a b : Slot) → same_slot a b ≡ true → a ≡ b
-slots_are_one a b same = by_tests a b (a.id == b.id) (a.place == b.place) refl refl same

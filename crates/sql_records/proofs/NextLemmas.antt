@@ -1,5 +1,5 @@
 -- What a read of the last incarnation, and the store of the next one, leave.
-use Rattle.std.proofs.Common.{◌≡◌, ◌≤◌, ℕ, ℤ, pos, ◌+◌, List, Option, Some, None, refl, sym, ap, subst, ◌∙◌, arith}
+use Rattle.std.proofs.Common.{◌≡◌, ℕ, ℤ, pos, ◌+◌, List, Option, Some, None, refl, sym, ap, subst, ◌∙◌, arith}
 use Rattle.mc_model.specs.message.Ids.{IsIncarnation}
 use Rattle.sqlite.specs.Order.{Row, column}
 use Rattle.sqlite.specs.Tree.{Trees}
@@ -9,7 +9,7 @@ use Rattle.sqlite.proofs.StateLemmas.{survives_then}
 use Rattle.record_rows.specs.Content.{AreLife}
 use Rattle.record_rows.specs.Ours.{HasPutLife, HasReadLife, IsOurs, IsStrange, PutsLife, Stands}
 use Rattle.record_rows.specs.Tables.{Layout, life_tree, slots_tree}
-use Rattle.sql_records.specs.Calls.{HasNotStarted, HasPutNext, HasStartedAll, PutsNext}
+use Rattle.sql_records.specs.Calls.{HasNotStarted, HasPutNext, PutsNext}
 use Rattle.sql_records.specs.Stores.{IsLast, IsStarted}
 
 pub ours_then : (layout : Layout) (old new : State) → IsOurs layout old → Stands old new → IsOurs layout new
@@ -18,15 +18,6 @@ ours_then layout old new ours stands = record {
   schema = ap (λ (d : Database). d.schema) stands.now ∙ ours.schema;
   autocommit = stands.autocommit;
   committed = stands.now ∙ ours.committed ∙ sym stands.committed;
-}
-
-pub stands_both : (a b c : State) → Stands a b → Stands b c → Stands a c
-stands_both a b c first second = record {
-  was_open = first.was_open;
-  is_open = second.is_open;
-  now = second.now ∙ first.now;
-  committed = second.committed ∙ first.committed;
-  autocommit = second.autocommit;
 }
 
 pub life_of_one : (rows : List Row) (a b : Option ℤ) → AreLife rows a → AreLife rows b → a ≡ b
@@ -81,10 +72,6 @@ module _ (old mid : State) (last : Option ℤ) (next : ℕ) (read : HasReadLife 
 pub not_started : (old : State) (last : Option ℤ) → HasReadLife last old → ((started : ℕ) → IsLast last started → ⊥) → HasNotStarted old
 not_started old last read none layout started ours it =
     none started (subst (λ n. IsLast n started) (life_of_one _ it.last last it.are (read layout ours)) it.is)
-
-pub started_all : (old : State) (last : Option ℤ) → HasReadLife last old → ((started : ℕ) → IsLast last started → 9999 ≤ started) → HasStartedAll old
-started_all old last read all layout started ours it =
-    all started (subst (λ n. IsLast n started) (life_of_one _ it.last last it.are (read layout ours)) it.is)
 
 pub survives_next : (old mid : State) (last : Option ℤ) (next : ℕ) → (HasCleanDisk mid → HasReadLife last old)
     → ((started : ℕ) → IsLast last started → next ≡ started + 1) → IsIncarnation next → (new : State)

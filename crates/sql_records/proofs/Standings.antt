@@ -1,6 +1,6 @@
 -- Rows stand for one set of records, also when a row is put in, and when they are read.
 use Rattle.std.proofs.Common.{◌≡◌, ℕ, ℤ, pos, negsuc, int_lt, Bool, true, false, cond, List, [], ◌∷◌, Option, Some, None, refl, sym, ap, subst, ◌∙◌, arith}
-use Rattle.std.proofs.Common.{inl, inr, ◌==◌}
+use Rattle.std.proofs.Common.{inl, inr}
 use Rattle.std.specs.List.{AllByRecursion}
 use Rattle.std.proofs.lemmas.Bool.Decides.{nat_tests}
 use Rattle.mc_model.specs.message.Chain.{Chain}
@@ -9,6 +9,7 @@ use Rattle.mc_model.specs.synod.Ballot.{IsBallot}
 use Rattle.mc_model.specs.synod.Lists.{In}
 use Rattle.mc_model.specs.synod.OneSlot.{Vote}
 use Rattle.mc_model.specs.synod.Packet.{Slot, same_slot}
+use Rattle.mc_parts.proofs.Membership.{slot_self, slots_same}
 use Rattle.fate_chain.proofs.Outcomes.{one-chain}
 use Rattle.synod_acceptor.specs.Records.{entries_of, held_at, or_blank, record_at}
 use Rattle.synod_acceptor.specs.Votes.{Record, record_of, slot_recorded}
@@ -17,7 +18,7 @@ use Rattle.record_rows.specs.Content.{AreAscending, Body, Entry, body_of, entry_
 use Rattle.record_rows.proofs.SlotLemmas.{slots_are_one as keys_are_one, same_itself}
 use Rattle.stable_store.specs.Stored.{AreSame}
 use Rattle.sql_records.specs.Standing.{IsRowOf, IsVoteBy, StandFor, StandForEach, StandsFor, StandsForNone, chain_in, key_of}
-use Rattle.sql_records.proofs.Keys.{keys_are_apart, same_number, slots_are_one}
+use Rattle.sql_records.proofs.Keys.{keys_are_apart, same_number}
 
 -- ---- a row is of one record
 
@@ -70,19 +71,7 @@ stand_along slots others records same is = record {
   blanks = λ slot none. is.blanks slot (same (key_of slot) ∙ none);
 }
 
-pub stand_for_same : (slots : Slots) (one other : Records) → AreSame one other → StandFor slots one → StandFor slots other
-stand_for_same slots one other same is = record {
-  rows = λ key body found. let it = is.rows key body found in (it.0, subst (λ r. IsRowOf it.0 r (key, body)) (same.each it.0) it.1);
-  blanks = λ slot none. sym (same.each slot) ∙ is.blanks slot none;
-}
-
 -- ---- one row more
-
-tests_itself : (n : ℕ) → (n == n) ≡ true
-tests_itself n = grind (arith, nat_tests)
-
-is_itself : (slot : Slot) → same_slot slot slot ≡ true
-is_itself slot = rw (tests_itself slot.id, tests_itself slot.place)
 
 never_both : (b : Bool) → b ≡ true → b ≡ false → ⊥
 never_both b holds fails = cc
@@ -94,11 +83,11 @@ by_test b false is not = is
 -- slots whose keys differ
 differ : (a b : Slot) → same_key (key_of a) (key_of b) ≡ false → same_slot a b ≡ false
 differ a b keys = by_test (same_slot a b) (same_slot a b) refl (λ same.
-    never_both (same_key (key_of a) (key_of b)) (subst (λ s. same_key (key_of a) (key_of s) ≡ true) (slots_are_one a b same) (same_itself (key_of a))) keys)
+    never_both (same_key (key_of a) (key_of b)) (subst (λ s. same_key (key_of a) (key_of s) ≡ true) (slots_same a b same) (same_itself (key_of a))) keys)
 
 differ_back : (a b : Slot) → same_key (key_of a) (key_of b) ≡ false → same_slot b a ≡ false
 differ_back a b keys = by_test (same_slot b a) (same_slot b a) refl (λ same.
-    never_both (same_key (key_of a) (key_of b)) (subst (λ s. same_key (key_of a) (key_of s) ≡ true) (sym (slots_are_one b a same)) (same_itself (key_of a)))
+    never_both (same_key (key_of a) (key_of b)) (subst (λ s. same_key (key_of a) (key_of s) ≡ true) (sym (slots_same b a same)) (same_itself (key_of a)))
     keys)
 
 -- what holds this row at its key, and the others at theirs
@@ -147,7 +136,7 @@ stand_put slots records new row is all =
     is (record {
       at = λ key same. ap (λ t. cond t (Some (body_of row)) (slots key)) same;
       others = λ key other. ap (λ t. cond t (Some (body_of row)) (slots key)) other;
-      now = ap (λ t. cond t (record_of new) (records (slot_recorded new))) (is_itself (slot_recorded new));
+      now = ap (λ t. cond t (record_of new) (records (slot_recorded new))) (slot_self (slot_recorded new));
       left = λ slot keys. ap (λ t. cond t (record_of new) (records slot)) (differ_back (slot_recorded new) slot keys);
     }) all
 
@@ -162,7 +151,7 @@ stand_listed (e ∷ rows) (r ∷ records) each =
     each.0 (record {
       at = λ key same. ap (λ t. cond t (Some e.1) (slots_of rows key)) same;
       others = λ key other. ap (λ t. cond t (Some e.1) (slots_of rows key)) other;
-      now = ap (λ t. or_blank (cond t (Some (record_of r)) (held (slot_recorded r)))) (is_itself (slot_recorded r));
+      now = ap (λ t. or_blank (cond t (Some (record_of r)) (held (slot_recorded r)))) (slot_self (slot_recorded r));
       left = λ slot keys. ap (λ t. or_blank (cond t (Some (record_of r)) (held slot))) (differ (slot_recorded r) slot keys);
     }) (stand_listed rows records each.1)
 

@@ -5,12 +5,12 @@ use Rattle.sqlite.specs.Tree.{Trees}
 use Rattle.sqlite.specs.Schema.{Schema}
 use Rattle.sqlite.specs.State.{State}
 use Rattle.sqlite_schema.specs.declared.schema.Index.{Index}
-use Rattle.record_rows.specs.Added.{AddsBoth, AddsLife, AddsSlots, BothAdded, LifeAdded, SlotsAdded}
+use Rattle.record_rows.specs.Added.{AddsBoth, AddsSlots, BothAdded, SlotsAdded}
 use Rattle.record_rows.specs.Content.{AreSlots, no_slots}
 use Rattle.record_rows.specs.Tables.{Layout, Present, life_first, slots_first, neither, life_alone, slots_alone, both, schema_in, slots_tree}
 use Rattle.stable_store.specs.Stored.{AreSame}
 use Rattle.sql_records.specs.Standing.{StandFor}
-use Rattle.sql_records.specs.Stores.{HasRecords, IsStarted}
+use Rattle.sql_records.specs.Stores.{HasRecords}
 use Rattle.sql_store.specs.Adopted.{Adds, Completes, layout_in, no_records}
 
 -- ---- a schema has one set of the tables
@@ -64,18 +64,6 @@ completes_life old db added = record {
   started = λ started is. record { last = is.last; are = rw added.life is.are; is = is.is };
 }
 
-completes_slots : (old : State) (db : Trees) → LifeAdded old db → Completes slots_alone old.now.trees db
-completes_slots old db added = record {
-  records = λ records has. record { slots = has.slots; are = rw added.slots has.are; stand = has.stand };
-  started = λ started is. record { last = None; are = added.empty; is = is };
-}
-
-pub completes_both : (layout : Layout) (old db : Trees) → db ≡ old → Completes (both layout) old db
-completes_both layout old db same = record {
-  records = λ records has. subst (λ d. HasRecords layout d records) (sym same) has;
-  started = λ started is. subst (λ d. IsStarted layout d started) (sym same) is;
-}
-
 -- ---- what it adds
 
 pub adds_neither : (old : State) → old.now.schema ≡ schema_in neither → (db : Trees) → AddsBoth old db → Adds old db
@@ -83,9 +71,6 @@ adds_neither old is db adds = adds_at neither old db is (completes_neither old d
 
 pub adds_life : (old : State) → old.now.schema ≡ schema_in life_alone → (db : Trees) → AddsSlots old db → Adds old db
 adds_life old is db adds = adds_at life_alone old db is (completes_life old db (adds is))
-
-pub adds_slots : (old : State) → old.now.schema ≡ schema_in slots_alone → (db : Trees) → AddsLife old db → Adds old db
-adds_slots old is db adds = adds_at slots_alone old db is (completes_slots old db (adds is))
 
 pub laid_at : (present : Present) (old : State) → old.now.schema ≡ schema_in present → (other : Present) → old.now.schema ≡ schema_in other
     → layout_in present ≡ layout_in other

@@ -1,5 +1,5 @@
 -- What a step leaves of a node over a list.
-use Rattle.std.proofs.Common.{◌≡◌, ◌≤◌, ◌↔◌, ◌⊎◌, true, Option, Some, None, Result, Ok, Err, refl, sym, ap, subst, ◌∙◌, inl, inr, arith, true≢false}
+use Rattle.std.proofs.Common.{◌≡◌, ◌≤◌, ◌↔◌, ◌⊎◌, true, Option, Some, None, Result, Ok, Err, sym, ap, ◌∙◌, inl, inr, arith, true≢false}
 use Rattle.std.specs.Prelude.{IfErr, IfOk, IsErrOf, OnOk}
 use Rattle.stable_store.specs.Stored.{HasFailed, KeepsStarted, Listed, stored_in}
 use Rattle.node_core.specs.Input.{Input}

@@ -7,7 +7,7 @@ use Rattle.std.proofs.lemmas.Bool.Decides.{nat_tests}
 use Rattle.mc_model.specs.synod.Lists.{In}
 use Rattle.mc_model.specs.synod.Packet.{Packet}
 use Rattle.mc_model.specs.node.Actor.{Request as Asked}
-use Rattle.mc_model.specs.node.Input.{Arrival, Grant, Input, Tick}
+use Rattle.mc_model.specs.node.Input.{Input}
 use Rattle.mc_model.specs.node.Setup.{Setup}
 use Rattle.mc_model.specs.cluster.Steps.{Cluster, setup_of}
 use Rattle.node_model.specs.Kept.{Kept}

@@ -1,4 +1,4 @@
-use Rattle.std.proofs.Common.{◌≡◌, sym, subst, ◌∙◌}
+use Rattle.std.proofs.Common.{sym, subst, ◌∙◌}
 use Rattle.std.proofs.Math.Path.{fun_ext}
 use Rattle.node_kept.specs.Keeping.{IsOpen}
 use Rattle.synod_acceptor.specs.Records.{entries_of, record_at}

@@ -1,7 +1,7 @@
 use Rattle.std.proofs.Common.{rules, ◌≡◌, false, true, not, Bool, refl, sym, subst, ◌∙◌}
 use Rattle.mc_model.specs.message.Chain.{Chain, IsPermitted}
 use Rattle.mc_model.specs.synod.Packet.{slot_at}
-use Rattle.sql_records.proofs.Keys.{slots_are_one}
+use Rattle.mc_parts.proofs.Membership.{slots_same}
 use Rattle.sql_records.proofs.row.chain_of.Goals as goal
 
 pub returns-in-Err-NotPermitted-clause-damaged : goal.returns-in-Err-NotPermitted-clause-damaged
@@ -16,7 +16,7 @@ not_false false is = absurd (cc)
 
 pub returns-clause-ok : goal.returns-clause-ok
 returns-clause-ok c =
-    let found = slots_are_one (slot_at c.id.result c.place.result) c.args.slot (not_false _ c.if-ne.ensures) in
+    let found = slots_same (slot_at c.id.result c.place.result) c.args.slot (not_false _ c.if-ne.ensures) in
     record {
       spelled = c.in-Ok.ensures.read;
       permitted = c.decrees.ensures.permitted;
