@@ -56,7 +56,7 @@ changed change records = with_record records (slot_recorded change.after) (recor
 abbrev pub Saves : Change → Stored → Stored → Type 0
 Saves change old new = (records : Records) → old.holds records → new.holds (changed change records)
 
--- ---- what a stop leaves, at the end of a call and at each moment before it
+-- ---- what a stop at the end of a call leaves; one inside it is that of a device which fails from there on
 
 -- whoever opens it then finds records that they might have found before
 abbrev pub LeavesRecords : Stored → Stored → Type 0
