@@ -60,7 +60,7 @@ behind w keeps links id next newest older chosen =
     record { ballot = s.fits.ballot; chosen = s.fits.chosen }
 
 pub not_empty : (w : World) → Keeps w → Links w → (id : ℕ) (chain : List Decree) → Chosen w id chain → 1 ≤ length chain
-not_empty w keeps links id [] chosen = absurd (standing w keeps links id [] chosen).permitted
+not_empty w keeps links id [] chosen = absurd (standing w keeps links id [] chosen).orderly
 not_empty w keeps links id (newest ∷ older) chosen = omega arith
 
 pub begins : (w : World) → Keeps w → Links w → (id : ℕ) (first chain : List Decree) → Chosen w id first → Chosen w id chain →

@@ -255,7 +255,7 @@ pub never_unknown : (nodes : ℕ) (serials : ℕ → ℕ) (beginning : Deed) (ti
     accepting.act ≡ Replies taken (id_in request) Accepted →
     ⊥
 never_unknown nodes serials beginning ticket request other older a accepting taken is_in is =
-    let c = a.holds.told.accepted accepting taken (id_in request) (subst (λ (ds : List Deed). In accepting ds) (sym a.past) is_in) is in
+    let c = a.holds.accepted accepting taken (id_in request) (subst (λ (ds : List Deed). In accepting ds) (sym a.past) is_in) is in
     unknown_fresh a.before a.w a.name (id_in request) a.asked other c.chain c.chosen a.replies
 
 -- what a majority tells of a request covers what was chosen before it came

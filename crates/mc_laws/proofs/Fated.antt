@@ -3,68 +3,26 @@ use Rattle.std.proofs.Common.{◌≡◌, ◌⊎◌, ℕ, ◌<◌, List, [], ◌�
 use Rattle.std.proofs.lemmas.Bool.{cases_lt}
 use Rattle.mc_model.specs.message.Submission.{Submission}
 use Rattle.mc_model.specs.message.Decree.{Author, Decree, Kind, Taken, Attempt, Failed, Fate, Final, Delivered, Expired, Deleted, Undeliverable, Rejected}
-use Rattle.mc_model.specs.message.Neighbours.{MayBegin, MayFollow}
-use Rattle.mc_model.specs.message.Chain.{IsPermitted, MayExtend, taken_in, final_in, final_by}
+use Rattle.mc_model.specs.message.Neighbours.{MayFollow}
+use Rattle.mc_model.specs.message.Chain.{MayExtend, taken_in, final_in, final_by}
 use Rattle.mc_model.specs.synod.Lists.{In}
 use Rattle.mc_model.specs.synod.OneSlot.{vote_at}
 use Rattle.mc_model.specs.synod.Packet.{Slot, slot_of}
 use Rattle.mc_model.specs.node.Outcome.{Outcome, Concluded, Unanswered, decree_of}
 use Rattle.mc_model.specs.node.Actor.{Actor, Request, Submit, Query, Cancel, Waiting, id_in}
-use Rattle.mc_model.specs.node.Knowledge.{Knows}
-use Rattle.mc_model.specs.node.Replies.{Answer, Accepted, Shown, Removed, Kept, NotOwner, NotMatched, Unknown, TooLate, IsAccepted}
-use Rattle.mc_model.specs.node.Replies.{FitsRequest, IsAnswer, MayReply}
+use Rattle.mc_model.specs.node.Replies.{Accepted, IsAccepted, FitsRequest, MayReply}
 use Rattle.mc_model.specs.node.Grant.{MayGrant}
-use Rattle.mc_model.specs.node.Act.{Act, Replies, Reports, Grants, Concludes, Restarts}
+use Rattle.mc_model.specs.node.Act.{Act, Replies, Grants, Concludes, Restarts}
 use Rattle.mc_model.specs.node.Effect.{actor_by}
 use Rattle.mc_model.specs.cluster.World.{World, Deed, May, after, start}
-use Rattle.mc_model.specs.cluster.Fate.{shown_by, TellsOf, States, CameBefore, deed_by, IsDelivery}
-use Rattle.mc_parts.proofs.Fates.{fate_is_last}
-use Rattle.mc_laws.proofs.Growth.{grows, later, actors_after}
+use Rattle.mc_model.specs.cluster.Fate.{TellsOf, States, CameBefore, deed_by, IsDelivery}
+use Rattle.mc_model.specs.cluster.Loose.{MayLoosely}
+use Rattle.mc_laws.proofs.Growth.{grows, grows_loosely, later, actors_after}
+pub use Rattle.mc_laws.proofs.Loosening.{tells_known}
 use Rattle.mc_laws.proofs.Keeping.{Keeps}
+use Rattle.mc_laws.proofs.Orderly.{IsOrderly, fate_is_last, taking_is_no_fate}
 use Rattle.mc_laws.proofs.Links.{Links, ClosedIn, Passed, PassedClosed, PassedLost, chosen_still}
 use Rattle.mc_laws.proofs.Agreement.{Chosen, standing, known_chosen, begins, Extended, extended}
-
--- ---- the chain of which an ESME is told is known
-
-shown_known : (nodes node : ℕ) (a : Actor) (w : Waiting) (request : Request) (answer : Answer) (chain : List Decree) →
-    FitsRequest nodes node a w request answer → shown_by answer ≡ Some chain →
-    Knows nodes a.received (id_in w.request) chain
-shown_known nodes node a w (Query id account source) (Shown shown) chain fits is =
-    let same : shown ≡ chain = cc in subst (λ (c : List Decree). Knows nodes a.received (id_in w.request) c) same fits.known
-shown_known nodes node a w (Cancel id account source destination) (Removed shown) chain fits is =
-    let same : shown ≡ chain = cc in subst (λ (c : List Decree). Knows nodes a.received (id_in w.request) c) same fits.known
-shown_known nodes node a w (Submit id message) (Shown shown) chain fits is = absurd fits
-shown_known nodes node a w (Submit id message) (Removed shown) chain fits is = absurd fits
-shown_known nodes node a w (Query id account source) (Removed shown) chain fits is = absurd fits
-shown_known nodes node a w (Cancel id account source destination) (Shown shown) chain fits is = absurd fits
-shown_known nodes node a w request Accepted chain fits is = cc
-shown_known nodes node a w request (Kept kept) chain fits is = cc
-shown_known nodes node a w request NotOwner chain fits is = cc
-shown_known nodes node a w request (NotMatched kept) chain fits is = cc
-shown_known nodes node a w request Unknown chain fits is = cc
-shown_known nodes node a w request TooLate chain fits is = cc
-
-answer_known : (nodes node : ℕ) (a : Actor) (w : Waiting) (answer : Answer) (chain : List Decree) → IsAnswer nodes node a w answer →
-    shown_by answer ≡ Some chain →
-    Knows nodes a.received (id_in w.request) chain
-answer_known nodes node a w TooLate chain fits is = cc
-answer_known nodes node a w Accepted chain fits is = cc
-answer_known nodes node a w (Shown shown) chain fits is = shown_known nodes node a w w.request (Shown shown) chain fits is
-answer_known nodes node a w (Removed shown) chain fits is = shown_known nodes node a w w.request (Removed shown) chain fits is
-answer_known nodes node a w (Kept kept) chain fits is = cc
-answer_known nodes node a w NotOwner chain fits is = cc
-answer_known nodes node a w (NotMatched kept) chain fits is = cc
-answer_known nodes node a w Unknown chain fits is = cc
-
-pub tells_known : (w : World) (node : ℕ) (act : Act) → May w node act → (id : ℕ) (chain : List Decree) → TellsOf act id chain →
-    Knows w.nodes (w.actors node).received id chain
-tells_known w node (Replies ticket other answer) may id chain tells =
-    let m : MayReply w.nodes node (w.actors node) ticket other answer = may.needs in
-    subst (λ (i : ℕ). Knows w.nodes (w.actors node).received i chain) (m.asked.about ∙ tells.0)
-    (answer_known w.nodes node (w.actors node) m.asked.waiting answer chain m.fits tells.1)
-tells_known w node (Reports other shown) may id chain tells =
-    subst (λ (i : ℕ). Knows w.nodes (w.actors node).received i chain) tells.0 (subst (Knows w.nodes (w.actors node).received other) tells.1 may.needs.known)
-tells_known w node act may id chain tells = absurd tells
 
 -- ---- deeds in their order
 
@@ -84,22 +42,24 @@ pub record HasChain (w : World) (id : ℕ) : Type 0 where
   pub chain : List Decree
   pub chosen : Chosen w id chain
 
+abbrev pub AcceptedHaveChains : World → Type 0
+AcceptedHaveChains w = (deed : Deed) (ticket id : ℕ) → In deed w.past → deed.act ≡ Replies ticket id Accepted → HasChain w id
+
 pub record Told (w : World) : Type 0 where
-  pub accepted : (deed : Deed) (ticket id : ℕ) → In deed w.past → deed.act ≡ Replies ticket id Accepted → HasChain w id
   pub chosen : (deed : Deed) (id : ℕ) (chain : List Decree) → In deed w.past → TellsOf deed.act id chain → Chosen w id chain
   pub granted : (node : ℕ) (slot : Slot) → In slot (w.actors node).granted →
       In (deed_by (record { node = node; incarnation = (w.actors node).incarnation }) (Grants slot)) w.past
   pub timely : AllTimely w.past
 
-chosen_after : (w : World) → Keeps w → Told w → (node : ℕ) (act : Act) → May w node act → (deed : Deed) (id : ℕ) (chain : List Decree) →
+chosen_after : (w : World) → Keeps w → Told w → (node : ℕ) (act : Act) → MayLoosely w node act → (deed : Deed) (id : ℕ) (chain : List Decree) →
     In deed (after w node act).past → TellsOf deed.act id chain →
     Chosen (after w node act) id chain
 chosen_after w keeps told node act may deed id chain is_in tells =
     let c : Chosen w id chain = elim is_in [
-      | inl new ↦ known_chosen w keeps node id chain (tells_known w node act may id chain (subst (λ (d : Deed). TellsOf d.act id chain) new tells))
+      | inl new ↦ known_chosen w keeps node id chain (may.known id chain (subst (λ (d : Deed). TellsOf d.act id chain) new tells))
       | inr old ↦ told.chosen deed id chain old tells
     ] in
-    record { ballot = c.ballot; chosen = chosen_still w (after w node act) (grows w node act may) (slot_of id chain) (vote_at c.ballot chain) c.chosen }
+    record { ballot = c.ballot; chosen = chosen_still w (after w node act) (grows_loosely w node act may) (slot_of id chain) (vote_at c.ballot chain) c.chosen }
 
 accepted_known : (nodes node : ℕ) (a : Actor) (w : Waiting) (request : Request) → FitsRequest nodes node a w request Accepted →
     IsAccepted nodes a (id_in request)
@@ -112,13 +72,11 @@ accepted_new w keeps node ticket id may =
     let a = accepted_known w.nodes node (w.actors node) may.asked.waiting may.asked.waiting.request may.fits in
     subst (HasChain w) may.asked.about (record { chain = a.chain; chosen = known_chosen w keeps node (id_in may.asked.waiting.request) a.chain a.known })
 
-accepted_after : (w : World) → Keeps w → Told w → (node : ℕ) (act : Act) → May w node act → (deed : Deed) (ticket id : ℕ) →
-    In deed (after w node act).past → deed.act ≡ Replies ticket id Accepted →
-    HasChain (after w node act) id
-accepted_after w keeps told node act may deed ticket id is_in is =
+pub accepted_after : (w : World) → Keeps w → AcceptedHaveChains w → (node : ℕ) (act : Act) → May w node act → AcceptedHaveChains (after w node act)
+accepted_after w keeps accepted node act may deed ticket id is_in is =
     let c : HasChain w id = elim is_in [
       | inl new ↦ accepted_new w keeps node ticket id (subst (May w node) (ap (λ (d : Deed). d.act) (sym new) ∙ is) may).needs
-      | inr old ↦ told.accepted deed ticket id old is
+      | inr old ↦ accepted deed ticket id old is
     ] in
     record {
       chain = c.chain;
@@ -136,11 +94,11 @@ attempt_open : (newest : Decree) (older : List Decree) (number : ℕ) (final : F
 attempt_open newest older number final attempt ends = let none : final_by newest.kind ≡ None = ap final_by attempt in cc
 
 -- so no chain that begins with one that has a fate ends in an attempt
-attempt_behind : (id : ℕ) (newest : Decree) (older chain more : List Decree) (number : ℕ) (final : Final) → newest.kind ≡ Attempt number →
-    (newest ∷ older) ≡ more ++ chain → IsPermitted id (newest ∷ older) → final_in chain ≡ Some final →
+attempt_behind : (newest : Decree) (older chain more : List Decree) (number : ℕ) (final : Final) → newest.kind ≡ Attempt number →
+    (newest ∷ older) ≡ more ++ chain → IsOrderly (newest ∷ older) → final_in chain ≡ Some final →
     ⊥
-attempt_behind id newest older chain more number final attempt is permitted ends =
-    let last = fate_is_last id chain more final (subst (IsPermitted id) is permitted) ends in
+attempt_behind newest older chain more number final attempt is orderly ends =
+    let last = fate_is_last chain more final (subst IsOrderly is orderly) ends in
     let same : (newest ∷ older) ≡ chain = is ∙ ap (λ (m : List Decree). m ++ chain) last in
     attempt_open newest older number final attempt (ap final_in same ∙ ends)
 
@@ -159,8 +117,8 @@ beyond_attempt : (w : World) → Keeps w → Links w → (id : ℕ) (newest : De
 beyond_attempt w keeps links id newest older chain number final attempt is_attempt is_chain ends = elim (cases_lt (length chain) (length (newest ∷ older))) [
   | inl shorter ↦
       let b = begins w keeps links id chain (newest ∷ older) is_chain is_attempt (omega (arith, shorter)) in
-      absurd (attempt_behind id newest older chain b.more number final attempt b.chain_is
-      (standing w keeps links id (newest ∷ older) is_attempt).permitted ends)
+      absurd (attempt_behind newest older chain b.more number final attempt b.chain_is
+      (standing w keeps links id (newest ∷ older) is_attempt).orderly ends)
   | inr longer ↦
       let b = begins w keeps links id (newest ∷ older) chain is_attempt is_chain longer in
       goes_on w keeps links id newest older chain b.more number final attempt b.chain_is is_chain ends
@@ -227,12 +185,6 @@ delivered_after None attempt older fate may is = absurd may
 delivered_after (Some message) attempt older fate may is =
     delivered_next message _ attempt.author attempt.moment attempt.kind fate.author fate.moment fate.kind may.1 is
 
-begun_by_fate : (id : ℕ) (author : Author) (moment : ℕ) (kind : Kind) (final : Final) → MayBegin id author moment kind → final_by kind ≡ Some final → ⊥
-begun_by_fate id author moment (Taken message) final may is = cc
-begun_by_fate id author moment (Attempt number) final may is = may
-begun_by_fate id author moment (Failed error) final may is = may
-begun_by_fate id author moment (Fate last error) final may is = may
-
 -- the outcome that such a decree tells of came from an answer
 delivering : (outcome : Outcome) (error : ℕ) → Fate Delivered error ≡ decree_of outcome → outcome ≡ Concluded Delivered error
 delivering (Concluded final other) error is = cc
@@ -270,10 +222,10 @@ delivery : (w : World) → Keeps w → Links w → Told w → (id : ℕ) (chain 
     IsDelivery id chain w.past
 delivery w keeps links told id [] chosen is = cc
 delivery w keeps links told id (fate ∷ []) chosen is =
-    absurd (begun_by_fate id fate.author fate.moment fate.kind Delivered (standing w keeps links id (fate ∷ []) chosen).permitted is)
+    absurd (taking_is_no_fate fate.kind Delivered (standing w keeps links id (fate ∷ []) chosen).orderly is)
 delivery w keeps links told id (fate ∷ attempt ∷ older) chosen is =
     let s = standing w keeps links id (fate ∷ attempt ∷ older) chosen in
-    let d = delivered_after (taken_in (attempt ∷ older)) attempt older fate s.permitted.1 is in
+    let d = delivered_after (taken_in (attempt ∷ older)) attempt older fate s.orderly.1 is in
     let passed = passed_at w attempt.author (slot_of id (attempt ∷ older)) attempt.kind fate.kind d.number d.attempt s.fits.passed in
     let answered = passed_delivery w attempt.author (slot_of id (attempt ∷ older)) d.error
     (subst (λ (k : Kind). PassedClosed w attempt.author (slot_of id (attempt ∷ older)) k ⊎ PassedLost w attempt.author k) d.delivered passed) in
@@ -313,18 +265,17 @@ granted_after w told node act other slot is_in = elim (actors_after w node act o
       inr (told.granted other slot (subst (λ (a : Actor). In slot a.granted) elsewhere is_in)))
 ]
 
-timely_new : (w : World) → Keeps w → Links w → Told w → (node : ℕ) (act : Act) → May w node act →
+timely_new : (w : World) → Keeps w → Links w → Told w → (node : ℕ) (act : Act) → MayLoosely w node act →
     Timely (record { node = node; incarnation = (w.actors node).incarnation; act = act }) w.past
 timely_new w keeps links told node act may = record {
-  answers = λ slot outcome is. let m : May w node (Concludes slot outcome) = subst (May w node) is may in told.granted node slot m.needs.granted;
-  grants = λ slot earlier final is is_in states. let m : May w node (Grants slot) = subst (May w node) is may in
+  answers = λ slot outcome is. let m : MayLoosely w node (Concludes slot outcome) = subst (MayLoosely w node) is may in told.granted node slot m.needs;
+  grants = λ slot earlier final is is_in states. let m : MayLoosely w node (Grants slot) = subst (MayLoosely w node) is may in
       no_fate_at_grant w keeps links told node slot m.needs earlier final is_in states;
-  delivers = λ id chain tells is. delivery w keeps links told id chain (known_chosen w keeps node id chain (tells_known w node act may id chain tells)) is;
+  delivers = λ id chain tells is. delivery w keeps links told id chain (known_chosen w keeps node id chain (may.known id chain tells)) is;
 }
 
-pub told_after : (w : World) → Keeps w → Links w → Told w → (node : ℕ) (act : Act) → May w node act → Told (after w node act)
+pub told_after : (w : World) → Keeps w → Links w → Told w → (node : ℕ) (act : Act) → MayLoosely w node act → Told (after w node act)
 told_after w keeps links told node act may = record {
-  accepted = accepted_after w keeps told node act may;
   chosen = chosen_after w keeps told node act may;
   granted = granted_after w told node act;
   timely = (timely_new w keeps links told node act may, told.timely);
@@ -332,7 +283,6 @@ told_after w keeps links told node act may = record {
 
 pub told_start : (nodes : ℕ) (serials : ℕ → ℕ) → Told (start nodes serials)
 told_start nodes serials = record {
-  accepted = λ deed ticket id is_in is. absurd is_in;
   chosen = λ deed id chain is_in tells. absurd is_in;
   granted = λ node slot is_in. absurd is_in;
   timely = tt;

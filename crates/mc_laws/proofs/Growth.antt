@@ -6,12 +6,14 @@ use Rattle.mc_model.specs.synod.Lists.{In}
 use Rattle.mc_model.specs.synod.Packet.{Slot, same_slot, Packet}
 use Rattle.mc_model.specs.synod.Acceptor.{SlotRecord, Records, with_record, after_promise, after_vote}
 use Rattle.mc_model.specs.node.Outcome.{Outcome}
-use Rattle.mc_model.specs.node.Actor.{Actor, Request}
+use Rattle.mc_model.specs.node.Actor.{Actor}
 use Rattle.mc_model.specs.node.Act.{Act, Receives, Promises, Votes, Prepares, Proposes, Begins, Grants, Concludes, Abandons, Restarts}
 use Rattle.mc_model.specs.node.Effect.{records_by, actor_by}
 use Rattle.mc_model.specs.cluster.World.{World, Deed, Cast, cast, May, after, changed, votes_by, sent_by, reached}
+use Rattle.mc_model.specs.cluster.Loose.{MayLoosely}
 use Rattle.mc_parts.proofs.Membership.{in_right, in_either, of_only, slots_same}
 use Rattle.mc_parts.proofs.Requests.{serials}
+use Rattle.mc_laws.proofs.Loosening.{loosely}
 
 -- ---- what an act does to a record
 
@@ -68,20 +70,20 @@ pub record Grows (w v : World) : Type 0 where
   pub incarnations : (node : ℕ) → (w.actors node).incarnation ≤ (v.actors node).incarnation
   pub past : (deed : Deed) → In deed w.past → In deed v.past
 
-new_promised : (w : World) (node : ℕ) (act : Act) → May w node act → (slot : Slot) (new : SlotRecord) →
+new_promised : (w : World) (node : ℕ) (act : Act) → MayLoosely w node act → (slot : Slot) (new : SlotRecord) →
     IsNew (w.records node) act slot new →
     (w.records node slot).promised ≤ new.promised
 new_promised w node (Promises slot ballot sent) may other new is =
-    let below : (w.records node slot).promised < ballot = may.needs.may in
+    let below : (w.records node slot).promised < ballot = may.needs in
     subst (λ (s : Slot). (w.records node s).promised ≤ new.promised) (sym is.0)
     (subst (λ (r : SlotRecord). (w.records node slot).promised ≤ r.promised) (sym is.1) (omega (arith, below)))
 new_promised w node (Votes slot vote sent) may other new is =
-    let below : (w.records node slot).promised ≤ vote.ballot = may.needs.may in
+    let below : (w.records node slot).promised ≤ vote.ballot = may.needs.0 in
     subst (λ (s : Slot). (w.records node s).promised ≤ new.promised) (sym is.0)
     (subst (λ (r : SlotRecord). (w.records node slot).promised ≤ r.promised) (sym is.1) below)
 new_promised w node act may other new is = absurd is
 
-promised_after : (w : World) (node : ℕ) (act : Act) → May w node act → (other : ℕ) (slot : Slot) →
+promised_after : (w : World) (node : ℕ) (act : Act) → MayLoosely w node act → (other : ℕ) (slot : Slot) →
     (w.records other slot).promised ≤ ((after w node act).records other slot).promised
 promised_after w node act may other slot =
     elim (records_after w node act other slot) [
@@ -240,13 +242,13 @@ later_after w node act other =
       | inr elsewhere ↦ subst (λ (a : Actor). (w.actors other).incarnation ≤ a.incarnation) (sym elsewhere) (omega arith)
     ]
 
-late_by : (w : World) (node : ℕ) (act : Act) → May w node act → (c : Cast) → In c (votes_by node act) → (w.records c.acceptor c.slot).promised ≤ c.vote.ballot
+late_by : (w : World) (node : ℕ) (act : Act) → MayLoosely w node act → (c : Cast) → In c (votes_by node act) → (w.records c.acceptor c.slot).promised ≤ c.vote.ballot
 late_by w node (Votes slot vote sent) may c is_in =
-    of_only (λ (x : Cast). (w.records x.acceptor x.slot).promised ≤ x.vote.ballot) (cast node slot vote) c may.needs.may is_in
+    of_only (λ (x : Cast). (w.records x.acceptor x.slot).promised ≤ x.vote.ballot) (cast node slot vote) c may.needs.0 is_in
 late_by w node act may c is_in = absurd is_in
 
-pub grows : (w : World) (node : ℕ) (act : Act) → May w node act → Grows w (after w node act)
-grows w node act may = record {
+pub grows_loosely : (w : World) (node : ℕ) (act : Act) → MayLoosely w node act → Grows w (after w node act)
+grows_loosely w node act may = record {
   nodes = refl;
   packets = λ packet. in_right packet (sent_by w node act) w.packets;
   votes = λ c. in_right c (votes_by node act) w.votes;
@@ -255,6 +257,9 @@ grows w node act may = record {
   incarnations = later_after w node act;
   past = λ deed is_in. inr is_in;
 }
+
+pub grows : (w : World) (node : ℕ) (act : Act) → May w node act → Grows w (after w node act)
+grows w node act may = grows_loosely w node act (loosely w node act may)
 
 -- the nodes stay
 pub nodes_same : (first : World) (acts : List (ℕ × Act)) → (reached first acts).nodes ≡ first.nodes

@@ -1,18 +1,18 @@
 -- Every world that is reached keeps the rules of the synod in each slot.
 use Rattle.std.proofs.Common.{◌≡◌, ◌⊎◌, ℕ, ◌<◌, ◌≤◌, Bool, true, false, List, [], ◌∷◌, Option, Some, None, refl, sym, ◌∙◌, ap, subst, inl, inr, arith}
-use Rattle.std.specs.Prelude.{if◌then◌else◌}
 use Rattle.mc_model.specs.message.Decree.{Decree}
 use Rattle.mc_model.specs.synod.Lists.{In}
 use Rattle.mc_model.specs.synod.Ballot.{proposer_of, incarnation_in}
 use Rattle.mc_model.specs.synod.OneSlot.{Vote, vote_at, IsOfHighest, IsJustified, IsSound, Reaches}
-use Rattle.mc_model.specs.synod.Packet.{Slot, slot_at, TopVote, Packet, Prepare, Promise, Propose, Voted, Refused, Ask, Tell}
+use Rattle.mc_model.specs.synod.Packet.{Slot, slot_at, Name, TopVote, Packet, Prepare, Promise, Propose, Voted, Refused, Ask, Tell}
 use Rattle.mc_model.specs.synod.Acceptor.{SlotRecord, Records, IsTop, after_promise, after_vote}
 use Rattle.mc_model.specs.node.Actor.{Actor}
 use Rattle.mc_model.specs.node.Act.{Act, Receives, Promises, Votes, Refuses, Tells, Prepares, Proposes, Asks, Restarts}
 use Rattle.mc_model.specs.node.Effect.{records_by, actor_by, if_sent}
 use Rattle.mc_model.specs.cluster.World.{World, Cast, cast, May, after, votes_by, sent_by, start}
+use Rattle.mc_model.specs.cluster.Loose.{MayLoosely}
 use Rattle.mc_parts.proofs.Membership.{in_either, with_here}
-use Rattle.mc_laws.proofs.Growth.{Grows, grows, IsNew, records_after, changed_cases, later, same_life, changed_here}
+use Rattle.mc_laws.proofs.Growth.{Grows, grows, grows_loosely, IsNew, records_after, changed_cases, later, same_life, changed_here}
 
 -- ---- what holds of each packet
 
@@ -33,8 +33,7 @@ Fits w (Propose sender slot vote) = ProposeFits w sender slot vote
 Fits w (Voted sender slot vote) = In (cast sender slot vote) w.votes
 Fits w (Refused sender slot ballot promised) = Unit {0}
 Fits w (Ask sender id name) = Unit {0}
-Fits w (Tell sender name None) = Unit {0}
-Fits w (Tell sender name (Some told)) = In (cast sender (slot_at told.id told.place) told.vote) w.votes
+Fits w (Tell sender name told) = Unit {0}
 
 -- ---- what holds of a world
 
@@ -110,8 +109,7 @@ fits_still w v grown (Propose sender slot vote) fits = record {
 fits_still w v grown (Voted sender slot vote) fits = grown.votes (cast sender slot vote) fits
 fits_still w v grown (Refused sender slot ballot promised) fits = tt
 fits_still w v grown (Ask sender id name) fits = tt
-fits_still w v grown (Tell sender name None) fits = tt
-fits_still w v grown (Tell sender name (Some told)) fits = grown.votes (cast sender (slot_at told.id told.place) told.vote) fits
+fits_still w v grown (Tell sender name told) fits = tt
 
 -- ---- the record that a node has after its own act
 
@@ -165,7 +163,7 @@ promise_fits w keeps node slot ballot sent below = record {
   honest = λ vote is. let h = keeps.held node slot vote is in (h.voted, omega (arith, h.within, below));
 }
 
-propose_fits : (w : World) (node : ℕ) (slot : Slot) (vote : Vote) → May w node (Proposes slot vote) →
+propose_fits : (w : World) (node : ℕ) (slot : Slot) (vote : Vote) → MayLoosely w node (Proposes slot vote) →
     ProposeFits (after w node (Proposes slot vote)) node slot vote
 propose_fits w node slot vote may = record {
   proposer = may.needs.proposer;
@@ -177,39 +175,30 @@ propose_fits w node slot vote may = record {
       (λ acceptor report is_in. inr is_in) may.needs.justified;
 }
 
--- what an acceptor tells of it voted for
-told_cast : (w : World) → Keeps w → (node id : ℕ) (told : TopVote) → IsTop (w.records node) id told →
-    In (cast node (slot_at told.id told.place) told.vote) w.votes
-told_cast w keeps node id told top =
-    subst (λ (i : ℕ). In (cast node (slot_at i told.place) told.vote) w.votes) (sym top.about)
-    (keeps.held node (slot_at id told.place) told.vote top.voted).voted
-
-fits_new : (w : World) → Keeps w → (node : ℕ) (act : Act) → May w node act → (packet : Packet) → IsSent w node act packet → Fits (after w node act) packet
+fits_new : (w : World) → Keeps w → (node : ℕ) (act : Act) → MayLoosely w node act → (packet : Packet) → IsSent w node act packet → Fits (after w node act) packet
 fits_new w keeps node (Promises slot ballot sent) may packet is =
-    subst (λ (p : Packet). Fits (after w node (Promises slot ballot sent)) p) (sym is) (promise_fits w keeps node slot ballot sent may.needs.may)
+    subst (λ (p : Packet). Fits (after w node (Promises slot ballot sent)) p) (sym is) (promise_fits w keeps node slot ballot sent may.needs)
 fits_new w keeps node (Votes slot vote sent) may packet is =
     subst (λ (p : Packet). Fits (after w node (Votes slot vote sent)) p) (sym is) (inl refl)
 fits_new w keeps node (Proposes slot vote) may packet is =
     subst (λ (p : Packet). Fits (after w node (Proposes slot vote)) p) (sym is) (propose_fits w node slot vote may)
 fits_new w keeps node (Refuses slot ballot) may packet is = subst (λ (p : Packet). Fits (after w node (Refuses slot ballot)) p) (sym is) tt
-fits_new w keeps node (Tells id name None) may packet is = subst (λ (p : Packet). Fits (after w node (Tells id name None)) p) (sym is) tt
-fits_new w keeps node (Tells id name (Some told)) may packet is =
-    subst (λ (p : Packet). Fits (after w node (Tells id name (Some told))) p) (sym is) (told_cast w keeps node id told may.needs.told_is)
+fits_new w keeps node (Tells id name told) may packet is = subst (λ (p : Packet). Fits (after w node (Tells id name told)) p) (sym is) tt
 fits_new w keeps node (Prepares slot ballot chain) may packet is = subst (λ (p : Packet). Fits (after w node (Prepares slot ballot chain)) p) (sym is) tt
 fits_new w keeps node (Asks id ticket) may packet is = subst (λ (p : Packet). Fits (after w node (Asks id ticket)) p) (sym is) tt
 fits_new w keeps node act may packet is = absurd is
 
-fits_after : (w : World) → Keeps w → (node : ℕ) (act : Act) → May w node act → (packet : Packet) → In packet (after w node act).packets →
+fits_after : (w : World) → Keeps w → (node : ℕ) (act : Act) → MayLoosely w node act → (packet : Packet) → In packet (after w node act).packets →
     Fits (after w node act) packet
 fits_after w keeps node act may packet is_in = elim (in_either packet (sent_by w node act) w.packets is_in) [
   | inl new ↦ fits_new w keeps node act may packet (sent_is w node act packet new)
-  | inr old ↦ fits_still w (after w node act) (grows w node act may) packet (keeps.fits packet old)
+  | inr old ↦ fits_still w (after w node act) (grows_loosely w node act may) packet (keeps.fits packet old)
 ]
 
 -- ---- records and votes
 
 -- what a record keeps it keeps when it is made new
-keeps_new : (w : World) → Keeps w → (node : ℕ) (act : Act) → May w node act → (slot : Slot) (new : SlotRecord) →
+keeps_new : (w : World) → Keeps w → (node : ℕ) (act : Act) → MayLoosely w node act → (slot : Slot) (new : SlotRecord) →
     IsNew (w.records node) act slot new → (vote : Vote) → In (cast node slot vote) w.votes →
     KeepsVote new vote
 keeps_new w keeps node (Promises slot ballot sent) may other new is vote is_in =
@@ -218,7 +207,7 @@ keeps_new w keeps node (Promises slot ballot sent) may other new is vote is_in =
 keeps_new w keeps node (Votes slot voted sent) may other new is vote is_in =
     let k = keeps.records (cast node other vote) is_in in
     let h = keeps.held node other k.held k.holds in
-    let may_vote : (w.records node slot).promised ≤ voted.ballot = may.needs.may in
+    let may_vote : (w.records node slot).promised ≤ voted.ballot = may.needs.0 in
     let same : (w.records node other).promised ≡ (w.records node slot).promised = ap (λ (s : Slot). (w.records node s).promised) is.0 in
     record { held = voted; holds = ap (λ (r : SlotRecord). r.vote) is.1; above = omega (arith, k.above, h.within, may_vote, same) }
 keeps_new w keeps node act may other new is vote is_in = absurd is
@@ -226,7 +215,7 @@ keeps_new w keeps node act may other new is vote is_in = absurd is
 same_record : (r s : SlotRecord) (vote : Vote) → s ≡ r → KeepsVote r vote → KeepsVote s vote
 same_record r s vote same k = record { held = k.held; holds = ap (λ (x : SlotRecord). x.vote) same ∙ k.holds; above = k.above }
 
-old_kept : (w : World) → Keeps w → (node : ℕ) (act : Act) → May w node act → (c : Cast) → In c w.votes →
+old_kept : (w : World) → Keeps w → (node : ℕ) (act : Act) → MayLoosely w node act → (c : Cast) → In c w.votes →
     KeepsVote ((after w node act).records c.acceptor c.slot) c.vote
 old_kept w keeps node act may c is_in = elim (records_after w node act c.acceptor c.slot) [
   | inl same ↦ same_record (w.records c.acceptor c.slot) _ c.vote same (keeps.records c is_in)
@@ -254,7 +243,7 @@ new_cast : (w : World) (node : ℕ) (act : Act) (P : Cast → Type 0) →
 new_cast w node (Votes slot vote sent) P each c is = subst P (sym is) (each slot vote sent refl)
 new_cast w node act P each c is = absurd is
 
-records_kept : (w : World) → Keeps w → (node : ℕ) (act : Act) → May w node act → (c : Cast) → In c (after w node act).votes →
+records_kept : (w : World) → Keeps w → (node : ℕ) (act : Act) → MayLoosely w node act → (c : Cast) → In c (after w node act).votes →
     KeepsVote ((after w node act).records c.acceptor c.slot) c.vote
 records_kept w keeps node act may c is_in = elim (in_either c (votes_by node act) w.votes is_in) [
   | inl new ↦ new_cast w node act (λ (x : Cast). KeepsVote ((after w node act).records x.acceptor x.slot) x.vote)
@@ -265,14 +254,14 @@ records_kept w keeps node act may c is_in = elim (in_either c (votes_by node act
 ]
 
 -- a record that an act makes new holds a vote that was saved
-held_new : (w : World) → Keeps w → (node : ℕ) (act : Act) → May w node act → (slot : Slot) (new : SlotRecord) →
+held_new : (w : World) → Keeps w → (node : ℕ) (act : Act) → MayLoosely w node act → (slot : Slot) (new : SlotRecord) →
     IsNew (w.records node) act slot new → (vote : Vote) → new.vote ≡ Some vote →
     In (cast node slot vote) (after w node act).votes × (vote.ballot ≤ new.promised)
 held_new w keeps node (Promises slot ballot sent) may other new is vote holds =
     let before : (w.records node other).vote ≡ Some vote = ap (λ (s : Slot). (w.records node s).vote) is.0 ∙ sym
     (ap (λ (r : SlotRecord). r.vote) is.1) ∙ holds in
     let h = keeps.held node other vote before in
-    let below : (w.records node slot).promised < ballot = may.needs.may in
+    let below : (w.records node slot).promised < ballot = may.needs in
     let same : (w.records node other).promised ≡ (w.records node slot).promised = ap (λ (s : Slot). (w.records node s).promised) is.0 in
     let promised : new.promised ≡ ballot = ap (λ (r : SlotRecord). r.promised) is.1 in
     (h.voted, omega (arith, h.within, below, same, promised))
@@ -286,11 +275,11 @@ held_new w keeps node (Votes slot voted sent) may other new is vote holds =
     )
 held_new w keeps node act may other new is vote holds = absurd is
 
-held_after : (w : World) → Keeps w → (node : ℕ) (act : Act) → May w node act → (other : ℕ) (slot : Slot) (vote : Vote) →
+held_after : (w : World) → Keeps w → (node : ℕ) (act : Act) → MayLoosely w node act → (other : ℕ) (slot : Slot) (vote : Vote) →
     ((after w node act).records other slot).vote ≡ Some vote →
     HoldsVote (after w node act) other slot vote
 held_after w keeps node act may other slot vote holds =
-    let grown = grows w node act may in
+    let grown = grows_loosely w node act may in
     elim (records_after w node act other slot) [
       | inl same ↦
           let h = keeps.held other slot vote (sym (ap (λ (r : SlotRecord). r.vote) same) ∙ holds) in
@@ -301,14 +290,14 @@ held_after w keeps node act may other slot vote holds =
           record { voted = subst (λ (n : ℕ). In (cast n slot vote) (after w node act).votes) (sym new.node_is) h.0; within = h.1 }
     ]
 
-proposed_after : (w : World) → Keeps w → (node : ℕ) (act : Act) → May w node act → (c : Cast) → In c (after w node act).votes →
+proposed_after : (w : World) → Keeps w → (node : ℕ) (act : Act) → MayLoosely w node act → (c : Cast) → In c (after w node act).votes →
     WasProposed (after w node act) c.slot c.vote
 proposed_after w keeps node act may c is_in =
-    let grown = grows w node act may in
+    let grown = grows_loosely w node act may in
     elim (in_either c (votes_by node act) w.votes is_in) [
       | inl new ↦ new_cast w node act (λ (x : Cast). WasProposed (after w node act) x.slot x.vote) (λ slot vote sent is.
-          let m : May w node (Votes slot vote sent) = subst (May w node) is may in
-          record { sender = m.needs.sender; sent = grown.packets _ (keeps.received node _ m.needs.proposed) }) c (cast_is node act c new)
+          let m : MayLoosely w node (Votes slot vote sent) = subst (MayLoosely w node) is may in
+          record { sender = m.needs.1; sent = grown.packets _ (keeps.received node _ m.needs.2) }) c (cast_is node act c new)
       | inr old ↦ let p = keeps.proposed c old in record { sender = p.sender; sent = grown.packets _ p.sent }
     ]
 
@@ -385,11 +374,11 @@ sent_after w keeps node act other slot vote is_in same = elim (changed_cases w.a
     at_node w node act other is = ap (after w node act).actors is ∙ changed_here w.actors node (actor_by node (w.actors node) act)
 
 -- a new proposal and an old one at one ballot are of one actor, which proposes once at a ballot
-single_new : (w : World) → Keeps w → (node : ℕ) (act : Act) → May w node act → (slot : Slot) (n : ℕ) (one other : Vote) →
+single_new : (w : World) → Keeps w → (node : ℕ) (act : Act) → MayLoosely w node act → (slot : Slot) (n : ℕ) (one other : Vote) →
     act ≡ Proposes slot one → In (Propose n slot other) w.packets → one.ballot ≡ other.ballot →
     one.chain ≡ other.chain
 single_new w keeps node act may slot n one other is old same =
-    let m : May w node (Proposes slot one) = subst (May w node) is may in
+    let m : MayLoosely w node (Proposes slot one) = subst (MayLoosely w node) is may in
     let fits : ProposeFits w n slot other = keeps.fits (Propose n slot other) old in
     let proposer : proposer_of one.ballot ≡ node = m.needs.proposer in
     let sender : n ≡ node = sym fits.proposer ∙ ap proposer_of (sym same) ∙ proposer in
@@ -401,7 +390,7 @@ single_new w keeps node act may slot n one other is old same =
 same_act : (one other : Vote) (slot : Slot) → Proposes slot one ≡ Proposes slot other → one.chain ≡ other.chain
 same_act one other slot same = let votes : one ≡ other = cc in ap (λ (v : Vote). v.chain) votes
 
-single_after : (w : World) → Keeps w → (node : ℕ) (act : Act) → May w node act → (slot : Slot) (m n : ℕ) (one other : Vote) →
+single_after : (w : World) → Keeps w → (node : ℕ) (act : Act) → MayLoosely w node act → (slot : Slot) (m n : ℕ) (one other : Vote) →
     In (Propose m slot one) (after w node act).packets → In (Propose n slot other) (after w node act).packets → one.ballot ≡ other.ballot →
     one.chain ≡ other.chain
 single_after w keeps node act may slot m n one other in_one in_other same =
@@ -418,7 +407,7 @@ single_after w keeps node act may slot m n one other in_one in_other same =
 
 -- ---- what was received was sent
 
-heard : (w : World) → Keeps w → (node : ℕ) (act : Act) → May w node act → (packet : Packet) →
+heard : (w : World) → Keeps w → (node : ℕ) (act : Act) → MayLoosely w node act → (packet : Packet) →
     In packet (actor_by node (w.actors node) act).received →
     In packet w.packets
 heard w keeps node (Receives new) may packet (inl same) = subst (λ (p : Packet). In p w.packets) (sym same) may.needs
@@ -426,18 +415,18 @@ heard w keeps node (Receives new) may packet (inr old) = keeps.received node pac
 heard w keeps node (Restarts lost serial) may packet is_in = absurd is_in
 heard w keeps node act may packet is_in = keeps.received node packet is_in
 
-received_after : (w : World) → Keeps w → (node : ℕ) (act : Act) → May w node act → (other : ℕ) (packet : Packet) →
+received_after : (w : World) → Keeps w → (node : ℕ) (act : Act) → MayLoosely w node act → (other : ℕ) (packet : Packet) →
     In packet ((after w node act).actors other).received →
     In packet (after w node act).packets
 received_after w keeps node act may other packet is_in =
-    (grows w node act may).packets packet (elim (changed_cases w.actors node (actor_by node (w.actors node) act) other) [
+    (grows_loosely w node act may).packets packet (elim (changed_cases w.actors node (actor_by node (w.actors node) act) other) [
       | inl here ↦ heard w keeps node act may packet (subst (λ (a : Actor). In packet a.received) here.1 is_in)
       | inr elsewhere ↦ keeps.received other packet (subst (λ (a : Actor). In packet a.received) elsewhere is_in)
     ])
 
 -- ---- every world that is reached
 
-pub keeps_after : (w : World) → Keeps w → (node : ℕ) (act : Act) → May w node act → Keeps (after w node act)
+pub keeps_after : (w : World) → Keeps w → (node : ℕ) (act : Act) → MayLoosely w node act → Keeps (after w node act)
 keeps_after w keeps node act may = record {
   records = records_kept w keeps node act may;
   held = held_after w keeps node act may;
@@ -458,6 +447,44 @@ keeps_start nodes serials = record {
   single = λ slot m n one other in_one in_other same. absurd in_one;
   received = λ node packet is_in. absurd is_in;
 }
+
+-- ---- what acceptors told
+
+-- what was told was voted for
+abbrev pub ToldVotes : World → Type 0
+ToldVotes w = (sender : ℕ) (name : Name) (told : TopVote) → In (Tell sender name (Some told)) w.packets →
+    In (cast sender (slot_at told.id told.place) told.vote) w.votes
+
+-- what an acceptor tells of it voted for
+told_cast : (w : World) → Keeps w → (node id : ℕ) (told : TopVote) → IsTop (w.records node) id told →
+    In (cast node (slot_at told.id told.place) told.vote) w.votes
+told_cast w keeps node id told top =
+    subst (λ (i : ℕ). In (cast node (slot_at i told.place) told.vote) w.votes) (sym top.about)
+    (keeps.held node (slot_at id told.place) told.vote top.voted).voted
+
+told_new : (w : World) → Keeps w → (node : ℕ) (act : Act) → May w node act → (sender : ℕ) (name : Name) (told : TopVote) →
+    IsSent w node act (Tell sender name (Some told)) →
+    In (cast sender (slot_at told.id told.place) told.vote) w.votes
+told_new w keeps node (Tells id other None) may sender name told is = cc
+told_new w keeps node (Tells id other (Some top)) may sender name told is =
+    let told_is : told ≡ top = cc in
+    let sender_is : sender ≡ node = cc in
+    subst (λ (t : TopVote). In (cast sender (slot_at t.id t.place) t.vote) w.votes) (sym told_is)
+    (subst (λ (n : ℕ). In (cast n (slot_at top.id top.place) top.vote) w.votes) (sym sender_is) (told_cast w keeps node id top may.needs.told_is))
+told_new w keeps node (Promises slot ballot sent) may sender name told is = cc
+told_new w keeps node (Votes slot vote sent) may sender name told is = cc
+told_new w keeps node (Refuses slot ballot) may sender name told is = cc
+told_new w keeps node (Prepares slot ballot chain) may sender name told is = cc
+told_new w keeps node (Proposes slot vote) may sender name told is = cc
+told_new w keeps node (Asks id ticket) may sender name told is = cc
+told_new w keeps node act may sender name told is = absurd is
+
+pub told_votes_after : (w : World) → Keeps w → ToldVotes w → (node : ℕ) (act : Act) → May w node act → ToldVotes (after w node act)
+told_votes_after w keeps votes node act may sender name told is_in =
+    (grows w node act may).votes _ (elim (in_either (Tell sender name (Some told)) (sent_by w node act) w.packets is_in) [
+      | inl new ↦ told_new w keeps node act may sender name told (sent_is w node act _ new)
+      | inr old ↦ votes sender name told old
+    ])
 
 -- ---- so the rules of the synod hold in each slot
 

@@ -1,10 +1,14 @@
+pub mod Loosening
 pub mod Growth
 pub mod Keeping
+pub mod Orderly
 pub mod Links
 pub mod Agreement
 pub mod Fated
+pub mod LooseRuns
 pub mod Freshness
 pub mod Proposals
+pub mod Permitted
 pub mod Honest
 pub mod Grantings
 pub mod OwnDecrees

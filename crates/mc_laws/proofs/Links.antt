@@ -1,26 +1,26 @@
--- Every chain that is proposed is a permitted one, and stands on a chosen one; and an open attempt is not passed.
+-- Every chain that is proposed is an orderly one, and stands on a chosen one; and an open attempt is not passed.
 use Rattle.std.proofs.Common.{◌≡◌, ◌⊎◌, ℕ, ◌<◌, ◌≤◌, List, [], ◌∷◌, Option, Some, None, refl, sym, ◌∙◌, ap, subst, inl, inr, arith}
 use Rattle.std.proofs.lemmas.Bool.{cases_eq}
 use Rattle.mc_model.specs.message.Submission.{Submission}
 use Rattle.mc_model.specs.message.Decree.{Author, Decree, Kind, Taken, Attempt, Failed, Fate, Delivered, Expired, Deleted, Undeliverable, Rejected}
-use Rattle.mc_model.specs.message.Neighbours.{IsTaken, MayFollow}
-use Rattle.mc_model.specs.message.Chain.{IsPermitted, MayExtend}
+use Rattle.mc_model.specs.message.Neighbours.{MayFollow}
+use Rattle.mc_model.specs.message.Chain.{MayExtend}
 use Rattle.mc_model.specs.synod.Lists.{In}
 use Rattle.mc_model.specs.synod.Majority.{Majority}
 use Rattle.mc_model.specs.synod.OneSlot.{Vote, vote_at, IsOfHighest}
 use Rattle.mc_model.specs.synod.Packet.{Slot, slot_of, Promise}
 use Rattle.mc_model.specs.node.Outcome.{Outcome, Unanswered, decree_of}
-use Rattle.mc_model.specs.node.Actor.{Actor, Request, Submit, Waiting}
-use Rattle.mc_model.specs.node.Room.{IsFitToWait, IsNumbered}
+use Rattle.mc_model.specs.node.Actor.{Actor}
 use Rattle.mc_model.specs.node.Proposal.{IsFirst, IsNext, IsOwn, IsFree, IsClosed, IsLost, Allows}
-use Rattle.mc_model.specs.node.Act.{Act, Proposes, Begins, Settles, Replies, Concludes, Abandons, Restarts}
-use Rattle.mc_model.specs.node.Effect.{actor_by, settle}
-use Rattle.mc_model.specs.cluster.World.{World, Deed, cast, May, IsChosenIn, StandsIn, after, start}
+use Rattle.mc_model.specs.node.Act.{Act, Proposes, Concludes, Abandons, Restarts}
+use Rattle.mc_model.specs.node.Effect.{actor_by}
+use Rattle.mc_model.specs.cluster.World.{World, Deed, cast, IsChosenIn, StandsIn, after, start}
 use Rattle.mc_model.specs.cluster.Fate.{deed_by}
-use Rattle.mc_parts.proofs.Membership.{in_either, of_only, in_map, in_filter}
+use Rattle.mc_model.specs.cluster.Loose.{MayLoosely}
 use Rattle.mc_parts.proofs.Majorities.{both}
-use Rattle.mc_laws.proofs.Growth.{Grows, grows, changed_cases, later, same_life, actors_after, actor_here, actor_apart}
+use Rattle.mc_laws.proofs.Growth.{Grows, grows_loosely, changed_cases, later, same_life, actor_here, actor_apart}
 use Rattle.mc_laws.proofs.Keeping.{Keeps, WasProposed, PromiseFits, proposal_cases}
+use Rattle.mc_laws.proofs.Orderly.{IsOrderly}
 
 -- ---- what stands behind what
 
@@ -56,14 +56,8 @@ ChainFits w id (next ∷ newest ∷ older) = Linked w id next newest older
 
 pub record Standing (w : World) (slot : Slot) (chain : List Decree) : Type 0 where
   pub place : slot ≡ slot_of slot.id chain
-  pub permitted : IsPermitted slot.id chain
+  pub orderly : IsOrderly chain
   pub fits : ChainFits w slot.id chain
-
--- a request that waits is of a message that may be taken
-abbrev pub MayTake : ℕ → Actor → Type 0
-MayTake node a =
-    (waiting : Waiting) (id : ℕ) (message : Submission) → In waiting a.waiting → waiting.request ≡ Submit id message → IsTaken id
-    (record { node = node; incarnation = a.incarnation }) waiting.since message
 
 -- what an actor closed in its incarnation it has closed
 abbrev pub Recalls : List Deed → ℕ → Actor → Type 0
@@ -75,7 +69,6 @@ pub record Links (w : World) : Type 0 where
   pub closed : (node : ℕ) (slot : Slot) (outcome : Outcome) → In (slot, outcome) (w.actors node).closed →
       ClosedIn w.past (record { node = node; incarnation = (w.actors node).incarnation }) slot outcome
   pub lived : (deed : Deed) → In deed w.past → deed.incarnation ≤ (w.actors deed.node).incarnation
-  pub takes : (node : ℕ) → MayTake node (w.actors node)
   pub recalls : (node : ℕ) → Recalls w.past node (w.actors node)
 
 -- ---- what stands goes on standing
@@ -113,7 +106,7 @@ fits_still w v grown id (next ∷ newest ∷ older) fits = record {
 }
 
 standing_still : (w v : World) → Grows w v → (slot : Slot) (chain : List Decree) → Standing w slot chain → Standing v slot chain
-standing_still w v grown slot chain s = record { place = s.place; permitted = s.permitted; fits = fits_still w v grown slot.id chain s.fits }
+standing_still w v grown slot chain s = record { place = s.place; orderly = s.orderly; fits = fits_still w v grown slot.id chain s.fits }
 
 -- ---- a new proposal stands
 
@@ -161,20 +154,20 @@ own_passed w links node slot taken attempts attempted author before moment (Atte
 own_passed w links node slot taken attempts attempted author before moment (Failed error) next is may allowed = tt
 own_passed w links node slot taken attempts attempted author before moment (Fate final error) next is may allowed = tt
 
-first_standing : (w : World) → Links w → (node id : ℕ) (chain : List Decree) → IsFirst node (w.actors node) id chain →
-    IsPermitted id chain × ChainFits w id chain
-first_standing w links node id chain first =
-    subst (λ (c : List Decree). IsPermitted id c × ChainFits w id c) (sym first.chain_is)
-    (links.takes node first.waiting id first.message first.waits first.submits, tt)
+first_standing : (w : World) (node id : ℕ) (chain : List Decree) → IsFirst node (w.actors node) id chain →
+    IsOrderly chain × ChainFits w id chain
+first_standing w node id chain first =
+    subst (λ (c : List Decree). IsOrderly c × ChainFits w id c) (sym first.chain_is)
+    (tt, tt)
 
 next_standing : (w : World) → Keeps w → Links w → (node id : ℕ) (chain : List Decree) →
     IsNext (IsChosenIn w) node (w.actors node) id chain →
-    IsPermitted id chain × ChainFits w id chain
+    IsOrderly chain × ChainFits w id chain
 next_standing w keeps links node id chain n =
     let before = chosen_standing w keeps links (slot_of id (n.newest ∷ n.older)) (vote_at n.ballot (n.newest ∷ n.older)) n.chosen in
     let may = subst (λ (t : Option Submission). MayExtend t (n.newest ∷ n.older) n.next) (sym n.message) n.may in
-    subst (λ (c : List Decree). IsPermitted id c × ChainFits w id c) (sym n.chain_is) (
-      (before.permitted, may),
+    subst (λ (c : List Decree). IsOrderly c × ChainFits w id c) (sym n.chain_is) (
+      (before.orderly, may),
       record {
         ballot = n.ballot;
         chosen = n.chosen;
@@ -185,8 +178,8 @@ next_standing w keeps links node id chain n =
     )
 
 own_standing : (w : World) → Keeps w → Links w → (node id : ℕ) (chain : List Decree) → IsOwn (IsChosenIn w) node (w.actors node) id chain →
-    IsPermitted id chain × ChainFits w id chain
-own_standing w keeps links node id chain (inl first) = first_standing w links node id chain first
+    IsOrderly chain × ChainFits w id chain
+own_standing w keeps links node id chain (inl first) = first_standing w node id chain first
 own_standing w keeps links node id chain (inr next) = next_standing w keeps links node id chain next
 
 free_standing : (w : World) → Keeps w → Links w → (node : ℕ) (slot : Slot) (chain : List Decree) →
@@ -196,7 +189,7 @@ free_standing w keeps links node slot chain (inl (inl sent)) = links.standing sl
 free_standing w keeps links node slot chain (inl (inr voted)) =
     links.standing slot (vote_at voted.1 chain) (keeps.proposed (cast voted.0 slot (vote_at voted.1 chain)) voted.2)
 free_standing w keeps links node slot chain (inr own) =
-    let s = own_standing w keeps links node slot.id chain own.1 in record { place = own.0; permitted = s.0; fits = s.1 }
+    let s = own_standing w keeps links node slot.id chain own.1 in record { place = own.0; orderly = s.0; fits = s.1 }
 
 -- by the highest vote that was reported
 highest_standing : (w : World) → Keeps w → Links w → (node : ℕ) (slot : Slot) (vote : Vote) (highest : Option Vote) →
@@ -210,13 +203,13 @@ highest_standing w keeps links node slot vote (Some top) carried free =
     let honest = fits.honest top refl in
     subst (Standing w slot) (sym carried.0) (links.standing slot top (keeps.proposed (cast carried.1.0 slot top) honest.0))
 
-standing_after : (w : World) → Keeps w → Links w → (node : ℕ) (act : Act) → May w node act → (slot : Slot) (vote : Vote) →
+standing_after : (w : World) → Keeps w → Links w → (node : ℕ) (act : Act) → MayLoosely w node act → (slot : Slot) (vote : Vote) →
     WasProposed (after w node act) slot vote →
     Standing (after w node act) slot vote.chain
 standing_after w keeps links node act may slot vote proposed =
-    standing_still w (after w node act) (grows w node act may) slot vote.chain (elim (proposal_cases w node act proposed.sender slot vote proposed.sent) [
+    standing_still w (after w node act) (grows_loosely w node act may) slot vote.chain (elim (proposal_cases w node act proposed.sender slot vote proposed.sent) [
       | inl new ↦
-          let m : May w node (Proposes slot vote) = subst (May w node) new.by may in
+          let m : MayLoosely w node (Proposes slot vote) = subst (MayLoosely w node) new.by may in
           highest_standing w keeps links node slot vote m.needs.justified.highest m.needs.justified.carried m.needs.free
       | inr old ↦ links.standing slot vote (record { sender = proposed.sender; sent = old })
     ])
@@ -256,44 +249,14 @@ closed_after w links node act other slot outcome is_in = elim (changed_cases w.a
       closed_more w node act _ slot outcome (links.closed other slot outcome (subst (λ (a : Actor). In (slot, outcome) a.closed) elsewhere is_in)))
 ]
 
-lived_after : (w : World) → Links w → (node : ℕ) (act : Act) → May w node act → (deed : Deed) → In deed (after w node act).past →
+lived_after : (w : World) → Links w → (node : ℕ) (act : Act) → MayLoosely w node act → (deed : Deed) → In deed (after w node act).past →
     deed.incarnation ≤ ((after w node act).actors deed.node).incarnation
 lived_after w links node act may deed (inl new) =
-    let grown = (grows w node act may).incarnations node in
+    let grown = (grows_loosely w node act may).incarnations node in
     subst (λ (d : Deed). d.incarnation ≤ ((after w node act).actors d.node).incarnation) (sym new) grown
 lived_after w links node act may deed (inr old) =
-    let grown = (grows w node act may).incarnations deed.node in
+    let grown = (grows_loosely w node act may).incarnations deed.node in
     let before = links.lived deed old in omega (arith, grown, before)
-
--- ---- the messages that wait to be taken
-
-begun_takes : (node : ℕ) (a : Actor) (ticket : ℕ) (request : Request) → IsFitToWait node a request → MayTake node a →
-    MayTake node (actor_by node a (Begins ticket request))
-begun_takes node a ticket request may takes waiting id message is_in submits = elim (in_either waiting a.waiting _ is_in) [
-  | inl old ↦ takes waiting id message old submits
-  | inr new ↦ of_only (λ (x : Waiting). x.request ≡ Submit id message → IsTaken id
-      (record { node = node; incarnation = a.incarnation }) x.since message) _ waiting
-      (λ is. let m : IsNumbered node a id message = subst (IsFitToWait node a) is may in m.takes) new submits
-]
-
-takes_by : (w : World) (node : ℕ) (act : Act) → May w node act → MayTake node (w.actors node) → MayTake node (actor_by node (w.actors node) act)
-takes_by w node (Begins ticket request) may takes waiting id message is_in submits =
-    begun_takes node (w.actors node) ticket request may.needs.fit takes waiting id message is_in submits
-takes_by w node (Settles ticket) may takes waiting id message is_in submits =
-    let m = in_map (settle ticket) (w.actors node).waiting waiting is_in in
-    subst (λ (x : Waiting). IsTaken id (record { node = node; incarnation = (w.actors node).incarnation }) x.since message) (sym m.made)
-    (takes m.from id message m.member (ap (λ (x : Waiting). x.request) (sym m.made) ∙ submits))
-takes_by w node (Replies ticket other answer) may takes waiting id message is_in submits =
-    takes waiting id message (in_filter _ (w.actors node).waiting waiting is_in) submits
-takes_by w node (Restarts lost serial) may takes waiting id message is_in submits = absurd is_in
-takes_by w node act may takes waiting id message is_in submits = takes waiting id message is_in submits
-
-takes_after : (w : World) → Links w → (node : ℕ) (act : Act) → May w node act → (other : ℕ) → MayTake other ((after w node act).actors other)
-takes_after w links node act may other = elim (actors_after w node act other) [
-  | inl here ↦ subst (λ (a : Actor). MayTake other a) (sym here.actor_is)
-      (subst (λ (n : ℕ). MayTake n (actor_by node (w.actors node) act)) (sym here.node_is) (takes_by w node act may (links.takes node)))
-  | inr elsewhere ↦ subst (λ (a : Actor). MayTake other a) (sym elsewhere) (links.takes other)
-]
 
 -- ---- what an actor closed in this incarnation it remembers
 
@@ -355,12 +318,11 @@ recalls_after w links node act other = elim (cases_eq other node) [
 
 -- ---- every world that is reached
 
-pub links_after : (w : World) → Keeps w → Links w → (node : ℕ) (act : Act) → May w node act → Links (after w node act)
+pub links_after : (w : World) → Keeps w → Links w → (node : ℕ) (act : Act) → MayLoosely w node act → Links (after w node act)
 links_after w keeps links node act may = record {
   standing = standing_after w keeps links node act may;
   closed = closed_after w links node act;
   lived = lived_after w links node act may;
-  takes = takes_after w links node act may;
   recalls = recalls_after w links node act;
 }
 
@@ -369,6 +331,5 @@ links_start nodes serials = record {
   standing = λ slot vote proposed. absurd proposed.sent;
   closed = λ node slot outcome is_in. absurd is_in;
   lived = λ deed is_in. absurd is_in;
-  takes = λ node waiting id message is_in submits. absurd is_in;
   recalls = λ node slot outcome closed. elim closed [ inl answered ↦ absurd answered | inr abandoned ↦ absurd abandoned.1 ];
 }

@@ -1,19 +1,18 @@
 -- What holds of every world that acts lead to.
-use Rattle.std.proofs.Common.{◌≡◌, ◌⊎◌, ℕ, ◌≤◌, List, [], ◌∷◌, ◌++◌, length, Some, sym, ◌∙◌, ap, subst, inl, inr, arith}
-use Rattle.std.proofs.lemmas.Bool.{cases_lt}
-use Rattle.mc_model.specs.message.Decree.{Decree, Attempt, Final, Delivered}
-use Rattle.mc_model.specs.message.Chain.{IsPermitted, GoesOn, final_in}
+use Rattle.std.proofs.Common.{◌≡◌, ℕ, ◌≤◌, List, [], ◌∷◌, ◌++◌, length, Some, arith}
+use Rattle.mc_model.specs.message.Decree.{Decree, Final, Delivered}
+use Rattle.mc_model.specs.message.Chain.{final_in}
 use Rattle.mc_model.specs.synod.Lists.{In}
-use Rattle.mc_model.specs.synod.OneSlot.{Vote}
-use Rattle.mc_model.specs.synod.Packet.{Slot, Propose, slot_of}
-use Rattle.mc_model.specs.node.Outcome.{Outcome}
 use Rattle.mc_model.specs.node.Act.{Act}
-use Rattle.mc_model.specs.cluster.World.{World, Deed, cast, May, IsChosenIn, after, start, reached, IsRun}
+use Rattle.mc_model.specs.cluster.World.{World, Deed, May, after, start, reached, IsRun}
 use Rattle.mc_model.specs.cluster.Fate.{CameBefore, States, IsGrant, IsDelivery}
-use Rattle.mc_parts.proofs.Fates.{fate_is_last}
-use Rattle.mc_laws.proofs.Keeping.{Keeps, sound, keeps_start, keeps_after}
-use Rattle.mc_laws.proofs.Links.{Links, ChainFits, links_start, links_after}
-use Rattle.mc_laws.proofs.Agreement.{Chosen, standing, begins, agree}
+use Rattle.mc_laws.proofs.Loosening.{loosely}
+use Rattle.mc_laws.proofs.Keeping.{Keeps, ToldVotes, keeps_start, keeps_after, told_votes_after}
+use Rattle.mc_laws.proofs.Links.{Links, links_start, links_after}
+use Rattle.mc_laws.proofs.Agreement.{Chosen}
+use Rattle.mc_laws.proofs.Fated.{AcceptedHaveChains, Told, accepted_after, told_start, told_after}
+use Rattle.mc_laws.proofs.LooseRuns.{HoldsLoosely, delivery_behind, longest_fate, none_granted_after, one_fate_stated, same_fates}
+use Rattle.mc_laws.proofs.Permitted.{Permitted, permitted_after, permitted_start}
 use Rattle.mc_laws.proofs.Deletions.{Deletions, deletions_start, deletions_after}
 use Rattle.mc_laws.proofs.Freshness.{Names, names_start, names_after}
 use Rattle.mc_laws.proofs.Honest.{Honest, honest_start, honest_after}
@@ -21,13 +20,14 @@ use Rattle.mc_laws.proofs.Grantings.{Grantings, grantings_start, grantings_after
 use Rattle.mc_laws.proofs.OwnDecrees.{OwnDecrees, own_decrees_start, own_decrees_after}
 use Rattle.mc_laws.proofs.Rooms.{HasRoom, room_after}
 use Rattle.mc_laws.proofs.Stopping.{StaysDown, down_after}
-use Rattle.mc_parts.proofs.Stable.{stable}
-use Rattle.mc_laws.proofs.Fated.{open_passed, passed_at, Timely, AllTimely, Told, told_start, told_after}
 
 pub record Holds (w : World) : Type 0 where
   pub keeps : Keeps w
   pub links : Links w
   pub told : Told w
+  pub accepted : AcceptedHaveChains w
+  pub told_votes : ToldVotes w
+  pub permitted : Permitted w
   pub names : Names w
   pub deletions : Deletions w
   pub honest : Honest w
@@ -38,9 +38,12 @@ pub record Holds (w : World) : Type 0 where
 
 pub holds_after : (w : World) → Holds w → (node : ℕ) (act : Act) → May w node act → Holds (after w node act)
 holds_after w h node act may = record {
-  keeps = keeps_after w h.keeps node act may;
-  links = links_after w h.keeps h.links node act may;
-  told = told_after w h.keeps h.links h.told node act may;
+  keeps = keeps_after w h.keeps node act (loosely w node act may);
+  links = links_after w h.keeps h.links node act (loosely w node act may);
+  told = told_after w h.keeps h.links h.told node act (loosely w node act may);
+  accepted = accepted_after w h.keeps h.accepted node act may;
+  told_votes = told_votes_after w h.keeps h.told_votes node act may;
+  permitted = permitted_after w h.keeps h.permitted node act may;
   names = names_after w h.keeps h.names node act may;
   deletions = deletions_after w h.keeps h.deletions node act may;
   honest = honest_after w h.keeps h.names h.honest node act may;
@@ -56,6 +59,9 @@ holds nodes serials [] run =
       keeps = keeps_start nodes serials;
       links = links_start nodes serials;
       told = told_start nodes serials;
+      accepted = λ deed ticket id is_in. absurd is_in;
+      told_votes = λ sender name told is_in. absurd is_in;
+      permitted = permitted_start nodes serials;
       names =
           names_start nodes serials;
       deletions = deletions_start nodes serials;
@@ -68,107 +74,32 @@ holds nodes serials [] run =
     }
 holds nodes serials (newest ∷ older) run = holds_after (reached (start nodes serials) older) (holds nodes serials older run.1) newest.0 newest.1 run.0
 
--- ---- one fate
+-- ---- fates, as in a loose run
 
--- a chosen chain with a fate is as long as any
+loosened : (w : World) → Holds w → HoldsLoosely w
+loosened w h = record { keeps = h.keeps; links = h.links; told = h.told }
+
 pub fate_longest : (w : World) → Holds w → (id : ℕ) (one other : List Decree) (final : Final) → Chosen w id one → Chosen w id other →
     final_in one ≡ Some final → length one ≤ length other →
     other ≡ one
-fate_longest w h id one other final is_one is_other ends long =
-    let b = begins w h.keeps h.links id one other is_one is_other long in
-    let s = standing w h.keeps h.links id other is_other in
-    let last = fate_is_last id one b.more final (subst (IsPermitted id) b.chain_is s.permitted) ends in
-    b.chain_is ∙ ap (λ (m : List Decree). m ++ one) last
-
-fates_same : (w : World) → Holds w → (id : ℕ) (one other : List Decree) (first second : Final) → Chosen w id one → Chosen w id other →
-    final_in one ≡ Some first → final_in other ≡ Some second → length one ≤ length other →
-    first ≡ second
-fates_same w h id one other first second is_one is_other ends_one ends_other long =
-    let same = fate_longest w h id one other first is_one is_other ends_one long in
-    let both : Some first ≡ Some second = sym ends_one ∙ ap final_in (sym same) ∙ ends_other in
-    cc
+fate_longest w h = longest_fate w (loosened w h)
 
 pub chosen_fates_same : (w : World) → Holds w → (id : ℕ) (one other : List Decree) (first second : Final) → Chosen w id one →
     Chosen w id other → final_in one ≡ Some first → final_in other ≡ Some second →
     first ≡ second
-chosen_fates_same w h id one other first second is_one is_other ends_one ends_other = elim (cases_lt (length one) (length other)) [
-  | inl shorter ↦ fates_same w h id one other first second is_one is_other ends_one ends_other (omega (arith, shorter))
-  | inr longer ↦ sym (fates_same w h id other one second first is_other is_one ends_other ends_one longer)
-]
+chosen_fates_same w h = same_fates w (loosened w h)
 
 pub one_fate : (w : World) → Holds w → (one other : Deed) (id : ℕ) (first second : Final) → In one w.past → In other w.past →
     States one id first → States other id second →
     first ≡ second
-one_fate w h one other id first second in_one in_other s t =
-    chosen_fates_same w h id s.chain t.chain first second (h.told.chosen one id s.chain in_one s.tells)
-    (h.told.chosen other id t.chain in_other t.tells) s.state t.state
-
--- ---- deeds in their order
-
--- the deed that stands before these older ones was timely
-timely_at : (past newer : List Deed) (deed : Deed) (older : List Deed) → AllTimely past → past ≡ newer ++ deed ∷ older → Timely deed older
-timely_at [] [] deed older timely is = cc
-timely_at [] (x ∷ newer) deed older timely is = cc
-timely_at (first ∷ past) [] deed older timely is =
-    let heads : first ≡ deed = cc in
-    let tails : past ≡ older = cc in
-    subst (λ (ds : List Deed). Timely deed ds) tails (subst (λ (d : Deed). Timely d past) heads timely.0)
-timely_at (first ∷ past) (x ∷ newer) deed older timely is =
-    let tails : past ≡ newer ++ deed ∷ older = cc in
-    timely_at past newer deed older timely.1 tails
+one_fate w h = one_fate_stated w (loosened w h)
 
 pub no_grant_after : (w : World) → Holds w → (stating granting : Deed) (id : ℕ) (final : Final) → CameBefore stating granting w.past →
     States stating id final → IsGrant granting id →
     ⊥
-no_grant_after w h stating granting id final came states grant =
-    (timely_at w.past came.newer granting came.older h.told.timely came.split).grants grant.slot stating final grant.grants came.before
-    (subst (λ (i : ℕ). States stating i final) (sym grant.about) states)
+no_grant_after w h = none_granted_after w (loosened w h)
 
 pub stands_on_delivery : (w : World) → Holds w → (newer : List Deed) (stating : Deed) (older : List Deed) (id : ℕ) →
     w.past ≡ newer ++ stating ∷ older → (states : States stating id Delivered) →
     IsDelivery id states.chain older
-stands_on_delivery w h newer stating older id is states =
-    (timely_at w.past newer stating older h.told.timely is).delivers id states.chain states.tells states.state
-
--- ---- what stands behind it
-
-pub choice_stays : (w : World) → Holds w → (slot : Slot) (chosen : Vote) (acceptor : ℕ) (vote : Vote) → IsChosenIn w slot chosen →
-    In (cast acceptor slot vote) w.votes → chosen.ballot ≤ vote.ballot →
-    vote.chain ≡ chosen.chain
-choice_stays w h slot chosen acceptor vote is_chosen is_in =
-    stable w.nodes _ _ _ (sound w h.keeps slot) chosen is_chosen vote (h.keeps.proposed (cast acceptor slot vote) is_in)
-
-pub chains_agree : (w : World) → Holds w → (one other : Slot) (first second : Vote) → one.id ≡ other.id → IsChosenIn w one first →
-    IsChosenIn w other second →
-    GoesOn first.chain second.chain ⊎ GoesOn second.chain first.chain
-chains_agree w h = agree w h.keeps h.links
-
--- a decree behind an attempt, of a chain that stands
-open_attempt : (w : World) → Holds w → (id node : ℕ) (next newest : Decree) (older : List Decree) (number : ℕ) →
-    newest.kind ≡ Attempt number → newest.author ≡ record { node = node; incarnation = (w.actors node).incarnation } →
-    ((outcome : Outcome) → In (slot_of id (newest ∷ older), outcome) (w.actors node).closed → ⊥) → ChainFits w id (next ∷ newest ∷ older) →
-    ⊥
-open_attempt w h id node next newest older number attempt author unclosed fits =
-    open_passed w h.links node (slot_of id (newest ∷ older)) newest.author next.kind author unclosed
-    (passed_at w newest.author (slot_of id (newest ∷ older)) newest.kind next.kind number attempt fits.passed)
-
--- a chain that stands goes on from an attempt at once, or its own beginning does, which is chosen
-passes : (w : World) → Holds w → (id node : ℕ) (last : Decree) (more : List Decree) (newest : Decree) (older : List Decree) (number : ℕ) →
-    newest.kind ≡ Attempt number → newest.author ≡ record { node = node; incarnation = (w.actors node).incarnation } →
-    ((outcome : Outcome) → In (slot_of id (newest ∷ older), outcome) (w.actors node).closed → ⊥) →
-    ChainFits w id (last ∷ (more ++ newest ∷ older)) →
-    ⊥
-passes w h id node last [] newest older number attempt author unclosed fits = open_attempt w h id node last newest older number attempt author unclosed fits
-passes w h id node last (next ∷ more) newest older number attempt author unclosed fits =
-    passes w h id node next more newest older number attempt author unclosed
-    (standing w h.keeps h.links id (next ∷ (more ++ newest ∷ older)) (record { ballot = fits.ballot; chosen = fits.chosen })).fits
-
-pub attempt_not_passed : (w : World) → Holds w → (sender : ℕ) (slot : Slot) (vote : Vote) (node : ℕ) (last : Decree) (more : List Decree)
-    (newest : Decree) (older : List Decree) (number : ℕ) → In (Propose sender slot vote) w.packets →
-    vote.chain ≡ last ∷ (more ++ newest ∷ older) → newest.kind ≡ Attempt number →
-    newest.author ≡ record { node = node; incarnation = (w.actors node).incarnation } →
-    ((outcome : Outcome) → In (slot_of slot.id (newest ∷ older), outcome) (w.actors node).closed → ⊥) →
-    ⊥
-attempt_not_passed w h sender slot vote node last more newest older number sent is attempt author unclosed =
-    passes w h slot.id node last more newest older number attempt author unclosed
-    (subst (ChainFits w slot.id) is (h.links.standing slot vote (record { sender = sender; sent = sent })).fits)
+stands_on_delivery w h = delivery_behind w (loosened w h)

@@ -5,7 +5,7 @@ use Rattle.std.proofs.lemmas.Bool.{eqb-true, eq-eqb, ne_eqb, true≢false}
 use Rattle.mc_model.specs.message.Decree.{Decree}
 use Rattle.mc_model.specs.synod.Lists.{In}
 use Rattle.mc_model.specs.synod.OneSlot.{Vote, vote_at}
-use Rattle.mc_model.specs.synod.Packet.{Slot, slot_of, top_at, Promise, Voted, Tell}
+use Rattle.mc_model.specs.synod.Packet.{Slot, slot_of, top_at, Promise, Voted}
 use Rattle.mc_model.specs.synod.Acceptor.{Records}
 use Rattle.mc_model.specs.node.Actor.{Actor}
 use Rattle.mc_model.specs.node.Knowledge.{IsLearned}
@@ -17,7 +17,7 @@ use Rattle.mc_model.specs.cluster.World.{World, cast, votes_by, May, IsChosenIn,
 use Rattle.mc_model.specs.cluster.Assembly.{acts_of, WasSent, EachWasSent}
 use Rattle.mc_parts.proofs.Membership.{in_right}
 use Rattle.mc_laws.proofs.Growth.{changed_here, nodes_same}
-use Rattle.mc_laws.proofs.Keeping.{Keeps, PromiseFits, justified_more}
+use Rattle.mc_laws.proofs.Keeping.{Keeps, ToldVotes, PromiseFits, justified_more}
 use Rattle.mc_laws.proofs.Agreement.{learned_chosen}
 use Rattle.mc_laws.proofs.Reached.{holds}
 
@@ -30,20 +30,20 @@ here w node began = record { actor = w.actors node; records = w.records node; be
 abbrev BeganSo : World → ℕ → Records → Type 0
 BeganSo w node began = (slot : Slot) (vote : Vote) → (began slot).vote ≡ Some vote → In (cast node slot vote) w.votes
 
-stands : (w : World) → Keeps w → (node : ℕ) (began : Records) → BeganSo w node began → (slot : Slot) (chain : List Decree) →
+stands : (w : World) → Keeps w → ToldVotes w → (node : ℕ) (began : Records) → BeganSo w node began → (slot : Slot) (chain : List Decree) →
     StandsAt (here w node began) slot chain →
     StandsIn w slot chain
-stands w keeps node began so slot chain (inl proposed) = inl (proposed.0, proposed.1, keeps.received node _ proposed.2)
-stands w keeps node began so slot chain (inr (inl voted)) =
+stands w keeps votes node began so slot chain (inl proposed) = inl (proposed.0, proposed.1, keeps.received node _ proposed.2)
+stands w keeps votes node began so slot chain (inr (inl voted)) =
     inr (voted.0, voted.1, keeps.fits (Voted voted.0 slot (vote_at voted.1 chain)) (keeps.received node _ voted.2))
-stands w keeps node began so slot chain (inr (inr (inl promised))) =
+stands w keeps votes node began so slot chain (inr (inr (inl promised))) =
     let fits : PromiseFits w promised.0 slot promised.1 (Some (vote_at promised.2 chain)) = keeps.fits
     (Promise promised.0 slot promised.1 (Some (vote_at promised.2 chain))) (keeps.received node _ promised.3) in
     let voted = fits.honest (vote_at promised.2 chain) refl in
     inr (promised.0, promised.2, voted.0)
-stands w keeps node began so slot chain (inr (inr (inr (inl told)))) =
-    inr (told.0, told.2, keeps.fits (Tell told.0 told.1 (Some (top_at slot (vote_at told.2 chain)))) (keeps.received node _ told.3))
-stands w keeps node began so slot chain (inr (inr (inr (inr held)))) = inr (node, held.0, so slot (vote_at held.0 chain) held.1)
+stands w keeps votes node began so slot chain (inr (inr (inr (inl told)))) =
+    inr (told.0, told.2, votes told.0 told.1 (top_at slot (vote_at told.2 chain)) (keeps.received node _ told.3))
+stands w keeps votes node began so slot chain (inr (inr (inr (inr held)))) = inr (node, held.0, so slot (vote_at held.0 chain) held.1)
 
 own : (w : World) → Keeps w → (node id : ℕ) (chain : List Decree) →
     IsOwn (IsLearned w.nodes (w.actors node).received) node (w.actors node) id chain →
@@ -65,41 +65,41 @@ own w keeps node id chain (inr n) = inr (record {
   error = n.error;
 })
 
-free : (w : World) → Keeps w → (node : ℕ) (began : Records) → BeganSo w node began →
+free : (w : World) → Keeps w → ToldVotes w → (node : ℕ) (began : Records) → BeganSo w node began →
     (slot : Slot) (chain : List Decree) (highest : Option Vote) → IsFree highest (StandsAt (here w node began) slot chain)
     ((slot ≡ slot_of slot.id chain) × IsOwn (IsLearned w.nodes (w.actors node).received) node (w.actors node) slot.id chain) →
     IsFree highest (StandsIn w slot chain) ((slot ≡ slot_of slot.id chain) × IsOwn (IsChosenIn w) node (w.actors node) slot.id chain)
-free w keeps node began so slot chain (Some top) is = tt
-free w keeps node began so slot chain None (inl standing) = inl (stands w keeps node began so slot chain standing)
-free w keeps node began so slot chain None (inr mine) = inr (mine.0, own w keeps node slot.id chain mine.1)
+free w keeps votes node began so slot chain (Some top) is = tt
+free w keeps votes node began so slot chain None (inl standing) = inl (stands w keeps votes node began so slot chain standing)
+free w keeps votes node began so slot chain None (inr mine) = inr (mine.0, own w keeps node slot.id chain mine.1)
 
-proposes : (w : World) → Keeps w → (node : ℕ) (began : Records) → BeganSo w node began → (slot : Slot) (vote : Vote) →
+proposes : (w : World) → Keeps w → ToldVotes w → (node : ℕ) (began : Records) → BeganSo w node began → (slot : Slot) (vote : Vote) →
     MayPropose w.nodes (λ packet. In packet (w.actors node).received) (StandsAt (here w node began))
     (IsLearned w.nodes (w.actors node).received) node (w.actors node) slot vote →
     MayPropose w.nodes (λ packet. In packet w.packets) (StandsIn w) (IsChosenIn w) node (w.actors node) slot vote
-proposes w keeps node began so slot vote may = record {
+proposes w keeps votes node began so slot vote may = record {
   proposer = may.proposer;
   incarnation = may.incarnation;
   once = may.once;
   justified = justified_more w.nodes (λ acceptor report. In (Promise acceptor slot vote.ballot report) (w.actors node).received)
       (λ acceptor report. In (Promise acceptor slot vote.ballot report) w.packets) vote.chain
       (λ acceptor report. keeps.received node (Promise acceptor slot vote.ballot report)) may.justified;
-  free = free w keeps node began so slot vote.chain may.justified.highest may.free;
+  free = free w keeps votes node began so slot vote.chain may.justified.highest may.free;
 }
 
 -- so what a node may do alone it may do in the cluster, once its packet was sent
-needs : (w : World) → Keeps w → (node : ℕ) (began : Records) → BeganSo w node began → (act : Act) → WasSent w act →
+needs : (w : World) → Keeps w → ToldVotes w → (node : ℕ) (began : Records) → BeganSo w node began → (act : Act) → WasSent w act →
     Needs w.nodes (λ packet. Unit {0}) (λ packet. In packet (w.actors node).received) (StandsAt (here w node began))
     (IsLearned w.nodes (w.actors node).received) node (w.actors node) (w.records node) act →
     Needs w.nodes (λ packet. In packet w.packets) (λ packet. In packet w.packets) (StandsIn w) (IsChosenIn w) node (w.actors node) (w.records node) act
-needs w keeps node began so (Receives packet) sent needed = sent
-needs w keeps node began so (Proposes slot vote) sent needed = proposes w keeps node began so slot vote needed
-needs w keeps node began so act was needed = needed
+needs w keeps votes node began so (Receives packet) sent needed = sent
+needs w keeps votes node began so (Proposes slot vote) sent needed = proposes w keeps votes node began so slot vote needed
+needs w keeps votes node began so act was needed = needed
 
-may_here : (w : World) → Keeps w → (node : ℕ) (began : Records) → BeganSo w node began → (act : Act) → WasSent w act →
+may_here : (w : World) → Keeps w → ToldVotes w → (node : ℕ) (began : Records) → BeganSo w node began → (act : Act) → WasSent w act →
     MayAlone w.nodes node (here w node began) act →
     May w node act
-may_here w keeps node began so act sent may = record { least = may.least; most = may.most; up = may.up; needs = needs w keeps node began so act sent may.needs }
+may_here w keeps votes node began so act sent may = record { least = may.least; most = may.most; up = may.up; needs = needs w keeps votes node began so act sent may.needs }
 
 -- ---- a node in the cluster is the node alone
 
@@ -186,7 +186,7 @@ may_together nodes serials acts node act run sent may =
     let w = reached (start nodes serials) acts in
     let s = reached_alone node (opened_new (serials node)) (acts_of node acts) in
     let is = alone nodes serials acts node run in
-    may_here w (holds nodes serials acts run).keeps node s.began is.began act sent (may_alone w nodes node s act (nodes_same (start nodes serials) acts) is may)
+    may_here w (holds nodes serials acts run).keeps (holds nodes serials acts run).told_votes node s.began is.began act sent (may_alone w nodes node s act (nodes_same (start nodes serials) acts) is may)
 
 pub put_together : (nodes : ℕ) (serials : ℕ → ℕ) (acts : List (ℕ × Act)) →
     ((node : ℕ) → IsRunAlone nodes node (opened_new (serials node)) (acts_of node acts)) → EachWasSent (start nodes serials) acts →

@@ -3,23 +3,30 @@
 ghost use Rattle.std.specs.Prelude.{◌≡◌, ◌∷◌, ◌++◌, ℕ, List, Some};
 ghost use Rattle.mc_model.specs.message.Decree.{Final, Delivered};
 ghost use Rattle.mc_model.specs.synod.Lists.{In};
-ghost use Rattle.mc_model.specs.cluster.World.{Deed, Run, past_of, world_of};
+ghost use Rattle.mc_model.specs.cluster.World.{Deed, Run, start};
 ghost use Rattle.mc_model.specs.cluster.Steps.{StepRun, world_after};
 ghost use Rattle.mc_model.specs.cluster.Fate.{CameBefore, States, IsGrant, IsDelivery, IsToldChosen};
+ghost use Rattle.mc_model.specs.cluster.Loose.{IsLooseRun, LooseRun, end_of};
 
 /// Of one message no two statements of a final state differ; after a statement, as ESME_ROK to its cancel_sm, no attempt of it
 /// is ever granted; and behind each statement of DELIVERED, as a receipt, stands an attempt that was granted and then answered
-/// ESME_ROK.
+/// ESME_ROK. It is so of every run of the cluster, and of every loose one: it does not rest on what nodes answer that states no
+/// fate, nor on when they are up, have room, ask, tell or settle.
 pub fn headline()
-    ensures one_fate { (run : Run) (one other : Deed) (id : ℕ) (first second : Final) →
-        In one (past_of run) → In other (past_of run) →
+    ensures one_fate { (run : LooseRun) (one other : Deed) (id : ℕ) (first second : Final) →
+        In one (end_of run).past → In other (end_of run).past →
         States one id first → States other id second → first ≡ second }
-    ensures no_grant { (run : Run) (stating granting : Deed) (id : ℕ) (final : Final) →
-        CameBefore stating granting (past_of run) →
+    ensures no_grant { (run : LooseRun) (stating granting : Deed) (id : ℕ) (final : Final) →
+        CameBefore stating granting (end_of run).past →
         States stating id final → IsGrant granting id → ⊥ }
-    ensures delivery { (run : Run) (newer : List Deed) (stating : Deed) (older : List Deed) (id : ℕ) →
-        past_of run ≡ newer ++ stating ∷ older →
+    ensures delivery { (run : LooseRun) (newer : List Deed) (stating : Deed) (older : List Deed) (id : ℕ) →
+        (end_of run).past ≡ newer ++ stating ∷ older →
         (states : States stating id Delivered) → IsDelivery id states.chain older }
+{}
+
+/// Each run is a loose one.
+pub fn each_run_is_loose()
+    ensures { (run : Run) → IsLooseRun (start run.nodes run.serials) run.acts }
 {}
 
 /// For every list of steps in which packets are delivered, lost, repeated or reordered and nodes restart with their stable
@@ -40,9 +47,9 @@ pub fn headline_over_steps()
         (states : States stating id final) → IsToldChosen (world_after run) id states.chain }
 {}
 
-/// The chain of which a statement tells is chosen.
+/// The chain of which a statement tells is chosen, in every loose run.
 pub fn what_is_stated_is_chosen()
-    ensures { (run : Run) (stating : Deed) (id : ℕ) (final : Final) →
-        In stating (past_of run) →
-        (states : States stating id final) → IsToldChosen (world_of run) id states.chain }
+    ensures { (run : LooseRun) (stating : Deed) (id : ℕ) (final : Final) →
+        In stating (end_of run).past →
+        (states : States stating id final) → IsToldChosen (end_of run) id states.chain }
 {}

@@ -3,7 +3,7 @@
 ghost use Rattle.std.specs.Prelude.{◌≡◌, ◌⊎◌, ◌∷◌, ◌++◌, ◌≤◌, ℕ, List, Some, length};
 ghost use Rattle.mc_model.specs.message.Ids.{node_of};
 ghost use Rattle.mc_model.specs.message.Decree.{Author, Decree, Attempt, Deleted};
-ghost use Rattle.mc_model.specs.message.Chain.{GoesOn, final_in};
+ghost use Rattle.mc_model.specs.message.Chain.{GoesOn, IsPermitted, final_in};
 ghost use Rattle.mc_model.specs.synod.Lists.{In};
 ghost use Rattle.mc_model.specs.synod.OneSlot.{Vote};
 ghost use Rattle.mc_model.specs.synod.Packet.{Packet, Slot, Propose, slot_of};
@@ -14,36 +14,44 @@ ghost use Rattle.mc_model.specs.node.Act.{Concludes, Restarts, Stops, Abandons, 
 ghost use Rattle.mc_model.specs.node.Concerns.{Concerns};
 ghost use Rattle.mc_model.specs.cluster.World.{Deed, cast, IsChosenIn, Run, past_of, world_of};
 ghost use Rattle.mc_model.specs.cluster.Fate.{States, deed_by};
+ghost use Rattle.mc_model.specs.cluster.Loose.{LooseRun, end_of};
 ghost use Rattle.mc_model.specs.cluster.Decrees.{IsDeletion, HasItsError, IsTimely};
 
 /// Once a chain is chosen at a ballot, every vote of its slot at that ballot or above carries it, across all starts anew and
-/// votes of which no packet told.
+/// votes of which no packet told, in every loose run.
 pub fn what_is_chosen_stays()
-    ensures { (run : Run) (slot : Slot) (chosen : Vote) (acceptor : ℕ) (vote : Vote) →
-        IsChosenIn (world_of run) slot chosen →
-        In (cast acceptor slot vote) (world_of run).votes →
+    ensures { (run : LooseRun) (slot : Slot) (chosen : Vote) (acceptor : ℕ) (vote : Vote) →
+        IsChosenIn (end_of run) slot chosen →
+        In (cast acceptor slot vote) (end_of run).votes →
         chosen.ballot ≤ vote.ballot → vote.chain ≡ chosen.chain }
 {}
 
-/// Of two chosen chains of one message one goes on from the other.
+/// Of two chosen chains of one message one goes on from the other, in every loose run.
 pub fn chosen_chains_agree()
-    ensures { (run : Run) (one other : Slot) (first second : Vote) →
+    ensures { (run : LooseRun) (one other : Slot) (first second : Vote) →
         one.id ≡ other.id →
-        IsChosenIn (world_of run) one first →
-        IsChosenIn (world_of run) other second →
+        IsChosenIn (end_of run) one first →
+        IsChosenIn (end_of run) other second →
         GoesOn first.chain second.chain ⊎ GoesOn second.chain first.chain }
 {}
 
+/// Each chosen chain is a permitted one: its message was taken before its expiry, by the node and in the incarnation that its id names, and each
+/// other decree may follow the one before.
+pub fn chosen_chains_are_permitted()
+    ensures { (run : Run) (slot : Slot) (vote : Vote) →
+        IsChosenIn (world_of run) slot vote → IsPermitted slot.id vote.chain }
+{}
+
 /// While an attempt of a node in its incarnation is not closed there, no proposal goes on from it: neither a cancel nor the
-/// expiry passes it.
+/// expiry passes it, in any loose run.
 pub fn an_open_attempt_is_not_passed()
-    ensures { (run : Run) (sender : ℕ) (slot : Slot) (vote : Vote) (node : ℕ) (last : Decree) (more : List Decree)
+    ensures { (run : LooseRun) (sender : ℕ) (slot : Slot) (vote : Vote) (node : ℕ) (last : Decree) (more : List Decree)
         (newest : Decree) (older : List Decree) (number : ℕ) →
-        In (Propose sender slot vote) (world_of run).packets →
+        In (Propose sender slot vote) (end_of run).packets →
         vote.chain ≡ last ∷ (more ++ newest ∷ older) →
         newest.kind ≡ Attempt number →
-        newest.author ≡ record { node = node; incarnation = ((world_of run).actors node).incarnation } →
-        ((outcome : Outcome) → In (slot_of slot.id (newest ∷ older), outcome) ((world_of run).actors node).closed → ⊥) → ⊥ }
+        newest.author ≡ record { node = node; incarnation = ((end_of run).actors node).incarnation } →
+        ((outcome : Outcome) → In (slot_of slot.id (newest ∷ older), outcome) ((end_of run).actors node).closed → ⊥) → ⊥ }
 {}
 
 /// Each statement that a message is DELETED, as ESME_ROK to a cancel_sm, stands on a cancel_sm that came before, with the

@@ -4,4 +4,5 @@ pub mod Steps
 pub mod Assembly
 pub mod Stores
 pub mod Fate
+pub mod Loose
 pub mod Decrees

@@ -61,7 +61,7 @@ module _ (cluster : Cluster) (behind : List Packet) where
   ]
 
   pub are_chosen : (inputs : List NodeInput) (steps : List Step) (answers : List Answer) (new : Scene) → behind ≡ [] →
-      GoesTo cluster behind inputs steps answers new → AreChosen new answers
+      GoesTo cluster behind inputs steps answers new → AreChosen (length new.members) (map packet_of new.packets) answers
   are_chosen inputs steps answers new none so answer id final among says =
       let of_step = event_of cluster behind inputs steps answers so.last so.reaches answer among in
       let cut = cut_at (of_step.0, answer) (zip steps answers) of_step.1 in

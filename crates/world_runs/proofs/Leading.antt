@@ -1,9 +1,10 @@
 -- A list of steps, one after the other.
-use Rattle.std.specs.Prelude.{drop}
+use Rattle.std.specs.Prelude.{drop, map}
 use Rattle.std.proofs.Common.{◌≡◌, ℕ, ◌+◌, ◌≤◌, true, List, [], ◌∷◌, ◌++◌, length, Ok, Err, refl, sym, ap, subst, ◌∙◌, arith, append_assoc, length-append}
 use Rattle.mc_model.specs.synod.Packet.{Packet}
 use Rattle.mc_model.specs.cluster.Steps.{Cluster}
 use Rattle.node_laws.specs.Clusters.{NodeInput}
+use Rattle.synod_acceptor.specs.Packets.{packet_of}
 use Rattle.world.specs.declared.step.Step.{Step}
 use Rattle.world.specs.Runs.{Answers, IsSomewhere, Leads}
 use Rattle.world.specs.Scenes.{Scene}
@@ -133,6 +134,6 @@ accepted_known old new steps answers is all =
     accepted_are_known is.cluster is.behind is.inputs steps answers so.last so.reaches so.at.may
 
 pub chosen_all : (old new : Scene) (steps : List Step) (answers : List Answer) → IsSomewhere old → LeadsAll old steps answers new → old.fresh ≡ true →
-    AreChosen new answers
+    AreChosen (length new.members) (map packet_of new.packets) answers
 chosen_all old new steps answers is all fresh =
     are_chosen is.cluster is.behind is.inputs steps answers new (is.at.fresh fresh).1 (all.each is.cluster is.behind is.inputs is.at)

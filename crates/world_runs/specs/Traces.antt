@@ -11,7 +11,6 @@ use Rattle.node_model.specs.Outputs.{nothing}
 use Rattle.node_laws.specs.Chosen.{WasVotedFor}
 use Rattle.node_laws.specs.Clusters.{GrantsOut, IsDeliveredBy, NodeInput, StatesFinal, kept_reached, step_at}
 use Rattle.delivery.specs.declared.outcome.Outcome.TheVariants as outcomes
-use Rattle.synod_acceptor.specs.Packets.{packet_of}
 use Rattle.desk.specs.declared.request.Request.{Request}
 use Rattle.world.specs.declared.fault.WorldFault.{WorldFault}
 use Rattle.world.specs.declared.given.Given.{Given}
@@ -147,11 +146,11 @@ DeliveriesStandInRuns old steps answers =
     (older : List Event) (event : Event) (newer : List Event) (id : ℕ) → zip steps answers ≡ older ++ event ∷ newer →
     (says : StatesFinal (told_in event.1) id Delivered) → StandsInTheRun cluster behind inputs older id says.chain
 
--- Of each final state that is told the chain was chosen: a majority of the nodes voted for it at one ballot, in packets that were sent.
-abbrev pub AreChosen : Scene → List Answer → Type 0
-AreChosen new answers =
+-- Of each final state that is told the chain was chosen: a majority of the nodes, which are so many, voted for it at one ballot, in these packets.
+abbrev pub AreChosen : ℕ → List Packet → List Answer → Type 0
+AreChosen nodes packets answers =
     (answer : Answer) (id : ℕ) (final : Final) → In answer answers → (says : StatesFinal (told_in answer) id final) →
-    WasVotedFor (length new.members) (map packet_of new.packets) id says.chain
+    WasVotedFor nodes packets id says.chain
 
 -- ---- what a later request is answered
 

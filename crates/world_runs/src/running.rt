@@ -1,6 +1,7 @@
 //! A list of steps of a world.
 
-ghost use Rattle.std.specs.Prelude.{◌≡◌, true, IfOk, OnErr};
+ghost use Rattle.std.specs.Prelude.{◌≡◌, length, map, true, IfOk, OnErr};
+ghost use Rattle.synod_acceptor.specs.Packets.{packet_of};
 ghost use Rattle.world_runs.specs.Traces.{
   AcceptedAreKnown,
   AreChosen,
@@ -29,7 +30,8 @@ pub fn run(alloc: Global, world: &mut World, steps: Vec<Step>) -> Result<Trace, 
     ensures no_grant { IfOk result (λ trace. GrantsNoneAfterAFate trace.answers.items) }
     ensures stands { IfOk result (λ trace. world.old.fresh ≡ true → DeliveriesStand steps.items trace.answers.items) }
     ensures stands_in_its_run { IfOk result (λ trace. DeliveriesStandInRuns world.old steps.items trace.answers.items) }
-    ensures chosen { IfOk result (λ trace. world.old.fresh ≡ true → AreChosen world.new trace.answers.items) }
+    ensures chosen { IfOk result (λ trace. world.old.fresh ≡ true →
+        AreChosen (length world.new.members) (map packet_of world.new.packets) trace.answers.items) }
     ensures fresh_answers { IfOk result (λ trace. LaterQueriesAreTold steps.items trace.answers.items) }
     ensures known { IfOk result (λ trace. AcceptedAreKnown steps.items trace.answers.items) }
     ensures stays { OnErr result (world.new ≡ world.old) }
