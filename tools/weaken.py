@@ -5,6 +5,8 @@
 
 With N jobs, N copies are worked on at once. A weakening is a file of tools/weakenings: a line `law: PATH`, and `file:`, `old:` and `new:`, where the text stands once in the file.
 (A line's end within a text is written as the character U+23CE.) If a crate below the law's is refused first, the lemma that failed there is told.
+A copy has the crates on which the laws stand that are tried there, and no others. A weakening may change a proof, too, that names what is weakened: then it
+is not refused for its shape.
 The last line printed is `N refused, M let through`.
 """
 import argparse
@@ -19,7 +21,6 @@ import tempfile
 
 ROOT = os.path.dirname(os.path.dirname(os.path.abspath(__file__)))
 FOLDER = os.path.join(ROOT, "tools", "weakenings")
-CRATES = ["mc_model", "mc_parts", "mc_laws", "node_model", "shelf", "node_laws", "alone_laws"]
 
 
 def read(name):
@@ -38,19 +39,30 @@ def read(name):
     return law, edits
 
 
-def copied():
-    """A copy of the crates of the model, with what earlier checks kept of them."""
-    copy = tempfile.mkdtemp(prefix="weaken-")
-    os.mkdir(os.path.join(copy, "crates"))
-    for crate in CRATES:
-        there = os.path.join(ROOT, "crates", crate)
-        if os.path.isdir(there):
-            shutil.copytree(there, os.path.join(copy, "crates", crate), symlinks=True)
+def listed():
+    """The lines of crates.txt, by their crates."""
     with open(os.path.join(ROOT, "crates.txt"), encoding="utf-8") as lines:
-        kept = [line for line in lines if line.split(":")[0] in CRATES]
-    with open(os.path.join(copy, "crates.txt"), "w", encoding="utf-8") as listed:
-        listed.writelines(kept)
-    return copy
+        return {line.split(":")[0]: line for line in lines if ":" in line and not line.startswith("#")}
+
+
+def below(crate, lines, found=None):
+    """A crate and all those of the repository that it stands on."""
+    found = set() if found is None else found
+    if crate in lines and crate not in found:
+        found.add(crate)
+        for other in lines[crate].split(":", 1)[1].split():
+            below(other, lines, found)
+    return found
+
+
+def copied(copy, crates, lines):
+    """Copies these crates, if they are not there, with what earlier checks kept of them."""
+    for crate in sorted(crates):
+        there = os.path.join(copy, "crates", crate)
+        if not os.path.isdir(there):
+            shutil.copytree(os.path.join(ROOT, "crates", crate), there, symlinks=True)
+    with open(os.path.join(copy, "crates.txt"), "w", encoding="utf-8") as kept:
+        kept.writelines(line for crate, line in lines.items() if os.path.isdir(os.path.join(copy, "crates", crate)))
 
 
 def check(copy, law, command):
@@ -72,9 +84,10 @@ def check(copy, law, command):
     return f"refused, by the lemma `{lemma[1]}` of {below[1]}" if below and lemma else "no such law"
 
 
-def try_one(copy, name, command):
-    """Tries one weakening, and puts the files back."""
+def try_one(copy, name, command, lines):
+    """Tries one weakening, and puts the files back. The crates that its law stands on come to the copy if they are not there yet."""
     law, edits = read(name)
+    copied(copy, below(law.split("::")[0], lines), lines)
     before = {}
     for file, old, new in edits:
         path = os.path.join(copy, file)
@@ -96,13 +109,15 @@ def main():
     parser.add_argument("names", metavar="NAME", nargs="*", help="weakenings; all without any")
     arguments = parser.parse_args()
     names = arguments.names or sorted(f[:-5] for f in os.listdir(FOLDER) if f.endswith(".edit"))
-    copies = queue.Queue()
+    lines, copies = listed(), queue.Queue()
     for _ in range(arguments.jobs):
-        copies.put(copied())
+        copy = tempfile.mkdtemp(prefix="weaken-")
+        os.mkdir(os.path.join(copy, "crates"))
+        copies.put(copy)
 
     def tried(name):
         copy = copies.get()
-        law, said = try_one(copy, name, arguments.rt)
+        law, said = try_one(copy, name, arguments.rt, lines)
         copies.put(copy)
         print(f"{name}: {said} ({law})", flush=True)
         return said

@@ -59,12 +59,13 @@ response_tells_none system_id sequence (Bound roles.Transceiver version) answer 
 response_tells_none system_id sequence Unbound answer is = cc
 response_tells_none system_id sequence Linked answer is = cc
 
--- ---- prints that tell nothing of a fate
+-- ---- prints that tell nothing of a fate, and answer no request that waited
 
 pub record IsMute (print : Print) : Type 0 where
   pub state : (message_id : List ℕ) (state : ℕ) → TellsState print message_id state → ⊥
   pub deletion : (message_id : List ℕ) → TellsDeletion print message_id → ⊥
   pub receipt : (message_id : List ℕ) (state : ℕ) → TellsReceipt print message_id state → ⊥
+  pub late : (session id : ℕ) (other : Pdu) → print ≡ Late session id other → ⊥
 
 -- it is neither the answer to a request that waited nor a receipt
 record IsNoAnswer (print : Print) : Type 0 where
@@ -79,6 +80,7 @@ other_is_mute print pdu is none never = record {
       none tells.answer (ap (λ (p : Pdu). p.body) same ∙ tells.body);
   deletion = λ message_id tells. never.late tells.session tells.id tells.pdu tells.printed;
   receipt = λ message_id state tells. never.receipt tells.session tells.sequence tells.optional tells.report tells.printed;
+  late = never.late;
 }
   where
     some_is : (one other : Pdu) → Some one ≡ Some other → one ≡ other
@@ -118,6 +120,7 @@ silent_is_mute print none = record {
   state = λ message_id state tells. none_is_some tells.pdu (sym none ∙ tells.printed);
   deletion = λ message_id tells. none_is_some tells.pdu (sym none ∙ ap (λ (p : Print). pdu_in p) tells.printed);
   receipt = λ message_id state tells. none_is_some _ (sym none ∙ ap (λ (p : Print). pdu_in p) tells.printed);
+  late = λ session id other is. none_is_some other (sym none ∙ ap (λ (p : Print). pdu_in p) is);
 }
   where
     none_is_some : (pdu : Pdu) → None ≡ Some pdu → ⊥

@@ -141,13 +141,13 @@ pub deliveries_first : (settings : Settings) (before : List (List ℕ)) (came : 
     In (At node (Delivers session pdu)) done.prints → AsksBeforeAFate prints node (said_within (length world.runners) line)
 unfolding Joins
 deliveries_first settings before came prints world line done node session pdu joins is among =
-    let so : WorldSo settings GivenFrom given_telling given_takes world prints =
+    let so : WorldSo settings GivenFrom given_telling given_takes came world prints =
     first_so settings GivenFrom given_telling given_takes before came prints (Some world) joins in
     let asks = line_asks settings so.cluster so.past world so.stands line done is node session pdu among in
     record {
       id = asks.id;
       asks = asks.is;
       unfated = λ here first state first_in states.
-          (stage_grants settings [] [] prints [] (Some world) (Some world) line done here node asks.id first state so (refl, refl, refl) first_in states
+          (stage_grants settings [] came [] prints [] (Some world) (Some world) line done here node asks.id first state so (refl, refl, refl) first_in states
           asks.is is).prints node session pdu among;
     }

@@ -8,6 +8,7 @@ use Rattle.script_text.specs.Prints.{Print}
 use Rattle.script_text.specs.Settings.{script_settings}
 use Rattle.script_world.specs.Prints.{At, WorldPrint}
 use Rattle.script_world.specs.Script.{Stage, prints_of}
+use Rattle.script_world.specs.World.{NodeInput as LineInput}
 use Rattle.fate_laws.proofs.InOrder.{StatesStay, Tell, TellFrom, TellsOnlyAt, nothing_from, tell_takes, tell_telling}
 use Rattle.fate_laws.proofs.Printing.{of_all, stays_after, told_once}
 use Rattle.fate_laws.proofs.Tellings.{by_node}
@@ -23,9 +24,10 @@ record TellsInAll (prints : List WorldPrint) : Type 0 where
 abbrev PrintsSo : List WorldPrint → Type 0
 PrintsSo prints = (prints ≡ []) ⊎ TellsInAll prints
 
-stage_prints : (stage : Stage) (prints : List WorldPrint) → StageSo script_settings TellFrom tell_telling tell_takes stage prints → PrintsSo prints
-stage_prints None prints none = inl none
-stage_prints (Some world) prints so = inr (record {
+stage_prints : (stage : Stage) (inputs : List LineInput) (prints : List WorldPrint) →
+    StageSo script_settings TellFrom tell_telling tell_takes stage inputs prints → PrintsSo prints
+stage_prints None inputs prints none = inl none
+stage_prints (Some world) inputs prints so = inr (record {
   first = _;
   tell = subst (Tell _) (append-nil (told_by prints)) (so.tell [] [] (nothing_from so.cluster [] so.past) tt);
 })
@@ -33,7 +35,7 @@ stage_prints (Some world) prints so = inr (record {
 script_prints : (script : List ℕ) → PrintsSo (prints_of script)
 script_prints script =
     let good = good_lines script_settings (lines_of script) None in
-    stage_prints good.last (prints_of script)
+    stage_prints good.last good.inputs (prints_of script)
     (first_so script_settings TellFrom tell_telling tell_takes good.lines good.inputs (prints_of script) good.last good.joins)
 
 pub one_fate : (script : List ℕ) (here there : ℕ) (first second : Print) (message_id : List ℕ) (one other : ℕ) →

@@ -20,7 +20,7 @@ use Rattle.script_text.specs.Runner.{Owned, Told, in_front, owner_of, replied, r
 use Rattle.script_text.specs.Settings.{Settings}
 use Rattle.script_text.specs.Laws.{StatesFate}
 use Rattle.script_world.specs.Prints.{At, WorldPrint}
-use Rattle.script_world.specs.World.{World}
+use Rattle.script_world.specs.World.{NodeInput as LineInput, World}
 use Rattle.fate_laws.proofs.Reports.{IsReportOf}
 use Rattle.fate_laws.proofs.Printing.{of_all}
 use Rattle.fate_laws.proofs.Telling.{IsMute, IsTold, Shows, reply_is_told, report_tells_no_deletion, report_tells_no_state}
@@ -228,9 +228,10 @@ module _ (cluster : Cluster) where
   }
 
 -- what lines print that lead to a world was given out then
-pub given_then_so : (settings : Settings) (world : World) (prints : List WorldPrint) (so : WorldSo settings GivenFrom given_telling given_takes world prints)
+pub given_then_so : (settings : Settings) (inputs : List LineInput) (world : World) (prints : List WorldPrint)
+    (so : WorldSo settings GivenFrom given_telling given_takes inputs world prints)
     (node : ℕ) (print : Print) → In (At node print) prints → TellsGiven so.cluster so.past print
-given_then_so settings world prints so node print among =
+given_then_so settings inputs world prints so node print among =
     let given = so.tell so.past [] (record { inputs = []; last_is = refl; tell = tt }) in
     of_all (TellsGivenAt so.cluster so.past) (told_by prints) (by_node node print)
     (subst (AllByRecursion (TellsGivenAt so.cluster so.past)) (append-nil (told_by prints)) given.tell) (told_by_all node print prints among)

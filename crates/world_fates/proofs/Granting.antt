@@ -85,14 +85,14 @@ is_among cluster (first ∷ inputs) past may next (inr later) =
     let it = is_among cluster inputs (first ∷ past) may next later in
     record { older = it.older; may = it.may; given = λ id final given. it.given id final (given_before cluster first past id final given) }
 
-stage_grants_none : (settings : Settings) (later : List (List ℕ)) (coming : List LineInput) (prints others : List WorldPrint) (middle last : Stage)
-    (here there : ℕ) (first : Print) (message_id : List ℕ) (state : ℕ) (slot : Slot) → StageSo settings GivenFrom given_telling given_takes middle prints →
+stage_grants_none : (settings : Settings) (later : List (List ℕ)) (came coming : List LineInput) (prints others : List WorldPrint) (middle last : Stage)
+    (here there : ℕ) (first : Print) (message_id : List ℕ) (state : ℕ) (slot : Slot) → StageSo settings GivenFrom given_telling given_takes middle came prints →
     Joins settings middle later coming others last → In (At here first) prints → StatesFate first message_id state →
     In (record { node = there; input = Grants slot }) coming → IsId slot.id → decimal slot.id ≢ message_id
-stage_grants_none settings later coming prints others None last here there first message_id state slot none joins first_in states among is_id same =
+stage_grants_none settings later came coming prints others None last here there first message_id state slot none joins first_in states among is_id same =
     subst (In (At here first)) none first_in
-stage_grants_none settings later coming prints others (Some world) last here there first message_id state slot so joins first_in states among is_id same =
-    let knows = given_then_so settings world prints so here first first_in message_id state states in
+stage_grants_none settings later came coming prints others (Some world) last here there first message_id state slot so joins first_in states among is_id same =
+    let knows = given_then_so settings came world prints so here first first_in message_id state states in
     let rest : JoinsSo so.cluster (GivenFrom so.cluster) so.past coming others last =
     joined_so settings so.cluster (GivenFrom so.cluster) (given_telling so.cluster) (given_takes so.cluster) later so.past
     world so.stands coming others last joins in
@@ -108,7 +108,7 @@ pub no_attempt_granted : (settings : Settings) (before later : List (List ℕ)) 
     Joins settings None before came prints middle → Joins settings middle later coming others last → In (At here first) prints →
     StatesFate first message_id state → In (record { node = there; input = Grants slot }) coming → IsId slot.id → decimal slot.id ≢ message_id
 no_attempt_granted settings before later came coming prints others middle last here there first message_id state slot joins =
-    stage_grants_none settings later coming prints others middle last here there first message_id state slot
+    stage_grants_none settings later came coming prints others middle last here there first message_id state slot
     (first_so settings GivenFrom given_telling given_takes before came prints middle joins)
 
 -- ---- a line that asks for an attempt
@@ -178,14 +178,14 @@ line_grants settings cluster past world stands line done there id state says is 
         record { stage = Some (grants world there id).next; inputs = (grants world there id).inputs; prints = (grants world there id).prints } ≡ done
     done_is stepped_is = cc
 
-pub stage_grants : (settings : Settings) (later : List (List ℕ)) (coming : List LineInput) (prints others : List WorldPrint) (middle last : Stage)
-    (line : List ℕ) (done : Stepped) (here there id : ℕ) (first : Print) (state : ℕ) → StageSo settings GivenFrom given_telling given_takes middle prints →
+pub stage_grants : (settings : Settings) (later : List (List ℕ)) (came coming : List LineInput) (prints others : List WorldPrint) (middle last : Stage)
+    (line : List ℕ) (done : Stepped) (here there id : ℕ) (first : Print) (state : ℕ) → StageSo settings GivenFrom given_telling given_takes middle came prints →
     Joins settings middle later coming others last → In (At here first) prints → StatesFate first (decimal id) state →
     said_within (nodes_of last) line ≡ Some (Grant there id) → step_of settings last line ≡ Some done → GrantsNothing done
-stage_grants settings later coming prints others None last line done here there id first state none joins first_in states says is =
+stage_grants settings later came coming prints others None last line done here there id first state none joins first_in states says is =
     absurd (subst (In (At here first)) none first_in)
-stage_grants settings later coming prints others (Some world) last line done here there id first state so joins first_in states says is =
-    let knows = given_then_so settings world prints so here first first_in (decimal id) state states in
+stage_grants settings later came coming prints others (Some world) last line done here there id first state so joins first_in states says is =
+    let knows = given_then_so settings came world prints so here first first_in (decimal id) state states in
     let rest : JoinsSo so.cluster (GivenFrom so.cluster) so.past coming others last =
     joined_so settings so.cluster (GivenFrom so.cluster) (given_telling so.cluster) (given_takes so.cluster) later so.past
     world so.stands coming others last joins in
@@ -201,5 +201,5 @@ pub attempts_refused : (settings : Settings) (before later : List (List ℕ)) (c
     Joins settings middle later coming others last → In (At here first) prints → StatesFate first (decimal id) state →
     said_within (nodes_of last) line ≡ Some (Grant there id) → step_of settings last line ≡ Some done → GrantsNothing done
 attempts_refused settings before later came coming prints others middle last line done here there id first state joins =
-    stage_grants settings later coming prints others middle last line done here there id first state
+    stage_grants settings later came coming prints others middle last line done here there id first state
     (first_so settings GivenFrom given_telling given_takes before came prints middle joins)

@@ -7,3 +7,16 @@ pub mod Reaching
 pub mod Granting
 pub mod Example
 pub mod Delivering
+pub mod Entries
+pub mod Windows
+pub mod Keeping
+pub mod Lines
+pub mod Answering
+pub mod Delivered
+pub mod AtOnce
+pub mod Asking
+pub mod Later
+pub mod LaterLines
+pub mod Named
+pub mod Fresh
+pub mod Accepting

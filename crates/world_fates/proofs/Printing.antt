@@ -171,29 +171,31 @@ opened_stands settings count serial few least = record {
 module _ (settings : Settings) (Tells : Cluster → FactOfPrints)
     (telling : (cluster : Cluster) → IsTelling cluster (Tells cluster)) (takes : (cluster : Cluster) → TakesDeliveries (Tells cluster)) where
   -- what the lines print that lead to a world was given out by a cluster
-  pub record WorldSo (world : World) (prints : List WorldPrint) : Type 0 where
+  pub record WorldSo (inputs : List LineInput) (world : World) (prints : List WorldPrint) : Type 0 where
     pub cluster : Cluster
     pub past : List NodeInput
+    pub past_is : past ≡ behind (inputs_of inputs) []
     pub stands : WorldStands cluster past world
     pub tell : (last : List NodeInput) (others : List NodePrint) → Tells cluster last past others → Tells cluster last [] (told_by prints ++ others)
 
-  abbrev pub StageSo : Stage → List WorldPrint → Type 0
-  StageSo None prints = prints ≡ []
-  StageSo (Some world) prints = WorldSo world prints
+  abbrev pub StageSo : Stage → List LineInput → List WorldPrint → Type 0
+  StageSo None inputs prints = prints ≡ []
+  StageSo (Some world) inputs prints = WorldSo inputs world prints
 
   pub first_so : (lines : List (List ℕ)) (inputs : List LineInput) (prints : List WorldPrint) (stage : Stage) →
-      Joins settings None lines inputs prints stage → StageSo stage prints
+      Joins settings None lines inputs prints stage → StageSo stage inputs prints
   unfolding Joins step_of
-  first_so [] inputs prints stage joins = subst (λ (s : Stage). StageSo s prints) (sym joins.2) joins.1
+  first_so [] inputs prints stage joins = subst (λ (s : Stage). StageSo s inputs prints) (sym joins.2) joins.1
   first_so (line ∷ lines) inputs prints stage joins =
       by_said (said_within 9 line) refl joins.3 (first_so lines joins.1 joins.2 stage)
     where
       -- a line that prints nothing leads on
       leads_on : (middle : Stage) → Some (record { stage = middle; inputs = []; prints = [] }) ≡ Some joins.0 →
-          (prints ≡ joins.2) × Joins settings middle lines joins.1 joins.2 stage
+          (prints ≡ joins.2) × (inputs ≡ joins.1) × Joins settings middle lines joins.1 joins.2 stage
       leads_on middle is =
           let same = stepped_same (record { stage = middle; inputs = []; prints = [] }) joins.0 is in (
             joins.5 ∙ ap (λ (d : Stepped). d.prints ++ joins.2) (sym same),
+            joins.4 ∙ ap (λ (d : Stepped). d.inputs ++ joins.1) (sym same),
             subst (λ (d : Stepped). Joins settings d.stage lines joins.1 joins.2 stage) (sym same) joins.6,
           )
         where
@@ -201,21 +203,22 @@ module _ (settings : Settings) (Tells : Cluster → FactOfPrints)
           stepped_same one other is = cc
 
       by_said : (said : Option Said) → said_within 9 line ≡ said → step_by settings None said ≡ Some joins.0 →
-          (Joins settings None lines joins.1 joins.2 stage → StageSo stage joins.2) → StageSo stage prints
+          (Joins settings None lines joins.1 joins.2 stage → StageSo stage joins.1 joins.2) → StageSo stage inputs prints
       by_said None says is later = absurd cc
       by_said (Some Skipped) says is later =
           let on = leads_on None is in
-          subst (StageSo stage) (sym on.0) (later on.1)
+          subst (StageSo stage inputs) (sym on.0) (subst (λ (came : List LineInput). StageSo stage came joins.2) (sym on.1) (later on.2))
       by_said (Some (Nodes count serial)) says is later =
           let on = leads_on (Some (opened settings count serial)) is in
           let wording = (spells_within 9 line (Nodes count serial) says).wording in
           let cluster = cluster_of settings count serial in
           let rest = joined_so settings cluster (Tells cluster) (telling cluster) (takes cluster) lines [] (opened settings count serial)
-          (opened_stands settings count serial wording.0.most wording.1) joins.1 joins.2 stage on.1 in
-          subst (λ (s : Stage). StageSo s prints) (sym rest.stage_is)
+          (opened_stands settings count serial wording.0.most wording.1) joins.1 joins.2 stage on.2 in
+          subst (λ (s : Stage). StageSo s inputs prints) (sym rest.stage_is)
           (record {
             cluster = cluster;
             past = rest.later;
+            past_is = rest.later_is ∙ ap (λ (came : List LineInput). behind (inputs_of came) []) (sym on.1);
             stands = rest.stands;
             tell = λ last others tells.
                 subst (λ (printed : List WorldPrint). Tells cluster last [] (told_by printed ++ others)) (sym on.0) (rest.tell last others tells);

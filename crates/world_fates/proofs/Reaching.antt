@@ -69,9 +69,9 @@ pub fates_reach : (settings : Settings) (before later : List (List ℕ)) (came c
     StatesFate first message_id one → TellsState query message_id other → other ≡ one
 fates_reach settings before later came coming prints others world last here there runner first query message_id one other joins more least is none first_in
     query_in states tells =
-    let so : WorldSo settings GivenFrom given_telling given_takes world prints =
+    let so : WorldSo settings GivenFrom given_telling given_takes came world prints =
     first_so settings GivenFrom given_telling given_takes before came prints (Some world) joins in
-    let knows = given_then_so settings world prints so here first first_in message_id one states in
+    let knows = given_then_so settings came world prints so here first first_in message_id one states in
     let decided = decided_there so.cluster so.past world so.stands there runner least is message_id none one knows in
     let rest : JoinsSo so.cluster (TellFrom so.cluster) so.past coming others last =
     joined_so settings so.cluster (TellFrom so.cluster) (tell_telling so.cluster) (tell_takes so.cluster) later so.past

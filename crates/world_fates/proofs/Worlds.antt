@@ -112,7 +112,7 @@ of_one_node node [] = refl
 of_one_node node (input ∷ inputs) = ap (λ (others : List NodeInput). input_to node input ∷ others) (of_one_node node inputs)
 
 -- the other nodes stand still
-kept_apart : (cluster : Cluster) (inputs : List Input) (past : List NodeInput) (node other : ℕ) → (other ≡ node → ⊥) →
+pub kept_apart : (cluster : Cluster) (inputs : List Input) (past : List NodeInput) (node other : ℕ) → (other ≡ node → ⊥) →
     (kept_reached cluster (came_to node inputs past)).kept other ≡ (kept_reached cluster past).kept other
 kept_apart cluster [] past node other apart = refl
 kept_apart cluster (input ∷ inputs) past node other apart =
@@ -129,6 +129,27 @@ one_of_many cluster past world stands number runner least is =
     let within = slice_get_within world.runners (pred number) runner is in
     let count = stands.count in
     record { least = least; most = omega (arith, within, count, least); few = stands.few }
+
+-- a node at which a packet is due has a number
+pub due_least : (world : World) (nodes numbers : List ℕ) (next : Due) → due_among world nodes numbers ≡ Some next → 1 ≤ next.node
+unfolding due_among
+due_least world nodes [] next is = absurd cc
+due_least world nodes (number ∷ numbers) next is =
+    by_found (due_at world nodes number (packet_of world.packets number)) refl (due_least world nodes numbers next) is
+  where
+    at_packet : (packet : Option Packet) (node : ℕ) → due_at world nodes number packet ≡ Some node → 1 ≤ node
+    at_packet None node is = absurd cc
+    at_packet (Some packet) node is = by_test (takes_part nodes (sender_of packet)) is
+      where
+        by_test : (test : Bool) → (if test then find (lacks world nodes number) (node_numbers world) else None) ≡ Some node → 1 ≤ node
+        by_test true is = row_least 1 (length world.runners) node (found_in (lacks world nodes number) (node_numbers world) node is)
+        by_test false is = absurd cc
+
+    by_found : (found : Option ℕ) → due_at world nodes number (packet_of world.packets number) ≡ found →
+        (due_among world nodes numbers ≡ Some next → 1 ≤ next.node) → due_first number found (due_among world nodes numbers) ≡ Some next → 1 ≤ next.node
+    by_found None at others is = others is
+    by_found (Some node) at others is =
+        let same : node ≡ next.node = cc in subst (λ (n : ℕ). 1 ≤ n) same (at_packet (packet_of world.packets number) node at)
 
 module _ (cluster : Cluster) (Tells : FactOfPrints) (telling : IsTelling cluster Tells) where
   -- ---- nothing is done, or one thing after the other
@@ -324,27 +345,6 @@ module _ (cluster : Cluster) (Tells : FactOfPrints) (telling : IsTelling cluster
         by_test false = stays_so past world stands
 
   -- ---- settling
-
-  -- a node at which a packet is due has a number
-  due_least : (world : World) (nodes numbers : List ℕ) (next : Due) → due_among world nodes numbers ≡ Some next → 1 ≤ next.node
-  unfolding due_among
-  due_least world nodes [] next is = absurd cc
-  due_least world nodes (number ∷ numbers) next is =
-      by_found (due_at world nodes number (packet_of world.packets number)) refl (due_least world nodes numbers next) is
-    where
-      at_packet : (packet : Option Packet) (node : ℕ) → due_at world nodes number packet ≡ Some node → 1 ≤ node
-      at_packet None node is = absurd cc
-      at_packet (Some packet) node is = by_test (takes_part nodes (sender_of packet)) is
-        where
-          by_test : (test : Bool) → (if test then find (lacks world nodes number) (node_numbers world) else None) ≡ Some node → 1 ≤ node
-          by_test true is = row_least 1 (length world.runners) node (found_in (lacks world nodes number) (node_numbers world) node is)
-          by_test false is = absurd cc
-
-      by_found : (found : Option ℕ) → due_at world nodes number (packet_of world.packets number) ≡ found →
-          (due_among world nodes numbers ≡ Some next → 1 ≤ next.node) → due_first number found (due_among world nodes numbers) ≡ Some next → 1 ≤ next.node
-      by_found None at others is = others is
-      by_found (Some node) at others is =
-          let same : node ≡ next.node = cc in subst (λ (n : ℕ). 1 ≤ n) same (at_packet (packet_of world.packets number) node at)
 
   settles_so : (more : ℕ) (nodes : List ℕ) (past : List NodeInput) (world : World) → WorldStands cluster past world →
       MovesSo cluster Tells past (settles more nodes world)

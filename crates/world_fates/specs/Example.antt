@@ -3,6 +3,7 @@ use Rattle.std.specs.Prelude.{ℕ, List, [], ◌∷◌, ◌++◌, codes}
 use Rattle.mc_model.specs.synod.Lists.{In}
 use Rattle.pdu_tables.specs.StateCodes.{state_code}
 use Rattle.pdu_tables.specs.declared.state.State.TheVariants as states
+use Rattle.script_text.specs.Example.{second_script}
 use Rattle.script_text.specs.Laws.{TellsDeletion, TellsReceipt, TellsState}
 use Rattle.script_text.specs.Prints.{Print}
 use Rattle.script_world.specs.Prints.{At}
@@ -36,3 +37,9 @@ pub record TwoNodesTellOneFate : Type 0 where
   pub deletion : TellsDeletion cancel its_message
   pub report : TellsReceipt receipt its_message (state_code states.Deleted)
   pub state : TellsState query its_message (state_code states.Deleted)
+
+-- In a script over one node an attempt is granted, its deliver_sm is answered ESME_ROK, and the receipt tells so.
+pub record ADeliveryIsTold : Type 0 where
+  pub receipt : Print
+  pub among : In (At 1 receipt) (prints_of second_script)
+  pub report : TellsReceipt receipt its_message (state_code states.Delivered)

@@ -1,2 +1,5 @@
 pub mod Laws
+pub mod Deliveries
+pub mod Refusals
+pub mod Questions
 pub mod Example

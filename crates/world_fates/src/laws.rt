@@ -1,6 +1,11 @@
 //! Laws of the fates that scripts over several nodes print: nothing to call, but to cite.
 
-ghost use Rattle.world_fates.specs.Example.{TwoNodesTellOneFate};
+ghost use Rattle.world_fates.specs.Deliveries.{
+  AnswersComeInOctets,
+  DeliveredIsPrintedOfWhatWasAnswered,
+  PrintedDeliveriesStand,
+};
+ghost use Rattle.world_fates.specs.Example.{ADeliveryIsTold, TwoNodesTellOneFate};
 ghost use Rattle.world_fates.specs.Laws.{
   AttemptsAreRefusedAfterAFate,
   DeliveriesComeBeforeFates,
@@ -9,6 +14,11 @@ ghost use Rattle.world_fates.specs.Laws.{
   PrintedFatesAreToldByAllNodes,
   PrintedFatesStay,
 };
+ghost use Rattle.world_fates.specs.Questions.{
+  LaterQueriesTellTheFate,
+  LaterRequestsAreOfKnownMessages,
+};
+ghost use Rattle.world_fates.specs.Refusals.{IdsAreNotRefusedAtOnce};
 
 /// Two final states that a script prints for one message are equal, at whatever nodes, by a query_sm_resp (SMPP 3.4, 4.8.2 and 5.2.28),
 /// by a cancel_sm_resp (SMPP 3.4, 4.9.2) or by a delivery receipt (SMPP 3.4, appendix B).
@@ -26,6 +36,17 @@ pub fn printed_fates_are_told_by_all_nodes()
     ensures { PrintedFatesAreToldByAllNodes }
 {}
 
+/// And so does each query_sm that comes later, to whatever node: each query_sm_resp (SMPP 3.4, 4.8.2) that is printed afterwards tells that state,
+/// unless it answers a query_sm that had come before.
+pub fn later_queries_tell_the_fate()
+    ensures { LaterQueriesTellTheFate }
+{}
+
+/// After ESME_ROK to a submit_sm (SMPP 3.4, 4.4.2) no request that comes later, and waits, is refused as one for a message that there is not.
+pub fn later_requests_are_of_known_messages()
+    ensures { LaterRequestsAreOfKnownMessages }
+{}
+
 /// And no node grants an attempt of it any more.
 pub fn no_attempt_is_granted_after_a_fate()
     ensures { NoAttemptIsGrantedAfterAFate }
@@ -41,8 +62,37 @@ pub fn deliveries_come_before_fates()
     ensures { DeliveriesComeBeforeFates }
 {}
 
+/// If DELIVERED is printed of a message, by a query_sm_resp (SMPP 3.4, 4.8.2 and 5.2.28) or by a delivery receipt (SMPP 3.4, appendix B), then
+/// an attempt of it was granted at a node before and answered there.
+pub fn printed_deliveries_stand()
+    ensures { PrintedDeliveriesStand }
+{}
+
+/// An attempt is answered by ESME_ROK only in octets: its deliver_sm (SMPP 3.4, 4.6.1) went out on a session that stays, and on that session a
+/// deliver_sm_resp (SMPP 3.4, 4.6.2) with the same sequence_number ends.
+pub fn answers_come_in_octets()
+    ensures { AnswersComeInOctets }
+{}
+
+/// So DELIVERED is printed only of a message whose deliver_sm went out and was answered ESME_ROK, on that session and with that
+/// sequence_number.
+pub fn delivered_is_printed_of_what_was_answered()
+    ensures { DeliveredIsPrintedOfWhatWasAnswered }
+{}
+
+/// A query_sm or a cancel_sm with the message_id of an id (SMPP 3.4, 4.8.1 and 4.9.1) is at no time refused at once as one for a message that there
+/// is not: not either if a node has no room for it.
+pub fn ids_are_not_refused_at_once()
+    ensures { IdsAreNotRefusedAtOnce }
+{}
+
 /// The laws speak of something: a message is cancelled at one node of three, which answers ESME_ROK and sends its receipt, and another node
 /// tells DELETED.
 pub fn two_nodes_tell_one_fate()
     ensures { TwoNodesTellOneFate }
+{}
+
+/// And a deliver_sm goes out, is answered ESME_ROK, and the receipt tells DELIVRD.
+pub fn a_delivery_is_told()
+    ensures { ADeliveryIsTold }
 {}
