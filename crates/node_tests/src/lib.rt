@@ -2,22 +2,12 @@
 #![tactic(auto)]
 
 #[cfg(test)]
-mod asked;
-#[cfg(test)]
-mod clusters;
-#[cfg(test)]
 mod nodes_by_rows;
-#[cfg(test)]
-mod on_disk;
 #[cfg(test)]
 mod opening;
 #[cfg(test)]
 mod permits;
 #[cfg(test)]
-mod rows;
-#[cfg(test)]
 mod same;
-#[cfg(test)]
-mod values;
 #[cfg(test)]
 mod walks;

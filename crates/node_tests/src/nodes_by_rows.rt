@@ -1,9 +1,10 @@
 //! What a node does with requests, packets, attempts and ticks.
 
-use crate::rows::{ALONE, ATTEMPTS, LIVE, PACKETS, TICKS};
 use crate::same::assert_same;
-use crate::values::{alone, input, node, opened, second};
-use crate::walks::{Answer, answer_in, assert_part, assert_walk, copied};
+use crate::walks::{alone, assert_part, assert_walk, input, opened, second};
+use lines_of_tests::{
+    ALONE, ATTEMPTS, Answer, LIVE, PACKETS, TICKS, answer_in, copied, first_other, node,
+};
 use mc_types::TypeFault;
 use node_core::{GrantRefusal, Node, Setup};
 use stable_store::ListStore;
@@ -15,6 +16,21 @@ fn assert_parts(rt: &impl Abort, alloc: Global, setup: Setup, parts: &str) {
     for part in parts.split("\n\n") {
         assert_walk(rt, alloc, setup, part);
     }
+}
+
+// The last line is of another answer.
+const WRONG: &str = "\
+a row that is wrong is found
+query => Waits 1
+back => Accepted 1";
+
+#[test]
+fn a_row_that_is_wrong_is_found(rt: HostRuntime) {
+    let alloc = rt.alloc();
+    let (mut node, _life) = opened(&rt, alloc, alone(&rt));
+    let other = first_other(alloc, &mut node, WRONG);
+    drop(node);
+    assert_same(&rt, &other, &Some((1, ("Unknown", [1, 0, 0, 0]))));
 }
 
 #[test]
@@ -63,7 +79,7 @@ fn a_live_message_is_found_among_many_that_are_decided(rt: HostRuntime) {
 fn let_go(rt: &impl Abort, alloc: Global, node: &Node<ListStore>) -> (Answer, Answer) {
     let input = input(rt, alloc, "propose 1 262161");
     let pending = node.prepare_step(input).expect(rt, "a step");
-    let answers = (answer_in(pending.outputs()), copied(rt, pending.outputs()));
+    let answers = (answer_in(pending.outputs()), copied(pending.outputs()));
     drop(pending);
     answers
 }
@@ -75,15 +91,15 @@ fn what_is_prepared_goes_out_and_changes_nothing_before(rt: HostRuntime) {
     let answers = let_go(&rt, alloc, &node);
     assert_part(&rt, alloc, &mut node, "afterwards\nask 3 => ToldNothing");
     drop(node);
-    let voted = ("Voted", [262161, 0, 0]);
+    let voted = ("Voted", [262161, 0, 0, 0]);
     assert_same(&rt, &answers, &(voted, voted));
 }
 
 #[test]
 fn a_node_is_one_of_its_cluster(rt: HostRuntime) {
     let refused = (
-        Setup::make(node(&rt, 2), 1, 1, 172800).err(),
-        Setup::make(node(&rt, 1), 1, 100000, 172800).err(),
+        Setup::make(node(2).expect(&rt, "a node"), 1, 1, 172800).err(),
+        Setup::make(node(1).expect(&rt, "a node"), 1, 100000, 172800).err(),
     );
     let out_of_range = Some(TypeFault::OutOfRange);
     assert_same(&rt, &refused, &(out_of_range, out_of_range));

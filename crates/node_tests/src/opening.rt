@@ -3,8 +3,7 @@
 ghost use Rattle.node_core.specs.Nodes.{IsLifeOf};
 
 use crate::same::assert_same;
-use crate::values::{input, opened_over, second};
-use crate::walks::{assert_part, walked};
+use crate::walks::{assert_part, input, opened_over, second, walked};
 use node_core::{Found, Life, Node, StepFault, open_node};
 use stable_store::{FailingStore, Found as Leaves, ListStore, StableStore, StoreFault};
 use std::alloc::Global;

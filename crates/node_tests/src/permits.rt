@@ -1,10 +1,10 @@
 //! Attempts that a node grants by a permit.
 
 use crate::same::assert_same;
-use crate::values::{alone, first_id, opened, second};
-use crate::walks::{assert_part, put_back};
+use crate::walks::{alone, assert_part, opened, second};
 use delivery::Outcome;
 use fate_chain::Chain;
+use lines_of_tests::{first_id, put_back};
 use node_core::{GrantRefusal, Input, Life, Node, Outputs, Permit, StepFault};
 use pdu_tables::State;
 use stable_store::ListStore;
@@ -16,8 +16,8 @@ use synod_acceptor::Packet;
 // A submit_sm is taken, and its first attempt is chosen.
 const ATTEMPT: &str = "\
 an attempt is chosen
-submit => Waits 1
-back => Accepted 1
+submit_with_receipt => Waits 1
+back => Accepted 1 1000100001
 tick 946684800 sme1 => Started 1000100001 1 262161
 back => Nothing";
 
@@ -32,7 +32,7 @@ fn outputs_of(rt: &impl Abort, node: &mut Node<ListStore>, packet: Packet) -> Ou
 // The state of the message whose receipt is due first by the outputs, if one is. Their packets are left.
 fn due_in(rt: &impl Abort, outputs: Outputs, left: &mut VecDeque<Packet>) -> Option<State> {
     let due = outputs.receipts.first().map(Chain::state);
-    put_back(rt, outputs, left);
+    put_back(outputs, left).expect(rt, "memory");
     due
 }
 
@@ -56,7 +56,7 @@ fn receipt_after(
 
 // Why the attempt is not granted, if it is not. Else its permit is given up.
 fn why_not(rt: &impl Abort, node: &mut Node<ListStore>, life: &Life) -> Option<StepFault> {
-    match node.grant(life, first_id(rt)) {
+    match node.grant(life, first_id().expect(rt, "an id")) {
         Ok((permit, outputs)) => {
             permit.abandon();
             drop(outputs);
@@ -80,7 +80,8 @@ fn spent(node: &mut Node<ListStore>, permit: Permit) -> Result<Outputs, StepFaul
 
 // The permit of the attempt, and the number of the attempt in the outputs.
 fn granted<'l>(rt: &impl Abort, node: &mut Node<ListStore>, life: &'l Life) -> (Permit<'l>, u8) {
-    let (permit, outputs) = node.grant(life, first_id(rt)).expect(rt, "a permit");
+    let id = first_id().expect(rt, "an id");
+    let (permit, outputs) = node.grant(life, id).expect(rt, "a permit");
     let number = outputs.granted.as_ref().map_or(0, Chain::attempts);
     drop(outputs);
     (permit, number)

@@ -1,23 +1,13 @@
-//! Tests of the program, from outside: scripts with what they write, faults, exit statuses.
+//! Tests of the program over the worked scripts and the examples: what is written of each, in pieces and over nine nodes, too.
 #![tactic(auto)]
 
 #[cfg(test)]
-mod clusters;
-#[cfg(test)]
-mod ends;
-#[cfg(test)]
 mod pieces;
-#[cfg(test)]
-mod places;
-#[cfg(test)]
-mod program;
-#[cfg(test)]
-mod ran;
 #[cfg(test)]
 mod rows;
 #[cfg(test)]
-mod scripts;
-#[cfg(test)]
-mod turns;
+mod same;
 #[cfg(test)]
 mod worked;
+#[cfg(test)]
+mod written;

@@ -1,9 +1,8 @@
-//! Worked scripts whose octets come in pieces, and several PDUs at once.
+//! Worked scripts whose octets come in pieces.
 
-use crate::ran::{assert_written, joined};
 use crate::rows::ROWS;
-use crate::scripts::BIND;
 use crate::worked::{Row, octets_of, row_of};
+use crate::written::assert_written;
 use std::alloc::Global;
 use std::process::Abort;
 
@@ -49,22 +48,4 @@ fn pdus_come_in_pieces(rt: HostRuntime) {
             }
         }
     }
-}
-
-/// Two enquire_links in one line, after which the length of a third is wrong: its octets and those after it are dropped.
-#[test]
-fn several_pdus_come_at_once(rt: HostRuntime) {
-    let alloc = rt.alloc();
-    let lines = b"pdu 1 1 00000010000000150000000000000002\
-00000010000000150000000000000003\
-0000000f00000015000000000000000400000010000000150000000000000005\n\
-pdu 1 1 00000010000000150000000000000006\n";
-    let answers = b"pdu 1 1 0000001c80000009000000000000000143454e545245000210000134\n\
-pdu 1 1 00000010800000150000000000000002\n\
-pdu 1 1 00000010800000150000000000000003\n\
-pdu 1 1 00000010800000000000000200000000\n\
-gone 1 1\n\
-pdu 1 1 00000010800000150000000000000006\n";
-    let script = joined(&rt, alloc, &[BIND, lines]);
-    assert_written(&rt, alloc, ("several", &script), answers);
 }

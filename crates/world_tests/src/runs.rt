@@ -1,13 +1,12 @@
 //! A list of steps.
 
-use crate::asked::Asked;
 use crate::walks::{Answer, Comes, assert_answers, assert_stated};
 use fate_chain::Final;
 use world::WorldFault;
 
 const TO_ITS_END: &[Comes] = &[
     Comes::Delivers(1, 1),
-    Comes::Asks(1, Asked::Submit),
+    Comes::Asks(1, "submit_with_receipt"),
     Comes::Delivers(1, 1),
     Comes::Restarts(4),
 ];
@@ -26,12 +25,12 @@ fn a_list_of_steps_is_taken_to_its_end(rt: HostRuntime) {
 
 // One node takes a message, and deletes it: each decree is a Prepare, a Promise, a Propose and a Voted, and the cancel_sm an Ask and a Tell.
 const DELETION: &[Comes] = &[
-    Comes::Asks(1, Asked::Submit),
+    Comes::Asks(1, "submit_with_receipt"),
     Comes::Delivers(1, 1),
     Comes::Delivers(2, 1),
     Comes::Delivers(3, 1),
     Comes::Delivers(4, 1),
-    Comes::Asks(1, Asked::Cancel),
+    Comes::Asks(1, "cancel"),
     Comes::Delivers(5, 1),
     Comes::Delivers(6, 1),
     Comes::Delivers(7, 1),

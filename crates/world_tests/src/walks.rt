@@ -1,10 +1,10 @@
 //! Walks of a world over what happens in it, and what it answers.
 
-use crate::asked::{Asked, account, request};
 use crate::same::assert_same;
 use delivery::Outcome;
 use fate_chain::Final;
-use mc_types::{Moment, MsgId, NodeNo, Slot};
+use lines_of_tests::{account, first_id, request};
+use mc_types::{Moment, NodeNo, Slot};
 use node_core::Found;
 use pdu_codec::SystemId;
 use requests::Reply;
@@ -16,7 +16,8 @@ use world_runs::{Trace, run};
 // What happens in a world, at a node.
 #[derive(Clone, Copy)]
 pub enum Comes {
-    Asks(u8, Asked),
+    // A request, by its word.
+    Asks(u8, &'static str),
     Ticks(u8, u32),
     // The attempt of the first message is asked for, and concluded: nobody answered it.
     Grants(u8),
@@ -85,14 +86,10 @@ fn node(rt: &impl Abort, number: u8) -> NodeNo {
     NodeNo::make(number).expect(rt, "a node")
 }
 
-fn first_id(rt: &impl Abort) -> MsgId {
-    MsgId::read(b"1000100001").expect(rt, "an id")
-}
-
 // The account sme1, of which a session may receive.
 fn accounts(rt: &impl Abort, alloc: Global) -> Vec<SystemId> {
     let mut accounts = Vec::new(alloc);
-    let put = accounts.push(account(rt, alloc));
+    let put = accounts.push(account(alloc).expect(rt, "an account"));
     put.expect(rt, "memory");
     accounts
 }
@@ -101,8 +98,8 @@ fn step_of(rt: &impl Abort, alloc: Global, comes: Comes) -> Step {
     match comes {
         Comes::Asks(number, asked) => Step::Request {
             node: node(rt, number),
-            account: account(rt, alloc),
-            request: request(rt, alloc, asked),
+            account: account(alloc).expect(rt, "an account"),
+            request: request(alloc, asked).expect(rt, "a request"),
         },
         Comes::Ticks(number, seconds) => Step::Tick {
             node: node(rt, number),
@@ -111,12 +108,12 @@ fn step_of(rt: &impl Abort, alloc: Global, comes: Comes) -> Step {
         },
         Comes::Grants(number) => Step::Grant {
             node: node(rt, number),
-            id: first_id(rt),
+            id: first_id().expect(rt, "an id"),
         },
         Comes::GoesUnanswered(number) => Step::Answered {
             node: node(rt, number),
             slot: Slot {
-                id: first_id(rt),
+                id: first_id().expect(rt, "an id"),
                 place: 1,
             },
             outcome: Outcome::unanswered(),
@@ -204,7 +201,7 @@ fn stated_in(rt: &impl Abort, alloc: Global, trace: Trace) -> Vec<(usize, Final)
     drop(trace);
     let mut stated = Vec::new(alloc);
     for one in statements.expect(rt, "memory") {
-        if one.id == first_id(rt) {
+        if one.id == first_id().expect(rt, "an id") {
             stated.push((one.step, one.state)).expect(rt, "memory");
         }
     }

@@ -1,7 +1,6 @@
 //! A world of three nodes. The numbers of packets are those of the worked scripts: a submit_sm sends a Prepare, three Promises, a Propose and
 //! three Voted, packets 1 to 8.
 
-use crate::asked::Asked;
 use crate::same::assert_same;
 use crate::walks::{Answer, Comes, Row, Said, assert_walk};
 use node_core::{Found, GrantRefusal};
@@ -11,46 +10,43 @@ use world::{StartFault, World, WorldFault};
 const NOON: u32 = 1_706_659_200;
 
 const TAKEN_AND_SHOWN: &[Row] = &[
-    (Comes::Asks(1, Asked::Submit), Answer::Waits(1)),
+    (Comes::Asks(1, "submit_with_receipt"), Answer::Waits(1)),
     (Comes::Settles(1), Answer::Replied(1, Said::Accepted)),
-    (Comes::Asks(2, Asked::Query), Answer::Waits(1)),
+    (Comes::Asks(2, "query"), Answer::Waits(1)),
     (Comes::Settles(9), Answer::Replied(1, Said::Shown)),
-    (Comes::Asks(3, Asked::Cancel), Answer::Waits(1)),
+    (Comes::Asks(3, "cancel"), Answer::Waits(1)),
     (Comes::Settles(13), Answer::Replied(1, Said::Removed)),
 ];
 
 const SAVED: &[Row] = &[
-    (Comes::Asks(1, Asked::Submit), Answer::Waits(1)),
+    (Comes::Asks(1, "submit_with_receipt"), Answer::Waits(1)),
     (Comes::Delivers(1, 1), Answer::Nothing),
     (Comes::Delivers(1, 2), Answer::Nothing),
     (Comes::Delivers(2, 1), Answer::Nothing),
     (Comes::Delivers(3, 1), Answer::Nothing),
     (Comes::Crashes(2, 4, Found::After), Answer::Nothing),
     (Comes::Delivers(4, 2), Answer::Refused(WorldFault::Down)),
-    (
-        Comes::Asks(2, Asked::Query),
-        Answer::Refused(WorldFault::Down),
-    ),
+    (Comes::Asks(2, "query"), Answer::Refused(WorldFault::Down)),
     (Comes::Restarts(2), Answer::Nothing),
     (Comes::Settles(4), Answer::Replied(1, Said::Accepted)),
 ];
 
 // No node knows the message any more; a majority tells its vote, and that starts the round of its slot once more.
 const STARTED_OVER: &[Row] = &[
-    (Comes::Asks(1, Asked::Submit), Answer::Waits(1)),
+    (Comes::Asks(1, "submit_with_receipt"), Answer::Waits(1)),
     (Comes::Settles(1), Answer::Replied(1, Said::Accepted)),
     (Comes::StartsOver, Answer::Nothing),
     (
         Comes::Delivers(1, 1),
         Answer::Refused(WorldFault::NoSuchPacket),
     ),
-    (Comes::Asks(2, Asked::Query), Answer::Waits(1)),
+    (Comes::Asks(2, "query"), Answer::Waits(1)),
     (Comes::Settles(1), Answer::Replied(1, Said::Shown)),
 ];
 
 const GRANTED: &[Row] = &[
     (Comes::Ticks(1, NOON), Answer::Nothing),
-    (Comes::Asks(1, Asked::Submit), Answer::Waits(1)),
+    (Comes::Asks(1, "submit_with_receipt"), Answer::Waits(1)),
     (
         Comes::Grants(1),
         Answer::Refused(WorldFault::Grant(GrantRefusal::NotChosen)),
@@ -79,7 +75,7 @@ const NOT_THERE: &[Row] = &[
         Comes::Delivers(1, 4),
         Answer::Refused(WorldFault::NoSuchPacket),
     ),
-    (Comes::Asks(1, Asked::Submit), Answer::Waits(1)),
+    (Comes::Asks(1, "submit_with_receipt"), Answer::Waits(1)),
     (
         Comes::Delivers(0, 1),
         Answer::Refused(WorldFault::NoSuchPacket),

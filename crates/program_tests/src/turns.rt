@@ -1,7 +1,8 @@
 //! Readers at another pace: who types a line gets its answer before the next one is read.
 
 use crate::ends::Slow;
-use crate::ran::{assert_written, joined, ran, times};
+use crate::ran::{assert_ends, assert_written, joined, times};
+use crate::same::assert_same;
 use script_runner::{CountedReader, CountedWriter, run_script};
 use std::cell::Cell;
 use std::io;
@@ -75,7 +76,7 @@ fn each_answer_comes_before_the_next_line(rt: HostRuntime) {
     let mut screen = CountedWriter::make(Screen(&written));
     let outcome = run_script(rt.alloc(), &mut typist, &mut screen);
     let wanted = (Ok(()), false, BOUND.len() + 2 * LINKED.len());
-    assert_eq!(rt; (outcome, is_early.get(), written.get()), wanted);
+    assert_same(&rt, &(outcome, is_early.get(), written.get()), &wanted);
 }
 
 #[test]
@@ -88,9 +89,8 @@ fn a_hundred_thousand_octets_come_one_by_one(rt: HostRuntime) {
         2500,
     );
     let script = joined(&rt, alloc, &[&comments, NODES, BIND, LINK]);
-    let (outcome, output) = ran(alloc, Slow(&script));
     let wanted = joined(&rt, alloc, &[BOUND, LINKED]);
-    assert_eq!(rt; (outcome, output.as_slice()), (Ok(()), wanted.as_slice()));
+    assert_ends(&rt, alloc, Slow(&script), (Ok(()), wanted.as_slice()));
 }
 
 #[test]
@@ -99,6 +99,5 @@ fn a_last_line_needs_no_line_feed(rt: HostRuntime) {
     let script = joined(&rt, alloc, &[NODES, BIND, &LINK[..LINK.len() - 1]]);
     let wanted = joined(&rt, alloc, &[BOUND, LINKED]);
     assert_written(&rt, alloc, ("at once", &script), &wanted);
-    let (outcome, output) = ran(alloc, Slow(&script));
-    assert_eq!(rt; (outcome, output.as_slice()), (Ok(()), wanted.as_slice()));
+    assert_ends(&rt, alloc, Slow(&script), (Ok(()), wanted.as_slice()));
 }

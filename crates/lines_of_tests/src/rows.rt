@@ -1,24 +1,24 @@
 //! What comes to a node, a line each, and what it answers (`walks.rt`). Between empty lines each part is of another node, and its first
-//! line says what it shows. `back` stands for all packets that the node gave out, if they come back to it: the last reply is its answer.
-//! A message that is taken at the beginning of 2000, at 946684800, expires at 946944000.
+//! line says what it shows. `back` stands for all packets that the node gave out, if they come back to it: the last thing that it tells is its
+//! answer. A message that is taken at the beginning of 2000, at 946684800, expires at 946944000.
 
-// Of a node alone.
+/// Of a node alone.
 pub const ALONE: &str = "\
 a submit is taken
-submit => Waits 1
-back => Accepted 1
+submit_with_receipt => Waits 1
+back => Accepted 1 1000100001
 
 a query is shown what is known
 query => Waits 1
 back => Unknown 1
-submit => Waits 2
-back => Accepted 2
+submit_with_receipt => Waits 2
+back => Accepted 2 1000100001
 query => Waits 3
-back => Shown 3
+back => Shown 3 1
 
 a cancel deletes its message
-submit => Waits 1
-back => Accepted 1
+submit_with_receipt => Waits 1
+back => Accepted 1 1000100001
 cancel => Waits 2
 back => Removed 2
 cancel => Waits 3
@@ -27,15 +27,15 @@ back => Removed 3
 a submit without a route is refused
 submit_nowhere => Turned 11
 back => Nothing
-submit => Waits 1
-back => Accepted 1
+submit_with_receipt => Waits 1
+back => Accepted 1 1000100001
 
 a request is asked of again and answered after 30 seconds
 query => Waits 1
 tick 946684829 => Asked
 tick 946684830 => TooLate 1";
 
-// Of the second node of three.
+/// Of the second node of three.
 pub const PACKETS: &str = "\
 a node promises, votes and tells
 ask 3 => ToldNothing
@@ -59,7 +59,7 @@ voted 1 => Nothing
 voted 2 => Nothing
 voted 3 => Nothing";
 
-// Of the second node of three.
+/// Of the second node of three.
 pub const ATTEMPTS: &str = "\
 an attempt is granted once and concluded once
 attempted 1 2 1 => Nothing
@@ -87,7 +87,7 @@ attempted 1 2 1 => Nothing
 attempted 3 2 1 => Nothing
 delivered => Unprepared 3";
 
-// Of the second node of three.
+/// Of the second node of three.
 pub const TICKS: &str = "\
 a message expires at its expiry
 voted 1 => Nothing
@@ -136,7 +136,7 @@ voted 1 => Nothing
 voted 3 => Nothing
 tick 946944000 sme1 => Nothing";
 
-// The last lines of a live message that is found among many that are decided.
+/// The last lines of a live message that is found among many that are decided.
 pub const LIVE: &str = "\
 voted 1 => Nothing
 voted 3 => Nothing

@@ -1,15 +1,35 @@
 //! A node over a store on disk.
 
-use crate::rows::{ALONE, ATTEMPTS, PACKETS, TICKS};
+use crate::member::opened_over;
 use crate::same::assert_same;
-use crate::values::{TAKEN, alone, node, second};
-use crate::walks::walked;
+use lines_of_tests::{ALONE, ATTEMPTS, PACKETS, TAKEN, TICKS, first_other, node};
 use node_core::Setup;
 use record_rows::{read_incarnation, read_slots};
 use sql_store::SqlStore;
 use sqlite::{Alter, Connection};
+use stable_store::StableStore;
 use std::alloc::Global;
 use std::process::Abort;
+
+// That of one of so many nodes, whose messages are valid for so many seconds.
+fn set_up(rt: &impl Abort, number: u64, nodes: u8, validity: u32) -> Setup {
+    let number = node(number).expect(rt, "a node");
+    Setup::make(number, nodes, 1, validity).expect(rt, "a setup")
+}
+
+// That a node which opens over a store answers as the rows of a part say. The store, once it has stopped.
+fn walked<S: StableStore + Drop>(
+    rt: &impl Abort,
+    alloc: Global,
+    store: S,
+    setup: Setup,
+    part: &str,
+) -> S {
+    let mut node = opened_over(rt, alloc, store, setup);
+    let other = first_other(alloc, &mut node, part);
+    assert_same(rt, &(part, other), &(part, None));
+    node.into_store()
+}
 
 // That a node over a new store on disk, another one for each part, answers as the rows say.
 fn assert_parts(rt: &impl Abort, alloc: Global, setup: Setup, parts: &str) {
@@ -21,9 +41,11 @@ fn assert_parts(rt: &impl Abort, alloc: Global, setup: Setup, parts: &str) {
 
 #[test]
 fn nodes_on_disk_answer_as_those_over_lists(rt: HostRuntime) {
-    assert_parts(&rt, rt.alloc(), alone(&rt), ALONE);
+    let alloc = rt.alloc();
+    assert_parts(&rt, alloc, set_up(&rt, 1, 1, 172800), ALONE);
+    let second = set_up(&rt, 2, 3, 172800);
     for parts in [PACKETS, ATTEMPTS, TICKS] {
-        assert_parts(&rt, rt.alloc(), second(&rt), parts);
+        assert_parts(&rt, alloc, second, parts);
     }
 }
 
@@ -44,15 +66,15 @@ fn assert_stored<S: Alter>(rt: &impl Abort, alloc: Global, conn: &mut Connection
 fn a_message_is_a_row(rt: HostRuntime) {
     let before = "\
 a submit is stored
-submit => Waits 1
-back => Accepted 1";
+submit_with_receipt => Waits 1
+back => Accepted 1 1000100001";
     let after = "\
 it is there once the node opens again
 query => Waits 1
-back => Shown 1";
+back => Shown 1 1";
     let alloc = rt.alloc();
     // The message of the chain is valid for three days.
-    let setup = Setup::make(node(&rt, 1), 1, 1, 259200).expect(&rt, "a setup");
+    let setup = set_up(&rt, 1, 1, 259200);
     let store = SqlStore::in_memory(alloc).expect(&rt, "a store");
     let store = walked(&rt, alloc, store, setup, before);
     let mut conn = store.into_connection();

@@ -1,17 +1,11 @@
 //! What comes of a script.
 
-use script_runner::{CountedReader, CountedWriter, ScriptFault, run_script};
+use crate::same::assert_same;
+use script_runner::ScriptFault;
+use scripts_of_tests::ran;
 use std::alloc::Global;
 use std::io::Read;
 use std::process::Abort;
-
-/// How a script ends that a reader gives, and what it writes.
-pub fn ran<R: Read + Drop>(alloc: Global, reader: R) -> (Result<(), ScriptFault>, Vec<u8>) {
-    let mut output = Vec::new(alloc);
-    let mut writer = CountedWriter::make(&mut output);
-    let outcome = run_script(alloc, &mut CountedReader::make(reader), &mut writer);
-    (outcome, output)
-}
 
 /// That the script of this name ends well, and writes this.
 pub fn assert_written(
@@ -21,7 +15,22 @@ pub fn assert_written(
     wanted: &[u8],
 ) {
     let (outcome, output) = ran(alloc, script);
-    assert_eq!(rt; (name, outcome, output.as_slice()), (name, Ok(()), wanted));
+    assert_same(
+        rt,
+        &(name, outcome, output.as_slice()),
+        &(name, Ok(()), wanted),
+    );
+}
+
+/// That a script that a reader gives ends so, and writes this.
+pub fn assert_ends<R: Read + Drop>(
+    rt: &impl Abort,
+    alloc: Global,
+    reader: R,
+    wanted: (Result<(), ScriptFault>, &[u8]),
+) {
+    let (outcome, output) = ran(alloc, reader);
+    assert_same(rt, &(outcome, output.as_slice()), &wanted);
 }
 
 /// Octets so many times over.

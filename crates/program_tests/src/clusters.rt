@@ -1,8 +1,6 @@
 //! Scripts over several nodes: each of nine is down in turn, and packets come twice and in reverse.
 
 use crate::ran::assert_written;
-use crate::rows::ROWS;
-use crate::worked::{Row, octets_of, row_of};
 use std::alloc::Global;
 use std::process::Abort;
 use std::slice;
@@ -178,34 +176,5 @@ fn packets_come_twice_and_in_reverse(rt: HostRuntime) {
     for come in [behind, in_place] {
         assert_filled(&rt, alloc, (DELIVERED, DELIVERED_WRITES), b"123", come);
         assert_filled(&rt, alloc, (DELETED, DELETED_WRITES), b"123", come);
-    }
-}
-
-/// The parts of the script of a row over one node, up to its first settle and behind it; `None` if it is another row, or has no settle.
-fn over_one_node(row: &Row) -> Option<(&'static str, &'static str)> {
-    if row.status != 0 {
-        return None;
-    }
-    row.script.strip_prefix("nodes 1")?.split_once(";settle;")
-}
-
-/// What the rows over one node write is the same over nine, of which node 2 goes down after the first settle: the others only take part in the rounds.
-#[test]
-fn rows_are_written_over_nine_nodes(rt: HostRuntime) {
-    let alloc = rt.alloc();
-    for line in ROWS.lines() {
-        let row = row_of(&rt, line);
-        if let Some((before, behind)) = over_one_node(&row) {
-            let text = format!(in alloc; "nodes 9{before};settle;crash 2 1 before;{behind}").expect(
-                &rt, "memory",
-            );
-            let script = octets_of(&rt, alloc, text.as_str());
-            assert_written(
-                &rt,
-                alloc,
-                (row.name, &script),
-                &octets_of(&rt, alloc, row.output),
-            );
-        }
     }
 }

@@ -1,8 +1,10 @@
 //! Scripts that are long, and ends that fail.
 
 use crate::ends::{Closed, Failing};
-use crate::ran::{assert_written, joined, ran, times};
+use crate::ran::{assert_ends, assert_written, joined, times};
+use crate::same::assert_same;
 use script_runner::{CountedReader, CountedWriter, ScriptFault, run_script};
+use scripts_of_tests::ran;
 use std::alloc::Global;
 use std::process::Abort;
 
@@ -31,10 +33,11 @@ const QUERY: &[u8] =
 /// That line 3 is bad, if it is zeros that end so.
 fn assert_too_long(rt: &impl Abort, alloc: Global, zeros: &[u8], end: &[u8]) {
     let script = joined(rt, alloc, &[BIND, b"pdu 1 1 ", zeros, end]);
-    let (outcome, output) = ran(alloc, script.as_slice());
-    assert_eq!(rt;
-        (outcome, output.as_slice()),
-        (Err(ScriptFault::BadLine(3)), BOUND)
+    assert_ends(
+        rt,
+        alloc,
+        script.as_slice(),
+        (Err(ScriptFault::BadLine(3)), BOUND),
     );
 }
 
@@ -49,17 +52,31 @@ fn long_lines_are_bad(rt: HostRuntime) {
 #[test]
 fn failing_ends_are_told(rt: HostRuntime) {
     let alloc = rt.alloc();
-    let (outcome, output) = ran(alloc, Failing(BIND));
-    assert_eq!(rt;
-        (outcome, output.as_slice()),
-        (Err(ScriptFault::Read), BOUND)
-    );
+    assert_ends(&rt, alloc, Failing(BIND), (Err(ScriptFault::Read), BOUND));
     let unwritten = run_script(
         alloc,
         &mut CountedReader::make(BIND),
         &mut CountedWriter::make(Closed),
     );
-    assert_eq!(rt; unwritten, Err(ScriptFault::Write));
+    assert_same(&rt, &unwritten, &Err(ScriptFault::Write));
+}
+
+/// Two enquire_links in one line, after which the length of a third is wrong: its octets and those after it are dropped.
+#[test]
+fn several_pdus_come_at_once(rt: HostRuntime) {
+    let alloc = rt.alloc();
+    let lines = b"pdu 1 1 00000010000000150000000000000002\
+00000010000000150000000000000003\
+0000000f00000015000000000000000400000010000000150000000000000005\n\
+pdu 1 1 00000010000000150000000000000006\n";
+    let answers = b"pdu 1 1 0000001c80000009000000000000000143454e545245000210000134\n\
+pdu 1 1 00000010800000150000000000000002\n\
+pdu 1 1 00000010800000150000000000000003\n\
+pdu 1 1 00000010800000000000000200000000\n\
+gone 1 1\n\
+pdu 1 1 00000010800000150000000000000006\n";
+    let script = joined(&rt, alloc, &[BIND, lines]);
+    assert_written(&rt, alloc, ("several", &script), answers);
 }
 
 /// A thousand requests wait, of sessions that are gone, each with ten: the next one is answered at once, ESME_RTHROTTLED, and
@@ -99,10 +116,8 @@ fn many_messages_expire(rt: HostRuntime) {
     let answers = 500 * (b"pdu 1 1 \n".len() + 2 * 27);
     let wanted = (Ok(()), true, BOUND.len() + answers + expired.len());
     let (outcome, output) = ran(alloc, script.as_slice());
-    assert_eq!(rt;
-        (outcome, output.as_slice().ends_with(expired), output.len()),
-        wanted
-    );
+    let found = (outcome, output.as_slice().ends_with(expired), output.len());
+    assert_same(&rt, &found, &wanted);
 }
 
 /// The 9,999th incarnation is the last: a restart is refused then, the session stays, and the node goes on.
@@ -145,14 +160,8 @@ fn a_settle_ends_after_100000_deliveries(rt: HostRuntime) {
     let answers = 10 * (b"pdu 1 1 \n".len() + 2 * 27);
     let wanted = (Ok(()), true, unsettled.len() + answers);
     let (outcome, output) = ran(alloc, script.as_slice());
-    assert_eq!(rt;
-        (
-            outcome,
-            output.as_slice().starts_with(&unsettled),
-            output.len()
-        ),
-        wanted
-    );
+    let begins = output.as_slice().starts_with(&unsettled);
+    assert_same(&rt, &(outcome, begins, output.len()), &wanted);
 }
 
 /// A script in which 10,001 messages expire of which a receipt is asked for, while no session is there, and after that 1,001 sessions bind and
@@ -195,16 +204,12 @@ fn ten_thousand_receipts_wait(rt: HostRuntime) {
     let answers = 10001 * (b"pdu 1 1 \n".len() + 2 * 27);
     let receipts = 10000 * (b"pdu 1 1 \n".len() + 2 * 163);
     let sessions = 1002 * (BOUND.len() + UNBOUND.len());
-    assert_eq!(rt;
-        (outcome, output.len()),
-        (Ok(()), answers + receipts + sessions)
-    );
+    let length = answers + receipts + sessions;
     // The last texts would begin with `id:1000110000` and `id:1000110001`, and a space.
     let last = contains(&output, b"69643a3130303031313030303020");
     let dropped = contains(&output, b"69643a3130303031313030303120");
     let end = joined(&rt, alloc, &[UNBOUND, BOUND, UNBOUND]);
-    assert_eq!(rt;
-        (last, dropped, output.as_slice().ends_with(&end)),
-        (true, false, true)
-    );
+    let ends = output.as_slice().ends_with(&end);
+    let found = ((outcome, ends, output.len()), (last, dropped));
+    assert_same(&rt, &found, &((Ok(()), true, length), (true, false)));
 }

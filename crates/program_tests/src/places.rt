@@ -1,6 +1,7 @@
 //! A read or a write that fails once, at each place of a short script.
 
-use crate::ran::{joined, ran};
+use crate::ran::{assert_ends, joined};
+use crate::same::assert_same;
 use crate::turns::{BIND, BOUND, LINK, LINKED, NODES};
 use script_runner::{CountedReader, CountedWriter, ScriptFault, run_script};
 use std::io;
@@ -58,14 +59,6 @@ fn a_read_fails_at_each_place(rt: HostRuntime) {
     let script = joined(&rt, alloc, &[NODES, BIND, LINK]);
     let all = joined(&rt, alloc, &[BOUND, LINKED]);
     for before in 0..script.len() + 1 {
-        let (outcome, output) = ran(
-            alloc,
-            Stumbling {
-                octets: &script,
-                before: Some(before),
-                kind: ErrorKind::BrokenPipe,
-            },
-        );
         // The answers to the lines that came whole.
         let done = if before < NODES.len() + BIND.len() {
             b"".as_slice()
@@ -74,19 +67,17 @@ fn a_read_fails_at_each_place(rt: HostRuntime) {
         } else {
             all.as_slice()
         };
-        assert_eq!(rt;
-            (outcome, output.as_slice()),
-            (Err(ScriptFault::Read), done)
-        );
-        let (outcome, output) = ran(
-            alloc,
-            Stumbling {
+        for (kind, wanted) in [
+            (ErrorKind::BrokenPipe, (Err(ScriptFault::Read), done)),
+            (ErrorKind::Interrupted, (Ok(()), all.as_slice())),
+        ] {
+            let reader = Stumbling {
                 octets: &script,
                 before: Some(before),
-                kind: ErrorKind::Interrupted,
-            },
-        );
-        assert_eq!(rt; (outcome, output.as_slice()), (Ok(()), all.as_slice()));
+                kind,
+            };
+            assert_ends(&rt, alloc, reader, wanted);
+        }
     }
 }
 
@@ -113,7 +104,11 @@ fn a_write_fails_at_each_place(rt: HostRuntime) {
                 &mut writer,
             );
             drop(writer);
-            assert_eq!(rt; (outcome, taken.as_slice()), (wanted.0, &all[..wanted.1]));
+            assert_same(
+                &rt,
+                &(outcome, taken.as_slice()),
+                &(wanted.0, &all[..wanted.1]),
+            );
         }
     }
 }

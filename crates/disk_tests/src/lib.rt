@@ -1,0 +1,15 @@
+//! Tests of nodes over stores on disk, alone and together. The crates tested have none of their own, so that they are proved once.
+#![tactic(auto)]
+
+#[cfg(test)]
+mod cluster;
+#[cfg(test)]
+mod lines;
+#[cfg(test)]
+mod member;
+#[cfg(test)]
+mod on_disk;
+#[cfg(test)]
+mod rows;
+#[cfg(test)]
+mod same;
