@@ -1,6 +1,9 @@
-pub mod Granting
-pub mod Keeping
-pub mod Serving
-pub mod Streaming
+pub mod Digits
+pub mod Replies
+pub mod Going
 pub mod Telling
+pub mod Serving
+pub mod Heeding
+pub mod Streaming
+pub mod Granting
 pub mod Ticking

@@ -6,14 +6,17 @@ use Rattle.std.proofs.lemmas.List.{append-nil, length-append, length-take-le, le
 use Rattle.std.specs.declared.alloc.AllocError.{AllocError}
 use Rattle.std.specs.Prelude.{OnOk, is_none, is_some}
 use Rattle.std.specs.Ordering.{nat_cmp}
-use Rattle.std.specs.BTreeMap.{insert_entry}
+use Rattle.std.specs.Map.{remove_entry}
+use Rattle.std.specs.BTreeMap.{insert_entry, is_at}
+use Rattle.node_model.proofs.Places.{here}
+use Rattle.sessions.specs.Session.{Session}
 use Rattle.pdu_frames.specs.Frames.{IsFrame, IsPart, HasWrongLength, cut, is_pdu_length}
 use Rattle.pdu_frames.proofs.Fronts.{wrong_begins, part_begins, within_limits, length_of_front}
 use Rattle.pdu_frames.proofs.Streams.{frames_one, streams_cut}
 use Rattle.script_text.specs.Settings.{Settings}
 use Rattle.script_text.specs.Prints.{line_at, text_at}
 use Rattle.script_text.specs.Pushes.{session_at}
-use Rattle.script_text.specs.Runner.{Acted, Runner, ends, followed_by, held_in, holds, on_cut, on_frame, on_frames, on_octets, opened_at}
+use Rattle.script_text.specs.Runner.{Acted, Runner, ends, followed_by, held_in, holds, on_cut, on_frame, on_frames, on_octets, opened_at, session_in}
 use Rattle.script_site.specs.Sites.{IsDone}
 
 -- ---- cutting a stream
@@ -89,6 +92,13 @@ not_there (Some x) has is lacks = absurd (let clash = sym is ∙ lacks in cc)
 pub is_there : {A : Type 0} (found : Option A) (has : Bool) → has ≡ is_some found → has ≡ true → is_none found ≡ false
 is_there None has is holds = absurd (let clash = sym is ∙ holds in cc)
 is_there (Some x) has is holds = refl
+
+-- a session that begins is connected
+pub is_opened : (old left : Runner) (number : ℕ) → left ≡ opened_at old number → is_none (session_at left.sessions number) ≡ false
+is_opened old left number is =
+    ap (λ (r : Runner). is_none (session_at r.sessions number)) is
+    ∙ ap (λ (found : Option Session). is_none found)
+    (here number (session_in old.sessions number) (remove_entry (is_at (nat_cmp number)) old.sessions))
 
 module _ (home : ℕ) where
   pub nothing_done : (settings : Settings) (number : ℕ) (old runner : Runner) (held octets before : List ℕ) → held ≡ held_in old.streams number

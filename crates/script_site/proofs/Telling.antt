@@ -12,11 +12,12 @@ use Rattle.requests.specs.Replying.{reply_given}
 use Rattle.requests.specs.declared.answer.Reply.{Reply as Sent}
 use Rattle.script_text.specs.Node.{Node, step_at, with_step}
 use Rattle.script_text.specs.Prints.{Print, line_at, text_at}
-use Rattle.script_text.specs.Receipts.{Posted, all_posted}
+use Rattle.script_text.specs.Receipts.{Mail, Posted, all_posted}
 use Rattle.script_text.specs.Runner.{Acted, Runner, Told, answered_by, followed_by, mail_of, posts, reports_by, told, with_posted}
-use Rattle.script_sessions.specs.Posting.{IsPosted}
+use Rattle.esme_service.specs.Service.{Service}
+use Rattle.script_site.specs.Posting.{IsPosted}
 use Rattle.node_model.specs.Reported.{receipt_of}
-use Rattle.script_sessions.specs.Told.{AreTold}
+use Rattle.script_site.specs.Told.{AreTold}
 use Rattle.script_node.specs.Steps.{HasGiven, HasReplied}
 use Rattle.script_node.specs.Given.{Given}
 use Rattle.script_site.specs.Sites.{IsDone, comes_to, replies_to, tells}
@@ -51,33 +52,32 @@ module _ (home : ℕ) where
       }
 
   -- What was posted went out.
-  pub posted_done_if : (r : Result (Unit {0}) AllocError) (runner left : Runner) (posted : Posted) (before after : List ℕ)
-      → OnOk r (IsPosted home posted left.sessions left.waiting before after) → left.node ≡ runner.node → left.streams ≡ runner.streams
+  pub posted_done_if : (r : Result (Unit {0}) AllocError) (runner left : Runner) (service : Service) (posted : Posted) (before after : List ℕ)
+      → OnOk r (IsPosted home posted service before after) → left ≡ record runner { sessions = service.sessions; waiting = service.waiting }
       → OnOk r (IsDone home (with_posted runner posted) left before after)
-  posted_done_if (Err fault) runner left posted before after is node streams = tt
-  posted_done_if (Ok done) runner left posted before after is node streams = record {
-    next = λ i. record { node = node i; sessions = is.sessions i; streams = streams i; waiting = is.waiting i };
+  posted_done_if (Err fault) runner left service posted before after is same = tt
+  posted_done_if (Ok done) runner left service posted before after is same = record {
+    next = same ∙ ap (λ (mail : Mail). record runner { sessions = mail.sessions; waiting = mail.waiting }) is.mail;
     text = is.text;
   }
 
   -- The replies of a step went out, and then its receipts.
-  pub told_then_posted_if : (r : Result (Unit {0}) AllocError) (runner middle left : Runner) (replies : List Reply) (receipts : List Receipt) (now : ℕ)
-      (before text after : List ℕ)
+  pub told_then_posted_if : (r : Result (Unit {0}) AllocError) (runner middle left : Runner) (service : Service) (replies : List Reply)
+      (receipts : List Receipt) (now : ℕ) (before text after : List ℕ)
       → AreTold home (told runner.sessions replies) middle.sessions before text → middle.node ≡ runner.node → middle.streams ≡ runner.streams
       → middle.waiting ≡ runner.waiting
-      → now ≡ middle.node.kept.clock → OnOk r (IsPosted home (all_posted now (mail_of middle) receipts) left.sessions left.waiting text after)
-      → left.node ≡ middle.node → left.streams ≡ middle.streams → OnOk r (IsDone home (tells runner replies receipts) left before after)
-  told_then_posted_if (Err fault) runner middle left replies receipts now before text after went_out node streams waiting clock posted node_left streams_left =
-      tt
-  told_then_posted_if (Ok fine) runner middle left replies receipts now before text after went_out node streams waiting clock posted node_left streams_left =
+      → now ≡ middle.node.kept.clock → OnOk r (IsPosted home (all_posted now (mail_of middle) receipts) service text after)
+      → left ≡ record middle { sessions = service.sessions; waiting = service.waiting } → OnOk r (IsDone home (tells runner replies receipts) left before after)
+  told_then_posted_if (Err fault) runner middle left service replies receipts now before text after went_out node streams waiting clock posted same = tt
+  told_then_posted_if (Ok fine) runner middle left service replies receipts now before text after went_out node streams waiting clock posted same =
       let first = replies_to runner (told runner.sessions replies) in
       let one : IsDone home first middle before text = record {
         next = λ i. record { node = node i; sessions = went_out.sessions i; streams = streams i; waiting = waiting i };
         text = went_out.text;
       } in
-      let at_clock = subst (λ (moment : ℕ). IsPosted home (all_posted moment (mail_of middle) receipts) left.sessions left.waiting text after) clock posted in
+      let at_clock = subst (λ (moment : ℕ). IsPosted home (all_posted moment (mail_of middle) receipts) service text after) clock posted in
       then_done first (λ (r : Runner). posts r receipts) middle left before text after one
-      (posted_done_if (Ok fine) middle left (all_posted middle.node.kept.clock (mail_of middle) receipts) text after at_clock node_left streams_left)
+      (posted_done_if (Ok fine) middle left service (all_posted middle.node.kept.clock (mail_of middle) receipts) text after at_clock same)
 
   -- ---- a packet
 

@@ -12,8 +12,9 @@ use Rattle.script_text.specs.Node.{Node, step_at, tick_at}
 use Rattle.script_text.specs.Pushes.{accounts_up, overdue_in, timely_in}
 use Rattle.script_text.specs.Receipts.{Posted, posted_for_all}
 use Rattle.script_text.specs.Runner.{Runner, gives_up, mail_of, makes_room, on_tick, posts_for_all, ticked, ticks_by, told}
-use Rattle.script_sessions.specs.Posting.{IsPosted}
-use Rattle.script_sessions.specs.Told.{AreTold}
+use Rattle.esme_service.specs.Service.{Service}
+use Rattle.script_site.specs.Posting.{IsPosted}
+use Rattle.script_site.specs.Told.{AreTold}
 use Rattle.script_node.specs.Steps.{HasReplied}
 use Rattle.script_site.specs.Sites.{IsDone}
 use Rattle.script_site.proofs.Telling.{posted_done_if, step_done, then_done}
@@ -56,17 +57,17 @@ module _ (home : ℕ) where
       tick_done runner middle last moment up replies before text after are stepped went_out streams waiting room
 
   -- What waits too long was given up, and what waits for room went out.
-  pub room_made_if : (r : Result (Unit {0}) AllocError) (runner middle last : Runner) (now : ℕ) (up : List (List ℕ)) (before after : List ℕ)
+  pub room_made_if : (r : Result (Unit {0}) AllocError) (runner middle last : Runner) (service : Service) (now : ℕ) (up : List (List ℕ))
+      (before after : List ℕ)
       → middle ≡ (gives_up runner runner.node.kept.clock).next → up ≡ accounts_up middle.sessions → now ≡ middle.node.kept.clock
-      → OnOk r (IsPosted home (posted_for_all now (mail_of middle) up) last.sessions last.waiting before after) → last.node ≡ middle.node
-      → last.streams ≡ middle.streams
+      → OnOk r (IsPosted home (posted_for_all now (mail_of middle) up) service before after)
+      → last ≡ record middle { sessions = service.sessions; waiting = service.waiting }
       → OnOk r (IsDone home (makes_room runner) last before after)
-  room_made_if (Err fault) runner middle last now up before after gave are clock posted node streams = tt
-  room_made_if (Ok fine) runner middle last now up before after gave are clock posted node streams =
-      let same : posted_for_all now (mail_of middle) up ≡ posted_for_all middle.node.kept.clock (mail_of middle) (accounts_up middle.sessions) =
+  room_made_if (Err fault) runner middle last service now up before after gave are clock posted same = tt
+  room_made_if (Ok fine) runner middle last service now up before after gave are clock posted same =
+      let posts : posted_for_all now (mail_of middle) up ≡ posted_for_all middle.node.kept.clock (mail_of middle) (accounts_up middle.sessions) =
       λ i. posted_for_all (clock i) (mail_of middle) (are i) in
       let done =
-      posted_done_if home (Ok fine) middle last _ before after (subst (λ (p : Posted). IsPosted home p last.sessions last.waiting before after) same posted)
-      node streams in
+      posted_done_if home (Ok fine) middle last service _ before after (subst (λ (p : Posted). IsPosted home p service before after) posts posted) same in
       let all = subst (λ (r : Runner). IsDone home (posts_for_all r) last before after) gave done in
       record { next = all.next; text = all.text }

@@ -1,9 +1,13 @@
-//! A node of a script with the sessions of its ESMEs: what octets, moments, grants and packets do there, and the lines that go out.
+//! A node of a script with the service of its ESMEs, and the lines that go out there.
 #![tactic(auto)]
 
-mod serve;
+mod output;
+mod posting;
+mod replying;
+mod session_place;
 mod site;
+mod streams;
 
+pub use output::{write_declined, write_unsettled};
 pub use script_node::{Restarted, StoppedNode};
-pub use script_sessions::{write_declined, write_unsettled};
 pub use site::Site;

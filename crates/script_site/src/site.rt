@@ -1,25 +1,27 @@
-//! A node with the sessions of its ESMEs, and the receipts that wait for one.
+//! A node with the service of its ESMEs.
 
-ghost use Rattle.std.specs.Prelude.{◌≡◌, ◌++◌, map, true, Some, IfOk, OnOk};
+ghost use Rattle.std.specs.Prelude.{◌≡◌, ◌++◌, map, true, false, is_none, IfOk, OnOk};
 ghost use Rattle.mc_model.specs.message.Chain.{taken_in};
 ghost use Rattle.mc_model.specs.synod.Packet.{slot_of};
 ghost use Rattle.delivery.specs.Deliveries.{EndsInAttempt};
 ghost use Rattle.script_text.specs.Settings.{settings_of};
 
-use crate::serve::{serve_frame, wrong_length};
+use crate::output::{
+    write_all_gone, write_declined, write_gone, write_outgoing, write_sending, write_ungranted,
+};
+use crate::posting::{post_all, post_for, post_for_all};
+use crate::replying::write_replies;
+use crate::session_place::SessionPlace;
+use crate::streams::Streams;
 use config::Config;
-use delivery::Outcome;
+use delivery::{Outcome, outcome_of};
+use desk::Request;
+use esme_service::{Asked, Heard, Sending, Service};
 use fate_chain::Chain;
 use mc_types::{Moment, MsgId, NodeNo, Slot};
 use node_core::{Found, Setup};
-use pdu_codec::SystemId;
 use pdu_frames::Framer;
 use script_node::{Given, Granting, ScriptNode, StoppedNode};
-use script_sessions::{
-    Connected, Streams, Waiting, post_all, post_for, post_for_all, write_all_gone, write_declined,
-    write_delivery, write_replies, write_ungranted,
-};
-use sessions::{Delivery, Session};
 use sim_net::Packets;
 use std::alloc::{AllocError, Global};
 use synod_acceptor::Packet;
@@ -27,14 +29,12 @@ use synod_acceptor::Packet;
 /// The number with which a restart is refused once the last incarnation has begun.
 const NO_INCARNATION: u8 = 6;
 
-/// A node that is up, the sessions that are connected there, of each the octets of the PDU that has not come whole, and the receipts that wait
-/// for a session.
+/// A node that is up, the service of its ESMEs, and of each session the octets of the PDU that has not come whole.
 #[derive(Drop)]
 pub struct Site {
     node: ScriptNode,
-    connected: Connected,
+    service: Service,
     streams: Streams,
-    waiting: Waiting,
 }
 
 impl Site {
@@ -44,7 +44,10 @@ impl Site {
     ghost use Rattle.node_model.specs.Stepped.{stopped};
     ghost use Rattle.script_node.specs.Nodes.{node_of};
     ghost use Rattle.script_node.specs.Stops.{IsStopped};
-    ghost use Rattle.script_site.specs.Sites.{IsDone, comes_to, keeps, put_back, runner_of, tells};
+    ghost use Rattle.script_site.specs.Sites.{IsDone, comes_to, runner_of, tells};
+    ghost use Rattle.script_site.specs.Heeding.{asks_if, heeded};
+    ghost use Rattle.esme_service.specs.Sessions.{account_at};
+    ghost use Rattle.script_text.specs.Pushes.{session_at};
     ghost use Rattle.script_text.specs.Node.{opened_by};
     ghost use Rattle.script_text.specs.Prints.{text_at};
     ghost use Rattle.synod_acceptor.specs.Packets.{packet_of};
@@ -65,9 +68,8 @@ impl Site {
     {
         Site {
             node,
-            connected: Connected::none(alloc),
+            service: Service::none(alloc),
             streams: Streams::none(alloc),
-            waiting: Waiting::none(alloc),
         }
     }
 
@@ -75,30 +77,30 @@ impl Site {
     /// `Err`, which is want of memory, nothing is said of the site.
     pub fn octets(
         &mut self,
-        alloc: Global,
         config: &Config,
-        home: NodeNo,
+        node: NodeNo,
         number: u8,
         octets: &[u8],
         text: &mut Vec<u8>,
     ) -> Result<(), AllocError>
-        ensures { OnOk result (IsDone home (on_octets (settings_of config.now) (runner_of self.old) number octets.now)
+        ensures { OnOk result (IsDone node (on_octets (settings_of config.now) (runner_of self.old) number octets.now)
             (runner_of self.new) text.old.items text.new.items) }
     {
+        let alloc = *text.allocator();
         let mut framer = self.open(alloc, number)?;
         let mut rest = octets;
         loop {
             let taken = match framer.feed(rest) {
                 Ok(count) => count,
-                Err(_) => return self.end(alloc, config, home, number, text),
+                Err(_) => return self.end(config, node, number, text),
             };
             rest = &rest[taken..];
             match framer.frame() {
-                Ok(Some(frame)) => self.serve(alloc, config, home, number, frame, text)?,
+                Ok(Some(frame)) => self.serve(config, node, number, frame, text)?,
                 Ok(None) => return self.streams.put_back(number, framer),
-                Err(_) => return self.end(alloc, config, home, number, text),
+                Err(_) => return self.end(config, node, number, text),
             }
-            if !self.connected.has(number) {
+            if !self.service.has(number) {
                 return Ok(());
             }
             framer.let_go();
@@ -110,199 +112,184 @@ impl Site {
         ensures held { IfOk result (λ framer. framer ≡ held_in (runner_of self.old).streams number) }
         ensures left { OnOk result (runner_of self.new ≡ opened_at (runner_of self.old) number) }
     {
-        let session = self.connected.take_out(alloc, number)?;
-        self.connected.put_back(number, session)?;
+        self.service.begin(number)?;
         match self.streams.take_out(alloc, number) {
             Ok(framer) => Ok(framer),
             Err(_) => Err(AllocError),
         }
     }
 
-    /// The octets of one frame came on a session.
+    /// The octets of one frame came on a session that is connected: it is served, and what waits for its account goes out.
     fn serve(
         &mut self,
-        alloc: Global,
         config: &Config,
-        home: NodeNo,
+        node: NodeNo,
         number: u8,
         octets: &[u8],
         text: &mut Vec<u8>,
     ) -> Result<(), AllocError>
-        ensures { OnOk result (IsDone home (on_frame (settings_of config.now) number (runner_of self.old) octets.now)
+        requires { is_none (session_at (runner_of self.old).sessions number) ≡ false }
+        ensures { OnOk result (IsDone node (on_frame (settings_of config.now) number (runner_of self.old) octets.now)
             (runner_of self.new) text.old.items text.new.items) }
     {
-        let mut session = self.connected.take_out(alloc, number)?;
-        serve_frame(
-            alloc,
-            config,
-            home,
-            number,
-            &mut self.node,
-            &mut session,
-            octets,
-            text,
-        )?;
-        self.keep(alloc, home, number, session, text)
+        let heard = self.service.hear(config, number, octets)?;
+        self.heed(config, node, number, heard, text)?;
+        self.post_on(node, number, text)
     }
 
-    /// A wrong length ends a session.
+    /// A wrong length ends a session that is connected.
     fn end(
         &mut self,
-        alloc: Global,
         config: &Config,
-        home: NodeNo,
+        node: NodeNo,
         number: u8,
         text: &mut Vec<u8>,
     ) -> Result<(), AllocError>
-        ensures { OnOk result (IsDone home (ends (settings_of config.now) number (runner_of self.old)) (runner_of self.new) text.old.items text.new.items) }
+        requires { is_none (session_at (runner_of self.old).sessions number) ≡ false }
+        ensures { OnOk result (IsDone node (ends (settings_of config.now) number (runner_of self.old))
+            (runner_of self.new) text.old.items text.new.items) }
     {
-        let mut session = self.connected.take_out(alloc, number)?;
-        wrong_length(
-            alloc,
-            config,
-            home,
-            number,
-            &mut self.node,
-            &mut session,
-            text,
-        )?;
-        self.keep(alloc, home, number, session, text)
+        let heard = self.service.hear_wrong_length(number);
+        self.heed(config, node, number, heard, text)?;
+        self.post_on(node, number, text)
     }
 
-    /// Puts a session back that was taken out and served, unless it is gone, and adds the lines of the receipts that waited for its account
-    /// and go out now.
-    fn keep(
+    /// What was heard on a session goes to the node, and the lines of what goes out are added.
+    fn heed(
         &mut self,
-        alloc: Global,
-        home: NodeNo,
+        config: &Config,
+        node: NodeNo,
         number: u8,
-        session: Session,
+        heard: Heard,
         text: &mut Vec<u8>,
     ) -> Result<(), AllocError>
-        ensures { OnOk result (IsDone home (keeps (runner_of self.old) number session) (runner_of self.new) text.old.items text.new.items) }
+        ensures { OnOk result (IsDone node (heeded (settings_of config.now) number (runner_of self.old) heard)
+            (runner_of self.new) text.old.items text.new.items) }
     {
-        if self.waiting.is_empty() {
-            return self.put_back(number, session);
+        match heard {
+            Heard::Nothing => Ok(()),
+            Heard::Response(outgoing) => {
+                write_outgoing(
+                    text,
+                    SessionPlace { node, number },
+                    &config.system_id,
+                    outgoing,
+                )
+            }
+            Heard::Request(asked, request) => {
+                self.ask(config, SessionPlace { node, number }, asked, request, text)
+            }
+            Heard::Answer(pushed, pdu) => {
+                let outcome = outcome_of(pushed.sequence, &pdu);
+                drop(pdu);
+                self.node.conclude_by(pushed.delivery, outcome)
+            }
+            Heard::Gone(outgoing, abandoned) => {
+                self.node.give_up(abandoned.as_slice())?;
+                write_outgoing(
+                    text,
+                    SessionPlace { node, number },
+                    &config.system_id,
+                    outgoing,
+                )?;
+                write_gone(text, SessionPlace { node, number })
+            }
         }
-        let Some(account) = session.account() else {
-            return self.put_back(number, session);
-        };
-        let account = account.copy()?;
-        self.put_back(number, session)?;
-        self.post_for(alloc, home, &account, text)
     }
 
-    /// Puts a session back that was taken out, unless it is gone.
-    fn put_back(&mut self, number: u8, session: Session) -> Result<(), AllocError>
-        ensures { OnOk result (runner_of self.new ≡ put_back (runner_of self.old) number session) }
+    /// A request goes to the node: it waits on its session, or the line of the response is added that refuses it.
+    fn ask(
+        &mut self,
+        config: &Config,
+        place: SessionPlace,
+        asked: Asked,
+        request: Request,
+        text: &mut Vec<u8>,
+    ) -> Result<(), AllocError>
+        ensures { OnOk result (IsDone place.node (asks_if place.number (runner_of self.old) asked request
+            (account_at (runner_of self.old).sessions place.number)) (runner_of self.new) text.old.items text.new.items) }
     {
-        if session.state().is_gone() {
+        let Some(account) = self.service.account(place.number) else {
+            drop(request);
+            return Ok(());
+        };
+        let answers = self.node.request(account, request)?;
+        self.service.wait(place.number, asked, answers.ticket);
+        match answers.refused {
+            Some(status) => write_outgoing(text, place, &config.system_id, asked.refusal(status)),
+            None => Ok(()),
+        }
+    }
+
+    /// Adds the lines of the receipts that wait for the account of a session and go out now.
+    fn post_on(&mut self, node: NodeNo, number: u8, text: &mut Vec<u8>) -> Result<(), AllocError>
+        ensures { OnOk result (IsDone node (posts_for (runner_of self.old) (account_at (runner_of self.old).sessions number))
+            (runner_of self.new) text.old.items text.new.items) }
+    {
+        if !self.service.has_receipts() {
             return Ok(());
         }
-        self.connected.put_back(number, session)
-    }
-
-    /// Adds the lines of the receipts that wait for an account and go out now.
-    fn post_for(
-        &mut self,
-        alloc: Global,
-        node: NodeNo,
-        account: &SystemId,
-        text: &mut Vec<u8>,
-    ) -> Result<(), AllocError>
-        ensures { OnOk result (IsDone node (posts_for (runner_of self.old) (Some account.now)) (runner_of self.new) text.old.items text.new.items) }
-    {
+        let Some(account) = self.service.account(number) else {
+            return Ok(());
+        };
+        let account = account.copy()?;
         let now = self.node.clock();
-        post_for(
-            alloc,
-            text,
-            node,
-            &mut self.connected,
-            &mut self.waiting,
-            now,
-            account,
-        )
+        post_for(text, node, &mut self.service, now, &account)
     }
 
     /// A moment has come: adds the lines of what requests are answered that waited too long, and gives up each deliver_sm that waits for its
     /// answer for 30 seconds or more. After an `Err`, which is want of memory, nothing is said of the site.
     pub fn tick(
         &mut self,
-        alloc: Global,
         node: NodeNo,
         moment: Moment,
         text: &mut Vec<u8>,
     ) -> Result<(), AllocError>
         ensures { OnOk result (IsDone node (on_tick (runner_of self.old) moment) (runner_of self.new) text.old.items text.new.items) }
     {
-        let up = self.connected.accounts_up(alloc)?;
+        let up = self.service.accounts_up()?;
         let replies = self.node.tick(moment, up)?;
-        write_replies(alloc, text, node, &mut self.connected, replies)?;
-        self.make_room(alloc, node, text)
+        write_replies(text, node, &mut self.service, replies)?;
+        self.make_room(node, text)
     }
 
     /// Gives up what was pushed and waits too long, and adds the lines of the receipts that go out then.
-    fn make_room(
-        &mut self,
-        alloc: Global,
-        node: NodeNo,
-        text: &mut Vec<u8>,
-    ) -> Result<(), AllocError>
+    fn make_room(&mut self, node: NodeNo, text: &mut Vec<u8>) -> Result<(), AllocError>
         ensures { OnOk result (IsDone node (makes_room (runner_of self.old)) (runner_of self.new) text.old.items text.new.items) }
     {
-        self.give_up(alloc)?;
-        let up = self.connected.accounts_up(alloc)?;
+        self.give_up()?;
+        let up = self.service.accounts_up()?;
         let now = self.node.clock();
-        post_for_all(
-            alloc,
-            text,
-            node,
-            &mut self.connected,
-            &mut self.waiting,
-            now,
-            &up,
-        )
+        post_for_all(text, node, &mut self.service, now, &up)
     }
 
     /// Gives up what was pushed and waits too long at the node's clock. After an `Err`, which is want of memory, nothing is said of the site.
-    fn give_up(&mut self, alloc: Global) -> Result<(), AllocError>
+    fn give_up(&mut self) -> Result<(), AllocError>
         ensures { OnOk result (runner_of self.new ≡ (gives_up (runner_of self.old) (runner_of self.old).node.kept.clock).next) }
     {
         let now = self.node.clock();
-        let overdue = self.connected.overdue(alloc, now)?;
+        let overdue = self.service.overdue(now)?;
         self.node.give_up(&overdue)?;
-        self.connected.let_go_overdue(now);
+        self.service.let_go_overdue(now);
         Ok(())
     }
 
     /// The attempt of a message is asked for: adds the line of its deliver_sm, or the line that tells why it is not granted. After an `Err`,
     /// which is want of memory, nothing is said of the site.
-    pub fn grant(
-        &mut self,
-        alloc: Global,
-        node: NodeNo,
-        id: MsgId,
-        text: &mut Vec<u8>,
-    ) -> Result<(), AllocError>
+    pub fn grant(&mut self, node: NodeNo, id: MsgId, text: &mut Vec<u8>) -> Result<(), AllocError>
         ensures { OnOk result (IsDone node (on_grant (runner_of self.old) id) (runner_of self.new) text.old.items text.new.items) }
     {
         match self.node.grant(id)? {
             Granting::Refused(reason) => write_ungranted(text, reason),
-            Granting::Granted(chain) => self.send(alloc, node, &chain, text),
+            Granting::Granted(chain) => self.send(node, chain, text),
         }
     }
 
     /// The attempt in which a chain ends goes out over a session of the account of its message; if none takes it, it has failed.
     /// After an `Err`, which is want of memory, nothing is said of the site.
-    fn send(
-        &mut self,
-        alloc: Global,
-        node: NodeNo,
-        chain: &Chain,
-        text: &mut Vec<u8>,
-    ) -> Result<(), AllocError>
-        requires { EndsInAttempt chain.now.decrees }
-        ensures { OnOk result (IsDone node (sent (runner_of self.old) (slot_of chain.now.id chain.now.decrees) (taken_in chain.now.decrees))
+    fn send(&mut self, node: NodeNo, chain: Chain, text: &mut Vec<u8>) -> Result<(), AllocError>
+        requires { EndsInAttempt chain.decrees }
+        ensures { OnOk result (IsDone node (sent (runner_of self.old) (slot_of chain.id chain.decrees) (taken_in chain.decrees))
             (runner_of self.new) text.old.items text.new.items) }
     {
         let slot = Slot {
@@ -310,30 +297,26 @@ impl Site {
             place: chain.place(),
         };
         let now = self.node.clock();
-        let target = &chain.submission().target;
-        match self.connected.push(target, now, Delivery::Attempt(slot)) {
-            Some(pushed) => write_delivery(alloc, text, node, pushed, chain),
-            None => self.node.conclude(slot, Outcome::unanswered()),
+        match self.service.push(&chain.submission().target, now, slot) {
+            Some(pushed) => write_sending(text, node, &Sending::Attempt(pushed, chain)),
+            None => {
+                drop(chain);
+                self.node.conclude(slot, Outcome::unanswered())
+            }
         }
     }
 
     /// The node starts anew: adds the line of each session that it is gone, and keeps none. If it has begun its last incarnation, it adds a line
     /// that tells so, and keeps all. After an `Err`, which is want of memory, nothing is said of the site.
-    pub fn restart(
-        &mut self,
-        alloc: Global,
-        node: NodeNo,
-        text: &mut Vec<u8>,
-    ) -> Result<(), AllocError>
+    pub fn restart(&mut self, node: NodeNo, text: &mut Vec<u8>) -> Result<(), AllocError>
         ensures { OnOk result (IsDone node (on_restart (runner_of self.old)) (runner_of self.new) text.old.items text.new.items) }
     {
         if !self.node.restart()? {
             return write_declined(text, NO_INCARNATION);
         }
-        write_all_gone(text, node, &self.connected)?;
-        self.connected = Connected::none(alloc);
-        self.streams = Streams::none(alloc);
-        self.waiting = Waiting::none(alloc);
+        write_all_gone(text, node, &self.service)?;
+        self.service = Service::none(*text.allocator());
+        self.streams = Streams::none(*text.allocator());
         Ok(())
     }
 
@@ -352,17 +335,16 @@ impl Site {
     {
         let Site {
             node: running,
-            connected,
+            service,
             ..
         } = self;
-        write_all_gone(text, node, &connected)?;
+        write_all_gone(text, node, &service)?;
         running.stop(packet, found)
     }
 
     /// A packet comes to the node: adds the lines of what it gives out. After an `Err`, which is want of memory, nothing is said of the site.
     pub fn deliver(
         &mut self,
-        alloc: Global,
         node: NodeNo,
         packet: Packet,
         text: &mut Vec<u8>,
@@ -370,17 +352,11 @@ impl Site {
         ensures { OnOk result (IsDone node (comes_to (runner_of self.old) (packet_of packet)) (runner_of self.new) text.old.items text.new.items) }
     {
         let given = self.node.deliver(packet)?;
-        self.tell(alloc, node, given, text)
+        self.tell(node, given, text)
     }
 
     /// Adds the lines of what a step gave out: its replies, and then its receipts.
-    fn tell(
-        &mut self,
-        alloc: Global,
-        node: NodeNo,
-        given: Given,
-        text: &mut Vec<u8>,
-    ) -> Result<(), AllocError>
+    fn tell(&mut self, node: NodeNo, given: Given, text: &mut Vec<u8>) -> Result<(), AllocError>
         ensures { OnOk result (IsDone node (tells (runner_of self.old) (map reply_given given.replies.items) (map receipt_of given.receipts.items))
             (runner_of self.new) text.old.items text.new.items) }
     {
@@ -389,17 +365,9 @@ impl Site {
             receipts,
             ..
         } = given;
-        write_replies(alloc, text, node, &mut self.connected, replies)?;
+        write_replies(text, node, &mut self.service, replies)?;
         let now = self.node.clock();
-        post_all(
-            alloc,
-            text,
-            node,
-            &mut self.connected,
-            &mut self.waiting,
-            now,
-            receipts,
-        )
+        post_all(text, node, &mut self.service, now, receipts)
     }
 
     /// What a proof takes of it: its node is up. The call does nothing.

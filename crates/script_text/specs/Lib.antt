@@ -1,8 +1,8 @@
+pub use Rattle.esme_service.specs.Pushes
+pub use Rattle.esme_service.specs.Responses
 pub mod Settings
-pub mod Pushes
 pub mod Node
 pub mod Attempts
-pub mod Responses
 pub mod Prints
 pub mod Receipts
 pub mod Runner

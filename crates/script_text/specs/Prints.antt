@@ -5,9 +5,8 @@ use Rattle.std.specs.Fmt.{decimal}
 use Rattle.hex.specs.Hex.{encode_lower}
 use Rattle.pdu_codec.specs.Pdu.{octets_of}
 use Rattle.pdu_bodies.specs.declared.pdu.Pdu.{Pdu}
-use Rattle.receipts.specs.Receipts.{receipt_message}
 use Rattle.receipts.specs.Texts.{Report}
-use Rattle.script_text.specs.Pushes.{deliver_sm}
+pub use Rattle.esme_service.specs.Reports.{report_pdu}
 
 pub data Print : Type 0 where
   -- on this session a PDU goes out, in the step of what it answers
@@ -35,10 +34,6 @@ octets_line node session octets = codes "pdu " ++ decimal node ++ codes " " ++ d
 -- the line of a PDU
 abbrev pub pdu_line : ℕ → ℕ → Pdu → List ℕ
 pdu_line node session pdu = octets_line node session (octets_of pdu)
-
--- the receipt of a report (SMPP 3.4, appendix B)
-abbrev pub report_pdu : ℕ → Bool → Report → Pdu
-report_pdu sequence optional report = deliver_sm sequence optional (receipt_message report)
 
 -- the line of a session of a node that is gone
 abbrev pub gone_line : ℕ → ℕ → List ℕ

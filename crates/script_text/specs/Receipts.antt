@@ -1,59 +1,13 @@
--- Delivery receipts: what one reports, to whom it goes, and those that wait for a session (SMPP 3.4, appendix B; the queue: own).
-use Rattle.std.specs.Prelude.{ℕ, zero, suc, Bool, nat_lt, List, [], ◌∷◌, ◌++◌, filter, find, length, reverse, slice_get, Option, Some}
-use Rattle.std.specs.Prelude.{None, option_map, if◌then◌else◌}
-use Rattle.mc_model.specs.message.Chain.{taken_in}
-use Rattle.mc_model.specs.message.Decree.{Decree, Fate, Kind}
-use Rattle.mc_model.specs.message.Submission.{Submission}
+-- Receipts go out, one after another (own).
+use Rattle.std.specs.Prelude.{ℕ, zero, suc, List, [], ◌∷◌, ◌++◌, find, length, Option, Some, None}
 use Rattle.mc_model.specs.node.Outputs.{Receipt}
-use Rattle.node_model.specs.Answers.{is_asked}
 use Rattle.receipts.specs.Texts.{Report}
 use Rattle.sessions.specs.Session.{Session}
 use Rattle.sessions.specs.Windows.{without_first}
 use Rattle.sessions.specs.declared.pushed.Delivery.TheVariants as deliveries
-use Rattle.script_text.specs.Pushes.{is_of, knows_optional, session_at, target_in, with_push}
+use Rattle.script_text.specs.Pushes.{knows_optional, session_at, target_in, with_push}
 use Rattle.script_text.specs.Prints.{Print, Reports}
-
--- ---- what a receipt reports
-
--- the moment of the first decree
-abbrev pub began_at : List Decree → Option ℕ
-began_at decrees = option_map (λ (decree : Decree). decree.moment) (slice_get (reverse decrees) 0)
-
--- the report, if it was asked for
-abbrev pub report_if : Bool → Report → Option Report
-report_if asked report = if asked then Some report else None
-
--- of a message that was taken, by the fate that it has
-abbrev pub reported_as : ℕ → Option ℕ → Option Submission → ℕ → Kind → Option Report
-reported_as id (Some began) (Some taken) ended (Fate final error) =
-    report_if (is_asked final taken) (record { id = id; taken = taken; began = began; final = final; error = error; ended = ended })
-reported_as id began taken ended kind = None
-
-abbrev pub reported_on : ℕ → List Decree → Option Report
-reported_on id [] = None
-reported_on id (newest ∷ older) = reported_as id (began_at (newest ∷ older)) (taken_in (newest ∷ older)) newest.moment newest.kind
-
-abbrev pub reported_by : Receipt → Option Report
-reported_by receipt = reported_on receipt.id receipt.chain
-
--- ---- to whom it goes
-
--- the account that submitted the message
-abbrev pub submitter_of : Receipt → Option (List ℕ)
-submitter_of receipt = option_map (λ (taken : Submission). taken.submitter) (taken_in receipt.chain)
-
-abbrev pub is_for : List ℕ → Receipt → Bool
-is_for account receipt = is_of account (submitter_of receipt)
-
--- ---- receipts that wait
-
--- so many wait for an account at most (own)
-abbrev pub most_waiting : ℕ
-most_waiting = 10000
-
--- one more waits for this account, unless as many do as may
-abbrev pub waits_for : List ℕ → List Receipt → Receipt → List Receipt
-waits_for account waiting receipt = if nat_lt (length (filter (is_for account) waiting)) most_waiting then waiting ++ receipt ∷ [] else waiting
+pub use Rattle.esme_service.specs.Reports.{began_at, report_if, reported_as, reported_on, reported_by, submitter_of, is_for, most_waiting, waits_for}
 
 -- the sessions that are connected, and the receipts that wait, the oldest first
 pub record Mail : Type 0 where

@@ -41,6 +41,9 @@ use Rattle.script_text.specs.Pushes.{accounts_up, delivery_on, overdue_in, sessi
 use Rattle.script_text.specs.Attempts.{Went, all_given_up, concluded, delivered_so, submission_at, unanswered}
 use Rattle.script_text.specs.Receipts.{Mail, Posted, all_posted, posted_for_all, posted_for_any}
 use Rattle.script_text.specs.Prints.{Print, AtOnce, Late, Delivers, Gone, Unsettled, Declined, Ungranted}
+pub use Rattle.esme_service.specs.Hearing.{request_of, Came, came_by, nothing_came}
+pub use Rattle.esme_service.specs.Replies.{Owned, found_at, owner_of, replied_at, replied}
+pub use Rattle.esme_service.specs.Sessions.{session_or_opened, session_in, put_at, in_window}
 
 -- The node; the sessions that are connected, by their numbers; of each the octets of the PDU that has not come whole; and the receipts that
 -- wait for a session, the oldest first.
@@ -75,36 +78,7 @@ unasked node session prints = record { node = node; session = session; inputs = 
 abbrev pub gone_on : Session → Went → List Print → Served
 gone_on session went prints = record { node = went.node; session = session; inputs = went.inputs; prints = prints }
 
--- the request for the node that a body is, if it is one: a submit_sm has the account that the routes give, if they give one
-abbrev pub request_of : Settings → Body → Option Request
-request_of settings (bodies.SubmitSm message) = Some (Submit message (target_of settings.routes message.destination.digits))
-request_of settings (bodies.QuerySm query) = Some (AskOf query)
-request_of settings (bodies.CancelSm cancel) = Some (Cancel cancel)
-request_of settings other = None
-
--- What a PDU is to the node: its sequence_number, the request that its body is, if it is one, and what it tells of the deliver_sm that has
--- a sequence_number.
-pub record Came : Type 0 where
-  pub sequence : ℕ
-  pub request : Option Request
-  pub outcome : ℕ → Option Outcome
-
-abbrev pub came_by : Settings → Pdu → Came
-came_by settings pdu = record {
-  sequence = pdu.sequence;
-  request = request_of settings pdu.body;
-  outcome = λ sequence. told_in sequence pdu;
-}
-
-abbrev pub nothing_came : Came
-nothing_came = record { sequence = 0; request = None; outcome = λ sequence. None }
-
--- a request that waits takes its place in the window
-abbrev pub in_window : Session → Requested → ℕ → Option ℕ → Session
-in_window session requested sequence None = session
-in_window session requested sequence (Some ticket) = on_wait session (record { ticket = ticket; requested = requested; sequence = sequence })
-
--- and the command_status of one that does not goes out
+-- the command_status of a request that does not wait goes out
 abbrev pub refusal_prints : ℕ → Requested → ℕ → Option ℕ → List Print
 refusal_prints number requested sequence None = []
 refusal_prints number requested sequence (Some status) = AtOnce number (refused_with requested sequence status) ∷ []
@@ -197,14 +171,6 @@ posts runner receipts = with_posted runner (all_posted runner.node.kept.clock (m
 
 -- ---- the octets of a session
 
-abbrev pub session_or_opened : Option Session → Session
-session_or_opened None = sessions.opened
-session_or_opened (Some session) = session
-
--- the session of a number: one that is not connected begins now
-abbrev pub session_in : List (ℕ × Session) → ℕ → Session
-session_in connected number = session_or_opened (session_at connected number)
-
 abbrev pub or_nothing : Option (List ℕ) → List ℕ
 or_nothing None = []
 or_nothing (Some octets) = octets
@@ -212,10 +178,6 @@ or_nothing (Some octets) = octets
 -- the octets of its PDU that has not come whole
 abbrev pub held_in : List (ℕ × List ℕ) → ℕ → List ℕ
 held_in streams number = or_nothing (lookup (is_at (nat_cmp number)) streams)
-
--- the session of a number gives its place to this one
-abbrev pub put_at : List (ℕ × Session) → ℕ → Session → List (ℕ × Session)
-put_at connected number session = insert_entry nat_cmp (remove_entry (is_at (nat_cmp number)) connected) number session
 
 -- one that is gone is connected no longer: what comes next under its number begins another
 abbrev pub with_session : Runner → ℕ → Session → Runner
@@ -274,29 +236,6 @@ unfoldable pub on_octets : Settings → Runner → ℕ → List ℕ → Acted
 on_octets settings runner number octets = on_cut settings number (opened_at runner number) (cut (held_in runner.streams number ++ octets))
 
 -- ---- replies
-
--- a request that waits, and the session that holds it
-pub record Owned : Type 0 where
-  pub number : ℕ
-  pub request : OpenRequest
-
-abbrev pub found_at : ℕ → Option OpenRequest → Option Owned → Option Owned
-found_at number None others = others
-found_at number (Some request) others = Some (record { number = number; request = request })
-
--- the request of a ticket, if a session that is connected holds it
-abbrev pub owner_of : List (ℕ × Session) → ℕ → Option Owned
-owner_of [] ticket = None
-owner_of (entry ∷ entries) ticket = found_at entry.0 (find (λ request. request.ticket == ticket) entry.1.requests) (owner_of entries ticket)
-
-abbrev pub replied_at : List (ℕ × Session) → ℕ → ℕ → Option Session → List (ℕ × Session)
-replied_at connected number ticket None = connected
-replied_at connected number ticket (Some session) = set_value (is_at (nat_cmp number)) connected (on_reply session ticket)
-
--- the request leaves the window of its session
-abbrev pub replied : List (ℕ × Session) → ℕ → Option Owned → List (ℕ × Session)
-replied connected ticket None = connected
-replied connected ticket (Some owned) = replied_at connected owned.number ticket (session_at connected owned.number)
 
 abbrev pub reply_prints : Reply → Option Owned → List Print
 reply_prints reply None = []

@@ -1,12 +1,16 @@
-use Rattle.script_text.specs.Settings.{settings_of}
+use Rattle.std.proofs.Common.{ap}
+use Rattle.esme_service.specs.Service.{Service}
+use Rattle.esme_service.specs.Settings.{settings_of}
 use Rattle.script_site.specs.Sites.{runner_of}
-use Rattle.script_node.specs.Nodes.{node_of}
-use Rattle.script_site.proofs.Keeping.{ended_done_if}
+use Rattle.script_site.proofs.Heeding.{end_done_if}
 use Rattle.script_site.proofs.site.Site.end.Goals as goal
 
 pub returns : goal.returns
 returns c =
-    ended_done_if c.args.home c.keep.result (settings_of c.args.config.now) c.args.number (runner_of c.args.self.now)
-    (runner_of c.keep.new.self) c.in_ok-session.session
-    c.take_out.new.self (node_of c.wrong_length.new.node) c.wrong_length.new.session c.args.text.now.items c.wrong_length.new.text.items c.keep.new.text.items
-    c.in_ok-session.ensures.session c.in_ok-session.ensures.left c.in_ok-wrong_length.ensures c.keep.ensures
+    let old = runner_of c.args.self.now in
+    end_done_if c.args.node (settings_of c.args.config.now) c.args.number c.post_on.result old
+    (runner_of (record c.args.self.now { service = c.hear_wrong_length-heard.new.self })) (runner_of c.heed.new.self) (runner_of c.post_on.new.self)
+    c.hear_wrong_length-heard.result c.args.text.now.items c.heed.new.text.items c.post_on.new.text.items
+    c.requires c.hear_wrong_length-heard.ensures.heard
+    (ap (λ (s : Service). record old { sessions = s.sessions; waiting = s.waiting }) c.hear_wrong_length-heard.ensures.after) c.hear_wrong_length-heard.ensures.goes
+    c.in_ok-heed.ensures c.post_on.ensures

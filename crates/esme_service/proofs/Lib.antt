@@ -1,0 +1,9 @@
+pub mod Deliveries
+pub mod Entries
+pub mod Frames
+pub mod Ids
+pub mod Overdues
+pub mod Owners
+pub mod Queued
+pub mod Receivers
+pub mod Reporting

@@ -1,0 +1,8 @@
+use Rattle.esme_service.proofs.Overdues.{one_looked_at}
+use Rattle.esme_service.proofs.overdue.overdue.Goals as goal
+
+pub loop-number-preserved : goal.loop-number-preserved
+loop-number-preserved c =
+    one_looked_at c.args.sessions.now.entries c.loop-number._number-iterator c.next.new.self c.in-Some._number.now c.args.now c.in-Some.session.now
+    c.loop-number.overdue.items c.pushed.result.now
+    c.add_overdue.new.overdue.items c.loop-number.invariant c.in-Some.ensures.steps c.pushed.ensures.pushed c.in_ok-add_overdue.ensures

@@ -1,0 +1,11 @@
+pub mod Settings
+pub mod Pushes
+pub mod Responses
+pub mod Reports
+pub mod Sessions
+pub mod Replies
+pub mod Hearing
+pub mod Told
+pub mod Pushing
+pub mod Sendings
+pub mod Service

@@ -1,0 +1,53 @@
+-- The sessions that are connected, by their numbers: one begins, is served, and goes (own).
+use Rattle.std.specs.Prelude.{ℕ, List, Option, Some, None, if◌then◌else◌}
+use Rattle.std.specs.Ordering.{nat_cmp}
+use Rattle.std.specs.Map.{remove_entry, set_value}
+use Rattle.std.specs.BTreeMap.{is_at, insert_entry}
+use Rattle.sessions.specs.Session.{Session}
+use Rattle.sessions.specs.States.{is_gone}
+use Rattle.sessions.specs.Steps.{on_wait}
+use Rattle.sessions.specs.Steps as sessions
+use Rattle.sessions.specs.declared.requested.Requested.{Requested}
+use Rattle.esme_service.specs.Pushes.{session_at}
+
+abbrev pub session_or_opened : Option Session → Session
+session_or_opened None = sessions.opened
+session_or_opened (Some session) = session
+
+-- the session of a number: one that is not connected begins now
+abbrev pub session_in : List (ℕ × Session) → ℕ → Session
+session_in connected number = session_or_opened (session_at connected number)
+
+-- the session of a number gives its place to this one
+abbrev pub put_at : List (ℕ × Session) → ℕ → Session → List (ℕ × Session)
+put_at connected number session = insert_entry nat_cmp (remove_entry (is_at (nat_cmp number)) connected) number session
+
+-- one that is gone is connected no longer: what comes next under its number begins another
+abbrev pub kept_at : List (ℕ × Session) → ℕ → Session → List (ℕ × Session)
+kept_at connected number session = if is_gone session.state then remove_entry (is_at (nat_cmp number)) connected else put_at connected number session
+
+-- ---- a request that waits
+
+-- a request that waits takes its place in the window
+abbrev pub in_window : Session → Requested → ℕ → Option ℕ → Session
+in_window session requested sequence None = session
+in_window session requested sequence (Some ticket) = on_wait session (record { ticket = ticket; requested = requested; sequence = sequence })
+
+abbrev pub waits_if : List (ℕ × Session) → ℕ → Requested → ℕ → Option ℕ → Option Session → List (ℕ × Session)
+waits_if connected number requested sequence ticket None = connected
+waits_if connected number requested sequence ticket (Some session) =
+    set_value (is_at (nat_cmp number)) connected (in_window session requested sequence ticket)
+
+-- it waits on the session of a number, if that is connected
+abbrev pub waits_at : List (ℕ × Session) → ℕ → Requested → ℕ → Option ℕ → List (ℕ × Session)
+waits_at connected number requested sequence ticket = waits_if connected number requested sequence ticket (session_at connected number)
+
+-- ---- its account
+
+abbrev pub account_of : Option Session → Option (List ℕ)
+account_of None = None
+account_of (Some session) = session.account
+
+-- the account of the session of a number, if it is connected and bound
+abbrev pub account_at : List (ℕ × Session) → ℕ → Option (List ℕ)
+account_at connected number = account_of (session_at connected number)

@@ -1,0 +1,101 @@
+//! Over which session a deliver_sm goes.
+
+ghost use Rattle.std.specs.Prelude.{◌≡◌, IfOk};
+ghost use Rattle.std.specs.Option.{option_copied};
+ghost use Rattle.esme_service.specs.Pushes.{accounts_up, is_of, receiver_of, takes_for, target_in};
+ghost use Rattle.esme_service.specs.Pushing.{IsPushed};
+
+use crate::pushed_on::PushedOn;
+use mc_types::Moment;
+use pdu_codec::SystemId;
+use sessions::{Delivery, Session};
+use std::alloc::{AllocError, Global};
+use std::collections::BTreeMap;
+
+/// The lowest number of a session, and the highest.
+const FIRST_SESSION: u8 = 1;
+
+const LAST_SESSION: u8 = 99;
+
+/// The account of each session that may receive.
+pub(crate) fn accounts_up(
+    alloc: Global,
+    sessions: &BTreeMap<u8, Session>,
+) -> Result<Vec<SystemId>, AllocError>
+    ensures { IfOk result (λ up. up.items ≡ accounts_up sessions.now.entries) }
+{
+    let mut accounts = Vec::new(alloc);
+    for number in FIRST_SESSION..=LAST_SESSION {
+        if let Some(account) = receiver_of(sessions.get(&number)) {
+            accounts.push(account.copy()?)?;
+        }
+    }
+    Ok(accounts)
+}
+
+/// The account of a session, if it may receive.
+fn receiver_of(session: Option<&Session>) -> Option<&SystemId>
+    ensures { option_copied result ≡ receiver_of (option_copied session.entry) }
+{
+    let session = session?;
+    if !session.state().may_receive() {
+        return None;
+    }
+    session.account()
+}
+
+/// Pushes a deliver_sm over the session with the lowest number that takes it for this account.
+pub(crate) fn push(
+    sessions: &mut BTreeMap<u8, Session>,
+    target: &SystemId,
+    now: Moment,
+    delivery: Delivery,
+) -> Option<PushedOn>
+    ensures { IsPushed sessions.old.entries target.now now delivery sessions.new.entries result }
+{
+    let number = target_in(sessions, target)?;
+    let Some(session) = sessions.get_mut(&number) else {
+        unreachable!();
+    };
+    let knows_optional = session.knows_optional();
+    let Ok(sequence) = session.push_request(now, delivery) else {
+        unreachable!();
+    };
+    Some(PushedOn {
+        number,
+        sequence,
+        knows_optional,
+    })
+}
+
+/// The lowest number of a session that takes a deliver_sm for this account.
+fn target_in(sessions: &BTreeMap<u8, Session>, target: &SystemId) -> Option<u8>
+    ensures { result ≡ target_in sessions.now.entries target.now }
+{
+    for number in FIRST_SESSION..=LAST_SESSION {
+        if takes_for(target, sessions.get(&number)) {
+            return Some(number);
+        }
+    }
+    None
+}
+
+/// Whether a session is of the account, may receive, and has room.
+fn takes_for(target: &SystemId, session: Option<&Session>) -> bool
+    ensures { result ≡ takes_for target.now (option_copied session.entry) }
+{
+    let Some(session) = session else {
+        return false;
+    };
+    session.push_refusal().is_none() && is_of(target, session.account())
+}
+
+/// Whether it is the account.
+fn is_of(target: &SystemId, account: Option<&SystemId>) -> bool
+    ensures { result ≡ is_of target.now (option_copied account.entry) }
+{
+    match account {
+        Some(account) => account.octets() == target.octets(),
+        None => false,
+    }
+}

@@ -1,7 +1,0 @@
-use Rattle.std.proofs.Common.{◌≡◌, ◌++◌}
-use Rattle.script_text.specs.Pushes.{accounts_up}
-use Rattle.script_sessions.proofs.Receivers.{accounts_from}
-use Rattle.script_sessions.proofs.receiving.accounts_up.Given as goal
-
-abbrev pub invariant-loop-number : goal.invariant-loop-number
-invariant-loop-number l = l.accounts.items ++ accounts_from l.sessions.entries l.number-counter ≡ accounts_up l.sessions.entries

@@ -1,7 +1,0 @@
-use Rattle.std.proofs.Common.{◌≡◌}
-use Rattle.script_text.specs.Pushes.{target_in}
-use Rattle.script_sessions.proofs.Receivers.{target_from}
-use Rattle.script_sessions.proofs.receiving.target_in.Given as goal
-
-abbrev pub invariant-loop-number : goal.invariant-loop-number
-invariant-loop-number l = target_from l.sessions.entries l.target l.number-counter ≡ target_in l.sessions.entries l.target
