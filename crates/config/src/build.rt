@@ -10,7 +10,7 @@ ghost use Rattle.config.specs.Config as spec;
 ghost use Rattle.config.specs.Rows.{has_twice};
 ghost use Rattle.config.specs.Building.{AreNumbered, IsAccountRow, IsNodeRow, IsRouteRow};
 
-use crate::config::{Config, NodeConfig};
+use crate::config::{Config, DEFAULT_VALIDITY, NodeConfig};
 use crate::key::Part;
 use crate::listen::read_listen;
 use crate::rows::{number_in, rows, text_in};
@@ -30,7 +30,7 @@ pub(crate) fn build(alloc: Global, document: &Value) -> Result<Config, AllocErro
     let routes = routes_of(alloc, rows(document, Part::Routes))?;
     Ok(Config {
         system_id: short_text(alloc, document, "system_id")?,
-        default_validity: number_at(document, "default_validity", 259_200) as u32,
+        default_validity: number_at(document, "default_validity", DEFAULT_VALIDITY as u64) as u32,
         first_serial: number_at(document, "first_serial", 1) as u32,
         stop_after: number_at(document, "stop_after", 0),
         nodes,

@@ -13,6 +13,9 @@ pub struct NodeConfig {
     pub store: Option<String>,
 }
 
+/// For how many seconds a message is kept that asks for no time, if the text says nothing of it: three days.
+pub(crate) const DEFAULT_VALIDITY: u32 = 259_200;
+
 /// What the text of a configuration says.
 #[derive(Drop)]
 pub struct Config {

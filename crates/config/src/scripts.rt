@@ -6,7 +6,7 @@ ghost use Rattle.accounts.specs.Routes.{has_route};
 ghost use Rattle.octet_fields.specs.Texts.{IsText};
 ghost use Rattle.config.specs.Scripts.{IsOfScripts, script_accounts, script_routes};
 
-use crate::config::Config;
+use crate::config::{Config, DEFAULT_VALIDITY};
 use accounts::{Account, Accounts, AccountsFault, Route, Routes};
 use pdu_codec::Text;
 use std::alloc::{AllocError, Global};
@@ -21,7 +21,7 @@ impl Config {
         let routes = routes_of_scripts(alloc)?;
         Ok(Config {
             system_id: Text::of(alloc, b"CENTRE")?,
-            default_validity: 259_200,
+            default_validity: DEFAULT_VALIDITY,
             first_serial: 1,
             stop_after: 0,
             nodes: Vec::new(alloc),

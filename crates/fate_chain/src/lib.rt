@@ -18,5 +18,6 @@ pub use chain::Chain;
 pub use decree::{Author, Decree, ErrorCode, Final, Kind};
 pub use fault::ChainFault;
 pub use laws::octets_are_of_one_chain;
+pub use marks::MOST_DECREES;
 pub use shared_submission::SharedSubmission;
 pub use submission::Submission;

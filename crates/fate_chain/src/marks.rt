@@ -10,6 +10,13 @@ ghost use Rattle.fate_chain.specs.Marks.{bare_kind, bare_message, IsMarkOf, IsSt
 use crate::decree::{Author, Final};
 use mc_types::Moment;
 
+/// How many decrees a chain has at most: what was taken, eight attempts, of each its failure, and the fate.
+pub const MOST_DECREES: usize = 18;
+/// How many attempts a message has at most.
+const MOST_ATTEMPTS: usize = 8;
+/// For how many seconds the next attempt waits after a failure, for each attempt so far.
+const RETRY_AFTER: usize = 60;
+
 /// The moments between which a message is tried.
 #[derive(Clone, Copy)]
 pub struct Term {
@@ -129,7 +136,7 @@ impl Standing {
             Act::Failed, Act::Attempt(number) => self.is_next(next.moment, *number);
             Act::Failed, Act::Fate(Final::Expired) => has_expired;
             Act::Failed, Act::Fate(Final::Deleted) => true;
-            Act::Failed, Act::Fate(Final::Undeliverable) => self.attempts == 8;
+            Act::Failed, Act::Fate(Final::Undeliverable) => self.attempts == MOST_ATTEMPTS;
         }
     }
 
@@ -145,11 +152,12 @@ impl Standing {
     fn is_next(&self, moment: Moment, number: u8) -> bool
         ensures { IsTrue result ↔ IsNextAttempt (bare_message self.now.term.schedule self.now.term.expiry) self.now.attempts self.now.newest.moment moment number }
     {
-        if self.attempts >= 8 || number as usize != self.attempts + 1 {
+        if self.attempts >= MOST_ATTEMPTS || number as usize != self.attempts + 1 {
             return false;
         }
         let failed = self.newest.moment.seconds() as usize;
-        moment < self.term.expiry && failed + 60 * self.attempts <= moment.seconds() as usize
+        moment < self.term.expiry
+            && failed + RETRY_AFTER * self.attempts <= moment.seconds() as usize
     }
 
     /// Whether this author may declare the newest attempt failed.

@@ -10,8 +10,11 @@ ghost use Rattle.mc_types.specs.declared.fault.TypeFault.TheVariants.{NotAnId, O
 ghost use Rattle.mc_types.specs.Texts.{id_in, is_ten_digits};
 
 use crate::fault::TypeFault;
-use crate::number::{Incarnation, NodeNo};
+use crate::number::{Incarnation, MOST_NODES, NodeNo};
 use std::marker::Model;
+
+/// The last serial of a message in an incarnation.
+pub const LAST_SERIAL: u32 = 99999;
 
 /// A message id (SMPP 3.4, section 5.2.23): the node that took the message, its incarnation then, and the message's
 /// serial in that incarnation, 1 to 99999. Contracts see it as the number that its ten digits write.
@@ -37,7 +40,7 @@ impl MsgId {
         ensures value { IfOk result (λ id. id ≡ id_of node incarnation serial) }
         ensures fault { IfErr result (λ fault. fault ≡ OutOfRange) }
     {
-        if serial < 1 || serial > 99999 {
+        if serial < 1 || serial > LAST_SERIAL {
             return Err(TypeFault::OutOfRange);
         }
         let node = node.number() as u64;
@@ -131,7 +134,7 @@ fn is_id(number: u64) -> bool
     let node = number / 1000000000;
     let incarnation = number / 100000 % 10000;
     let serial = number % 100000;
-    1 <= node && node <= 9 && 1 <= incarnation && 1 <= serial
+    1 <= node && node <= MOST_NODES as u64 && 1 <= incarnation && 1 <= serial
 }
 
 /// Whether the text is ten decimal digits.

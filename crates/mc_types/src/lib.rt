@@ -10,7 +10,7 @@ mod slot;
 
 pub use ballot::Ballot;
 pub use fault::TypeFault;
-pub use id::{MsgId, ids_are_their_texts};
+pub use id::{LAST_SERIAL, MsgId, ids_are_their_texts};
 pub use node_set::NodeSet;
-pub use number::{Incarnation, Moment, NodeNo};
+pub use number::{Incarnation, LAST_INCARNATION, MOST_NODES, Moment, NodeNo};
 pub use slot::Slot;

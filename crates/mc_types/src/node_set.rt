@@ -4,7 +4,7 @@ ghost use Rattle.std.specs.Prelude.{◌≡◌, ◌≤◌, ◌↔◌, ℕ, ◌==�
 ghost use Rattle.mc_model.specs.synod.Majority.{IsMajority, count};
 ghost use Rattle.mc_types.specs.Nodes.{has};
 
-use crate::number::NodeNo;
+use crate::number::{MOST_NODES, NodeNo};
 use std::marker::Model;
 
 /// A set of nodes, in 16 bits: bit n - 1 is set for node n. It takes no memory. Contracts see it as the number of its
@@ -71,6 +71,6 @@ impl NodeSet {
     fn has_number(self, node: u8) -> bool
         ensures { result ≡ has self node }
     {
-        1 <= node && node <= 9 && self.bits & (1 << (node - 1)) != 0
+        1 <= node && node <= MOST_NODES && self.bits & (1 << (node - 1)) != 0
     }
 }

@@ -7,6 +7,11 @@ ghost use Rattle.mc_types.specs.declared.fault.TypeFault.TheVariants.{OutOfRange
 use crate::fault::TypeFault;
 use std::marker::Model;
 
+/// How many nodes a cluster has at most.
+pub const MOST_NODES: u8 = 9;
+/// The last incarnation of a node.
+pub const LAST_INCARNATION: u16 = 9999;
+
 /// The number of a node, 1 to 9.
 #[derive(Clone, Copy, Debug, PartialEq, Eq, PartialOrd, Ord)]
 pub struct NodeNo {
@@ -30,7 +35,7 @@ impl NodeNo {
         ensures value { IfOk result (λ node. node ≡ number) }
         ensures fault { IfErr result (λ fault. fault ≡ OutOfRange) }
     {
-        if number < 1 || number > 9 {
+        if number < 1 || number > MOST_NODES {
             return Err(TypeFault::OutOfRange);
         }
         Ok(NodeNo { number })
@@ -76,7 +81,7 @@ impl Incarnation {
         ensures value { IfOk result (λ incarnation. incarnation ≡ number) }
         ensures fault { IfErr result (λ fault. fault ≡ OutOfRange) }
     {
-        if number < 1 || number > 9999 {
+        if number < 1 || number > LAST_INCARNATION {
             return Err(TypeFault::OutOfRange);
         }
         Ok(Incarnation { starts: number })

@@ -5,7 +5,7 @@ ghost use Rattle.mc_model.specs.message.Ids.{IsNode};
 ghost use Rattle.mc_types.specs.declared.fault.TypeFault.TheVariants.{OutOfRange};
 ghost use Rattle.node_kept.specs.Setups.{IsSetup, setup_of};
 
-use mc_types::{NodeNo, TypeFault};
+use mc_types::{LAST_SERIAL, MOST_NODES, NodeNo, TypeFault};
 use std::marker::Model;
 
 /// With what a node is set up.
@@ -49,7 +49,11 @@ impl Setup {
         ensures value { IfOk result (λ setup. setup ≡ setup_of node nodes first_serial default_validity) }
         ensures fault { IfErr result (λ fault. fault ≡ OutOfRange) }
     {
-        if node.number() > nodes || nodes > 9 || first_serial < 1 || first_serial > 99999 {
+        if node.number() > nodes
+            || nodes > MOST_NODES
+            || first_serial < 1
+            || first_serial > LAST_SERIAL
+        {
             return Err(TypeFault::OutOfRange);
         }
         Ok(Setup {

@@ -3,12 +3,13 @@
 ghost use Rattle.std.specs.Prelude.{◌≡◌, ◌≤◌, ◌==◌, ℕ, true, if◌then◌else◌};
 ghost use Rattle.node_parts.specs.Attempting.{attempted_in, untried};
 
+use fate_chain::MOST_DECREES;
 use rules::Attempted;
 
 /// What a node did, in its incarnation, with its attempts on one message, by their places in the chain, 0 to 17.
 #[derive(Clone, Copy, Debug)]
 pub struct Attempts {
-    each: [Attempted; 18],
+    each: [Attempted; MOST_DECREES],
 }
 
 impl Attempts {
@@ -20,7 +21,7 @@ impl Attempts {
             each: [Attempted {
                 granted: false,
                 closed: None,
-            }; 18],
+            }; MOST_DECREES],
         }
     }
 

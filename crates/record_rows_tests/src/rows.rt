@@ -1,18 +1,20 @@
 //! Rows that are put and read.
 
 use crate::same::assert_same;
-use crate::values::{LIFE, SLOTS, database, put, seen};
+use crate::values::{LIFE, SLOTS, Seen, database, put, seen};
 use record_rows::{ReadFault, put_incarnation, read_incarnation};
 use std::alloc::Global;
 use std::process::Abort;
 
-const NO_ROWS: Result<[Option<crate::values::Seen>; 4], ReadFault> = Ok([None, None, None, None]);
+type Seeing = Result<[Option<Seen>; 4], ReadFault>;
+
+const NO_ROWS: Seeing = Ok([None, None, None, None]);
 
 // Rows that were put are read by id and place, and one that is put again takes the place of the first.
 fn puts_and_reads(rt: &impl Abort, alloc: Global, texts: &[&str]) {
     let mut conn = database(rt, alloc, texts);
     let before = seen(alloc, &mut conn);
-    let puts = (
+    let puts = [
         put(rt, &mut conn, alloc, (1000200001, 0, 262161, 0), &[]),
         put(
             rt,
@@ -23,21 +25,21 @@ fn puts_and_reads(rt: &impl Abort, alloc: Global, texts: &[&str]) {
         ),
         put(rt, &mut conn, alloc, (1000100001, 0, 262161, 262161), &[1]),
         put(rt, &mut conn, alloc, (1000200001, 0, 262177, 262177), &[7]),
-    );
+    ];
     let after = seen(alloc, &mut conn);
     drop(conn);
-    assert_same(rt, &before, &NO_ROWS);
-    assert_same(rt, &puts, &(Ok(()), Ok(()), Ok(()), Ok(())));
     let first = Some(((1000100001, 0, 262161, 262161), (1, Some(1), None)));
     let second = Some(((1000100001, 1, 524305, 262161), (2, Some(1), Some(2))));
     let third = Some(((1000200001, 0, 262177, 262177), (1, Some(7), None)));
-    assert_same(rt, &after, &Ok([first, second, third, None]));
+    let wanted = (NO_ROWS, [Ok(()); 4], Ok([first, second, third, None]));
+    assert_same(rt, &(before, puts, after), &wanted);
 }
 
 #[test]
 fn rows_are_read_in_order(rt: HostRuntime) {
-    puts_and_reads(&rt, rt.alloc(), &[LIFE, SLOTS]);
-    puts_and_reads(&rt, rt.alloc(), &[SLOTS, LIFE]);
+    let alloc = rt.alloc();
+    puts_and_reads(&rt, alloc, &[LIFE, SLOTS]);
+    puts_and_reads(&rt, alloc, &[SLOTS, LIFE]);
 }
 
 #[test]
@@ -53,25 +55,32 @@ fn incarnations_rise(rt: HostRuntime) {
         read_incarnation(&mut conn),
     );
     drop(conn);
-    assert_same(&rt, &none, &Ok(None));
-    assert_same(&rt, &first, &(Ok(()), Ok(Some(1))));
-    assert_same(&rt, &second, &(Ok(()), Ok(Some(2))));
+    let wanted = (Ok(None), (Ok(()), Ok(Some(1))), (Ok(()), Ok(Some(2))));
+    assert_same(&rt, &(none, first, second), &wanted);
 }
 
-fn assert_damaged(rt: &impl Abort, alloc: Global, text: &str) {
+// What is seen in a database in which this statement was run.
+fn seen_after(rt: &impl Abort, alloc: Global, text: &str) -> Seeing {
     let mut conn = database(rt, alloc, &[LIFE, SLOTS, text]);
     let seen = seen(alloc, &mut conn);
     drop(conn);
-    assert_same(rt, &seen, &Err(ReadFault::Damaged));
+    seen
 }
+
+fn assert_seen(rt: &impl Abort, alloc: Global, text: &str, wanted: Seeing) {
+    assert_same(rt, &(text, seen_after(rt, alloc, text)), &(text, wanted));
+}
+
+const DAMAGED: Seeing = Err(ReadFault::Damaged);
 
 // What the columns of `slots` let through and no record is.
 #[test]
 fn damaged_rows_are_refused(rt: HostRuntime) {
+    let alloc = rt.alloc();
     for value in ["1.5", "'x'", "x'01'"] {
         for at in 0..4 {
             let one = |k: i32| if k == at { value } else { "1" };
-            let text = format!(in rt.alloc();
+            let text = format!(in alloc;
                 "INSERT INTO slots VALUES ({}, {}, {}, {}, x'')",
                 one(0),
                 one(1),
@@ -79,14 +88,14 @@ fn damaged_rows_are_refused(rt: HostRuntime) {
                 one(3)
             )
             .expect(&rt, "a text");
-            assert_damaged(&rt, rt.alloc(), text.as_str());
+            assert_seen(&rt, alloc, text.as_str(), DAMAGED);
         }
     }
     for chain in ["1", "1.5", "'x'"] {
-        let text = format!(in rt.alloc(); "INSERT INTO slots VALUES (1, 0, 1, 0, {chain})").expect(
+        let text = format!(in alloc; "INSERT INTO slots VALUES (1, 0, 1, 0, {chain})").expect(
             &rt, "a text",
         );
-        assert_damaged(&rt, rt.alloc(), text.as_str());
+        assert_seen(&rt, alloc, text.as_str(), DAMAGED);
     }
 }
 
@@ -95,14 +104,11 @@ fn damaged_rows_are_refused(rt: HostRuntime) {
 fn numbers_are_raw(rt: HostRuntime) {
     let text =
         "INSERT INTO slots VALUES (-1, 9223372036854775807, -9223372036854775808, '5', x'00ff')";
-    let mut conn = database(&rt, rt.alloc(), &[LIFE, SLOTS, text]);
-    let seen = seen(rt.alloc(), &mut conn);
-    drop(conn);
     let row = Some((
         (-1, 9223372036854775807, -9223372036854775808, 5),
         (2, Some(0), Some(255)),
     ));
-    assert_same(&rt, &seen, &Ok([row, None, None, None]));
+    assert_seen(&rt, rt.alloc(), text, Ok([row, None, None, None]));
 }
 
 #[test]

@@ -6,69 +6,87 @@ use record_rows::{Fault, Found, add_life, add_slots, find_tables, make_tables, r
 use std::alloc::Global;
 use std::process::Abort;
 
-fn assert_found(rt: &impl Abort, alloc: Global, texts: &[&str], wanted: Found) {
-    let conn = database(rt, alloc, texts);
-    let found = find_tables(alloc, &conn);
-    drop(conn);
-    assert_same(rt, &found, &Ok(wanted));
-}
-
 const OTHER: &str = "CREATE TABLE other (x)";
 
 const UNCHECKED: &str = "CREATE TABLE life (one INTEGER PRIMARY KEY, incarnation INTEGER NOT NULL)";
 
-// The tables are recognised, and no other form of them.
-#[test]
-fn tables_are_found(rt: HostRuntime) {
-    assert_found(&rt, rt.alloc(), &[], Found::Neither);
-    assert_found(&rt, rt.alloc(), &[LIFE], Found::LifeAlone);
-    assert_found(&rt, rt.alloc(), &[LIFE, SLOTS], Found::LifeFirst);
-    assert_found(&rt, rt.alloc(), &[LIFE, SLOTS, OTHER], Found::Foreign);
-    assert_found(&rt, rt.alloc(), &[SLOTS, LIFE], Found::SlotsFirst);
-    assert_found(&rt, rt.alloc(), &[UNCHECKED, SLOTS], Found::Foreign);
+// What is made in a database.
+#[derive(Clone, Copy, Debug)]
+enum Making {
+    Nothing,
+    Slots,
+    Life,
+    Both,
 }
 
-#[test]
-fn slots_are_added(rt: HostRuntime) {
-    let mut conn = database(&rt, rt.alloc(), &[LIFE]);
-    let added = add_slots(&mut conn);
-    let found = find_tables(rt.alloc(), &conn);
+// What making it answers over a database with these tables, and which are found then.
+fn made(
+    rt: &impl Abort,
+    alloc: Global,
+    (texts, making): (&[&str], Making),
+) -> (Result<(), Fault>, Option<Found>) {
+    let mut conn = database(rt, alloc, texts);
+    let made = match making {
+        Making::Nothing => Ok(()),
+        Making::Slots => add_slots(&mut conn),
+        Making::Life => add_life(&mut conn),
+        Making::Both => make_tables(&mut conn),
+    };
+    let found = find_tables(alloc, &conn);
     drop(conn);
-    assert_same(&rt, &(added, found), &(Ok(()), Ok(Found::LifeFirst)));
+    (made, found.ok())
 }
 
+// The tables of a database, what is made in it, what that answers, and what is found then.
+type Row = (&'static [&'static str], Making, Result<(), Fault>, Found);
+
+// The tables are recognised, and no other form of them. Each is added beside the other. They are made together or not at all: what was there
+// stays, and in a database that has one of them, neither is made.
+const MADE: &[Row] = &[
+    (&[], Making::Nothing, Ok(()), Found::Neither),
+    (&[LIFE], Making::Nothing, Ok(()), Found::LifeAlone),
+    (&[LIFE, SLOTS], Making::Nothing, Ok(()), Found::LifeFirst),
+    (
+        &[LIFE, SLOTS, OTHER],
+        Making::Nothing,
+        Ok(()),
+        Found::Foreign,
+    ),
+    (&[SLOTS, LIFE], Making::Nothing, Ok(()), Found::SlotsFirst),
+    (&[UNCHECKED, SLOTS], Making::Nothing, Ok(()), Found::Foreign),
+    (&[LIFE], Making::Slots, Ok(()), Found::LifeFirst),
+    (&[SLOTS], Making::Life, Ok(()), Found::SlotsFirst),
+    (
+        &[SLOTS],
+        Making::Both,
+        Err(Fault::Undone),
+        Found::SlotsAlone,
+    ),
+];
+
 #[test]
-fn life_is_added(rt: HostRuntime) {
-    let mut conn = database(&rt, rt.alloc(), &[SLOTS]);
-    let added = add_life(&mut conn);
-    let found = find_tables(rt.alloc(), &conn);
-    drop(conn);
-    assert_same(&rt, &(added, found), &(Ok(()), Ok(Found::SlotsFirst)));
+fn tables_are_found_and_made(rt: HostRuntime) {
+    let alloc = rt.alloc();
+    for (texts, making, answer, found) in MADE {
+        let seen = made(&rt, alloc, (texts, *making));
+        assert_same(&rt, &(*texts, seen), &(*texts, (*answer, Some(*found))));
+    }
 }
 
 #[test]
 fn both_tables_are_made(rt: HostRuntime) {
-    let mut conn = database(&rt, rt.alloc(), &[]);
+    let alloc = rt.alloc();
+    let mut conn = database(&rt, alloc, &[]);
     let made = make_tables(&mut conn);
-    let found = find_tables(rt.alloc(), &conn);
-    let rows = seen(rt.alloc(), &mut conn);
+    let found = find_tables(alloc, &conn);
+    let rows = seen(alloc, &mut conn);
     let last = read_incarnation(&mut conn);
     drop(conn);
-    assert_same(&rt, &(made, found), &(Ok(()), Ok(Found::LifeFirst)));
-    assert_same(&rt, &rows, &Ok([None, None, None, None]));
-    assert_same(&rt, &last, &Ok(None));
-}
-
-// What was there stays: in a database that has one of them, neither is made.
-#[test]
-fn the_tables_are_made_together_or_not_at_all(rt: HostRuntime) {
-    let mut conn = database(&rt, rt.alloc(), &[SLOTS]);
-    let made = make_tables(&mut conn);
-    let found = find_tables(rt.alloc(), &conn);
-    drop(conn);
+    let found = ((made, found), (rows, last));
+    let rows = Ok([None, None, None, None]);
     assert_same(
         &rt,
-        &(made, found),
-        &(Err(Fault::Undone), Ok(Found::SlotsAlone)),
+        &found,
+        &((Ok(()), Ok(Found::LifeFirst)), (rows, Ok(None))),
     );
 }

@@ -73,27 +73,25 @@ impl Centre {
     /// centre; so it is below.
     pub fn octets(
         &mut self,
-        alloc: Global,
         config: &Config,
         node: NodeNo,
-        session: u8,
+        number: u8,
         octets: &[u8],
         text: &mut Vec<u8>,
     ) -> Result<(), AllocError>
-        ensures { OnOk result (Does (λ w. hears (settings_of config.now) w node session octets.now) self.old self.new text.old.items text.new.items) }
+        ensures { OnOk result (Does (λ w. hears (settings_of config.now) w node number octets.now) self.old self.new text.old.items text.new.items) }
     {
         let at = node.number() as usize - 1;
         if at >= self.stations.len() {
             return Ok(());
         }
-        self.stations[at].octets(alloc, config, node, session, octets, text)?;
+        self.stations[at].octets(config, node, number, octets, text)?;
         self.share(at)
     }
 
     /// A moment has come at a node.
     pub fn tick(
         &mut self,
-        alloc: Global,
         node: NodeNo,
         moment: Moment,
         text: &mut Vec<u8>,
@@ -104,32 +102,25 @@ impl Centre {
         if at >= self.stations.len() {
             return Ok(());
         }
-        self.stations[at].tick(alloc, node, moment, text)?;
+        self.stations[at].tick(node, moment, text)?;
         self.share(at)
     }
 
     /// The attempt of a message is asked for at a node.
-    pub fn grant(
-        &mut self,
-        alloc: Global,
-        node: NodeNo,
-        id: MsgId,
-        text: &mut Vec<u8>,
-    ) -> Result<(), AllocError>
+    pub fn grant(&mut self, node: NodeNo, id: MsgId, text: &mut Vec<u8>) -> Result<(), AllocError>
         ensures { OnOk result (Does (λ w. grants w node id) self.old self.new text.old.items text.new.items) }
     {
         let at = node.number() as usize - 1;
         if at >= self.stations.len() {
             return Ok(());
         }
-        self.stations[at].grant(alloc, node, id, text)?;
+        self.stations[at].grant(node, id, text)?;
         self.share(at)
     }
 
     /// The packet of a number comes to a node.
     pub fn deliver(
         &mut self,
-        alloc: Global,
         number: u64,
         node: NodeNo,
         text: &mut Vec<u8>,
@@ -149,7 +140,7 @@ impl Centre {
         }
         self.arrivals.add(number, node)?;
         let packet = packet.copy()?;
-        self.stations[at].deliver(alloc, node, packet, text)?;
+        self.stations[at].deliver(node, packet, text)?;
         self.share(at)
     }
 
@@ -176,31 +167,21 @@ impl Centre {
     }
 
     /// A node starts anew, in its next incarnation, whether it is up or down.
-    pub fn restart(
-        &mut self,
-        alloc: Global,
-        node: NodeNo,
-        text: &mut Vec<u8>,
-    ) -> Result<(), AllocError>
+    pub fn restart(&mut self, node: NodeNo, text: &mut Vec<u8>) -> Result<(), AllocError>
         ensures { OnOk result (Does (λ w. restarts w node) self.old self.new text.old.items text.new.items) }
     {
         let at = node.number() as usize - 1;
         if at >= self.stations.len() {
             return Ok(());
         }
-        let station = self.stations.remove(at).restart(alloc, node, text)?;
+        let station = self.stations.remove(at).restart(node, text)?;
         self.put(at, station)?;
         self.share(at)
     }
 
     /// Packets come that did not come yet, between these nodes, or between all if these are none: the first by its number, to the first node that
     /// has not got it, also those that are sent meanwhile. After 100,000 it adds a line that tells so.
-    pub fn settle(
-        &mut self,
-        alloc: Global,
-        nodes: NodeSet,
-        text: &mut Vec<u8>,
-    ) -> Result<(), AllocError>
+    pub fn settle(&mut self, nodes: NodeSet, text: &mut Vec<u8>) -> Result<(), AllocError>
         ensures { OnOk result (Does (λ w. on_settle w (nodes_with (has nodes))) self.old self.new text.old.items text.new.items) }
     {
         let mut number = self.first_open(nodes);
@@ -208,7 +189,7 @@ impl Centre {
             let Some(due) = self.due(nodes, number) else {
                 return Ok(());
             };
-            self.deliver(alloc, due.number, due.node, text)?;
+            self.deliver(due.number, due.node, text)?;
             number = due.number;
         }
         write_unsettled(text)
@@ -278,12 +259,7 @@ impl Centre {
     }
 
     /// All packets that were sent before come again to all nodes that are up, from the highest number down, so many times.
-    pub fn replay(
-        &mut self,
-        alloc: Global,
-        count: u64,
-        text: &mut Vec<u8>,
-    ) -> Result<(), AllocError>
+    pub fn replay(&mut self, count: u64, text: &mut Vec<u8>) -> Result<(), AllocError>
         ensures { OnOk result (Does (λ w. on_replay w count) self.old self.new text.old.items text.new.items) }
     {
         let sent = self.packets.len() as u64;
@@ -291,30 +267,25 @@ impl Centre {
             return Ok(());
         }
         for _time in 0..count {
-            self.all_come(alloc, sent, text)?;
+            self.all_come(sent, text)?;
         }
         Ok(())
     }
 
     /// The packets up to the one of this number come again to all nodes that are up, from the highest number down.
-    fn all_come(&mut self, alloc: Global, sent: u64, text: &mut Vec<u8>) -> Result<(), AllocError>
+    fn all_come(&mut self, sent: u64, text: &mut Vec<u8>) -> Result<(), AllocError>
         ensures { OnOk result (Does (λ w. all_come (reverse (range_with_len 1 sent)) w) self.old self.new text.old.items text.new.items) }
     {
         let mut number = sent;
         while number > 0 {
-            self.comes_to_all(alloc, number, text)?;
+            self.comes_to_all(number, text)?;
             number -= 1;
         }
         Ok(())
     }
 
     /// The packet of a number comes again to all nodes that are up.
-    fn comes_to_all(
-        &mut self,
-        alloc: Global,
-        number: u64,
-        text: &mut Vec<u8>,
-    ) -> Result<(), AllocError>
+    fn comes_to_all(&mut self, number: u64, text: &mut Vec<u8>) -> Result<(), AllocError>
         ensures { OnOk result (Does (λ w. comes_to number (node_numbers w) w) self.old self.new text.old.items text.new.items) }
     {
         for place in 0..9u8 {
@@ -324,7 +295,7 @@ impl Centre {
             if !station.is_up() {
                 continue;
             }
-            self.deliver(alloc, number, NodeNo::of(place + 1), text)?;
+            self.deliver(number, NodeNo::of(place + 1), text)?;
         }
         Ok(())
     }

@@ -102,7 +102,7 @@ fn step(
     };
     match stage {
         None => start(alloc, config, stage, said),
-        Some(centre) => act(alloc, config, centre, said, text),
+        Some(centre) => act(config, centre, said, text),
     }
 }
 
@@ -130,7 +130,6 @@ fn start(
 
 /// Does what a line says, if it names no node that is not there, and may stand there.
 fn act(
-    alloc: Global,
     config: &Config,
     centre: &mut Centre,
     said: Line,
@@ -151,9 +150,9 @@ fn act(
             session,
             octets,
         } => {
-            centre.octets(alloc, config, node, session, &octets, text)?;
+            centre.octets(config, node, session, &octets, text)?;
         }
-        Line::Deliver { number, node } => centre.deliver(alloc, number, node, text)?,
+        Line::Deliver { number, node } => centre.deliver(number, node, text)?,
         Line::Crash {
             node,
             number,
@@ -162,11 +161,11 @@ fn act(
             let found = if after { Found::After } else { Found::Before };
             centre.crash(node, number, found, text)?;
         }
-        Line::Tick { node, moment } => centre.tick(alloc, node, moment, text)?,
-        Line::Grant { node, id } => centre.grant(alloc, node, id, text)?,
-        Line::Settle { nodes } => centre.settle(alloc, nodes, text)?,
-        Line::Restart { node } => centre.restart(alloc, node, text)?,
-        Line::Replay { count } => centre.replay(alloc, count, text)?,
+        Line::Tick { node, moment } => centre.tick(node, moment, text)?,
+        Line::Grant { node, id } => centre.grant(node, id, text)?,
+        Line::Settle { nodes } => centre.settle(nodes, text)?,
+        Line::Restart { node } => centre.restart(node, text)?,
+        Line::Replay { count } => centre.replay(count, text)?,
     }
     Ok(true)
 }

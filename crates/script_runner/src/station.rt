@@ -13,7 +13,7 @@ use mc_types::{Moment, MsgId, NodeNo};
 use node_core::Found;
 use script_site::{Restarted, Site, StoppedNode, write_declined};
 use sim_net::Packets;
-use std::alloc::{AllocError, Global};
+use std::alloc::AllocError;
 use synod_acceptor::Packet;
 
 /// The number with which a line is refused whose node is down.
@@ -44,7 +44,6 @@ impl Station {
     /// The next octets of a session's stream came. After an `Err`, which is want of memory, nothing is said of the station; so it is below.
     pub fn octets(
         &mut self,
-        alloc: Global,
         config: &Config,
         node: NodeNo,
         number: u8,
@@ -56,7 +55,7 @@ impl Station {
         ensures up { OnOk result (is_up self.new ≡ is_up self.old) }
     {
         match self {
-            Station::Up(site) => site.octets(alloc, config, node, number, octets, text),
+            Station::Up(site) => site.octets(config, node, number, octets, text),
             Station::Down(_) => write_declined(text, DOWN),
         }
     }
@@ -64,7 +63,6 @@ impl Station {
     /// A moment has come.
     pub fn tick(
         &mut self,
-        alloc: Global,
         node: NodeNo,
         moment: Moment,
         text: &mut Vec<u8>,
@@ -73,24 +71,18 @@ impl Station {
         ensures up { OnOk result (is_up self.new ≡ is_up self.old) }
     {
         match self {
-            Station::Up(site) => site.tick(alloc, node, moment, text),
+            Station::Up(site) => site.tick(node, moment, text),
             Station::Down(_) => write_declined(text, DOWN),
         }
     }
 
     /// The attempt of a message is asked for.
-    pub fn grant(
-        &mut self,
-        alloc: Global,
-        node: NodeNo,
-        id: MsgId,
-        text: &mut Vec<u8>,
-    ) -> Result<(), AllocError>
+    pub fn grant(&mut self, node: NodeNo, id: MsgId, text: &mut Vec<u8>) -> Result<(), AllocError>
         ensures acts { OnOk result (ActsAt node (λ runner. on_grant runner id) self.old self.new text.old.items text.new.items) }
         ensures up { OnOk result (is_up self.new ≡ is_up self.old) }
     {
         match self {
-            Station::Up(site) => site.grant(alloc, node, id, text),
+            Station::Up(site) => site.grant(node, id, text),
             Station::Down(_) => write_declined(text, DOWN),
         }
     }
@@ -98,7 +90,6 @@ impl Station {
     /// A packet comes.
     pub fn deliver(
         &mut self,
-        alloc: Global,
         node: NodeNo,
         packet: Packet,
         text: &mut Vec<u8>,
@@ -107,7 +98,7 @@ impl Station {
         ensures up { OnOk result (is_up self.new ≡ is_up self.old) }
     {
         match self {
-            Station::Up(site) => site.deliver(alloc, node, packet, text),
+            Station::Up(site) => site.deliver(node, packet, text),
             Station::Down(_) => {
                 drop(packet);
                 write_declined(text, DOWN)
@@ -149,22 +140,17 @@ impl Station {
     }
 
     /// The node starts anew, whether it is up or down, unless it has begun its last incarnation.
-    pub fn restart(
-        self,
-        alloc: Global,
-        node: NodeNo,
-        text: &mut Vec<u8>,
-    ) -> Result<Station, AllocError>
+    pub fn restart(self, node: NodeNo, text: &mut Vec<u8>) -> Result<Station, AllocError>
         ensures { IfOk result (λ station. Begins node self station text.old.items text.new.items) }
     {
         match self {
             Station::Up(site) => {
                 let mut site = site;
-                site.restart(alloc, node, text)?;
+                site.restart(node, text)?;
                 Ok(Station::Up(site))
             }
-            Station::Down(stopped) => match stopped.restart(alloc)? {
-                Restarted::Up(running) => Ok(Station::Up(Site::of(alloc, running))),
+            Station::Down(stopped) => match stopped.restart(*text.allocator())? {
+                Restarted::Up(running) => Ok(Station::Up(Site::of(*text.allocator(), running))),
                 Restarted::Down(stopped) => {
                     write_declined(text, NO_INCARNATION)?;
                     Ok(Station::Down(stopped))

@@ -1,12 +1,12 @@
 //! A session with an ESME.
 
-ghost use Rattle.std.specs.Prelude.{◌≡◌, ◌≤◌, length, nat_le, find, filter, ◌==◌, true, Some, None, IfOk, OnOk, OnErr, IsTrue, if◌then◌else◌};
+ghost use Rattle.std.specs.Prelude.{◌≡◌, ◌≤◌, length, nat_le, find, filter, ◌==◌, true, Some, None, is_some, IfOk, OnOk, OnErr, IsTrue, if◌then◌else◌};
 ghost use Rattle.std.specs.List.{list_any};
 ghost use Rattle.std.specs.Option.{option_copied};
 ghost use Rattle.accounts.specs.Accounts.{account_of, bind_refusal};
 ghost use Rattle.sessions.specs.Steps as steps;
 ghost use Rattle.sessions.specs.Steps.{Reacts};
-ghost use Rattle.sessions.specs.States.{is_fresh, may_ask};
+ghost use Rattle.sessions.specs.States.{is_bound, is_fresh, may_ask};
 ghost use Rattle.sessions.specs.Session.{sequence_after};
 ghost use Rattle.sessions.specs.Windows.{is_overdue};
 ghost use Rattle.sessions.specs.Responses.{bind_request, requested_by};
@@ -91,9 +91,10 @@ impl Session {
         })
     }
 
-    /// Its state.
+    /// Its state. It has an account exactly while it is bound.
     pub fn state(&self) -> SessionState
-        ensures { result ≡ self.now.state }
+        ensures state { result ≡ self.now.state }
+        ensures account { is_some self.now.account ≡ is_bound self.now.state }
     {
         self.state
     }

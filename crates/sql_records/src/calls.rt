@@ -14,7 +14,7 @@ ghost use Rattle.sql_records.specs.declared.fault.NextFault.TheVariants.{Damaged
 
 use crate::fault::NextFault;
 use crate::row::{records_of, row_of};
-use mc_types::Incarnation;
+use mc_types::{Incarnation, LAST_INCARNATION};
 use record_rows::{Fault, ReadFault, put_incarnation, put_slot, read_incarnation, read_slots};
 use sqlite::{Alter, Connection};
 use std::alloc::Global;
@@ -64,13 +64,13 @@ fn next_after(last: Option<i64>) -> Result<Incarnation, NextFault>
         Some(number) => number,
         None => 0,
     };
-    if started < 0 || started > 9999 {
+    if started < 0 || started > LAST_INCARNATION as i64 {
         return Err(NextFault::Damaged);
     }
     if started == 0 && last.is_some() {
         return Err(NextFault::Damaged);
     }
-    if started == 9999 {
+    if started == LAST_INCARNATION as i64 {
         return Err(NextFault::Incarnations);
     }
     Ok(Incarnation::of(started as u16 + 1))

@@ -102,13 +102,13 @@ impl<S: Alter> SqlStore<S> {
         ensures { result ≡ self.conn }
     {
         let SqlStore {
-            conn,
+            conn: left,
             order: _,
             spent: _,
             failed: _,
             alloc: _,
         } = self;
-        conn
+        left
     }
 }
 

@@ -8,7 +8,7 @@ mod record;
 mod vote;
 
 pub use acceptor::{Acceptor, Verdict};
-pub use fate_chain::{Author, Chain};
+pub use fate_chain::{Author, Chain, MOST_DECREES};
 pub use laws::verdicts_keep_the_rule;
 pub use packet::{Name, Packet};
 pub use record::{Change, Record};

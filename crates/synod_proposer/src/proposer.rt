@@ -14,7 +14,7 @@ use crate::round::Round;
 use mc_types::{Ballot, NodeNo, Slot};
 use std::alloc::AllocError;
 use std::marker::Model;
-use synod_acceptor::{Author, Chain, Packet, Report};
+use synod_acceptor::{Author, Chain, MOST_DECREES, Packet, Report};
 
 /// What a node proposes on one message: the round that runs, if any, and the highest round that it saw at each place of the chain.
 /// All that is handed to it is of that message, and a chain has 18 places at most.
@@ -23,7 +23,7 @@ pub struct Proposer {
     me: Author,
     nodes: u8,
     round: Option<Round>,
-    seen: [u32; 18],
+    seen: [u32; MOST_DECREES],
 }
 
 impl Model for Proposer {
@@ -52,7 +52,7 @@ impl Proposer {
             me,
             nodes,
             round: None,
-            seen: [0; 18],
+            seen: [0; MOST_DECREES],
         }
     }
 
@@ -195,7 +195,7 @@ fn is_at(round: &Option<Round>, slot: Slot, ballot: Ballot) -> bool
 }
 
 /// The highest round that was seen at a place; 0 if none was.
-fn seen_at(seen: &[u32; 18], place: u8) -> u32
+fn seen_at(seen: &[u32; MOST_DECREES], place: u8) -> u32
     ensures { result ≡ get_or seen.now place 0 }
 {
     match seen.get(place as usize) {
@@ -205,10 +205,10 @@ fn seen_at(seen: &[u32; 18], place: u8) -> u32
 }
 
 /// Notes the highest round that was seen at a place.
-fn note(seen: &mut [u32; 18], place: u8, round: u32)
+fn note(seen: &mut [u32; MOST_DECREES], place: u8, round: u32)
     ensures { seen.new ≡ set seen.old place round }
 {
-    if (place as usize) < 18 {
+    if (place as usize) < MOST_DECREES {
         seen[place as usize] = round;
     }
 }

@@ -10,7 +10,7 @@ ghost use Rattle.stable_store.specs.declared.fault.StoreFault.TheVariants as sto
 ghost use Rattle.world.specs.Members.{HasCrashed, HasRestarted, HasSaved, HasSent, IsOpened, IsUnmoved};
 
 use crate::given::Given;
-use mc_types::Moment;
+use mc_types::{LAST_INCARNATION, Moment};
 use node_core::{
     Found, Input, Life, Node, Outputs, Pending, Setup, StepFault, open_node, opens_as_restarted,
 };
@@ -20,9 +20,6 @@ use stable_store::{ListStore, StoreFault};
 use std::alloc::{AllocError, Global};
 use std::marker::Model;
 use synod_acceptor::Packet;
-
-/// The last incarnation of a node.
-const LAST_INCARNATION: u16 = 9999;
 
 /// One node of a world, over a store in memory, and whether it is up.
 #[derive(Drop)]

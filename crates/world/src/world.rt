@@ -14,7 +14,7 @@ use crate::fault::{StartFault, WorldFault};
 use crate::given::Given;
 use crate::member::Member;
 use crate::step::Step;
-use mc_types::NodeNo;
+use mc_types::{LAST_SERIAL, MOST_NODES, NodeNo};
 use node_core::{Found, Input, Setup};
 use sim_net::Packets;
 use std::alloc::{AllocError, Global};
@@ -60,10 +60,10 @@ impl World {
         ensures fresh { IfOk result (λ world. world.fresh ≡ true) }
         ensures refused { IfErr result (IsStartFault (start_refusal nodes first_serial)) }
     {
-        if nodes < 1 || nodes > 9 {
+        if nodes < 1 || nodes > MOST_NODES {
             return Err(StartFault::Nodes);
         }
-        if first_serial < 1 || first_serial > 99_999 {
+        if first_serial < 1 || first_serial > LAST_SERIAL {
             return Err(StartFault::Serial);
         }
         Ok(World {

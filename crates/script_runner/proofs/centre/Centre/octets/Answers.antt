@@ -7,6 +7,6 @@ use Rattle.script_runner.proofs.centre.Centre.octets.Goals as goal
 pub returns : goal.returns
 returns c =
     acts_does_if c.share.result c.args.self.now c.share.new.self c.args.node c.number.result
-    (λ runner. on_octets (settings_of c.args.config.now) runner c.args.session c.args.octets.now)
+    (λ runner. on_octets (settings_of c.args.config.now) runner c.args.number c.args.octets.now)
     c.index_mut.result.now c.octets.new.self c.args.text.now.items c.octets.new.text.items c.number.ensures.value c.number.ensures.range.least
     (omega (arith, c.len.ensures, c.if-at-len.false)) c.index_mut.ensures.value c.in_ok-octets.ensures.acts c.share.ensures
