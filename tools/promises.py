@@ -4,8 +4,8 @@ gate tries none, and functions that are not there.
 
     python3 tools/promises.py
 
-A row names its edits in its last column, those of the gate in bold, and in the one before it functions, each group with its crate after it in
-parentheses. A row that begins with an arrow is a part of the promise above it. The exit status is 1 if something is wrong.
+A row names its edits in its last column, those of the gate in bold, and in the one before it functions, or clauses of them as `run.chosen`, each group
+with its crate after it in parentheses. A row that begins with an arrow is a part of the promise above it. The exit status is 1 if something is wrong.
 """
 import collections
 import re
@@ -14,7 +14,7 @@ import sys
 from repository import BESIDE, IN_GATE, TOP, edits, libraries, sources
 
 GROUP = re.compile(r"(.*?)\(`(\w+)`\)", re.DOTALL)
-WORD = re.compile(r"`([\w:]+)`")
+WORD = re.compile(r"`([\w:]+)(?:\.\w+)?`")
 BOLD = re.compile(r"\*\*`(\w+)`\*\*")
 PART = "\u21b3"
 

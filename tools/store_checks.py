@@ -5,11 +5,13 @@
 
 PROGRAM is bench/store/main.rt.in, built in a crate of its own as bench/store.py does it. Each file is made by Python's sqlite3: a sound one, one with each kind of damage, with other tables, with
 one table alone, and what is no database. The store opens, loads or refuses it as the table below says; a file that it refuses has the same octets after it. A
-directory and a file without rights are refused, too (the last is tried only if the user is not root). The exit status is 1 if something differs.
+directory is refused, too, and a file that the user may not read, or may read and not write: if the user is root, another one, 65534, opens that. The exit
+status is 1 if something differs.
 """
 import hashlib
 import os
 import pathlib
+import shutil
 import sqlite3
 import subprocess
 import sys
@@ -92,9 +94,26 @@ CASES = [
 ]
 
 
-def said(program, way, path):
+# What a file is of which the rights are taken, and how it is made: all its rows can be loaded, or none.
+CONTENTS = [
+    ("a sound file", lambda p: put(p, rows=[ROW], life=[(1, 1)])),
+    ("a damaged file", lambda p: put(p, rows=[row(chain=CHAIN[:-1])], life=[(1, 0)])),
+]
+# Which rights there are, of the file and of its folder.
+RIGHTS = [
+    ("may not be read", 0o000, 0o777),
+    ("may be read alone", 0o444, 0o777),
+    ("may be read alone, in a folder that may not be written", 0o444, 0o555),
+    ("may be written alone", 0o222, 0o777),
+    ("stands in a folder that may not be entered", 0o666, 0o000),
+]
+# The user that has no other rights: root has all.
+NOBODY = {"user": 65534, "group": 65534, "extra_groups": []} if os.geteuid() == 0 else {}
+
+
+def said(program, way, path, **user):
     """What the program prints. It ends by itself, whatever the file is."""
-    run = subprocess.run([program, way, str(path), "1", "0"], capture_output=True, text=True, timeout=60)
+    run = subprocess.run([program, way, str(path), "1", "0"], capture_output=True, text=True, timeout=60, **user)
     return run.stdout.strip() if run.returncode in (0, 1) else f"status {run.returncode}"
 
 
@@ -123,12 +142,6 @@ def not_files(program, work):
     folder.mkdir()
     if said(program, "open", folder) != "Device":
         yield "a directory is not refused"
-    if os.geteuid() != 0:
-        shut = work / "shut.db"
-        put(shut)
-        shut.chmod(0)
-        if said(program, "open", shut) != "Device":
-            yield "a file without rights is not refused"
     own = work / "own.db"
     if said(program, "open", own) != "0" or subprocess.run([program, "save", str(own), "3", "5"], capture_output=True).returncode != 0:
         yield "the store does not save to a new file"
@@ -143,6 +156,32 @@ def not_files(program, work):
         yield "the store's tables have other texts"
 
 
+def without_rights(program, work):
+    """What the store says otherwise than Device of a file without rights, and whether it changes it."""
+    folder, own = work / "rights", work / "program"
+    folder.mkdir()
+    shutil.copy(program, own)
+    for path in (work, own):
+        path.chmod(0o755)
+    for what, make in CONTENTS:
+        for right, of_file, of_folder in RIGHTS:
+            for way in ("open", "load", "next"):
+                path = folder / "node.db"
+                for old in folder.iterdir():
+                    old.unlink()
+                make(path)
+                before = digest(path)
+                path.chmod(of_file)
+                folder.chmod(of_folder)
+                found = said(own, way, path, **NOBODY)
+                folder.chmod(0o755)
+                path.chmod(0o644)
+                if found != "Device":
+                    yield f"{what} that {right}: {way} says {found}, and not Device"
+                if digest(path) != before:
+                    yield f"{what} that {right}: {way} changed the file"
+
+
 def main():
     if len(sys.argv) != 2:
         sys.exit(__doc__)
@@ -151,7 +190,8 @@ def main():
         work = pathlib.Path(folder)
         wrong = [line for name, make, wanted in CASES for line in differs(program, work, name, make, wanted)]
         wrong += not_files(program, work)
-    print(*wrong, f"{3 * len(CASES) + 3} openings, {len(wrong)} wrong", sep="\n")
+        wrong += without_rights(program, work)
+    print(*wrong, f"{3 * (len(CASES) + len(CONTENTS) * len(RIGHTS)) + 2} openings, {len(wrong)} wrong", sep="\n")
     sys.exit(1 if wrong else 0)
 
 
