@@ -1,5 +1,6 @@
 pub mod Arriving
 pub mod Coming
+pub mod Leaving
 pub mod Following
 pub mod Lacking
 pub mod Moving
@@ -9,6 +10,5 @@ pub mod Replaying
 pub mod Running
 pub mod Searching
 pub mod Settling
-pub mod Stationing
 pub mod Steps
 pub mod Taking

@@ -1,23 +1,27 @@
--- A node of the centre does something, and what it sent comes behind all packets.
-use Rattle.std.proofs.Common.{◌≡◌, ℕ, zero, suc, ◌-◌, ◌<◌, ◌≤◌, pred, Bool, true, false, List, [], ◌∷◌, ◌++◌, length, map, get_or, Option}
+-- A node of the centre does something, as a runner of a world.
+use Rattle.std.proofs.Common.{◌≡◌, ◌⊎◌, ℕ, zero, suc, ◌-◌, ◌<◌, ◌≤◌, pred, Bool, true, false, List, [], ◌∷◌, ◌++◌, length, get_or, Option}
 use Rattle.std.proofs.Common.{Some, None, Result, Ok, Err, refl, sym, ap, subst, ◌∙◌, inl, inr, arith}
-use Rattle.std.specs.Prelude.{OnOk, slice_get, slice_set, if◌then◌else◌}
-use Rattle.std.specs.Vec.{with_item}
+use Rattle.std.specs.Prelude.{OnOk, reverse, slice_get, slice_set, if◌then◌else◌}
 use Rattle.std.specs.declared.alloc.AllocError.{AllocError}
-use Rattle.std.proofs.lemmas.Option.{slice_get-get_or}
+use Rattle.std.proofs.lemmas.Bool.{true≢false}
+use Rattle.std.proofs.lemmas.Option.{slice_get-get_or, slice_get_past}
 use Rattle.std.proofs.lemmas.List.{append-nil, length-set}
 use Rattle.mc_model.specs.synod.Packet.{Packet}
+use Rattle.node_laws.specs.Clusters.{kept_reached}
+use Rattle.node_model.specs.Kept.{Kept}
 use Rattle.sim_net.proofs.Numbers.{set_get}
-use Rattle.synod_acceptor.specs.Packets.{packet_of as packet_by}
+use Rattle.world.specs.Scenes.{Placed, Scene, is_up, is_up_in}
+use Rattle.world.proofs.Leading.{stands_up}
 use Rattle.script_text.specs.Prints.{declined_line, text_at}
 use Rattle.script_text.specs.Runner.{Acted, Runner, given_out}
 use Rattle.script_world.proofs.Texts.{at_node}
-use Rattle.script_world.specs.World.{Moved, World, acts, if_up, is_down, refuses, runner_at, shared, up_or_refuses}
+use Rattle.script_world.specs.Runs.{IsNodeOf}
+use Rattle.script_world.specs.World.{Moved, World, acts, if_up, is_down, is_up_at, no_node, refuses, runner_at, shared, up_or_refuses}
+use Rattle.script_site.specs.Sites.{Acts, IsAmong, IsRunning, Placed as Beside}
+use Rattle.script_site.specs.declared.site.Site.{Site}
 use Rattle.script_runner.specs.Arrivals.{Came, came_in}
-use Rattle.script_runner.specs.Centres.{Does, HasShared, IsMoved, IsWorld}
-use Rattle.script_runner.specs.Stations.{ActsAt, ActsIf, GivesAll, HasActed, HasDeclined, IsAs, Stands, is_up}
+use Rattle.script_runner.specs.Centres.{Does, IsBeside, IsMoved, IsPlaceUp, IsWorld, declines}
 use Rattle.script_runner.specs.declared.centre.Centre.{Centre}
-use Rattle.script_runner.specs.declared.station.Station.{Station}
 
 -- ---- places
 
@@ -40,117 +44,124 @@ none_too (x ∷ xs) (y ∷ ys) (suc place) same none = none_too xs ys place (ome
 pub some_same : {A : Type 0} {x y : A} → Some x ≡ Some y → x ≡ y
 some_same is = cc
 
+pub number_is : (node number : ℕ) → number ≡ node → 1 ≤ node → node ≡ suc (number - 1)
+number_is node number same least = omega (arith, same, least)
+
+-- ---- which nodes are up
+
+pub ups : (centre : Centre) (w : World) (place : ℕ) → IsWorld centre w → is_up_in centre.world (suc place) ≡ is_up_at (slice_get w.runners place)
+ups centre w place is = by_member (slice_get centre.world.members place) refl
+  where
+    count : length centre.world.members ≡ length w.runners
+    count = is.at.nodes ∙ sym is.stands.count
+
+    by_member : (found : Option Placed) → slice_get centre.world.members place ≡ found → is_up found ≡ is_up_at (slice_get w.runners place)
+    by_member None none = sym (ap is_up_at (none_too centre.world.members w.runners place count none))
+    by_member (Some m) found =
+        let there = found_too centre.world.members w.runners place m count found in
+        let kept = (is.stands.each place there.0 there.1).kept in
+        sym (ap is_up_at there.1 ∙ ap (λ (k : Kept). k.up) kept
+        ∙ stands_up ((kept_reached is.cluster is.inputs).kept (suc place)) m.up m (is.at.members (suc place) m found).stands)
+
+pub ups_of : (centre : Centre) (w : World) (node place : ℕ) → IsWorld centre w → node ≡ suc place → is_up_in centre.world node ≡ is_up_at (runner_at w node)
+ups_of centre w node place is same =
+    ap (is_up_in centre.world) same ∙ ups centre w place is ∙ ap (λ (n : ℕ). is_up_at (slice_get w.runners (pred n))) (sym same)
+
 -- ---- one node of a world
 
--- The centre is as this world but at one place.
-pub record IsBut (centre : Centre) (place : ℕ) (w : World) : Type 0 where
-  pub nodes : length centre.stations.items ≡ length w.runners
-  pub few : length w.runners ≤ 9
-  pub each : (k : ℕ) → (k ≡ place → ⊥) → (station : Station) (runner : Runner) → slice_get centre.stations.items k ≡ Some station →
-      slice_get w.runners k ≡ Some runner →
-      Stands station runner
-  pub packets : map packet_by centre.packets.sent ≡ w.packets
-  pub came : (number node : ℕ) → came_in centre.arrivals number node ≡ w.came number node
-
--- Another station stands in a place, and the world has other marks.
-pub but_there : (old mid : Centre) (w marked : World) (place : ℕ) (left : Station) → IsWorld old w →
-    mid.stations.items ≡ slice_set old.stations.items place left →
-    mid.packets ≡ old.packets → marked.runners ≡ w.runners → marked.packets ≡ w.packets →
-    ((number node : ℕ) → came_in mid.arrivals number node ≡ marked.came number node) →
-    IsBut mid place marked
-but_there old mid w marked place left is set packets runners same came = record {
-  nodes = ap length set ∙ length-set old.stations.items place left ∙ is.nodes ∙ ap length (sym runners);
-  few = subst (λ (n : ℕ). n ≤ 9) (ap length (sym runners)) is.few;
-  each = λ k other station runner at there.
-      elim (set_get old.stations.items place k left station (subst (λ (ss : List Station). slice_get ss k ≡ Some station) set at)) [
-        | inl both ↦ absurd (other both.0)
-        | inr found ↦ is.each k station runner found.1 (subst (λ (rs : List Runner). slice_get rs k ≡ Some runner) runners there)
-      ];
-  packets = ap (λ p. map packet_by p.sent) packets ∙ is.packets ∙ sym same;
-  came = came;
+-- it stands where its runner does
+pub among_all : (old : Centre) (w : World) (place : ℕ) (runner : Runner) → IsWorld old w → slice_get w.runners place ≡ Some runner
+    → runner.node.packets ≡ [] → IsAmong (suc place) old.world w runner.node
+among_all old w place runner is there taken = record {
+  cluster = is.cluster;
+  inputs = is.inputs;
+  at = is.at;
+  count = is.stands.count;
+  one = is.stands.each place runner there;
+  others = λ k other at apart. is.stands.each k other at;
+  packets = is.stands.packets ∙ ap reverse (sym (append-nil w.packets) ∙ ap (λ (ps : List Packet). w.packets ++ ps) (sym taken));
 }
 
--- What a node did is shared: it is as the runner that it left, and its packets come behind all.
-pub shared_moved : (mid new : Centre) (w : World) (node place : ℕ) (acted : Acted) (left : Station) (before after : List ℕ) →
-    node ≡ suc place → IsBut mid place w →
-    slice_get mid.stations.items place ≡ Some left → IsAs left acted.next → HasShared mid place new → after ≡ before ++ text_at node acted.prints →
-    IsMoved (shared w node acted) new before after
-shared_moved mid new w node place acted left before after is but found like has wrote = record {
+-- and what stands beside it is as its runner
+pub runs : (old : Centre) (w : World) (place : ℕ) (site : Site) (runner : Runner) → IsWorld old w → slice_get old.sites.items place ≡ Some site →
+    slice_get w.runners place ≡ Some runner → is_up_in old.world (suc place) ≡ true → IsRunning (suc place) (record { world = old.world; site = site }) w runner
+runs old w place site runner is found there up =
+    let beside = is.each place site runner found there in
+    record {
+      home_is = beside.node_is;
+      going = record { among = among_all old w place runner is there beside.taken; up = up };
+      sessions = beside.sessions;
+      streams = beside.streams;
+      waiting = beside.waiting;
+    }
+
+-- what stands beside a node is as this runner, from which all is taken that its node sent
+pub taken_from : (site : Site) (node : ℕ) (runner : Runner) → site.node ≡ node → site.service.sessions ≡ runner.sessions → site.streams ≡ runner.streams
+    → site.service.waiting ≡ runner.waiting → IsBeside site node (given_out runner)
+taken_from site node runner is sessions streams waiting =
+    record { node_is = is; sessions = sessions; streams = streams; waiting = waiting; taken = refl }
+
+-- What a node did is shared: it is as the runner that it left, and its packets come behind all. Of which packets came to which nodes the other world
+-- tells, which is as this one but for that.
+pub shared_moved : (old new : Centre) (w marked : World) (place : ℕ) (left : Site) (acted : Acted) (before after : List ℕ) → IsWorld old w
+    → new.sites.items ≡ slice_set old.sites.items place left → IsAmong (suc place) new.world w acted.next.node
+    → IsBeside left (suc place) (given_out acted.next)
+    → marked.runners ≡ w.runners → marked.packets ≡ w.packets → ((number node : ℕ) → came_in new.arrivals number node ≡ marked.came number node)
+    → after ≡ before ++ text_at (suc place) acted.prints → IsMoved (shared marked (suc place) acted) new before after
+shared_moved old new w marked place left acted before after was sites among own runners packets came wrote = record {
   next = record {
-    nodes = ap length has.stations ∙ length-set mid.stations.items place has.left ∙ but.nodes ∙ sym (length-set w.runners (pred node) (given_out acted.next));
-    few = subst (λ (n : ℕ). n ≤ 9) (sym (length-set w.runners (pred node) (given_out acted.next))) but.few;
-    each = stands;
-    packets = given.packets ∙ ap (λ (ps : List Packet). ps ++ acted.next.node.packets) but.packets;
-    came = λ number at. ap (λ (all : Came). came_in all number at) has.arrivals ∙ but.came number at;
+    cluster = among.cluster;
+    inputs = among.inputs;
+    at = among.at;
+    stands = record {
+      count = length-set marked.runners place (given_out acted.next) ∙ ap length runners ∙ among.count;
+      each = each_stands;
+      packets = among.packets ∙ ap (λ (ps : List Packet). reverse (ps ++ acted.next.node.packets)) (sym packets);
+    };
+    nodes = ap length sites ∙ length-set old.sites.items place left ∙ was.nodes ∙ ap length (sym runners)
+        ∙ sym (length-set marked.runners place (given_out acted.next));
+    few = subst (λ (n : ℕ). n ≤ 9) (ap length (sym runners) ∙ sym (length-set marked.runners place (given_out acted.next))) was.few;
+    each = each_beside;
+    came = came;
   };
-  text = wrote ∙ ap (λ (t : List ℕ). before ++ t) (sym (at_node node acted.prints));
+  text = wrote ∙ ap (λ (t : List ℕ). before ++ t) (sym (at_node (suc place) acted.prints));
 }
   where
-    same : left ≡ has.station
-    same = some_same (sym found ∙ has.found)
+    -- a runner of the new world is that of the node, or it was there before
+    cases : (k : ℕ) (runner : Runner) → slice_get (slice_set marked.runners place (given_out acted.next)) k ≡ Some runner
+        → ((k ≡ place) × (runner ≡ given_out acted.next)) ⊎ ((k ≡ place → ⊥) × (slice_get w.runners k ≡ Some runner))
+    cases k runner there =
+        set_get w.runners place k (given_out acted.next) runner
+        (subst (λ (rs : List Runner). slice_get (slice_set rs place (given_out acted.next)) k ≡ Some runner) runners there)
 
-    given : GivesAll acted.next has.left (map packet_by mid.packets.sent) (map packet_by new.packets.sent)
-    given = has.given acted.next (subst (λ (s : Station). IsAs s acted.next) same like)
+    each_stands : (k : ℕ) (runner : Runner) → slice_get (slice_set marked.runners place (given_out acted.next)) k ≡ Some runner
+        → IsNodeOf among.cluster among.inputs (suc k) runner.node
+    each_stands k runner there = elim (cases k runner there) [
+      | inl this ↦
+          subst (λ (n : ℕ). IsNodeOf among.cluster among.inputs (suc n) runner.node) (sym this.0)
+          (subst (λ (r : Runner). IsNodeOf among.cluster among.inputs (suc place) r.node) (sym this.1)
+          (record { setup = among.one.setup; kept = among.one.kept }))
+      | inr that ↦ among.others k runner that.1 (λ same. that.0 (omega (arith, same)))
+    ]
 
-    stands : (k : ℕ) (station : Station) (runner : Runner) → slice_get new.stations.items k ≡ Some station →
-        slice_get (slice_set w.runners (pred node) (given_out acted.next)) k ≡ Some runner → Stands station runner
-    stands k station runner at there =
-        let set = subst (λ (ss : List Station). slice_get ss k ≡ Some station) has.stations at in
-        let place_is : pred node ≡ place = ap pred is in
-        elim (set_get mid.stations.items place k has.left station set) [
-          | inl both ↦ elim (set_get w.runners (pred node) k (given_out acted.next) runner there) [
-            | inl this ↦ subst (λ (s : Station). Stands s runner) (sym both.1) (subst (λ (r : Runner). Stands has.left r) (sym this.1) given.stands)
-            | inr that ↦ absurd (that.0 (both.0 ∙ sym place_is))
+    each_beside : (k : ℕ) (site : Site) (runner : Runner) → slice_get new.sites.items k ≡ Some site
+        → slice_get (slice_set marked.runners place (given_out acted.next)) k ≡ Some runner → IsBeside site (suc k) runner
+    each_beside k site runner at there =
+        elim (set_get old.sites.items place k left site (subst (λ (ss : List Site). slice_get ss k ≡ Some site) sites at)) [
+          | inl both ↦ elim (cases k runner there) [
+            | inl this ↦
+                subst (λ (n : ℕ). IsBeside site (suc n) runner) (sym this.0)
+                (subst (λ (r : Runner). IsBeside site (suc place) r) (sym this.1)
+                (subst (λ (s : Site). IsBeside s (suc place) (given_out acted.next)) (sym both.1) own))
+            | inr that ↦ absurd (that.0 both.0)
           ]
-          | inr other ↦ elim (set_get w.runners (pred node) k (given_out acted.next) runner there) [
-            | inl this ↦ absurd (other.0 (this.0 ∙ place_is))
-            | inr that ↦ but.each k other.0 station runner other.1 that.1
+          | inr other ↦ elim (cases k runner there) [
+            | inl this ↦ absurd (other.0 this.0)
+            | inr that ↦ was.each k site runner other.1 that.1
           ]
         ]
 
 -- ---- nothing is done
-
--- a node that is down refuses, and nothing changed
-pub same_runner : (runner : Runner) → runner.node.packets ≡ [] → given_out runner ≡ runner
-same_runner runner none = λ i. record runner { node = record runner.node { packets = sym none i } }
-
-pub still_world : (old mid new : Centre) (w : World) (place : ℕ) (station left : Station) (runner : Runner) → IsWorld old w →
-    slice_get old.stations.items place ≡ Some station →
-    slice_get w.runners place ≡ Some runner → mid.stations.items ≡ slice_set old.stations.items place left → slice_get mid.stations.items place ≡ Some left →
-    mid.packets ≡ old.packets → mid.arrivals ≡ old.arrivals → IsAs left runner → HasShared mid place new → IsWorld new w
-still_world old mid new w place station left runner is found there set at packets arrivals like has = record {
-  nodes = ap length has.stations ∙ length-set mid.stations.items place has.left ∙ ap length set ∙ length-set old.stations.items place left ∙ is.nodes;
-  few = is.few;
-  each = stands;
-  packets = given.packets ∙ ap (λ (ps : List Packet). map packet_by mid.packets.sent ++ ps) was.taken ∙ append-nil (map packet_by mid.packets.sent)
-      ∙ ap (λ p. map packet_by p.sent) packets ∙ is.packets;
-  came = λ number node. ap (λ (all : Came). came_in all number node) (has.arrivals ∙ arrivals) ∙ is.came number node;
-}
-  where
-    was : Stands station runner
-    was = is.each place station runner found there
-
-    same : left ≡ has.station
-    same = some_same (sym at ∙ has.found)
-
-    given : GivesAll runner has.left (map packet_by mid.packets.sent) (map packet_by new.packets.sent)
-    given = has.given runner (subst (λ (s : Station). IsAs s runner) same like)
-
-    now : Stands has.left runner
-    now = subst (λ (r : Runner). Stands has.left r) (same_runner runner was.taken) given.stands
-
-    stands : (k : ℕ) (other : Station) (r : Runner) → slice_get new.stations.items k ≡ Some other → slice_get w.runners k ≡ Some r → Stands other r
-    stands k other r seen stood =
-        elim (set_get mid.stations.items place k has.left other (subst (λ (ss : List Station). slice_get ss k ≡ Some other) has.stations seen)) [
-          | inl both ↦
-              let this : runner ≡ r = some_same (sym there ∙ subst (λ (n : ℕ). slice_get w.runners n ≡ Some r) both.0 stood) in
-              subst (λ (s : Station). Stands s r) (sym both.1) (subst (λ (x : Runner). Stands has.left x) this now)
-          | inr that ↦
-              elim (set_get old.stations.items place k left other (subst (λ (ss : List Station). slice_get ss k ≡ Some other) set that.1)) [
-                | inl both ↦ absurd (that.0 both.0)
-                | inr found_there ↦ is.each k other r found_there.1 stood
-              ]
-        ]
 
 -- a line that is refused adds its line
 pub refused_moved : (new : Centre) (w : World) (number : ℕ) (before after : List ℕ) → IsWorld new w →
@@ -161,83 +172,83 @@ refused_moved new w number before after is wrote =
 
 -- ---- a node acts
 
--- Either it is up, and does what it does, or it is down, and refuses.
-pub if_up_moved : (new : Centre) (w : World) (node place : ℕ) (up : Runner → Moved) (runner : Runner) (before after : List ℕ) →
-    node ≡ suc place → slice_get w.runners place ≡ Some runner →
-    (runner.node.kept.up ≡ true → IsMoved (up runner) new before after) → (runner.node.kept.up ≡ false → IsMoved (refuses w is_down) new before after) →
-    IsMoved (if_up w node up) new before after
-if_up_moved new w node place up runner before after is there if_so if_not =
+by_up : (w : World) (up : Runner → Moved) (runner : Runner) (b : Bool) → runner.node.kept.up ≡ b
+    → (if b then up runner else refuses w is_down) ≡ up_or_refuses w up (Some runner)
+by_up w up runner b is = ap (λ (test : Bool). if test then up runner else refuses w is_down) (sym is)
+
+-- it is up, and does what it does
+pub up_moved : (new : Centre) (w : World) (node place : ℕ) (up : Runner → Moved) (runner : Runner) (before after : List ℕ) → node ≡ suc place
+    → slice_get w.runners place ≡ Some runner → runner.node.kept.up ≡ true → IsMoved (up runner) new before after → IsMoved (if_up w node up) new before after
+up_moved new w node place up runner before after is there so moved =
     let somebody : runner_at w node ≡ Some runner = ap (λ (n : ℕ). slice_get w.runners (pred n)) is ∙ there in
-    subst (λ (found : Option Runner). IsMoved (up_or_refuses w up found) new before after) (sym somebody) (by_test runner.node.kept.up if_so if_not)
+    subst (λ (m : Moved). IsMoved m new before after) (by_up w up runner true so ∙ ap (up_or_refuses w up) (sym somebody)) moved
+
+-- or it is down
+pub down_moved : (new : Centre) (w : World) (node : ℕ) (up : Runner → Moved) (runner : Runner) (before after : List ℕ) → IsWorld new w
+    → runner_at w node ≡ Some runner → runner.node.kept.up ≡ false → after ≡ before ++ declined_line is_down → IsMoved (if_up w node up) new before after
+down_moved new w node up runner before after is there down wrote =
+    subst (λ (m : Moved). IsMoved m new before after) (by_up w up runner false down ∙ ap (up_or_refuses w up) (sym there))
+    (refused_moved new w is_down before after is wrote)
+
+-- or there is no such node
+pub absent_moved : (new : Centre) (w : World) (node : ℕ) (up : Runner → Moved) (before after : List ℕ) → IsWorld new w → runner_at w node ≡ None
+    → after ≡ before ++ declined_line no_node → IsMoved (if_up w node up) new before after
+absent_moved new w node up before after is nobody wrote =
+    subst (λ (found : Option Runner). IsMoved (up_or_refuses w up found) new before after) (sym nobody)
+    (refused_moved new w no_node before after is wrote)
+
+pub found_at : {A : Type 0} (xs : List A) (k : ℕ) → k < length xs → (x : A) × (slice_get xs k ≡ Some x)
+found_at [] k inside = absurd (omega (arith, inside))
+found_at (x ∷ xs) zero inside = (x, refl)
+found_at (x ∷ xs) (suc k) inside = found_at xs k (omega (arith, inside))
+
+away_moved : (old : Centre) (w : World) (node number : ℕ) (up : Runner → Moved) (before after : List ℕ) → IsWorld old w → declines old node number
+    → after ≡ before ++ declined_line number → IsMoved (if_up w node up) old before after
+away_moved old w node number up before after is (inl absent) wrote =
+    absent_moved old w node up before after is (slice_get_past w.runners (pred node) (past node absent.beyond))
+    (wrote ∙ ap (λ (n : ℕ). before ++ declined_line n) absent.number_is)
   where
-    by_test : (b : Bool) → (b ≡ true → IsMoved (up runner) new before after) → (b ≡ false → IsMoved (refuses w is_down) new before after) →
-        IsMoved (if b then up runner else refuses w is_down) new before after
-    by_test true if_so if_not = if_so refl
-    by_test false if_so if_not = if_not refl
+    past : (n : ℕ) → length old.sites.items < n → length w.runners ≤ pred n
+    past zero below = absurd (omega (arith, below))
+    past (suc n) below = let count = is.nodes in omega (arith, below, count)
+away_moved old w node number up before after is (inr away) wrote = by_node node refl
+  where
+    by_node : (n : ℕ) → node ≡ n → IsMoved (if_up w node up) old before after
+    by_node zero none = absurd (let least = away.least in omega (arith, none, least))
+    by_node (suc place) here =
+        let within = away.within in
+        let count = is.nodes in
+        let there = found_at w.runners place (omega (arith, here, within, count)) in
+        down_moved old w node up there.0 before after is (ap (λ (n : ℕ). slice_get w.runners (pred n)) here ∙ there.1)
+        (sym (ups old w place is ∙ ap is_up_at there.1) ∙ ap (is_up_in old.world) (sym here) ∙ away.down)
+        (wrote ∙ ap (λ (n : ℕ). before ++ declined_line n) away.number_is)
 
--- what it did, if it is up
-pub acted_if : (b : Bool) (node : ℕ) (act : Runner → Acted) (runner : Runner) (left : Station) (before after : List ℕ) →
-    ActsIf b node act runner left before after → b ≡ true →
-    HasActed node (act runner) left before after
-acted_if true node act runner left before after acts is = acts
-acted_if false node act runner left before after acts is = absurd cc
+pub away_does_if : (r : Result (Unit {0}) AllocError) (old : Centre) (node number : ℕ) (act : Runner → Acted) (before after : List ℕ)
+    → declines old node number → OnOk r (after ≡ before ++ declined_line number) → OnOk r (Does (λ w. acts w node act) old old before after)
+away_does_if (Err fault) old node number act before after away wrote = tt
+away_does_if (Ok done) old node number act before after away wrote =
+    λ w is. away_moved old w node number (λ runner. shared w node (act runner)) before after is away wrote
 
-declined_if : (b : Bool) (node : ℕ) (act : Runner → Acted) (runner : Runner) (left : Station) (before after : List ℕ) →
-    ActsIf b node act runner left before after → b ≡ false →
-    HasDeclined runner left before after
-declined_if true node act runner left before after acts is = absurd cc
-declined_if false node act runner left before after acts is = acts
-
-pub acts_moved : (old mid new : Centre) (w : World) (node place : ℕ) (act : Runner → Acted) (station left : Station)
-    (before after : List ℕ) → node ≡ suc place → IsWorld old w →
-    slice_get old.stations.items place ≡ Some station →
-    ((runner : Runner) → Stands station runner → ActsIf (is_up station) node act runner left before after) →
-    mid.stations.items ≡ slice_set old.stations.items place left → slice_get mid.stations.items place ≡ Some left →
-    mid.packets ≡ old.packets → mid.arrivals ≡ old.arrivals →
-    HasShared mid place new → IsMoved (acts w node act) new before after
-acts_moved old mid new w node place act station left before after is world found acts set at packets arrivals has =
-    let there = found_too old.stations.items w.runners place station world.nodes found in
+-- A node that is up acts.
+pub acts_does_if : (r : Result (Unit {0}) AllocError) (old new : Centre) (node place : ℕ) (act : Runner → Acted) (site : Site) (left : Beside)
+    (before after : List ℕ) → IsPlaceUp old node place → site ≡ get_or old.sites.items place site
+    → OnOk r (Acts site.node act (record { world = old.world; site = site }) left before after)
+    → new.world ≡ left.world → new.sites.items ≡ slice_set old.sites.items place left.site → new.arrivals ≡ old.arrivals
+    → OnOk r (Does (λ w. acts w node act) old new before after)
+acts_does_if (Err fault) old new node place act site left before after up is did world sites arrivals = tt
+acts_does_if (Ok done) old new node place act site left before after up is did world sites arrivals w was =
+    let found : slice_get old.sites.items place ≡ Some site = slice_get-get_or old.sites.items place site up.within ∙ ap Some (sym is) in
+    let there = found_too old.sites.items w.runners place site was.nodes found in
     let runner = there.0 in
-    let stands = world.each place station runner found there.1 in
-    let did = acts runner stands in
-    if_up_moved new w node place (λ (r : Runner). shared w node (act r)) runner before after is there.1
-    (λ up.
-    let done = acted_if (is_up station) node act runner left before after did (sym stands.up ∙ up) in
-    shared_moved mid new w node place (act runner) left before after is
-    (but_there old mid w w place left world set packets refl refl
-    (λ number n. ap (λ (all : Came). came_in all number n) arrivals ∙ world.came number n)) at done.like has done.text)
-    (λ down.
-    let done = declined_if (is_up station) node act runner left before after did (sym stands.up ∙ down) in
-    refused_moved new w is_down before after (still_world old mid new w place station left runner world found there.1 set at packets
-    arrivals done.like has) done.text)
-
--- ---- as the code does it
-
--- the centre with another station in a place
-abbrev pub with_left : Centre → ℕ → Station → Centre
-with_left old place left = record old { stations = with_item old.stations place left }
-
-pub set_there : {A : Type 0} (xs : List A) (place : ℕ) (x : A) → place < length xs → slice_get (slice_set xs place x) place ≡ Some x
-set_there [] place x inside = absurd (omega (arith, inside))
-set_there (y ∷ xs) zero x inside = refl
-set_there (y ∷ xs) (suc place) x inside = set_there xs place x (omega (arith, inside))
-
-pub stood_at : (old : Centre) (place : ℕ) (station : Station) → place < length old.stations.items → station ≡ get_or old.stations.items place station →
-    slice_get old.stations.items place ≡ Some station
-stood_at old place station inside is = slice_get-get_or old.stations.items place station inside ∙ ap Some (sym is)
-
-pub number_is : (node number : ℕ) → number ≡ node → 1 ≤ node → node ≡ suc (number - 1)
-number_is node number same least = omega (arith, same, least)
-
--- A node that is there acts, and what it sent is shared.
-pub acts_does_if : (r : Result (Unit {0}) AllocError) (old new : Centre) (node number : ℕ) (act : Runner → Acted) (station left : Station)
-    (before after : List ℕ) →
-    number ≡ node → 1 ≤ node → number - 1 < length old.stations.items → station ≡ get_or old.stations.items (number - 1) station →
-    ActsAt node act station left before after → OnOk r (HasShared (with_left old (number - 1) left) (number - 1) new) →
-    OnOk r (Does (λ w. acts w node act) old new before after)
-acts_does_if (Err fault) old new node number act station left before after same least inside is does has = tt
-acts_does_if (Ok done) old new node number act station left before after same least inside is does has =
-    λ w world.
-    acts_moved old (with_left old (number - 1) left) new w node (number - 1) act station left before after (number_is node number same least) world
-    (stood_at old (number - 1) station inside is) (λ runner stands. does runner stands.like) refl
-    (set_there old.stations.items (number - 1) left inside) refl refl has
+    let up_there : is_up_in old.world (suc place) ≡ true = ap (is_up_in old.world) (sym up.place_is) ∙ up.up in
+    let home : site.node ≡ suc place = (was.each place site runner found there.1).node_is in
+    let done_so = subst (λ (n : ℕ). Acts n act (record { world = old.world; site = site }) left before after) home did
+    w runner (runs old w place site runner was found there.1 up_there) in
+    let ran = done_so.running in
+    let moved = shared_moved old new w w place left.site (act runner) before after was sites
+    (subst (λ (scene : Scene). IsAmong (suc place) scene w (act runner).next.node) (sym world) ran.going.among)
+    (taken_from left.site (suc place) (act runner).next ran.home_is ran.sessions ran.streams ran.waiting) refl refl
+    (λ number other. ap (λ (all : Came). came_in all number other) arrivals ∙ was.came number other) done_so.text in
+    up_moved new w node place (λ r. shared w node (act r)) runner before after up.place_is there.1
+    (sym (ap is_up_at there.1) ∙ sym (ups old w place was) ∙ up_there)
+    (subst (λ (n : ℕ). IsMoved (shared w n (act runner)) new before after) (sym up.place_is) moved)

@@ -1,46 +1,41 @@
--- The nodes of the centre open, each over a new store.
+-- The nodes of the centre open, each over a new store, and no session is connected.
 use Rattle.std.proofs.Common.{◌≡◌, ℕ, zero, suc, ◌+◌, ◌≤◌, List, [], ◌∷◌, ◌++◌, length, map, Some, refl, sym, ap, subst, ◌∙◌, inl, inr, arith, length-append}
 use Rattle.std.specs.Prelude.{false, slice_get}
 use Rattle.std.specs.List.{range_with_len}
 use Rattle.std.proofs.lemmas.List.FromFn.{length-map-range_with_len}
-use Rattle.node_core.specs.Setups.{setup_of as setup_by}
-use Rattle.synod_acceptor.specs.Packets.{packet_of as packet_by}
-use Rattle.script_site.specs.Sites.{runner_of}
+use Rattle.sim_net.proofs.Growing.{get_push}
+use Rattle.world.specs.Runs.{IsAt, cluster_with}
+use Rattle.script_site.specs.Standing.{IsEmpty}
 use Rattle.script_site.specs.declared.site.Site.{Site}
 use Rattle.script_text.specs.Node.{opened_by}
 use Rattle.script_text.specs.Runner.{Runner, runner_opened}
 use Rattle.script_text.specs.Settings.{Settings}
+use Rattle.script_world.specs.Runs.{IsNodeOf}
 use Rattle.script_world.specs.World.{opened, setup_of}
-use Rattle.sim_net.proofs.Growing.{get_push}
 use Rattle.script_runner.specs.Arrivals.{came_in}
-use Rattle.script_runner.specs.Centres.{AreOpened, IsWorld}
-use Rattle.script_runner.specs.Stations.{Stands}
+use Rattle.script_runner.specs.Centres.{AreEmpty, IsBeside, IsWorld}
 use Rattle.script_runner.specs.declared.centre.Centre.{Centre}
-use Rattle.script_runner.specs.declared.station.Station.{Station}
-use Rattle.script_runner.specs.declared.station.Station.TheVariants.{Up}
 use Rattle.script_runner.proofs.Moving.{some_same}
 
-pub none_opened : (nodes serial validity : ℕ) (stations : List Station) → stations ≡ [] → AreOpened nodes serial validity 0 stations
-none_opened nodes serial validity stations none = record {
+pub none_empty : (sites : List Site) → sites ≡ [] → AreEmpty 0 sites
+none_empty sites none = record {
   count_is = ap length none;
-  each = λ place station found. absurd (nothing place (subst (λ (ss : List Station). slice_get ss place ≡ Some station) none found));
+  each = λ place site found. absurd (nothing place (subst (λ (ss : List Site). slice_get ss place ≡ Some site) none found));
 }
   where
-    nothing : (place : ℕ) {station : Station} → slice_get {X = Station} [] place ≡ Some station → ⊥
+    nothing : (place : ℕ) {site : Site} → slice_get {X = Site} [] place ≡ Some site → ⊥
     nothing zero found = cc
     nothing (suc place) found = cc
 
-pub one_opened : (nodes serial validity count : ℕ) (stations after : List Station) (site : Site) → AreOpened nodes serial validity count stations →
-    runner_of site ≡ runner_opened (opened_by (setup_by (count + 1) nodes serial validity)) → after ≡ stations ++ Up site ∷ [] →
-    AreOpened nodes serial validity (count + 1) after
-one_opened nodes serial validity count stations after site are is same =
-    subst (AreOpened nodes serial validity (count + 1)) (sym same) (record {
-      count_is = let longer = length-append stations (Up site ∷ []) in let was = are.count_is in omega arith;
-      each = λ place other found. elim (get_push stations place (Up site) other found) [
+pub one_empty : (count : ℕ) (sites after : List Site) (site : Site) → AreEmpty count sites → IsEmpty (count + 1) site → after ≡ sites ++ site ∷ []
+    → AreEmpty (count + 1) after
+one_empty count sites after site are is same =
+    subst (AreEmpty (count + 1)) (sym same) (record {
+      count_is = let longer = length-append sites (site ∷ []) in let was = are.count_is in omega arith;
+      each = λ place other found. elim (get_push sites place site other found) [
         | inl both ↦
-            subst (λ (s : Station). Stands s (runner_opened (opened_by (setup_by (place + 1) nodes serial validity)))) (sym both.1)
-            (subst (λ (n : ℕ). Stands (Up site) (runner_opened (opened_by (setup_by (n + 1) nodes serial validity)))) (sym (both.0 ∙ are.count_is))
-            (record { like = is; taken = refl; up = refl }))
+            let number : count + 1 ≡ suc place = let here = both.0 in let was = are.count_is in omega (arith, here, was) in
+            subst (λ (s : Site). IsEmpty (suc place) s) (sym both.1) (subst (λ (n : ℕ). IsEmpty n site) number is)
         | inr before ↦ are.each place other before
       ];
     })
@@ -54,17 +49,35 @@ at_place f start (suc count) (suc place) runner found =
     let later : (start + 1) + place ≡ start + suc place = omega arith in
     at_place f (start + 1) count place runner found ∙ ap f later
 
-pub starts_as : (settings : Settings) (nodes serial : ℕ) (centre : Centre) → nodes ≤ 9 →
-    AreOpened nodes serial settings.validity nodes centre.stations.items → centre.packets.sent ≡ [] →
-    ((number node : ℕ) → came_in centre.arrivals number node ≡ false) → IsWorld centre (opened settings nodes serial)
-starts_as settings nodes serial centre few are none nobody = record {
-  few = subst (λ (n : ℕ). n ≤ 9) (sym (length-map-range_with_len (λ node. runner_opened (opened_by (setup_of settings nodes serial node))) 1 nodes)) few;
-  nodes = are.count_is ∙ sym (length-map-range_with_len (λ node. runner_opened (opened_by (setup_of settings nodes serial node))) 1 nodes);
-  each = λ place station runner found there.
-      let is = at_place (λ node. runner_opened (opened_by (setup_of settings nodes serial node))) 1 nodes place runner there in
-      let same : place + 1 ≡ 1 + place = omega arith in
-      subst (λ (r : Runner). Stands station r) (sym is)
-      (subst (λ (n : ℕ). Stands station (runner_opened (opened_by (setup_by n nodes serial settings.validity)))) same (are.each place station found));
-  packets = ap (map packet_by) none;
-  came = nobody;
-}
+pub starts_as : (settings : Settings) (nodes serial : ℕ) (centre : Centre) → nodes ≤ 9 → AreEmpty nodes centre.sites.items
+    → IsAt (cluster_with nodes serial settings.validity) [] [] centre.world
+    → ((number node : ℕ) → came_in centre.arrivals number node ≡ false) → IsWorld centre (opened settings nodes serial)
+starts_as settings nodes serial centre few are at nobody =
+    let open : ℕ → Runner = λ node. runner_opened (opened_by (setup_of settings nodes serial node)) in
+    let count = length-map-range_with_len open 1 nodes in
+    let runner_is : (place : ℕ) (runner : Runner) → slice_get (map open (range_with_len 1 nodes)) place ≡ Some runner → runner ≡ open (suc place) =
+    λ place runner there. at_place open 1 nodes place runner there ∙ ap open (let same : 1 + place ≡ suc place = omega arith in same) in
+    record {
+      cluster = cluster_with nodes serial settings.validity;
+      inputs = [];
+      at = at;
+      stands = record {
+        count = count;
+        each = λ place runner there.
+            subst (λ (r : Runner). IsNodeOf (cluster_with nodes serial settings.validity) [] (suc place) r.node) (sym (runner_is place runner there))
+            (record { setup = refl; kept = refl });
+        packets = refl;
+      };
+      nodes = are.count_is ∙ sym count;
+      few = subst (λ (n : ℕ). n ≤ 9) (sym count) few;
+      each = λ place site runner found there.
+          let empty = are.each place site found in
+          subst (λ (r : Runner). IsBeside site (suc place) r) (sym (runner_is place runner there)) (record {
+            node_is = empty.node_is;
+            sessions = empty.sessions;
+            streams = empty.streams;
+            waiting = empty.waiting;
+            taken = refl;
+          });
+      came = nobody;
+    }

@@ -1,109 +1,129 @@
 -- Packets come again to all nodes that are up.
-use Rattle.std.proofs.Common.{◌≡◌, ℕ, suc, ◌+◌, ◌-◌, ◌<◌, ◌≤◌, true, false, List, Some, get_or, length, map, refl, sym, ap, subst, ◌∙◌, arith}
-use Rattle.std.specs.Prelude.{nat_lt, slice_get}
+use Rattle.std.proofs.Common.{◌≡◌, ◌⊎◌, ℕ, zero, suc, ◌+◌, ◌-◌, ◌<◌, ◌≤◌, true, false, Bool, List, ◌++◌, Option, Some, None, length, refl, sym, ap, subst, ◌∙◌}
+use Rattle.std.proofs.Common.{inl, inr, arith}
+use Rattle.std.specs.Prelude.{slice_get, if◌then◌else◌}
 use Rattle.std.specs.List.{range_with_len}
-use Rattle.script_world.specs.World.{World, comes, comes_again, comes_to, is_up_at, node_numbers, runner_at}
+use Rattle.std.proofs.lemmas.Bool.{true≢false}
+use Rattle.std.proofs.lemmas.List.{append-nil}
+use Rattle.std.proofs.lemmas.Option.{slice_get_within}
+use Rattle.world.specs.Scenes.{is_up_in}
+use Rattle.script_text.specs.Runner.{Runner}
+use Rattle.script_world.specs.Prints.{world_text}
+use Rattle.script_world.specs.World.{Moved, World, comes, comes_again, comes_to, is_up_at, node_numbers, runner_at, stays, then_moved}
 use Rattle.script_runner.specs.Centres.{Does, IsMoved, IsWorld}
-use Rattle.script_runner.specs.Stations.{is_up}
 use Rattle.script_runner.specs.declared.centre.Centre.{Centre}
-use Rattle.script_runner.specs.declared.station.Station.{Station}
-use Rattle.std.proofs.lemmas.Bool.Decides.{nat_tests}
-use Rattle.std.proofs.lemmas.List.{append-nil, length-map}
 use Rattle.script_runner.proofs.Following.{IsLeft, again_moved, all_done, one_done, to_all_of, to_next}
-use Rattle.script_runner.proofs.Moving.{found_too, stood_at}
+use Rattle.script_runner.proofs.Moving.{ups}
+use Rattle.script_runner.proofs.Settling.{nodes_stay}
 
--- what is still to be done of a packet that comes to all nodes, and as many are up
-pub record IsComing (number place count : ℕ) (old now : Centre) (before text : List ℕ) : Type 0 where
-  pub left : (w : World) → IsWorld old w →
-      IsLeft (comes_to number (node_numbers w) w) (comes_to number (range_with_len (1 + place) (count - place))) now before text
-  pub up : map is_up now.stations.items ≡ map is_up old.stations.items
+-- the packet of a number comes to the nodes behind the first so many
+abbrev pub from : ℕ → ℕ → World → Moved
+from number place w = comes_to number (range_with_len (1 + place) (length w.runners - place)) w
 
-pub begins : (number count : ℕ) (old : Centre) (before : List ℕ) → count ≡ length old.stations.items → IsComing number 0 count old old before before
-begins number count old before is = record { left = first; up = refl }
-  where
-    first : (w : World) → IsWorld old w → IsLeft (comes_to number (node_numbers w) w) (comes_to number (range_with_len (1 + 0) (count - 0))) old before before
-    first w world =
-        let same : count - 0 ≡ length w.runners = omega (arith, is, world.nodes) in
-        subst (λ (n : ℕ). IsLeft (comes_to number (node_numbers w) w) (comes_to number (range_with_len 1 n)) old before before) (sym same)
-        (record { world = w; is = world; next = refl; written = refl })
+-- what is still to be done of a packet that comes to all nodes
+abbrev pub IsComing : ℕ → ℕ → Centre → Centre → List ℕ → List ℕ → Type 0
+IsComing number place old now before text =
+    (w : World) → IsWorld old w → IsLeft (comes_to number (node_numbers w) w) (from number place) now before text
 
-station_up : (centre : Centre) (w : World) (place : ℕ) (station : Station) → IsWorld centre w → slice_get centre.stations.items place ≡ Some station →
-    is_up_at (runner_at w (1 + place)) ≡ is_up station
-station_up centre w place station is found =
-    let there = found_too centre.stations.items w.runners place station is.nodes found in
-    let number : 1 + place ≡ suc place = omega arith in
-    ap (λ (n : ℕ). is_up_at (runner_at w n)) number ∙ ap is_up_at there.1 ∙ (is.each place station there.0 found there.1).up
+pub begins : (number : ℕ) (old : Centre) (before : List ℕ) → IsComing number 0 old old before before
+begins number old before w is =
+    let all : length w.runners - 0 ≡ length w.runners = omega arith in
+    let same : from number 0 w ≡ comes_to number (node_numbers w) w = ap (λ (n : ℕ). comes_to number (range_with_len 1 n) w) all in
+    record {
+      world = w;
+      is = is;
+      next = ap (λ (m : Moved). m.next) same;
+      written = ap (λ (m : Moved). before ++ world_text m.prints) same;
+    }
 
 -- ---- one node after another
 
--- a node that is up gets it
-pub one_came : (number place count : ℕ) (old now new : Centre) (station : Station) (before text after : List ℕ) → place < count →
-    IsComing number place count old now before text →
-    slice_get now.stations.items place ≡ Some station → is_up station ≡ true → Does (λ w. comes w number (1 + place)) now new text after →
-    map is_up new.stations.items ≡ map is_up now.stations.items → IsComing number (place + 1) count old new before after
-one_came number place count old now new station before text after within way found up did ups = record { left = next; up = ups ∙ way.up }
+again_count : (w : World) (number node : ℕ) → length (comes_again w number node).next.runners ≡ length w.runners
+again_count w number node = by_test (is_up_at (runner_at w node))
   where
-    next : (w : World) → IsWorld old w →
-        IsLeft (comes_to number (node_numbers w) w) (comes_to number (range_with_len (1 + (place + 1)) (count - (place + 1)))) new before after
-    next w world =
-        let left = way.left w world in
-        let v = left.world in
-        let start : (1 + place) + 1 ≡ 1 + (place + 1) = omega arith in
-        let rest : count - place ≡ suc (count - (place + 1)) = omega (arith, within) in
-        let moved : IsMoved (comes_again v number (1 + place)) new text after =
-        again_moved v number (1 + place) new text after (λ is_so. did v left.is)
-        (λ is_not. absurd (let clash : true ≡ false = sym up ∙ sym (station_up now v place station left.is found) ∙ is_not in cc)) in
-        subst (λ (n : ℕ). IsLeft (comes_to number (node_numbers w) w) (comes_to number (range_with_len n (count - (place + 1)))) new before after) start
-        (one_done (comes_to number (node_numbers w) w) (comes_to number (range_with_len (1 + place) (count - place)))
-        (comes_to number (range_with_len ((1 + place) + 1) (count - (place + 1))))
-        (λ u. comes_again u number (1 + place)) now new before text after left (to_next number (1 + place) (count - place) (count - (place + 1)) v rest) moved)
+    by_test : (b : Bool) → length (if b then comes w number node else stays w).next.runners ≡ length w.runners
+    by_test true = nodes_stay w number node
+    by_test false = refl
 
--- one that is down is passed by
-pub one_passed : (number place count : ℕ) (old now : Centre) (station : Station) (before text : List ℕ) → place < count →
-    IsComing number place count old now before text →
-    slice_get now.stations.items place ≡ Some station → is_up station ≡ false → IsComing number (place + 1) count old now before text
-one_passed number place count old now station before text within way found down = record { left = next; up = way.up }
+one_further : (number place : ℕ) (w : World) → place < length w.runners
+    → from number place w ≡ then_moved (comes_again w number (1 + place)) (from number (place + 1) (comes_again w number (1 + place)).next)
+one_further number place w within =
+    let count = length w.runners in
+    let rest : count - place ≡ suc (count - (place + 1)) = omega (arith, within) in
+    let start : (1 + place) + 1 ≡ 1 + (place + 1) = omega arith in
+    let again = comes_again w number (1 + place) in
+    to_next number (1 + place) (count - place) (count - (place + 1)) w rest
+    ∙ (λ i. then_moved again (comes_to number (range_with_len (start i) (sym (again_count w number (1 + place)) i - (place + 1))) again.next))
+
+none_further : (number place : ℕ) (w : World) → length w.runners ≤ place → from number place w ≡ from number (place + 1) w
+none_further number place w past =
+    to_all_of number (1 + place) (length w.runners - place) w (omega (arith, past))
+    ∙ sym (to_all_of number (1 + (place + 1)) (length w.runners - (place + 1)) w (omega (arith, past)))
+
+pub up_there : (centre : Centre) (w : World) (node place : ℕ) (b : Bool) → IsWorld centre w → node ≡ place + 1 → is_up_in centre.world node ≡ b
+    → is_up_at (runner_at w (1 + place)) ≡ b
+up_there centre w node place b is same up =
+    let number : 1 + place ≡ suc place = omega arith in
+    let node_is : node ≡ suc place = omega (arith, same) in
+    ap (λ (n : ℕ). is_up_at (runner_at w n)) number ∙ sym (ups centre w place is) ∙ ap (is_up_in centre.world) (sym node_is) ∙ up
+
+up_within : (runners : List Runner) (place : ℕ) → is_up_at (slice_get runners place) ≡ true → place < length runners
+up_within runners place up = by_runner (slice_get runners place) refl
   where
-    next : (w : World) → IsWorld old w →
-        IsLeft (comes_to number (node_numbers w) w) (comes_to number (range_with_len (1 + (place + 1)) (count - (place + 1)))) now before text
-    next w world =
-        let left = way.left w world in
-        let v = left.world in
-        let start : (1 + place) + 1 ≡ 1 + (place + 1) = omega arith in
-        let rest : count - place ≡ suc (count - (place + 1)) = omega (arith, within) in
-        let moved : IsMoved (comes_again v number (1 + place)) now text text =
-        again_moved v number (1 + place) now text text
-        (λ is_so. absurd (let clash : false ≡ true = sym down ∙ sym (station_up now v place station left.is found) ∙ is_so in cc))
-        (λ is_not. record { next = left.is; text = sym (append-nil text) }) in
-        subst (λ (n : ℕ). IsLeft (comes_to number (node_numbers w) w) (comes_to number (range_with_len n (count - (place + 1)))) now before text) start
-        (one_done (comes_to number (node_numbers w) w) (comes_to number (range_with_len (1 + place) (count - place)))
-        (comes_to number (range_with_len ((1 + place) + 1) (count - (place + 1))))
-        (λ u. comes_again u number (1 + place)) now now before text text left (to_next number (1 + place) (count - place) (count - (place + 1)) v rest) moved)
+    by_runner : (found : Option Runner) → slice_get runners place ≡ found → place < length runners
+    by_runner None none = absurd (true≢false (sym up ∙ ap is_up_at none))
+    by_runner (Some runner) found = slice_get_within runners place runner found
+
+-- a node that is up gets it
+pub one_came : (number node place : ℕ) (old now new : Centre) (before text after : List ℕ) → IsComing number place old now before text
+    → node ≡ place + 1 → is_up_in now.world node ≡ true → Does (λ w. comes w number node) now new text after → IsComing number (place + 1) old new before after
+one_came number node place old now new before text after way same up did w world =
+    let left = way w world in
+    let v = left.world in
+    let is_up_there = up_there now v node place true left.is same up in
+    let within : place < length v.runners =
+    up_within v.runners place (let number_is : 1 + place ≡ suc place = omega arith in sym (ap (λ (n : ℕ). is_up_at (runner_at v n)) number_is) ∙ is_up_there) in
+    let first : node ≡ 1 + place = omega (arith, same) in
+    let moved : IsMoved (comes_again v number (1 + place)) new text after =
+    again_moved v number (1 + place) new text after (λ is_so. subst (λ (n : ℕ). IsMoved (comes v number n) new text after) first (did v left.is))
+    (λ is_not. absurd (true≢false (sym is_up_there ∙ is_not))) in
+    one_done (comes_to number (node_numbers w) w) (from number place) (from number (place + 1)) (λ u. comes_again u number (1 + place)) now new before text
+    after left (one_further number place v within) moved
+
+-- one that is not is passed by
+pub one_passed : (number node place : ℕ) (old now : Centre) (before text : List ℕ) → IsComing number place old now before text → node ≡ place + 1
+    → is_up_in now.world node ≡ false → IsComing number (place + 1) old now before text
+one_passed number node place old now before text way same down w world =
+    let left = way w world in
+    let v = left.world in
+    elim (below_or_past place (length v.runners)) [
+      | inl within ↦
+          let moved : IsMoved (comes_again v number (1 + place)) now text text =
+          again_moved v number (1 + place) now text text
+          (λ is_so. absurd (true≢false (sym is_so ∙ up_there now v node place false left.is same down)))
+          (λ is_not. record { next = left.is; text = sym (append-nil text) }) in
+          one_done (comes_to number (node_numbers w) w) (from number place) (from number (place + 1)) (λ u. comes_again u number (1 + place)) now now before
+          text text left (one_further number place v within) moved
+      | inr past ↦
+          let rest = none_further number place v past in
+          record {
+            world = v;
+            is = left.is;
+            next = ap (λ (m : Moved). m.next) (sym rest) ∙ left.next;
+            written = ap (λ (m : Moved). text ++ world_text m.prints) (sym rest) ∙ left.written;
+          }
+    ]
+  where
+    below_or_past : (a b : ℕ) → (a < b) ⊎ (b ≤ a)
+    below_or_past a zero = inr (omega arith)
+    below_or_past zero (suc b) = inl (omega arith)
+    below_or_past (suc a) (suc b) = elim (below_or_past a b) [ inl less ↦ inl (omega (arith, less)) | inr more ↦ inr (omega (arith, more)) ]
 
 -- no node is left
-pub all_came : (number place count : ℕ) (old now : Centre) (before text : List ℕ) → count ≤ place → IsComing number place count old now before text →
+pub all_came : (number place : ℕ) (old now : Centre) (before text : List ℕ) → 9 ≤ place → IsComing number place old now before text →
     Does (λ w. comes_to number (node_numbers w) w) old now before text
-all_came number place count old now before text past way w world =
-    let left = way.left w world in
-    all_done (comes_to number (node_numbers w) w) (comes_to number (range_with_len (1 + place) (count - place))) now before text left
-    (to_all_of number (1 + place) (count - place) left.world (omega (arith, past)))
-
--- ---- as the code goes
-
-pub same_count : (number place count : ℕ) (old now : Centre) (before text : List ℕ) → IsComing number place count old now before text →
-    length now.stations.items ≡ length old.stations.items
-same_count number place count old now before text way =
-    sym (length-map now.stations.items is_up) ∙ ap length way.up ∙ length-map old.stations.items is_up
-
-pub below : (a b : ℕ) → true ≡ nat_lt a b → a < b
-below a b test = let same : nat_lt a b ≡ true = sym test in grind (arith, nat_tests)
-
-pub not_below : (a b : ℕ) → false ≡ nat_lt a b → b ≤ a
-not_below a b test = let same : nat_lt a b ≡ false = sym test in grind (arith, nat_tests)
-
-pub found_there : (now : Centre) (items : List Station) (place : ℕ) (station : Station) → items ≡ now.stations.items → true ≡ nat_lt place
-    (length items) → station ≡ get_or items place station →
-    slice_get now.stations.items place ≡ Some station
-found_there now items place station same test is =
-    stood_at now place station (subst (λ (ss : List Station). place < length ss) same (below place (length items) test))
-    (subst (λ (ss : List Station). station ≡ get_or ss place station) same is)
+all_came number place old now before text past way w world =
+    let left = way w world in
+    let few = left.is.few in
+    all_done (comes_to number (node_numbers w) w) (from number place) now before text left
+    (to_all_of number (1 + place) (length left.world.runners - place) left.world (omega (arith, past, few)))

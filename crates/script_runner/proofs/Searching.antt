@@ -1,17 +1,16 @@
 -- The first of some numbers, in ascending order.
 use Rattle.std.proofs.Common.{◌≡◌, ◌⊎◌, inl, inr, ℕ, zero, suc, ◌+◌, ◌-◌, ◌<◌, ◌≤◌, Bool, true, false, cond, List, [], ◌∷◌, length, find}
 use Rattle.std.proofs.Common.{Option, Some, None, refl, sym, ap, ◌∙◌, arith}
-use Rattle.std.specs.Prelude.{◌&&◌, not, slice_get, if◌then◌else◌}
+use Rattle.std.specs.Prelude.{◌&&◌, not, if◌then◌else◌}
 use Rattle.std.specs.List.{range_with_len}
 use Rattle.mc_model.specs.synod.Packet.{Packet}
 use Rattle.node_model.specs.Stepped.{sender_of}
-use Rattle.script_world.specs.World.{World, due, due_among, due_at, due_first, is_up_at, lacks, node_numbers, packet_of, runner_at, takes_part}
+use Rattle.world.specs.Scenes.{is_up_in}
+use Rattle.script_world.specs.World.{World, due, due_among, due_at, due_first, lacks, node_numbers, packet_of, takes_part}
 use Rattle.script_runner.specs.Arrivals.{came_in}
 use Rattle.script_runner.specs.Centres.{IsWorld, NothingBefore}
-use Rattle.script_runner.specs.Stations.{is_up}
 use Rattle.script_runner.specs.declared.centre.Centre.{Centre}
-use Rattle.script_runner.specs.declared.station.Station.{Station}
-use Rattle.script_runner.proofs.Moving.{found_too}
+use Rattle.script_runner.proofs.Moving.{ups}
 
 -- ---- of numbers from one on
 
@@ -97,15 +96,14 @@ all_three : (one other last : Bool) → ((one && other) && last) ≡ (one && (ot
 all_three true other last = refl
 all_three false other last = refl
 
-pub lacks_is : (centre : Centre) (w : World) (nodes : List ℕ) (number place : ℕ) (station : Station) → IsWorld centre w →
-    slice_get centre.stations.items place ≡ Some station →
-    lacks w nodes number (suc place) ≡ (takes_part nodes (suc place) && (is_up station && not (came_in centre.arrivals number (suc place))))
-lacks_is centre w nodes number place station is found =
-    let there = found_too centre.stations.items w.runners place station is.nodes found in
-    let up : is_up_at (runner_at w (suc place)) ≡ is_up station = ap is_up_at there.1 ∙ (is.each place station there.0 found there.1).up in
-    ap (λ (b : Bool). (takes_part nodes (suc place) && b) && not (w.came number (suc place))) up
-    ∙ ap (λ (b : Bool). (takes_part nodes (suc place) && is_up station) && not b) (sym (is.came number (suc place)))
-    ∙ all_three (takes_part nodes (suc place)) (is_up station) (not (came_in centre.arrivals number (suc place)))
+pub lacks_is : (centre : Centre) (w : World) (nodes : List ℕ) (number place : ℕ) → IsWorld centre w →
+    lacks w nodes number (suc place)
+    ≡ (takes_part nodes (suc place) && (is_up_in centre.world (suc place) && not (came_in centre.arrivals number (suc place))))
+lacks_is centre w nodes number place is =
+    let up = is_up_in centre.world (suc place) in
+    ap (λ (b : Bool). (takes_part nodes (suc place) && b) && not (w.came number (suc place))) (sym (ups centre w place is))
+    ∙ ap (λ (b : Bool). (takes_part nodes (suc place) && up) && not b) (sym (is.came number (suc place)))
+    ∙ all_three (takes_part nodes (suc place)) up (not (came_in centre.arrivals number (suc place)))
 
 -- ---- no packet below a number is due
 

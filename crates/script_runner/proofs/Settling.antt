@@ -1,10 +1,10 @@
 -- Packets come that are due, one after another.
 use Rattle.std.proofs.Common.{◌≡◌, ℕ, zero, suc, ◌+◌, ◌<◌, ◌≤◌, Bool, true, false, List, [], ◌∷◌, ◌++◌, find, length, map, Option, Some}
 use Rattle.std.proofs.Common.{None, Result, Ok, Err, refl, sym, ap, ◌∙◌, inl, inr, eq-or-lt_of_le, arith}
-use Rattle.std.specs.Prelude.{◌&&◌, ◌==◌, OnOk, not, pred, slice_get, option_map, if◌then◌else◌}
+use Rattle.std.specs.Prelude.{◌&&◌, ◌==◌, OnOk, not, pred, slice_get, if◌then◌else◌}
 use Rattle.std.specs.List.{range_with_len}
 use Rattle.std.specs.declared.alloc.AllocError.{AllocError}
-use Rattle.std.proofs.lemmas.List.{append-nil, length-map}
+use Rattle.std.proofs.lemmas.List.{append-nil, length-set}
 use Rattle.std.proofs.lemmas.Bool.{or_right}
 use Rattle.mc_model.specs.synod.Packet.{Packet}
 use Rattle.node_model.specs.Stepped.{sender_of}
@@ -13,13 +13,11 @@ use Rattle.script_text.specs.Runner.{Runner, on_delivery}
 use Rattle.script_world.specs.World.{Due as WorldDue, Moved, World, comes, comes_if, due, due_among, due_at, due_first, is_down, is_up_at}
 use Rattle.script_world.specs.World.{lacks, marked, node_numbers, on_settle, packet_of, refuses, runner_at, settles, shared, stays}
 use Rattle.script_world.specs.World.{takes_part, then_moved, unsettled, up_or_refuses}
-use Rattle.script_runner.specs.Centres.{Does, IsMoved, IsWorld, NothingBefore, due_of}
-use Rattle.script_runner.specs.Stations.{is_up}
+use Rattle.script_runner.specs.Centres.{Does, IsMoved, IsWorld, KeepsUp, NothingBefore, due_of}
 use Rattle.script_runner.specs.declared.centre.Centre.{Centre}
 use Rattle.script_runner.specs.declared.centre.Due.{Due}
-use Rattle.script_runner.specs.declared.station.Station.{Station}
 use Rattle.script_runner.proofs.Following.{IsLeft, all_done, last_done, one_done}
-use Rattle.script_runner.proofs.Moving.{found_too, none_too, some_same}
+use Rattle.script_runner.proofs.Moving.{some_same}
 use Rattle.script_runner.proofs.Searching.{none_of_fewer}
 
 -- ---- the first that is due is the first
@@ -69,12 +67,13 @@ module _ (w : World) (nodes : List ℕ) where
 
 -- what came has come, and what was sent has been sent
 record HasGrown (w next : World) : Type 0 where
+  nodes : length next.runners ≡ length w.runners
   came : (number node : ℕ) → w.came number node ≡ true → next.came number node ≡ true
   more : List Packet
   packets : next.packets ≡ w.packets ++ more
 
 still : (w : World) → HasGrown w w
-still w = record { came = λ number node is. is; more = []; packets = sym (append-nil w.packets) }
+still w = record { nodes = refl; came = λ number node is. is; more = []; packets = sym (append-nil w.packets) }
 
 came_grows : (w : World) (number node : ℕ) → HasGrown w (comes w number node).next
 came_grows w number node = by_packet (packet_of w.packets number)
@@ -82,6 +81,7 @@ came_grows w number node = by_packet (packet_of w.packets number)
     by_up : (packet : Packet) (runner : Runner) (up : Bool) →
         HasGrown w (if up then shared (marked w number node) node (on_delivery runner packet []) else refuses w is_down).next
     by_up packet runner true = record {
+      nodes = length-set w.runners (pred node) _;
       came = λ n m is. or_right (n == number && m == node) (w.came n m) is;
       more = (on_delivery runner packet []).next.node.packets;
       packets = refl;
@@ -97,33 +97,9 @@ came_grows w number node = by_packet (packet_of w.packets number)
     by_packet None = still w
     by_packet (Some packet) = by_runner packet (runner_at w node)
 
--- as many nodes are up
-ups_at : (xs ys : List Station) (place : ℕ) → map is_up xs ≡ map is_up ys → option_map is_up (slice_get xs place) ≡ option_map is_up (slice_get ys place)
-ups_at xs ys place same = sym (mapped xs place) ∙ ap (λ (bs : List Bool). slice_get bs place) same ∙ mapped ys place
-  where
-    mapped : (zs : List Station) (k : ℕ) → slice_get (map is_up zs) k ≡ option_map is_up (slice_get zs k)
-    mapped [] zero = refl
-    mapped [] (suc k) = refl
-    mapped (z ∷ zs) zero = refl
-    mapped (z ∷ zs) (suc k) = mapped zs k
-
-abbrev or_down : Option Bool → Bool
-or_down None = false
-or_down (Some up) = up
-
-up_as : (centre : Centre) (w : World) (place : ℕ) → IsWorld centre w →
-    is_up_at (slice_get w.runners place) ≡ or_down (option_map is_up (slice_get centre.stations.items place))
-up_as centre w place is = by_station (slice_get centre.stations.items place) refl
-  where
-    by_station : (found : Option Station) → slice_get centre.stations.items place ≡ found →
-        is_up_at (slice_get w.runners place) ≡ or_down (option_map is_up found)
-    by_station None none = ap is_up_at (none_too centre.stations.items w.runners place is.nodes none)
-    by_station (Some station) found =
-        let there = found_too centre.stations.items w.runners place station is.nodes found in
-        ap is_up_at there.1 ∙ (is.each place station there.0 found there.1).up
-
-same_length : (xs ys : List Station) → map is_up xs ≡ map is_up ys → length xs ≡ length ys
-same_length xs ys same = sym (length-map xs is_up) ∙ ap length same ∙ length-map ys is_up
+-- as many nodes are there
+pub nodes_stay : (w : World) (number node : ℕ) → length (comes w number node).next.runners ≡ length w.runners
+nodes_stay w number node = (came_grows w number node).nodes
 
 in_front : (ps more : List Packet) (n : ℕ) → n < suc (length ps) → packet_of (ps ++ more) n ≡ packet_of ps n
 in_front ps more zero below = refl
@@ -140,10 +116,9 @@ fewer_lack true false before now more none = refl
 fewer_lack true true true now more none = ap not (more refl)
 fewer_lack true true false now more none = absurd cc
 
-pub nothing_more : (old new : Centre) (w : World) (nodes : List ℕ) (number node : ℕ) → IsWorld old w → IsWorld new (comes w number node).next →
-    map is_up new.stations.items ≡ map is_up old.stations.items → number < suc (length w.packets) → NothingBefore w nodes number →
-    NothingBefore (comes w number node).next nodes number
-nothing_more old new w nodes number node was is up within none n below = by_packet (packet_of w.packets n) refl
+pub nothing_more : (old : Centre) (w : World) (nodes : List ℕ) (number node : ℕ) → IsWorld old w → KeepsUp old number node →
+    number < suc (length w.packets) → NothingBefore w nodes number → NothingBefore (comes w number node).next nodes number
+nothing_more old w nodes number node was up within none n below = by_packet (packet_of w.packets n) refl
   where
     next : World
     next = (comes w number node).next
@@ -154,12 +129,8 @@ nothing_more old new w nodes number node was is up within none n below = by_pack
     packet_same : packet_of next.packets n ≡ packet_of w.packets n
     packet_same = ap (λ (ps : List Packet). packet_of ps n) grown.packets ∙ in_front w.packets grown.more n (omega (arith, below, within))
 
-    count_same : length next.runners ≡ length w.runners
-    count_same = sym is.nodes ∙ same_length new.stations.items old.stations.items up ∙ was.nodes
-
     up_same : (m : ℕ) → is_up_at (runner_at w m) ≡ is_up_at (runner_at next m)
-    up_same m =
-        up_as old w (pred m) was ∙ ap or_down (ups_at old.stations.items new.stations.items (pred m) (sym up)) ∙ sym (up_as new next (pred m) is)
+    up_same m = sym (up w was m)
 
     weaker : (m : ℕ) → lacks w nodes n m ≡ false → lacks next nodes n m ≡ false
     weaker m fails =
@@ -170,7 +141,7 @@ nothing_more old new w nodes number node was is up within none n below = by_pack
         (if part then find (lacks next nodes n) (node_numbers next) else None) ≡ None
     by_part packet false nobody = refl
     by_part packet true nobody =
-        ap (λ (count : ℕ). find (lacks next nodes n) (range_with_len 1 count)) count_same
+        ap (λ (count : ℕ). find (lacks next nodes n) (range_with_len 1 count)) grown.nodes
         ∙ none_of_fewer (lacks w nodes n) (lacks next nodes n) (node_numbers w) weaker nobody
 
     by_packet : (found : Option Packet) → packet_of w.packets n ≡ found → due_at next nodes n (packet_of next.packets n) ≡ None
@@ -207,7 +178,7 @@ begins old w most from nodes before is none = record { left = record { world = w
 pub one_came : (all : Moved) (most more : ℕ) (nodes : List ℕ) (from : ℕ) (now new : Centre) (found : Due) (before text after : List ℕ)
     (way : IsUnderWay all most nodes from now before text) →
     most ≡ suc more → Some (due_of found) ≡ due way.left.world nodes → IsMoved (comes way.left.world found.number found.node) new text after →
-    map is_up new.stations.items ≡ map is_up now.stations.items → IsUnderWay all more nodes found.number new before after
+    KeepsUp now found.number found.node → IsUnderWay all more nodes found.number new before after
 unfolding one_done
 one_came all most more nodes from now new found before text after way is due_is moved up =
     let w = way.left.world in
@@ -215,7 +186,7 @@ one_came all most more nodes from now new found before text after way is due_is 
     record {
       left = one_done all (settles most nodes) (settles more nodes) (λ (v : World). comes v found.number found.node) now new before text after way.left
           (settle_next most more nodes w next is (sym due_is)) moved;
-      below = nothing_more now new w nodes found.number found.node way.left.is moved.next up (due_within w nodes next (sym due_is))
+      below = nothing_more now w nodes found.number found.node way.left.is up (due_within w nodes next (sym due_is))
           (due_before w nodes next (sym due_is));
     }
 

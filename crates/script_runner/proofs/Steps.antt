@@ -106,11 +106,11 @@ next_line_if (Ok good) old centre new line said before after is e act = next_lin
 
 -- ---- what a line does
 
-among_so : (centre : Centre) (w : World) (said : Said) (b : Bool) → IsWorld centre w → names_within (length centre.stations.items) said ≡ b →
+among_so : (centre : Centre) (w : World) (said : Said) (b : Bool) → IsWorld centre w → names_within (length centre.sites.items) said ≡ b →
     said_among (length w.runners) said ≡ (if b then Some said else None)
 among_so centre w said b is within = ap (λ (c : Bool). if c then Some said else None) (ap (λ (n : ℕ). names_within n said) (sym is.nodes) ∙ within)
 
-pub acts_by : (old new : Centre) (said : Said) (good : Bool) (before after : List ℕ) → names_within (length old.stations.items) said ≡ true →
+pub acts_by : (old new : Centre) (said : Said) (good : Bool) (before after : List ℕ) → names_within (length old.sites.items) said ≡ true →
     ((w : World) → IsWorld old w → IsStepBy (moved_by script_settings w said) good (Some new) before after) → IsAct old said good new before after
 acts_by old new said good before after within does w is =
     subst (λ (named : Option Said). IsStepBy (step_by script_settings (Some w) named) good (Some new) before after)

@@ -1,37 +1,71 @@
 -- The centre, as the world of a script.
-use Rattle.std.specs.Prelude.{◌≡◌, ℕ, ◌+◌, ◌<◌, ◌≤◌, ◌++◌, List, length, map, slice_get, slice_set, option_map, Option, Some, None}
-use Rattle.synod_acceptor.specs.Packets.{packet_of as packet_by}
-use Rattle.node_core.specs.Setups.{setup_of as setup_by}
-use Rattle.script_text.specs.Node.{opened_by}
-use Rattle.script_text.specs.Runner.{Runner, runner_opened}
+use Rattle.std.specs.Prelude.{◌≡◌, ◌⊎◌, ℕ, suc, ◌<◌, ◌≤◌, true, false, List, [], ◌++◌, length, slice_get, option_map, Option, Some, None}
+use Rattle.mc_model.specs.cluster.Steps.{Cluster}
+use Rattle.node_laws.specs.Clusters.{NodeInput}
+use Rattle.world.specs.Runs.{IsAt}
+use Rattle.world.specs.Scenes.{is_up_in}
+use Rattle.script_text.specs.Runner.{Runner}
 use Rattle.script_text.specs.Settings.{Settings}
 use Rattle.script_world.specs.Prints.{world_text}
-use Rattle.script_world.specs.World.{Due as WorldDue, Moved, World, due, due_at, opened, packet_of}
+use Rattle.script_world.specs.Runs.{StandsFor}
+use Rattle.script_world.specs.World.{Due as WorldDue, Moved, World, comes, due, due_at, is_down, is_up_at, no_node, opened, packet_of, runner_at}
+use Rattle.script_site.specs.Standing.{IsEmpty}
+use Rattle.script_site.specs.declared.site.Site.{Site}
 use Rattle.script_runner.specs.Arrivals.{came_in}
-use Rattle.script_runner.specs.Stations.{HasGiven, Stands, is_up}
 use Rattle.script_runner.specs.declared.centre.Centre.{Centre}
 use Rattle.script_runner.specs.declared.centre.Due.{Due}
-use Rattle.script_runner.specs.declared.station.Station.{Station}
 
--- the centre is as this world
+-- what stands beside a node is as a runner in a world, from which all that its node sent was taken
+pub record IsBeside (site : Site) (node : ℕ) (runner : Runner) : Type 0 where
+  pub node_is : site.node ≡ node
+  pub sessions : site.service.sessions ≡ runner.sessions
+  pub streams : site.streams ≡ runner.streams
+  pub waiting : site.service.waiting ≡ runner.waiting
+  pub taken : runner.node.packets ≡ []
+
+-- The centre is as this world: both stand at one place of one run of the model's cluster.
 pub record IsWorld (centre : Centre) (w : World) : Type 0 where
-  pub nodes : length centre.stations.items ≡ length w.runners
+  pub cluster : Cluster
+  pub inputs : List NodeInput
+  pub at : IsAt cluster [] inputs centre.world
+  pub stands : StandsFor cluster inputs w
+  pub nodes : length centre.sites.items ≡ length w.runners
   pub few : length w.runners ≤ 9
-  pub each : (place : ℕ) (station : Station) (runner : Runner) → slice_get centre.stations.items place ≡ Some station →
+  pub each : (place : ℕ) (site : Site) (runner : Runner) → slice_get centre.sites.items place ≡ Some site →
       slice_get w.runners place ≡ Some runner →
-      Stands station runner
-  pub packets : map packet_by centre.packets.sent ≡ w.packets
+      IsBeside site (suc place) runner
   pub came : (number node : ℕ) → came_in centre.arrivals number node ≡ w.came number node
 
 -- as so many nodes with new stores
 abbrev pub StartsAs : Settings → ℕ → ℕ → Centre → Type 0
 StartsAs settings nodes serial centre = IsWorld centre (opened settings nodes serial)
 
--- the first of so many nodes opened, each over a new store
-pub record AreOpened (nodes serial validity count : ℕ) (stations : List Station) : Type 0 where
-  pub count_is : length stations ≡ count
-  pub each : (place : ℕ) (station : Station) → slice_get stations place ≡ Some station →
-      Stands station (runner_opened (opened_by (setup_by (place + 1) nodes serial validity)))
+-- no session is connected at any of the nodes 1 to so many
+pub record AreEmpty (count : ℕ) (sites : List Site) : Type 0 where
+  pub count_is : length sites ≡ count
+  pub each : (place : ℕ) (site : Site) → slice_get sites place ≡ Some site → IsEmpty (suc place) site
+
+-- ---- lines
+
+-- the node of a number is up, and this is its place
+pub record IsPlaceUp (centre : Centre) (node place : ℕ) : Type 0 where
+  pub place_is : node ≡ suc place
+  pub within : place < length centre.sites.items
+  pub up : is_up_in centre.world node ≡ true
+
+-- there is no such node, or it is down
+pub record IsAbsent (centre : Centre) (node number : ℕ) : Type 0 where
+  pub number_is : number ≡ no_node
+  pub beyond : length centre.sites.items < node
+
+pub record IsDown (centre : Centre) (node number : ℕ) : Type 0 where
+  pub number_is : number ≡ is_down
+  pub within : node ≤ length centre.sites.items
+  pub least : 1 ≤ node
+  pub down : is_up_in centre.world node ≡ false
+
+abbrev pub declines : Centre → ℕ → ℕ → Type 0
+declines centre node number = IsAbsent centre node number ⊎ IsDown centre node number
 
 -- it is as what was done left the world, and the text of what was printed was added
 pub record IsMoved (moved : Moved) (new : Centre) (before after : List ℕ) : Type 0 where
@@ -42,15 +76,9 @@ pub record IsMoved (moved : Moved) (new : Centre) (before after : List ℕ) : Ty
 abbrev pub Does : (World → Moved) → Centre → Centre → List ℕ → List ℕ → Type 0
 Does line old new before after = (w : World) → IsWorld old w → IsMoved (line w) new before after
 
--- what the node at a place sent came behind all packets
-pub record HasShared (old : Centre) (place : ℕ) (new : Centre) : Type 0 where
-  pub station : Station
-  pub left : Station
-  pub found : slice_get old.stations.items place ≡ Some station
-  pub given : HasGiven station left (map packet_by old.packets.sent) (map packet_by new.packets.sent)
-  pub up : is_up left ≡ is_up station
-  pub stations : new.stations.items ≡ slice_set old.stations.items place left
-  pub arrivals : new.arrivals ≡ old.arrivals
+-- as many nodes are up as before a packet came
+abbrev pub KeepsUp : Centre → ℕ → ℕ → Type 0
+KeepsUp old number node = (w : World) → IsWorld old w → (other : ℕ) → is_up_at (runner_at (comes w number node).next other) ≡ is_up_at (runner_at w other)
 
 -- ---- what is due
 

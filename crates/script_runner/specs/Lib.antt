@@ -1,5 +1,5 @@
 pub mod Arrivals
-pub mod Stations
+pub mod Sites
 pub mod Centres
 pub mod Faults
 pub mod Outcome

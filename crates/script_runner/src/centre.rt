@@ -1,37 +1,39 @@
-//! The centre: its nodes with their sessions, and the packets between them.
+//! The centre: a world, and what stands beside each of its nodes.
 
-ghost use Rattle.std.specs.Prelude.{◌≡◌, ℕ, ◌==◌, ◌&&◌, ◌<◌, ◌≤◌, false, length, map, not, reverse, OnOk, IfOk};
-ghost use Rattle.std.specs.List.{insert, range_with_len};
+ghost use Rattle.std.specs.Prelude.{◌≡◌, ℕ, ◌==◌, ◌&&◌, ◌<◌, ◌≤◌, false, length, map, not, reverse, IfErr, OnOk, IfOk};
+ghost use Rattle.std.specs.List.{range_with_len};
 ghost use Rattle.mc_types.specs.Nodes.{has};
 ghost use Rattle.node_core.specs.Stops.{is_after};
 ghost use Rattle.script_lines.specs.Said.{nodes_with};
 ghost use Rattle.script_runner.specs.Arrivals.{came_in};
-ghost use Rattle.script_runner.specs.Stations.{is_up};
-ghost use Rattle.script_runner.specs.Centres.{AreOpened, Does, HasShared, IsDue, IsLacking, IsPassed, StartsAs};
+ghost use Rattle.script_runner.specs.Centres.{AreEmpty, Does, IsDue, IsLacking, IsPassed, IsPlaceUp, KeepsUp, StartsAs, declines};
+ghost use Rattle.script_runner.specs.Sites.{IsRefused, Leaves, Tells};
 ghost use Rattle.script_text.specs.Settings.{settings_of};
 ghost use Rattle.script_world.specs.World.{all_come, comes, comes_to, crashes, grants, hears, node_numbers, on_replay, on_settle, restarts, takes_part, ticks};
+ghost use Rattle.world.specs.Scenes.{is_up_in};
 
 use crate::arrivals::Arrivals;
-use crate::station::{DOWN, Station};
 use config::Config;
-use mc_types::{Moment, MsgId, NodeNo, NodeSet};
-use node_core::{Found, Setup, sender};
+use mc_types::{MOST_NODES, Moment, MsgId, NodeNo, NodeSet};
+use node_core::{Found, sender};
 use script_site::{Site, write_declined, write_unsettled};
-use sim_net::Packets;
 use std::alloc::{AllocError, Global};
-use synod_acceptor::Packet;
+use world::{Given, World, WorldFault};
 
 /// How many packets a settle delivers at most.
 const MOST_DELIVERIES: u32 = 100_000;
-/// The number with which a line is refused whose packet was not sent.
-const NO_PACKET: u8 = 1;
+/// The number with which a line is refused whose node there is not.
+const NO_NODE: u8 = 2;
+/// The number with which a line is refused whose node is down.
+const DOWN: u8 = 4;
 
-/// Up to nine nodes with their sessions, every packet that they sent, and which of them came to which node.
+/// A world of up to nine nodes, what stands beside each of them, and which packets came to which node. After an `Err` of a call, which is want
+/// of memory, nothing is said of it.
 #[derive(Drop)]
 pub struct Centre {
-    // Node n stands at the place n - 1.
-    stations: Vec<Station>,
-    packets: Packets,
+    world: World,
+    // That of node n stands at the place n - 1.
+    sites: Vec<Site>,
     arrivals: Arrivals,
 }
 
@@ -55,22 +57,28 @@ impl Centre {
         requires most { serial ≤ 99999 }
         ensures { IfOk result (StartsAs (settings_of config.now) nodes serial) }
     {
-        Ok(Centre {
-            stations: opened(alloc, nodes, serial, config.default_validity)?,
-            packets: Packets::none(alloc),
-            arrivals: Arrivals::none(alloc),
-        })
+        let sites = empty_sites(alloc, nodes)?;
+        match World::start(alloc, nodes, serial, config.default_validity) {
+            Ok(world) => Ok(Centre {
+                world,
+                sites,
+                arrivals: Arrivals::none(alloc),
+            }),
+            Err(_) => {
+                drop(sites);
+                Err(AllocError)
+            }
+        }
     }
 
     /// How many nodes it has.
     pub fn nodes(&self) -> usize
-        ensures { result ≡ length self.now.stations.items }
+        ensures { result ≡ length self.now.sites.items }
     {
-        self.stations.len()
+        self.sites.len()
     }
 
-    /// The next octets of a session's stream came: adds the lines of what goes out. After an `Err`, which is want of memory, nothing is said of the
-    /// centre; so it is below.
+    /// The next octets of a session's stream came: adds the lines of what goes out.
     pub fn octets(
         &mut self,
         config: &Config,
@@ -81,12 +89,10 @@ impl Centre {
     ) -> Result<(), AllocError>
         ensures { OnOk result (Does (λ w. hears (settings_of config.now) w node number octets.now) self.old self.new text.old.items text.new.items) }
     {
-        let at = node.number() as usize - 1;
-        if at >= self.stations.len() {
-            return Ok(());
+        match self.place_up(node) {
+            Ok(at) => self.sites[at].octets(&mut self.world, config, number, octets, text),
+            Err(refusal) => write_declined(text, refusal),
         }
-        self.stations[at].octets(config, node, number, octets, text)?;
-        self.share(at)
     }
 
     /// A moment has come at a node.
@@ -98,24 +104,35 @@ impl Centre {
     ) -> Result<(), AllocError>
         ensures { OnOk result (Does (λ w. ticks w node moment) self.old self.new text.old.items text.new.items) }
     {
-        let at = node.number() as usize - 1;
-        if at >= self.stations.len() {
-            return Ok(());
+        match self.place_up(node) {
+            Ok(at) => self.sites[at].tick(&mut self.world, moment, text),
+            Err(refusal) => write_declined(text, refusal),
         }
-        self.stations[at].tick(node, moment, text)?;
-        self.share(at)
     }
 
     /// The attempt of a message is asked for at a node.
     pub fn grant(&mut self, node: NodeNo, id: MsgId, text: &mut Vec<u8>) -> Result<(), AllocError>
         ensures { OnOk result (Does (λ w. grants w node id) self.old self.new text.old.items text.new.items) }
     {
-        let at = node.number() as usize - 1;
-        if at >= self.stations.len() {
-            return Ok(());
+        match self.place_up(node) {
+            Ok(at) => self.sites[at].grant(&mut self.world, id, text),
+            Err(refusal) => write_declined(text, refusal),
         }
-        self.stations[at].grant(node, id, text)?;
-        self.share(at)
+    }
+
+    /// The place of a node that is up; else the number with which a line is refused that names it.
+    fn place_up(&self, node: NodeNo) -> Result<usize, u8>
+        ensures found { IfOk result (IsPlaceUp self.now node) }
+        ensures away { IfErr result (declines self.now node) }
+    {
+        let at = node.number() as usize - 1;
+        if at >= self.sites.len() {
+            return Err(NO_NODE);
+        }
+        if !self.world.is_up(node) {
+            return Err(DOWN);
+        }
+        Ok(at)
     }
 
     /// The packet of a number comes to a node.
@@ -126,22 +143,27 @@ impl Centre {
         text: &mut Vec<u8>,
     ) -> Result<(), AllocError>
         ensures comes { OnOk result (Does (λ w. comes w number node) self.old self.new text.old.items text.new.items) }
-        ensures up { OnOk result (map is_up self.new.stations.items ≡ map is_up self.old.stations.items) }
+        ensures up { OnOk result (KeepsUp self.old number node) }
     {
-        let Some(packet) = self.packets.get(number) else {
-            return write_declined(text, NO_PACKET);
-        };
+        match self.world.deliver(number, node) {
+            Ok(given) => {
+                self.tell(node, given, text)?;
+                self.arrivals.add(number, node)
+            }
+            Err(fault) => refuse(text, fault),
+        }
+    }
+
+    /// Adds the lines of what a step of a node gave out. If there is no such node, it does nothing.
+    fn tell(&mut self, node: NodeNo, given: Given, text: &mut Vec<u8>) -> Result<(), AllocError>
+        ensures { OnOk result (Tells self.old node given self.new text.old.items text.new.items) }
+    {
         let at = node.number() as usize - 1;
-        if at >= self.stations.len() {
+        if at >= self.sites.len() {
+            drop(given);
             return Ok(());
         }
-        if !self.stations[at].is_up() {
-            return write_declined(text, DOWN);
-        }
-        self.arrivals.add(number, node)?;
-        let packet = packet.copy()?;
-        self.stations[at].deliver(node, packet, text)?;
-        self.share(at)
+        self.sites[at].tell(&self.world, given, text)
     }
 
     /// The packet of a number comes to a node, which stops in the save of that step: before it, or after it.
@@ -154,29 +176,37 @@ impl Centre {
     ) -> Result<(), AllocError>
         ensures { OnOk result (Does (λ w. crashes w node number (is_after found)) self.old self.new text.old.items text.new.items) }
     {
-        let Some(packet) = self.packets.get(number) else {
-            return write_declined(text, NO_PACKET);
-        };
-        let at = node.number() as usize - 1;
-        if at >= self.stations.len() {
-            return Ok(());
+        match self.world.crash(node, number, found) {
+            Ok(given) => {
+                drop(given);
+                self.leave(node, text)
+            }
+            Err(fault) => refuse(text, fault),
         }
-        let station = self.stations.remove(at).stop(node, packet, found, text)?;
-        self.put(at, station)?;
-        self.share(at)
     }
 
     /// A node starts anew, in its next incarnation, whether it is up or down.
     pub fn restart(&mut self, node: NodeNo, text: &mut Vec<u8>) -> Result<(), AllocError>
         ensures { OnOk result (Does (λ w. restarts w node) self.old self.new text.old.items text.new.items) }
     {
+        match self.world.restart(node) {
+            Ok(given) => {
+                drop(given);
+                self.leave(node, text)
+            }
+            Err(fault) => refuse(text, fault),
+        }
+    }
+
+    /// Adds the line of each session of a node that it is gone; the node keeps none. If there is no such node, it does nothing.
+    fn leave(&mut self, node: NodeNo, text: &mut Vec<u8>) -> Result<(), AllocError>
+        ensures { OnOk result (Leaves self.old node self.new text.old.items text.new.items) }
+    {
         let at = node.number() as usize - 1;
-        if at >= self.stations.len() {
+        if at >= self.sites.len() {
             return Ok(());
         }
-        let station = self.stations.remove(at).restart(node, text)?;
-        self.put(at, station)?;
-        self.share(at)
+        self.sites[at].leave(text)
     }
 
     /// Packets come that did not come yet, between these nodes, or between all if these are none: the first by its number, to the first node that
@@ -200,21 +230,18 @@ impl Centre {
         ensures { IsPassed self.now (nodes_with (has nodes)) result }
     {
         let mut first = u64::MAX;
-        for place in 0..9u8 {
-            let Some(station) = self.stations.get(place as usize) else {
-                return first;
-            };
-            first = first.min(self.first_lacked(nodes, NodeNo::of(place + 1), station));
+        for place in 0..MOST_NODES {
+            first = first.min(self.first_lacked(nodes, NodeNo::of(place + 1)));
         }
         first
     }
 
     /// A node lacks no packet below this number.
-    fn first_lacked(&self, nodes: NodeSet, node: NodeNo, station: &Station) -> u64
+    fn first_lacked(&self, nodes: NodeSet, node: NodeNo) -> u64
         ensures { (number : ℕ) → 1 ≤ number → number < result →
-            (takes_part (nodes_with (has nodes)) node && (is_up station.now && not (came_in self.now.arrivals number node))) ≡ false }
+            (takes_part (nodes_with (has nodes)) node && (is_up_in self.now.world node && not (came_in self.now.arrivals number node))) ≡ false }
     {
-        if takes_part(nodes, node) && station.is_up() {
+        if takes_part(nodes, node) && self.world.is_up(node) {
             self.arrivals.first_open(node)
         } else {
             u64::MAX
@@ -225,7 +252,7 @@ impl Centre {
     fn due(&self, nodes: NodeSet, from: u64) -> Option<Due>
         ensures { IsDue self.now (nodes_with (has nodes)) from result }
     {
-        for place in from.saturating_sub(1) as usize..self.packets.len() {
+        for place in from.saturating_sub(1) as usize..self.world.packets().len() {
             let number = place as u64 + 1;
             if let Some(node) = self.lacking(nodes, number) {
                 return Some(Due { number, node });
@@ -238,13 +265,12 @@ impl Centre {
     fn lacking(&self, nodes: NodeSet, number: u64) -> Option<NodeNo>
         ensures { IsLacking self.now (nodes_with (has nodes)) number result }
     {
-        let packet = self.packets.get(number)?;
+        let packet = self.world.packets().get(number)?;
         if !takes_part(nodes, sender(packet)) {
             return None;
         }
-        for place in 0..9u8 {
-            let station = self.stations.get(place as usize)?;
-            if self.lacks(nodes, number, NodeNo::of(place + 1), station) {
+        for place in 0..MOST_NODES {
+            if self.lacks(nodes, number, NodeNo::of(place + 1)) {
                 return Some(NodeNo::of(place + 1));
             }
         }
@@ -252,17 +278,17 @@ impl Centre {
     }
 
     /// Whether a node takes part, is up, and has not got the packet of a number.
-    fn lacks(&self, nodes: NodeSet, number: u64, node: NodeNo, station: &Station) -> bool
-        ensures { result ≡ (takes_part (nodes_with (has nodes)) node && (is_up station.now && not (came_in self.now.arrivals number node))) }
+    fn lacks(&self, nodes: NodeSet, number: u64, node: NodeNo) -> bool
+        ensures { result ≡ (takes_part (nodes_with (has nodes)) node && (is_up_in self.now.world node && not (came_in self.now.arrivals number node))) }
     {
-        takes_part(nodes, node) && station.is_up() && !self.arrivals.has(number, node)
+        takes_part(nodes, node) && self.world.is_up(node) && !self.arrivals.has(number, node)
     }
 
     /// All packets that were sent before come again to all nodes that are up, from the highest number down, so many times.
     pub fn replay(&mut self, count: u64, text: &mut Vec<u8>) -> Result<(), AllocError>
         ensures { OnOk result (Does (λ w. on_replay w count) self.old self.new text.old.items text.new.items) }
     {
-        let sent = self.packets.len() as u64;
+        let sent = self.world.packets().len() as u64;
         if sent == 0 {
             return Ok(());
         }
@@ -288,54 +314,36 @@ impl Centre {
     fn comes_to_all(&mut self, number: u64, text: &mut Vec<u8>) -> Result<(), AllocError>
         ensures { OnOk result (Does (λ w. comes_to number (node_numbers w) w) self.old self.new text.old.items text.new.items) }
     {
-        for place in 0..9u8 {
-            let Some(station) = self.stations.get(place as usize) else {
-                return Ok(());
-            };
-            if !station.is_up() {
-                continue;
+        for place in 0..MOST_NODES {
+            let node = NodeNo::of(place + 1);
+            if self.world.is_up(node) {
+                self.deliver(number, node, text)?;
             }
-            self.deliver(number, NodeNo::of(place + 1), text)?;
         }
         Ok(())
     }
+}
 
-    /// Puts a node back that was taken from its place. An `Err` is want of memory.
-    fn put(&mut self, at: usize, station: Station) -> Result<(), AllocError>
-        requires { at ≤ length self.old.stations.items }
-        ensures stations { OnOk result (self.new.stations.items ≡ insert self.old.stations.items at station) }
-        ensures packets { self.new.packets ≡ self.old.packets }
-        ensures arrivals { self.new.arrivals ≡ self.old.arrivals }
-    {
-        match self.stations.insert(at, station) {
-            Ok(()) => Ok(()),
-            Err(_) => Err(AllocError),
-        }
-    }
-
-    /// What the node at this place sent comes after all packets. An `Err` is want of memory.
-    fn share(&mut self, at: usize) -> Result<(), AllocError>
-        requires { at < length self.old.stations.items }
-        ensures { OnOk result (HasShared self.old at self.new) }
-    {
-        self.stations[at].give_packets(&mut self.packets)
+/// Adds the line that tells why a line is refused. An `Err` is want of memory, also if the line is refused for that.
+fn refuse(text: &mut Vec<u8>, fault: WorldFault) -> Result<(), AllocError>
+    ensures { OnOk result (IsRefused fault text.old.items text.new.items) }
+{
+    match fault {
+        WorldFault::Memory => Err(AllocError),
+        fault => write_declined(text, fault.number()),
     }
 }
 
-/// Nodes 1 to so many, each over a new store. An `Err` is want of memory.
-fn opened(alloc: Global, nodes: u8, serial: u32, validity: u32) -> Result<Vec<Station>, AllocError>
-    requires few { nodes ≤ 9 }
-    requires least { 1 ≤ serial }
-    requires most { serial ≤ 99999 }
-    ensures { IfOk result (λ stations. AreOpened nodes serial validity nodes stations.items) }
+/// No session at any of the nodes 1 to so many. An `Err` is want of memory.
+fn empty_sites(alloc: Global, nodes: u8) -> Result<Vec<Site>, AllocError>
+    requires { nodes ≤ 9 }
+    ensures { IfOk result (λ sites. AreEmpty nodes sites.items) }
 {
-    let mut stations = Vec::with_capacity(alloc, nodes as usize)?;
+    let mut sites = Vec::with_capacity(alloc, nodes as usize)?;
     for place in 0..nodes {
-        let setup = Setup::make(NodeNo::of(place + 1), nodes, serial, validity).unwrap();
-        let site = Site::start(alloc, setup)?;
-        stations.push(Station::Up(site))?;
+        sites.push(Site::none(alloc, NodeNo::of(place + 1)))?;
     }
-    Ok(stations)
+    Ok(sites)
 }
 
 /// Whether a node takes part: all do if these are none.

@@ -6,7 +6,6 @@ mod centre;
 mod fault;
 mod program;
 mod run;
-mod station;
 
 pub use fault::ScriptFault;
 pub use octet_io::{CountedReader, CountedWriter};

@@ -1,70 +1,85 @@
 -- An attempt is asked for: it is granted and goes out, or fails; or it is not granted.
-use Rattle.std.proofs.Common.{◌≡◌, ℕ, List, ◌++◌, Option, Some, None, Result, Ok, Err, sym, ◌∙◌, ap, subst}
+use Rattle.std.proofs.Common.{◌≡◌, ℕ, List, [], ◌∷◌, ◌++◌, Option, Some, None, Result, Ok, Err, refl, sym, ap, subst, ◌∙◌}
 use Rattle.std.proofs.lemmas.List.{append-nil}
 use Rattle.std.specs.Prelude.{OnOk}
 use Rattle.std.specs.declared.alloc.AllocError.{AllocError}
 use Rattle.mc_model.specs.message.Chain.{taken_in}
 use Rattle.mc_model.specs.message.Decree.{Decree}
+use Rattle.mc_model.specs.message.Submission.{Submission}
 use Rattle.mc_model.specs.node.Grant.{GrantRefusal, refusal_number}
 use Rattle.mc_model.specs.node.Input.{Grant}
-use Rattle.mc_model.specs.synod.Packet.{Slot}
+use Rattle.mc_model.specs.synod.Packet.{Slot, slot_of}
 use Rattle.node_model.specs.Attempts.{grant_refusal}
 use Rattle.node_model.specs.Granted.{known_slot}
 use Rattle.node_model.specs.Kept.{message_at}
+use Rattle.delivery.specs.Deliveries.{EndsInAttempt}
+use Rattle.fate_chain.specs.declared.chain.Chain.{Chain}
+use Rattle.world.specs.Scenes.{Scene}
 use Rattle.script_text.specs.Attempts.{submission_at, taken_on}
 use Rattle.script_text.specs.Node.{step_at, with_step}
-use Rattle.script_text.specs.Prints.{ungranted_line}
-use Rattle.script_text.specs.Runner.{Acted, Runner, granted, granted_unless, on_grant, sent}
-use Rattle.script_site.specs.Sites.{IsDone}
-
--- ---- it is granted, or not
+use Rattle.script_text.specs.Prints.{text_at, ungranted_line}
+use Rattle.script_text.specs.Runner.{Acted, Runner, followed_by, granted, granted_unless, on_grant, sent}
+use Rattle.script_world.specs.World.{World}
+use Rattle.script_site.specs.Grantings.{GrantsChain, IsGranting, RefusesGrant}
+use Rattle.script_site.specs.Sites.{Acts, HasActed, IsRunning, Placed}
+use Rattle.script_site.specs.declared.steps.Granting.TheVariants as grantings
+use Rattle.script_site.proofs.Acting.{has_acted, like}
+use Rattle.script_site.proofs.Replies.{in_turn}
 
 unless_so : (runner : Runner) (id : ℕ) (refusal : Option GrantRefusal) → grant_refusal runner.node.setup runner.node.kept id ≡ refusal
-    → on_grant runner id ≡ granted_unless runner id (known_slot runner.node.kept id) refusal
-unless_so runner id refusal is = ap (granted_unless runner id (known_slot runner.node.kept id)) is
+    → granted_unless runner id (known_slot runner.node.kept id) refusal ≡ on_grant runner id
+unless_so runner id refusal is = ap (granted_unless runner id (known_slot runner.node.kept id)) (sym is)
 
-module _ (home : ℕ) where
+module _ (at : Placed) (id : ℕ) where
+  abbrev home : ℕ
+  home = at.site.node
+
+  -- the node that grants it, and the site as it was
+  abbrev there : Scene → Placed
+  there scene = record { world = scene; site = at.site }
+
   -- It is granted, and what comes of that is done.
-  granted_done : (runner middle left : Runner) (id : ℕ) (slot : Slot) (decrees : List Decree) (before after : List ℕ)
-      → grant_refusal runner.node.setup runner.node.kept id ≡ None
-      → middle.node ≡ with_step runner.node (step_at runner.node (Grant (known_slot runner.node.kept id)))
-      → middle.sessions ≡ runner.sessions → middle.streams ≡ runner.streams → middle.waiting ≡ runner.waiting
-      → slot ≡ known_slot runner.node.kept id → (message_at runner.node.kept id).known ≡ Some decrees
-      → IsDone home (sent middle slot (taken_in decrees)) left before after → IsDone home (on_grant runner id) left before after
-  granted_done runner middle left id slot decrees before after none node sessions streams waiting same known done =
+  pub granted_acts : (r : Result (Unit {0}) AllocError) (scene : Scene) (new : Placed) (chain : Chain) (before after : List ℕ)
+      → IsGranting home id at.world (grantings.Granted chain) scene
+      → OnOk r (EndsInAttempt chain.decrees → Acts home (λ runner. sent runner (slot_of chain.id chain.decrees) (taken_in chain.decrees))
+      (there scene) new before after)
+      → OnOk r (Acts home (λ runner. on_grant runner id) at new before after)
+  granted_acts (Err fault) scene new chain before after grants sends = tt
+  granted_acts (Ok done) scene new chain before after grants sends w runner running =
+      let given = grants w runner.node running.going in
       let place = known_slot runner.node.kept id in
-      let middle_is : middle ≡ (granted runner (Grant place)).next =
-      λ i. record { node = node i; sessions = sessions i; streams = streams i; waiting = waiting i } in
-      let taken_is : taken_in decrees ≡ submission_at runner.node id = sym (ap taken_on known) in
-      let sent_is : sent middle slot (taken_in decrees) ≡ sent (granted runner (Grant place)).next place (submission_at runner.node id) =
-      λ i. sent (middle_is i) (same i) (taken_is i) in
-      let now = subst (λ (a : Acted). IsDone home a left before after) sent_is done in
-      subst (λ (a : Acted). IsDone home a left before after) (sym (unless_so runner id None none)) (record { next = now.next; text = now.text })
-
-  pub granted_done_if : (r : Result (Unit {0}) AllocError) (runner middle left : Runner) (id : ℕ) (slot : Slot) (decrees : List Decree) (before after : List ℕ)
-      → grant_refusal runner.node.setup runner.node.kept id ≡ None
-      → middle.node ≡ with_step runner.node (step_at runner.node (Grant (known_slot runner.node.kept id)))
-      → middle.sessions ≡ runner.sessions → middle.streams ≡ runner.streams → middle.waiting ≡ runner.waiting
-      → slot ≡ known_slot runner.node.kept id → (message_at runner.node.kept id).known ≡ Some decrees
-      → OnOk r (IsDone home (sent middle slot (taken_in decrees)) left before after) → OnOk r (IsDone home (on_grant runner id) left before after)
-  granted_done_if (Err fault) runner middle left id slot decrees before after none node sessions streams waiting same known done = tt
-  granted_done_if (Ok fine) runner middle left id slot decrees before after none node sessions streams waiting same known done =
-      granted_done runner middle left id slot decrees before after none node sessions streams waiting same known done
+      let first = granted runner (Grant place) in
+      let on : IsRunning home (there scene) w first.next = record {
+        home_is = running.home_is;
+        going = given.going;
+        sessions = running.sessions;
+        streams = running.streams;
+        waiting = running.waiting;
+      } in
+      let did = sends given.ends w first.next on in
+      let taken_is : taken_in chain.decrees ≡ submission_at runner.node id = sym (ap taken_on given.known) in
+      let same : sent first.next (slot_of chain.id chain.decrees) (taken_in chain.decrees) ≡ sent first.next place (submission_at runner.node id) =
+      λ i. sent first.next (given.slot i) (taken_is i) in
+      has_acted home w (granted_unless runner id place None) (on_grant runner id) new before after (like (unless_so runner id None given.allowed))
+      (has_acted home w (sent first.next (slot_of chain.id chain.decrees) (taken_in chain.decrees)) (granted_unless runner id place None) new before after
+      (record { next = ap (λ (a : Acted). a.next) same; prints = ap (λ (a : Acted). a.prints) same }) did)
 
   -- It is not granted.
-  refused_done : (runner left : Runner) (id : ℕ) (refusal : GrantRefusal) (number : ℕ) (before after : List ℕ)
-      → grant_refusal runner.node.setup runner.node.kept id ≡ Some refusal → number ≡ refusal_number refusal → left ≡ runner
-      → after ≡ before ++ ungranted_line number → IsDone home (on_grant runner id) left before after
-  refused_done runner left id refusal number before after is told same wrote =
-      subst (λ (a : Acted). IsDone home a left before after) (sym (unless_so runner id (Some refusal) is)) (record {
-        next = same;
-        text = wrote ∙ ap (λ (n : ℕ). before ++ ungranted_line n) told
-            ∙ ap (λ (octets : List ℕ). before ++ octets) (sym (append-nil (ungranted_line (refusal_number refusal))));
+  pub refused_acts : (r : Result (Unit {0}) AllocError) (scene : Scene) (number : ℕ) (before after : List ℕ)
+      → IsGranting home id at.world (grantings.Refused number) scene → OnOk r (after ≡ before ++ ungranted_line number)
+      → OnOk r (Acts home (λ runner. on_grant runner id) at (there scene) before after)
+  refused_acts (Err fault) scene number before after refuses wrote = tt
+  refused_acts (Ok done) scene number before after refuses wrote w runner running =
+      let refused = refuses w runner.node running.going in
+      has_acted home w (granted_unless runner id (known_slot runner.node.kept id) (Some refused.refusal)) (on_grant runner id) (there scene) before after
+      (like (unless_so runner id (Some refused.refusal) refused.reason)) (record {
+        running = record {
+          home_is = running.home_is;
+          going = refused.going;
+          sessions = running.sessions;
+          streams = running.streams;
+          waiting = running.waiting;
+        };
+        text = wrote ∙ ap (λ (n : ℕ). before ++ ungranted_line n) refused.told
+            ∙ ap (λ (octets : List ℕ). before ++ octets) (sym (append-nil (ungranted_line (refusal_number refused.refusal))));
       })
-
-  pub refused_done_if : (r : Result (Unit {0}) AllocError) (runner left : Runner) (id : ℕ) (refusal : GrantRefusal) (number : ℕ) (before after : List ℕ)
-      → grant_refusal runner.node.setup runner.node.kept id ≡ Some refusal → number ≡ refusal_number refusal → left ≡ runner
-      → OnOk r (after ≡ before ++ ungranted_line number) → OnOk r (IsDone home (on_grant runner id) left before after)
-  refused_done_if (Err fault) runner left id refusal number before after is told same wrote = tt
-  refused_done_if (Ok done) runner left id refusal number before after is told same wrote =
-      refused_done runner left id refusal number before after is told same wrote

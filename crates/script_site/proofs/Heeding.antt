@@ -2,93 +2,130 @@
 use Rattle.std.proofs.Common.{◌≡◌, ℕ, suc, ◌==◌, Bool, true, false, List, [], ◌∷◌, length, Option, Some, None, Result, Ok, Err}
 use Rattle.std.proofs.Common.{refl, sym, ap, ◌∙◌, subst, arith}
 use Rattle.std.proofs.lemmas.Bool.{eqb-true}
-use Rattle.std.proofs.lemmas.List.{append-nil}
 use Rattle.std.specs.Prelude.{OnOk, is_none, not}
 use Rattle.std.specs.declared.alloc.AllocError.{AllocError}
 use Rattle.mc_model.specs.node.Outputs.{Receipt}
 use Rattle.sessions.specs.Session.{Session}
 use Rattle.esme_service.specs.Hearing.{Goes, Heeds, ends_at, heeds}
+use Rattle.esme_service.specs.Service.{Service}
 use Rattle.esme_service.specs.Sessions.{account_at}
 use Rattle.esme_service.specs.declared.heard.Heard.{Heard}
+use Rattle.world.specs.Scenes.{clock_in}
 use Rattle.script_text.specs.Settings.{Settings}
 use Rattle.script_text.specs.Pushes.{session_at}
-use Rattle.script_text.specs.Receipts.{Mail, goes_out_up_to, posted_for_any, stays}
-use Rattle.script_text.specs.Runner.{Acted, Runner, ends, mail_of, on_frame, posts_for, with_posted}
+use Rattle.script_text.specs.Receipts.{Mail, goes_out_up_to, posted_for, posted_for_any, stays}
+use Rattle.script_text.specs.Runner.{Acted, Runner, ends, mail_of, on_frame, posts_for, rests, with_posted}
 use Rattle.script_site.specs.Heeding.{heeded, then_posts}
-use Rattle.script_site.specs.Sites.{IsDone}
+use Rattle.script_site.specs.Posting.{IsPosted, mail_in}
+use Rattle.script_site.specs.Sites.{Acts, HasActed, Placed}
+use Rattle.script_site.proofs.Acting.{acts_as, clock_so, has_acted, like, mail_is, nothing_acts, posted_acts, served, then_acts, with_service}
 use Rattle.script_site.proofs.Serving.{end_so, frame_so}
-use Rattle.script_site.proofs.Telling.{then_done}
 
-module _ (home : ℕ) (settings : Settings) (number : ℕ) where
+-- what is done once something was heard, and what waits goes out
+abbrev goes_on : Settings → ℕ → Heeds → Runner → Acted
+goes_on settings number all runner = then_posts number (heeded settings number (record runner { sessions = all.sessions }) all.heard)
+
+module _ (settings : Settings) (number : ℕ) (at : Placed) (left : Service) (heard : Heard) where
+  abbrev home : ℕ
+  home = at.site.node
+
   -- it was heard, heeded, and what waits went out
-  heeded_then_posted : (old heard_left middle left : Runner) (all : Heeds) (heard : Heard) (acted : Acted) (before text after : List ℕ)
-      → acted ≡ then_posts number (heeded settings number (record old { sessions = all.sessions }) all.heard) → heard ≡ all.heard
-      → heard_left ≡ record old { sessions = all.sessions } → IsDone home (heeded settings number heard_left heard) middle before text
-      → IsDone home (posts_for middle (account_at middle.sessions number)) left text after → IsDone home acted left before after
-  heeded_then_posted old heard_left middle left all heard acted before text after is same left_is done posted =
-      let both = then_done home (heeded settings number heard_left heard) (λ (r : Runner). posts_for r (account_at r.sessions number)) middle left before
-      text after done posted in
-      subst (λ (a : Acted). IsDone home a left before after)
-      ((λ i. then_posts number (heeded settings number (left_is i) (same i))) ∙ sym is) both
+  heeded_then_posted : (r : Result (Unit {0}) AllocError) (all : Heeds) (mid new : Placed) (before text after : List ℕ)
+      → heard ≡ all.heard → left ≡ record at.site.service { sessions = all.sessions }
+      → Acts home (λ runner. heeded settings number runner heard) (with_service at left) mid before text
+      → OnOk r (Acts mid.site.node (λ runner. posts_for runner (account_at runner.sessions number)) mid new text after)
+      → OnOk r (Acts home (goes_on settings number all) at new before after)
+  heeded_then_posted (Err fault) all mid new before text after same left_is did posted = tt
+  heeded_then_posted (Ok done) all mid new before text after same left_is did posted = λ w runner running.
+      let heard_at = served home at (record at.site { service = left }) w runner all.sessions runner.waiting running refl refl
+      (ap (λ (s : Service). s.sessions) left_is) (ap (λ (s : Service). s.waiting) left_is ∙ running.waiting) in
+      let both = then_acts home (λ r. heeded settings number r heard) (λ r. posts_for r (account_at r.sessions number)) (with_service at left) mid new
+      before text after did posted w (record runner { sessions = all.sessions }) heard_at in
+      subst (λ (h : Heard). HasActed home w (then_posts number (heeded settings number (record runner { sessions = all.sessions }) h)) new before after) same both
 
-  -- The octets of one frame came.
-  pub frame_done_if : (r : Result (Unit {0}) AllocError) (old heard_left middle left : Runner) (octets : List ℕ) (heard : Heard)
-      (before text after : List ℕ)
-      → is_none (session_at old.sessions number) ≡ false → heard ≡ (heeds settings old.sessions number octets).heard
-      → heard_left ≡ record old { sessions = (heeds settings old.sessions number octets).sessions } → Goes number (heeds settings old.sessions number octets)
-      → IsDone home (heeded settings number heard_left heard) middle before text
-      → OnOk r (IsDone home (posts_for middle (account_at middle.sessions number)) left text after)
-      → OnOk r (IsDone home (on_frame settings number old octets) left before after)
-  frame_done_if (Err fault) old heard_left middle left octets heard before text after there same left_is goes done posted = tt
-  frame_done_if (Ok fine) old heard_left middle left octets heard before text after there same left_is goes done posted =
-      by_found (session_at old.sessions number) refl there
-    where
-      by_found : (found : Option Session) → session_at old.sessions number ≡ found → is_none found ≡ false
-          → IsDone home (on_frame settings number old octets) left before after
-      by_found None is some = absurd cc
-      by_found (Some session) is some =
-          heeded_then_posted old heard_left middle left (heeds settings old.sessions number octets) heard _ before text after
-          (frame_so settings number old session octets is goes) same left_is done posted
+  module _ (r : Result (Unit {0}) AllocError) (mid new : Placed) (before text after : List ℕ)
+      (there : is_none (session_at at.site.service.sessions number) ≡ false)
+      (did : Acts home (λ runner. heeded settings number runner heard) (with_service at left) mid before text)
+      (posted : OnOk r (Acts mid.site.node (λ runner. posts_for runner (account_at runner.sessions number)) mid new text after)) where
+    -- a session is connected
+    session_there : (found : Option Session) → session_at at.site.service.sessions number ≡ found → (session : Session) × (session_at at.site.service.sessions number ≡ Some session)
+    session_there None is = absurd (let clash : true ≡ false = sym (ap is_none is) ∙ there in cc)
+    session_there (Some session) is = (session, is)
 
-  -- A wrong length came.
-  pub end_done_if : (r : Result (Unit {0}) AllocError) (old heard_left middle left : Runner) (heard : Heard) (before text after : List ℕ)
-      → is_none (session_at old.sessions number) ≡ false → heard ≡ (ends_at old.sessions number).heard
-      → heard_left ≡ record old { sessions = (ends_at old.sessions number).sessions } → Goes number (ends_at old.sessions number)
-      → IsDone home (heeded settings number heard_left heard) middle before text
-      → OnOk r (IsDone home (posts_for middle (account_at middle.sessions number)) left text after)
-      → OnOk r (IsDone home (ends settings number old) left before after)
-  end_done_if (Err fault) old heard_left middle left heard before text after there same left_is goes done posted = tt
-  end_done_if (Ok fine) old heard_left middle left heard before text after there same left_is goes done posted =
-      by_found (session_at old.sessions number) refl there
-    where
-      by_found : (found : Option Session) → session_at old.sessions number ≡ found → is_none found ≡ false
-          → IsDone home (ends settings number old) left before after
-      by_found None is some = absurd cc
-      by_found (Some session) is some =
-          heeded_then_posted old heard_left middle left (ends_at old.sessions number) heard _ before text after
-          (end_so settings number old session is goes) same left_is done posted
+    -- The octets of one frame came.
+    pub frame_acts : (octets : List ℕ) → heard ≡ (heeds settings at.site.service.sessions number octets).heard
+        → left ≡ record at.site.service { sessions = (heeds settings at.site.service.sessions number octets).sessions }
+        → Goes number (heeds settings at.site.service.sessions number octets)
+        → OnOk r (Acts home (λ runner. on_frame settings number runner octets) at new before after)
+    frame_acts octets same left_is goes =
+        let all = heeds settings at.site.service.sessions number octets in
+        acts_as home r (goes_on settings number all) (λ runner. on_frame settings number runner octets) at new before after
+        (λ w runner running.
+        let found = session_there (session_at at.site.service.sessions number) refl in
+        let same_sessions = running.sessions in
+        like (ap (λ (sessions : List (ℕ × Session)). goes_on settings number (heeds settings sessions number octets) runner) same_sessions
+        ∙ sym (frame_so settings number runner found.0 octets
+        (subst (λ (sessions : List (ℕ × Session)). session_at sessions number ≡ Some found.0) same_sessions found.1)
+        (subst (λ (sessions : List (ℕ × Session)). Goes number (heeds settings sessions number octets)) same_sessions goes))))
+        (heeded_then_posted r all mid new before text after same left_is did posted)
+
+    -- A wrong length came.
+    pub end_acts : heard ≡ (ends_at at.site.service.sessions number).heard
+        → left ≡ record at.site.service { sessions = (ends_at at.site.service.sessions number).sessions } → Goes number (ends_at at.site.service.sessions number)
+        → OnOk r (Acts home (ends settings number) at new before after)
+    end_acts same left_is goes =
+        let all = ends_at at.site.service.sessions number in
+        acts_as home r (goes_on settings number all) (ends settings number) at new before after
+        (λ w runner running.
+        let found = session_there (session_at at.site.service.sessions number) refl in
+        let same_sessions = running.sessions in
+        like (ap (λ (sessions : List (ℕ × Session)). goes_on settings number (ends_at sessions number) runner) same_sessions
+        ∙ sym (end_so settings number runner found.0
+        (subst (λ (sessions : List (ℕ × Session)). session_at sessions number ≡ Some found.0) same_sessions found.1)
+        (subst (λ (sessions : List (ℕ × Session)). Goes number (ends_at sessions number)) same_sessions goes))))
+        (heeded_then_posted r all mid new before text after same left_is did posted)
 
 -- ---- receipts that wait
 
-module _ (home : ℕ) where
+none_there : (waiting : List Receipt) → not (length waiting == 0) ≡ false → waiting ≡ []
+none_there [] none = refl
+none_there (receipt ∷ waiting) none = absurd (by_test (suc (length waiting) == 0) refl none)
+  where
+    by_test : (b : Bool) → (suc (length waiting) == 0) ≡ b → not b ≡ false → ⊥
+    by_test true is some = let same : suc (length waiting) ≡ 0 = eqb-true _ _ is in omega (arith, same)
+    by_test false is some = cc
 
-  none_there : (waiting : List Receipt) → not (length waiting == 0) ≡ false → waiting ≡ []
-  none_there [] none = refl
-  none_there (receipt ∷ waiting) none = absurd (by_test (suc (length waiting) == 0) refl none)
-    where
-      by_test : (b : Bool) → (suc (length waiting) == 0) ≡ b → not b ≡ false → ⊥
-      by_test true is some = let same : suc (length waiting) ≡ 0 = eqb-true _ _ is in omega (arith, same)
-      by_test false is some = cc
+none_posted : (now : ℕ) (mail : Mail) (account : Option (List ℕ)) → mail.waiting ≡ [] → posted_for_any now mail account ≡ stays mail
+unfolding goes_out_up_to
+none_posted now mail None none = refl
+none_posted now mail (Some account) none = ap (λ (waiting : List Receipt). goes_out_up_to (length waiting) now account mail) none
 
-  none_posted : (now : ℕ) (mail : Mail) (account : Option (List ℕ)) → mail.waiting ≡ [] → posted_for_any now mail account ≡ stays mail
-  unfolding goes_out_up_to
-  none_posted now mail None none = refl
-  none_posted now mail (Some account) none = ap (λ (waiting : List Receipt). goes_out_up_to (length waiting) now account mail) none
+pub idle_acts : (at : Placed) (number : ℕ) (has : Bool) (text : List ℕ) → has ≡ not (length at.site.service.waiting == 0) → has ≡ false
+    → Acts at.site.node (λ runner. posts_for runner (account_at runner.sessions number)) at at text text
+idle_acts at number has text is idle w runner running =
+    let account = account_at runner.sessions number in
+    let none = ap (λ (waiting : List Receipt). not (length waiting == 0)) running.waiting in
+    let posted = none_posted runner.node.kept.clock (mail_of runner) account (none_there runner.waiting (sym none ∙ sym is ∙ idle)) in
+    has_acted at.site.node w (rests runner) (posts_for runner account) at text text
+    (like (sym (ap (with_posted runner) posted))) (nothing_acts at.site.node at text w runner running)
 
-  pub idle_done : (runner : Runner) (account : Option (List ℕ)) (has : Bool) (text : List ℕ) → has ≡ not (length runner.waiting == 0) → has ≡ false
-      → IsDone home (posts_for runner account) runner text text
-  idle_done runner account has text is idle =
-      let none = none_there runner.waiting (sym is ∙ idle) in
-      subst (λ (a : Acted). IsDone home a runner text text)
-      (sym (ap (with_posted runner) (none_posted runner.node.kept.clock (mail_of runner) account none)))
-      (record { next = refl; text = sym (append-nil text) })
+-- what waits for the account of a session went out
+pub posted_on : (r : Result (Unit {0}) AllocError) (at : Placed) (last : Service) (number now : ℕ) (account : List ℕ) (before after : List ℕ)
+    → Some account ≡ account_at at.site.service.sessions number → now ≡ clock_in at.world at.site.node
+    → OnOk r (IsPosted at.site.node (posted_for now (mail_in at.site.service) account) last before after)
+    → OnOk r (Acts at.site.node (λ runner. posts_for runner (account_at runner.sessions number)) at (with_service at last) before after)
+posted_on r at last number now account before after bound clock posted =
+    posted_acts r at last (posted_for now (mail_in at.site.service) account)
+    (λ runner. posted_for_any runner.node.kept.clock (mail_of runner) (account_at runner.sessions number)) before after
+    (λ w runner running.
+    let accounts : Some account ≡ account_at runner.sessions number = bound ∙ ap (λ (sessions : List (ℕ × Session)). account_at sessions number) running.sessions in
+    λ i. posted_for_any ((clock ∙ clock_so at.site.node at w runner running) i) (mail_is at.site.node at w runner running i) (accounts i)) posted
+
+-- and if nobody is bound, nothing does
+pub unbound_acts : (at : Placed) (number : ℕ) (text : List ℕ) → None ≡ account_at at.site.service.sessions number
+    → Acts at.site.node (λ runner. posts_for runner (account_at runner.sessions number)) at at text text
+unbound_acts at number text unbound w runner running =
+    let nobody : None ≡ account_at runner.sessions number =
+    unbound ∙ ap (λ (sessions : List (ℕ × Session)). account_at sessions number) running.sessions in
+    has_acted at.site.node w (rests runner) (posts_for runner (account_at runner.sessions number)) at text text
+    (like (ap (posts_for runner) nobody)) (nothing_acts at.site.node at text w runner running)

@@ -1,9 +1,14 @@
 pub mod Digits
 pub mod Replies
 pub mod Going
-pub mod Telling
 pub mod Serving
+pub mod Stepping
+pub mod Refusing
+pub mod Concluding
+pub mod Acting
+pub mod Heeded
 pub mod Heeding
+pub mod Sending
 pub mod Streaming
 pub mod Granting
 pub mod Ticking

@@ -16,8 +16,11 @@ use Rattle.pdu_frames.proofs.Streams.{frames_one, streams_cut}
 use Rattle.script_text.specs.Settings.{Settings}
 use Rattle.script_text.specs.Prints.{line_at, text_at}
 use Rattle.script_text.specs.Pushes.{session_at}
-use Rattle.script_text.specs.Runner.{Acted, Runner, ends, followed_by, held_in, holds, on_cut, on_frame, on_frames, on_octets, opened_at, session_in}
-use Rattle.script_site.specs.Sites.{IsDone}
+use Rattle.script_text.specs.Runner.{Acted, Runner, ends, followed_by, held_in, holds, on_cut, on_frame, on_frames, on_octets, opened_at, put_at, session_in}
+use Rattle.script_world.specs.World.{World}
+use Rattle.script_site.specs.Sites.{Acts, HasActed, IsRunning, Placed}
+use Rattle.script_site.specs.Standing.{HasOpened}
+use Rattle.script_site.specs.declared.site.Site.{Site}
 
 -- ---- cutting a stream
 
@@ -34,6 +37,11 @@ rest_cut rest end =
     λ i. record { frames = one.0 i; rest = one.1 i }
 
 -- ---- what is left to do
+
+-- this was done: it left this runner, and added the text of what it printed
+record IsDone (home : ℕ) (acted : Acted) (left : Runner) (before after : List ℕ) : Type 0 where
+  next : left ≡ acted.next
+  text : after ≡ before ++ text_at home acted.prints
 
 -- What the first octets do is what was done so far, and then what these octets do.
 pub record Continues (home : ℕ) (settings : Settings) (number : ℕ) (all : Acted) (before : List ℕ) (runner : Runner) (octets text : List ℕ) : Type 0 where
@@ -94,11 +102,11 @@ is_there None has is holds = absurd (let clash = sym is ∙ holds in cc)
 is_there (Some x) has is holds = refl
 
 -- a session that begins is connected
-pub is_opened : (old left : Runner) (number : ℕ) → left ≡ opened_at old number → is_none (session_at left.sessions number) ≡ false
-is_opened old left number is =
-    ap (λ (r : Runner). is_none (session_at r.sessions number)) is
+pub is_opened : (old left : Site) (number : ℕ) → HasOpened old number left → is_none (session_at left.service.sessions number) ≡ false
+is_opened old left number opens =
+    ap (λ (sessions : List (ℕ × Session)). is_none (session_at sessions number)) opens.sessions
     ∙ ap (λ (found : Option Session). is_none found)
-    (here number (session_in old.sessions number) (remove_entry (is_at (nat_cmp number)) old.sessions))
+    (here number (session_in old.service.sessions number) (remove_entry (is_at (nat_cmp number)) old.service.sessions))
 
 module _ (home : ℕ) where
   pub nothing_done : (settings : Settings) (number : ℕ) (old runner : Runner) (held octets before : List ℕ) → held ≡ held_in old.streams number
@@ -192,3 +200,110 @@ module _ (home : ℕ) where
       let parts : held ++ piece ≡ frame ++ rest = sym (joined held piece mid count taken) ∙ ap (λ s. s ++ rest) gave.1 in
       after_end settings number all before runner left frame rest text told
       (subst (λ s. Continues home settings number all before runner s text) parts so) gave.0 done gone
+
+-- ---- as the code goes
+
+-- The site and the world are as a runner for which this is left to do.
+pub record Proceeds (home : ℕ) (settings : Settings) (number : ℕ) (octets : List ℕ) (start : Placed) (before : List ℕ) (now : Placed)
+    (rest text : List ℕ) : Type 0 where
+  pub each : (w : World) (runner : Runner) → IsRunning home start w runner
+      → (mid : Runner) × IsRunning home now w mid × Continues home settings number (on_octets settings runner number octets) before mid rest text
+
+module _ (home : ℕ) (settings : Settings) (number : ℕ) (octets : List ℕ) (start : Placed) (before : List ℕ) where
+  pub opened : (site : Site) (held : List ℕ) → held ≡ held_in start.site.streams number → HasOpened start.site number site
+      → Proceeds home settings number octets start before (record { world = start.world; site = site }) (held ++ octets) before
+  opened site held is opens = record {
+    each = λ w runner running. (
+      opened_at runner number,
+      (
+        record {
+          home_is = opens.node_is ∙ running.home_is;
+          going = running.going;
+          sessions = opens.sessions ∙ ap (λ (sessions : List (ℕ × Session)). put_at sessions number (session_in sessions number)) running.sessions;
+          streams = opens.streams ∙ ap (remove_entry (is_at (nat_cmp number))) running.streams;
+          waiting = opens.waiting ∙ running.waiting;
+        },
+        nothing_done home settings number runner (opened_at runner number) held octets before
+            (is ∙ ap (λ (streams : List (ℕ × List ℕ)). held_in streams number) running.streams) refl,
+      ),
+    );
+  }
+
+  module _ (now : Placed) (text : List ℕ) where
+    -- the sessions of the site are those of the runner
+    connected_so : (new : Placed) (w : World) (runner : Runner) (b : Bool) → IsRunning home new w runner
+        → is_none (session_at new.site.service.sessions number) ≡ b → is_none (session_at runner.sessions number) ≡ b
+    connected_so new w runner b running is =
+        ap (λ (sessions : List (ℕ × Session)). is_none (session_at sessions number)) (sym running.sessions) ∙ is
+
+    -- the frame that was taken was served, and what is left stands behind it
+    pub proceeds : (new : Placed) (held piece mid frame fresh told : List ℕ) (count : ℕ)
+        → Proceeds home settings number octets start before now (held ++ piece) text → mid ≡ held ++ take count piece
+        → IsFrame frame × (mid ≡ frame) × (fresh ≡ [])
+        → Acts now.site.node (λ runner. on_frame settings number runner frame) now new text told
+        → is_none (session_at new.site.service.sessions number) ≡ false
+        → Proceeds home settings number octets start before new (fresh ++ take (length piece - count) (drop count piece)) told
+    proceeds new held piece mid frame fresh told count so taken gave did stays = record {
+      each = λ w runner running.
+          let here = so.each w runner running in
+          let done = subst (λ (node : ℕ). Acts node (λ r. on_frame settings number r frame) now new text told) here.1.home_is did w here.0 here.1 in
+          let left = (on_frame settings number here.0 frame).next in (
+            left,
+            (
+              done.running,
+              after_take home settings number (on_octets settings runner number octets) before here.0 left held piece mid frame fresh text told count here.2 taken
+                  gave
+                  (record { next = refl; text = done.text }) (connected_so new w left false done.running stays),
+            ),
+          );
+    }
+
+    -- The frame that was taken ends the session.
+    pub last_acts : (new : Placed) (held piece mid frame told : List ℕ) (count : ℕ)
+        → Proceeds home settings number octets start before now (held ++ piece) text → mid ≡ held ++ take count piece → IsFrame frame × (mid ≡ frame)
+        → Acts now.site.node (λ runner. on_frame settings number runner frame) now new text told
+        → is_none (session_at new.site.service.sessions number) ≡ true
+        → Acts home (λ runner. on_octets settings runner number octets) start new before told
+    last_acts new held piece mid frame told count so taken gave did gone w runner running =
+        let here = so.each w runner running in
+        let done = subst (λ (node : ℕ). Acts node (λ r. on_frame settings number r frame) now new text told) here.1.home_is did w here.0 here.1 in
+        let left = (on_frame settings number here.0 frame).next in
+        let all = after_last home settings number (on_octets settings runner number octets) before here.0 left held piece mid frame text told count here.2 taken
+        gave
+        (record { next = refl; text = done.text }) (connected_so new w left true done.running gone) in
+        record { running = subst (IsRunning home new w) all.next done.running; text = all.text }
+
+    -- A wrong length ends the session.
+    pub wrong_acts : (r : Result (Unit {0}) AllocError) (new : Placed) (rest told : List ℕ)
+        → Proceeds home settings number octets start before now rest text → HasWrongLength rest
+        → OnOk r (Acts now.site.node (ends settings number) now new text told)
+        → OnOk r (Acts home (λ runner. on_octets settings runner number octets) start new before told)
+    wrong_acts (Err fault) new rest told so wrong did = tt
+    wrong_acts (Ok fine) new rest told so wrong did w runner running =
+        let here = so.each w runner running in
+        let done = subst (λ (node : ℕ). Acts node (ends settings number) now new text told) here.1.home_is did w here.0 here.1 in
+        let left = (ends settings number here.0).next in
+        let all = after_wrong_if home settings number (on_octets settings runner number octets) before here.0 left rest text told (Ok fine) here.2 wrong
+        (record { next = refl; text = done.text }) in
+        record { running = subst (IsRunning home new w) all.next done.running; text = all.text }
+
+    -- What is left is no whole frame: it waits for more.
+    pub kept_acts : (r : Result (Unit {0}) AllocError) (streams : List (ℕ × List ℕ)) (rest held : List ℕ)
+        → Proceeds home settings number octets start before now rest text → IsPart rest → held ≡ rest
+        → OnOk r (streams ≡ insert_entry nat_cmp now.site.streams number held)
+        → OnOk r (Acts home (λ runner. on_octets settings runner number octets) start
+        (record { world = now.world; site = record now.site { streams = streams } }) before text)
+    kept_acts (Err fault) streams rest held so part same keeps = tt
+    kept_acts (Ok fine) streams rest held so part same keeps w runner running =
+        let here = so.each w runner running in
+        let kept = keeps ∙ ap (λ (all : List (ℕ × List ℕ)). insert_entry nat_cmp all number held) here.1.streams in
+        let all = after_kept_if home settings number (on_octets settings runner number octets) before here.0 rest text held streams (Ok fine) here.2 part same
+        kept in
+        let on : IsRunning home (record { world = now.world; site = record now.site { streams = streams } }) w (record here.0 { streams = streams }) = record {
+          home_is = here.1.home_is;
+          going = here.1.going;
+          sessions = here.1.sessions;
+          streams = refl;
+          waiting = here.1.waiting;
+        } in
+        record { running = subst (IsRunning home (record { world = now.world; site = record now.site { streams = streams } }) w) all.next on; text = all.text }

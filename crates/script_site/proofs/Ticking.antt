@@ -1,73 +1,102 @@
 -- A moment has come: the node is told of it, its replies go out, and what waits too long is given up.
-use Rattle.std.proofs.Common.{◌≡◌, ℕ, List, map, Result, Ok, Err, ◌∙◌, ap, subst}
+use Rattle.std.proofs.Common.{◌≡◌, ℕ, List, [], ◌∷◌, ◌++◌, map, Result, Ok, Err, refl, sym, ap, subst, ◌∙◌}
+use Rattle.std.proofs.lemmas.List.{append-nil}
 use Rattle.std.specs.Global.{Vec}
 use Rattle.std.specs.Prelude.{OnOk}
 use Rattle.std.specs.declared.alloc.AllocError.{AllocError}
+use Rattle.mc_model.specs.node.Outputs.{Outputs}
 use Rattle.requests.specs.Replying.{reply_given}
-use Rattle.requests.specs.declared.answer.Reply.{Reply as Sent}
 use Rattle.sessions.specs.Session.{Session}
 use Rattle.sessions.specs.declared.pushed.Pushed.{Pushed}
+use Rattle.world.specs.Scenes.{Scene, clock_in}
+use Rattle.world.specs.declared.given.Given.{Given}
+use Rattle.world.specs.declared.step.Step.TheVariants as steps
 use Rattle.script_text.specs.Attempts.{all_given_up}
-use Rattle.script_text.specs.Node.{Node, step_at, tick_at}
+use Rattle.script_text.specs.Node.{step_at, tick_at, with_step}
 use Rattle.script_text.specs.Pushes.{accounts_up, overdue_in, timely_in}
-use Rattle.script_text.specs.Receipts.{Posted, posted_for_all}
-use Rattle.script_text.specs.Runner.{Runner, gives_up, mail_of, makes_room, on_tick, posts_for_all, ticked, ticks_by, told}
+use Rattle.script_text.specs.Receipts.{posted_for_all}
+use Rattle.script_text.specs.Prints.{text_at}
+use Rattle.script_text.specs.Runner.{Acted, Runner, Told, gives_up, mail_of, makes_room, on_tick, posts_for_all, ticked, ticks_by, told}
+use Rattle.script_world.specs.World.{World}
 use Rattle.esme_service.specs.Service.{Service}
-use Rattle.script_site.specs.Posting.{IsPosted}
+use Rattle.script_site.specs.Posting.{IsPosted, mail_in}
+use Rattle.script_site.specs.Sites.{Acts, Goes, HasActed, IsGoing, IsRunning, Placed, Takes}
+use Rattle.script_site.specs.Standing.{HasGivenUp}
 use Rattle.script_site.specs.Told.{AreTold}
-use Rattle.script_node.specs.Steps.{HasReplied}
-use Rattle.script_site.specs.Sites.{IsDone}
-use Rattle.script_site.proofs.Telling.{posted_done_if, step_done, then_done}
+use Rattle.script_site.proofs.Acting.{clock_so, mail_is, posted_acts, served, then_acts_if, with_service}
+use Rattle.script_site.proofs.Stepping.{tick_goes}
 
--- What waits too long is given up.
-pub gave_up : (runner : Runner) (now clock : ℕ) (pushed : List Pushed) (node : Node) (sessions : List (ℕ × Session)) → now ≡ clock
-    → pushed ≡ overdue_in runner.sessions now
-    → node ≡ (all_given_up runner.node pushed).node → sessions ≡ timely_in runner.sessions now
-    → record runner { node = node; sessions = sessions } ≡ (gives_up runner clock).next
-gave_up runner now clock pushed node sessions is are given timely =
-    let nodes =
-    given ∙ ap (λ (p : List Pushed). (all_given_up runner.node p).node) are
-    ∙ ap (λ (n : ℕ). (all_given_up runner.node (overdue_in runner.sessions n)).node) is in
-    let left = timely ∙ ap (timely_in runner.sessions) is in
-    λ i. record runner { node = nodes i; sessions = left i }
+-- The node was told of a moment, and its replies went out.
+pub ticked_acts : (at : Placed) (new : Scene) (middle : Service) (moment : ℕ) (up : Vec (List ℕ)) (given : Given) (before text : List ℕ)
+    → up.items ≡ accounts_up at.site.service.sessions → Takes at.world (steps.Tick at.site.node moment up) given new
+    → AreTold at.site.node (told at.site.service.sessions (map reply_given given.replies.items)) middle.sessions before text
+    → middle.waiting ≡ at.site.service.waiting
+    → Acts at.site.node (λ runner. ticked runner moment) at (record { world = new; site = record at.site { service = middle } }) before text
+ticked_acts at new middle moment up given before text are takes went waiting w runner running =
+    let home = at.site.node in
+    let went_on = tick_goes home at.world w runner.node running.going moment up given new takes in
+    let replies = ap (λ (o : Outputs). o.replies) went_on.1.others in
+    let same : told at.site.service.sessions (map reply_given given.replies.items)
+    ≡ told runner.sessions (step_at runner.node (tick_at moment up.items)).outputs.replies =
+    λ i. told (running.sessions i) (replies i) in
+    let did : HasActed home w (ticks_by runner (tick_at moment up.items)) (record { world = new; site = record at.site { service = middle } }) before text =
+    record {
+      running = record {
+        home_is = refl;
+        going = went_on.0;
+        sessions = went.sessions ∙ ap (λ (t : Told). t.sessions) same;
+        streams = running.streams;
+        waiting = waiting ∙ running.waiting;
+      };
+      text = went.text ∙ ap (λ (t : Told). before ++ text_at home t.prints) same;
+    } in
+    subst (λ (accounts : List (List ℕ)). HasActed home w (ticks_by runner (tick_at moment accounts))
+    (record { world = new; site = record at.site { service = middle } }) before text)
+    (are ∙ ap accounts_up running.sessions) did
 
-module _ (home : ℕ) where
-  -- The node was told of a moment, its replies went out, and there was room for more.
-  tick_done : (runner middle last : Runner) (moment : ℕ) (up : List (List ℕ)) (replies : Vec Sent) (before text after : List ℕ)
-      → up ≡ accounts_up runner.sessions → HasReplied (step_at runner.node (tick_at moment up)) runner.node replies middle.node
-      → AreTold home (told runner.sessions (map reply_given replies.items)) middle.sessions before text → middle.streams ≡ runner.streams
-      → middle.waiting ≡ runner.waiting
-      → IsDone home (makes_room middle) last text after → IsDone home (on_tick runner moment) last before after
-  tick_done runner middle last moment up replies before text after are stepped went_out streams waiting room =
-      let told_so =
-      step_done home runner middle runner.node (tick_at moment up) (step_at runner.node (tick_at moment up)) replies before text stepped went_out streams
-      waiting in
-      let done : IsDone home (ticked runner moment) middle before text =
-      subst (λ (accounts : List (List ℕ)). IsDone home (ticks_by runner (tick_at moment accounts)) middle before text) are told_so in
-      then_done home (ticked runner moment) makes_room middle last before text after done room
+-- And there was room for more.
+pub tick_acts : (r : Result (Unit {0}) AllocError) (at : Placed) (mid : Scene) (middle : Service) (new : Placed) (moment : ℕ) (up : Vec (List ℕ))
+    (given : Given) (before text after : List ℕ)
+    → up.items ≡ accounts_up at.site.service.sessions → Takes at.world (steps.Tick at.site.node moment up) given mid
+    → AreTold at.site.node (told at.site.service.sessions (map reply_given given.replies.items)) middle.sessions before text
+    → middle.waiting ≡ at.site.service.waiting
+    → OnOk r (Acts at.site.node makes_room (record { world = mid; site = record at.site { service = middle } }) new text after)
+    → OnOk r (Acts at.site.node (λ runner. on_tick runner moment) at new before after)
+tick_acts r at mid middle new moment up given before text after are takes went waiting room =
+    then_acts_if at.site.node r (λ runner. ticked runner moment) makes_room at (record { world = mid; site = record at.site { service = middle } }) new
+    before text after (ticked_acts at mid middle moment up given before text are takes went waiting) room
 
-  pub tick_done_if : (r : Result (Unit {0}) AllocError) (runner middle last : Runner) (moment : ℕ) (up : List (List ℕ)) (replies : Vec Sent)
-      (before text after : List ℕ)
-      → up ≡ accounts_up runner.sessions → HasReplied (step_at runner.node (tick_at moment up)) runner.node replies middle.node
-      → AreTold home (told runner.sessions (map reply_given replies.items)) middle.sessions before text → middle.streams ≡ runner.streams
-      → middle.waiting ≡ runner.waiting
-      → OnOk r (IsDone home (makes_room middle) last text after) → OnOk r (IsDone home (on_tick runner moment) last before after)
-  tick_done_if (Err fault) runner middle last moment up replies before text after are stepped went_out streams waiting room = tt
-  tick_done_if (Ok done) runner middle last moment up replies before text after are stepped went_out streams waiting room =
-      tick_done runner middle last moment up replies before text after are stepped went_out streams waiting room
+-- ---- what waits too long
 
-  -- What waits too long was given up, and what waits for room went out.
-  pub room_made_if : (r : Result (Unit {0}) AllocError) (runner middle last : Runner) (service : Service) (now : ℕ) (up : List (List ℕ))
-      (before after : List ℕ)
-      → middle ≡ (gives_up runner runner.node.kept.clock).next → up ≡ accounts_up middle.sessions → now ≡ middle.node.kept.clock
-      → OnOk r (IsPosted home (posted_for_all now (mail_of middle) up) service before after)
-      → last ≡ record middle { sessions = service.sessions; waiting = service.waiting }
-      → OnOk r (IsDone home (makes_room runner) last before after)
-  room_made_if (Err fault) runner middle last service now up before after gave are clock posted same = tt
-  room_made_if (Ok fine) runner middle last service now up before after gave are clock posted same =
-      let posts : posted_for_all now (mail_of middle) up ≡ posted_for_all middle.node.kept.clock (mail_of middle) (accounts_up middle.sessions) =
-      λ i. posted_for_all (clock i) (mail_of middle) (are i) in
-      let done =
-      posted_done_if home (Ok fine) middle last service _ before after (subst (λ (p : Posted). IsPosted home p service before after) posts posted) same in
-      let all = subst (λ (r : Runner). IsDone home (posts_for_all r) last before after) gave done in
-      record { next = all.next; text = all.text }
+pub gave_up : (at : Placed) (new : Scene) (left : Service) (now : ℕ) (pushed : List Pushed) → pushed ≡ overdue_in at.site.service.sessions now
+    → Goes at.site.node (λ n. all_given_up n pushed) at.world new
+    → left ≡ record at.site.service { sessions = timely_in at.site.service.sessions now }
+    → HasGivenUp at.site.node now at (record { world = new; site = record at.site { service = left } })
+gave_up at new left now pushed are goes timely w runner running =
+    let overdue = are ∙ ap (λ (sessions : List (ℕ × Session)). overdue_in sessions now) running.sessions in
+    record {
+      home_is = refl;
+      going = subst (λ (ps : List Pushed). IsGoing at.site.node new w (all_given_up runner.node ps).node) overdue (goes w runner.node running.going);
+      sessions = ap (λ (s : Service). s.sessions) timely ∙ ap (λ (sessions : List (ℕ × Session)). timely_in sessions now) running.sessions;
+      streams = running.streams;
+      waiting = ap (λ (s : Service). s.waiting) timely ∙ running.waiting;
+    }
+
+-- and what waits for the room that it leaves went out
+pub room_acts : (r : Result (Unit {0}) AllocError) (at mid : Placed) (last : Service) (now then : ℕ) (up : List (List ℕ)) (text after : List ℕ)
+    → now ≡ clock_in at.world at.site.node → HasGivenUp at.site.node now at mid → up ≡ accounts_up mid.site.service.sessions
+    → then ≡ clock_in mid.world mid.site.node
+    → OnOk r (IsPosted mid.site.node (posted_for_all then (mail_in mid.site.service) up) last text after)
+    → OnOk r (Acts at.site.node makes_room at (with_service mid last) text after)
+room_acts r at mid last now then up text after clock gave are later posted =
+    then_acts_if at.site.node r (λ runner. gives_up runner runner.node.kept.clock) posts_for_all at mid (with_service mid last) text text after
+    (λ w runner running. record {
+      running = subst (λ (moment : ℕ). IsRunning at.site.node mid w (gives_up runner moment).next) (clock ∙ clock_so at.site.node at w runner running)
+          (gave w runner running);
+      text = sym (append-nil text);
+    })
+    (posted_acts r mid last (posted_for_all then (mail_in mid.site.service) up)
+    (λ runner. posted_for_all runner.node.kept.clock (mail_of runner) (accounts_up runner.sessions)) text after
+    (λ w runner running.
+    let accounts = are ∙ ap accounts_up running.sessions in
+    λ i. posted_for_all ((later ∙ clock_so mid.site.node mid w runner running) i) (mail_is mid.site.node mid w runner running i) (accounts i)) posted)

@@ -1,29 +1,70 @@
--- What the steps of the code leave, in the words of the text of a script.
-use Rattle.std.specs.Prelude.{◌≡◌, ℕ, List, [], ◌++◌}
-use Rattle.mc_model.specs.synod.Packet.{Packet}
+-- What a site does, in the words of the text of a script.
+use Rattle.std.specs.Prelude.{◌≡◌, ℕ, suc, true, List, [], ◌++◌, length, reverse, slice_get, Some, Ok}
 use Rattle.mc_model.specs.node.Outputs.{Receipt, Reply}
+use Rattle.mc_model.specs.cluster.Steps.{Cluster}
+use Rattle.node_laws.specs.Clusters.{NodeInput, kept_reached}
+use Rattle.world.specs.Runs.{IsAt, Leads, leaves_up, node_at}
+use Rattle.world.specs.Scenes.{Scene, is_up_in}
+use Rattle.world.specs.declared.given.Given.{Given}
+use Rattle.world.specs.declared.step.Step.{Step}
+use Rattle.script_text.specs.Attempts.{Went}
+use Rattle.script_text.specs.Node.{Node}
 use Rattle.script_text.specs.Prints.{text_at}
-use Rattle.script_text.specs.Runner.{Runner, Acted, Told, followed_by, on_delivery, posts, told}
-use Rattle.script_node.specs.Nodes.{node_of}
+use Rattle.script_text.specs.Runner.{Acted, Runner, Told, followed_by, posts, told}
+use Rattle.script_world.specs.Runs.{IsNodeOf}
+use Rattle.script_world.specs.World.{World}
 use Rattle.script_site.specs.declared.site.Site.{Site}
 
--- the runner that a site is
-abbrev pub runner_of : Site → Runner
-runner_of site = record {
-  node = node_of site.node;
-  sessions = site.service.sessions;
-  streams = site.streams;
-  waiting = site.service.waiting;
-}
+-- ---- a node that does something
 
--- a packet comes, and what its node gave out before is still to be taken from it
-abbrev pub comes_to : Runner → Packet → Acted
-comes_to runner packet = on_delivery runner packet runner.node.packets
+-- A world of the code stands in a run of the model's cluster, in which a node is as this one of a script, and each other node as in a script's world:
+-- what this node sent, and is still to be taken from it, stands behind the packets of that world.
+pub record IsAmong (home : ℕ) (scene : Scene) (w : World) (node : Node) : Type 0 where
+  pub cluster : Cluster
+  pub inputs : List NodeInput
+  pub at : IsAt cluster [] inputs scene
+  pub count : length w.runners ≡ cluster.nodes
+  pub one : IsNodeOf cluster inputs home node
+  pub others : (place : ℕ) (runner : Runner) → slice_get w.runners place ≡ Some runner → (suc place ≡ home → ⊥) → IsNodeOf cluster inputs (suc place) runner.node
+  pub packets : (kept_reached cluster inputs).packets ≡ reverse (w.packets ++ node.packets)
 
--- A line did this: it left this runner, and added the text of what it printed.
-pub record IsDone (home : ℕ) (acted : Acted) (left : Runner) (before after : List ℕ) : Type 0 where
-  pub next : left ≡ acted.next
+-- and it is up
+pub record IsGoing (home : ℕ) (scene : Scene) (w : World) (node : Node) : Type 0 where
+  pub among : IsAmong home scene w node
+  pub up : is_up_in scene home ≡ true
+
+-- The world took this step of its node, and gave this out.
+pub record Takes (old : Scene) (step : Step) (given : Given) (new : Scene) : Type 0 where
+  pub leads : Leads old step (Ok given) new
+  pub up : is_up_in new (node_at step) ≡ leaves_up step
+
+-- wherever its node stood, this came of attempts there
+abbrev pub Goes : ℕ → (Node → Went) → Scene → Scene → Type 0
+Goes home act old new = (w : World) (node : Node) → IsGoing home old w node → IsGoing home new w (act node).node
+
+-- ---- its site
+
+-- a site, and the world in which its node is
+pub record Placed : Type 0 where
+  pub world : Scene
+  pub site : Site
+
+-- They are as a runner of a script, beside the others of a script's world.
+pub record IsRunning (home : ℕ) (at : Placed) (w : World) (runner : Runner) : Type 0 where
+  pub home_is : at.site.node ≡ home
+  pub going : IsGoing home at.world w runner.node
+  pub sessions : at.site.service.sessions ≡ runner.sessions
+  pub streams : at.site.streams ≡ runner.streams
+  pub waiting : at.site.service.waiting ≡ runner.waiting
+
+-- This was done: they are as what it leaves, and the text of what it prints was added.
+pub record HasActed (home : ℕ) (w : World) (acted : Acted) (new : Placed) (before after : List ℕ) : Type 0 where
+  pub running : IsRunning home new w acted.next
   pub text : after ≡ before ++ text_at home acted.prints
+
+-- as whatever runner they were
+abbrev pub Acts : ℕ → (Runner → Acted) → Placed → Placed → List ℕ → List ℕ → Type 0
+Acts home act old new before after = (w : World) (runner : Runner) → IsRunning home old w runner → HasActed home w (act runner) new before after
 
 -- ---- what a step gave out
 

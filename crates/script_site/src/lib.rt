@@ -1,4 +1,4 @@
-//! A node of a script with the service of its ESMEs, and the lines that go out there.
+//! What stands beside a node of a script: the service of its ESMEs, and the lines that go out there.
 #![tactic(auto)]
 
 mod output;
@@ -6,8 +6,8 @@ mod posting;
 mod replying;
 mod session_place;
 mod site;
+mod steps;
 mod streams;
 
 pub use output::{write_declined, write_unsettled};
-pub use script_node::{Restarted, StoppedNode};
 pub use site::Site;

@@ -1,17 +1,16 @@
-//! A node with the service of its ESMEs.
+//! What stands beside a node: the service of its ESMEs, and the streams of its sessions.
 
-ghost use Rattle.std.specs.Prelude.{◌≡◌, ◌++◌, map, true, false, is_none, IfOk, OnOk};
+ghost use Rattle.std.specs.Prelude.{◌≡◌, [], map, false, is_none, IfOk, OnOk};
 ghost use Rattle.mc_model.specs.message.Chain.{taken_in};
 ghost use Rattle.mc_model.specs.synod.Packet.{slot_of};
 ghost use Rattle.delivery.specs.Deliveries.{EndsInAttempt};
 ghost use Rattle.script_text.specs.Settings.{settings_of};
 
-use crate::output::{
-    write_all_gone, write_declined, write_gone, write_outgoing, write_sending, write_ungranted,
-};
+use crate::output::{write_all_gone, write_gone, write_outgoing, write_sending, write_ungranted};
 use crate::posting::{post_all, post_for, post_for_all};
 use crate::replying::write_replies;
 use crate::session_place::SessionPlace;
+use crate::steps::{Granting, conclude, conclude_by, give_up, grant, take};
 use crate::streams::Streams;
 use config::Config;
 use delivery::{Outcome, outcome_of};
@@ -19,20 +18,16 @@ use desk::Request;
 use esme_service::{Asked, Heard, Sending, Service};
 use fate_chain::Chain;
 use mc_types::{Moment, MsgId, NodeNo, Slot};
-use node_core::{Found, Setup};
 use pdu_frames::Framer;
-use script_node::{Given, Granting, ScriptNode, StoppedNode};
-use sim_net::Packets;
+use pdu_tables::Status;
 use std::alloc::{AllocError, Global};
-use synod_acceptor::Packet;
+use world::{Given, Step, World};
 
-/// The number with which a restart is refused once the last incarnation has begun.
-const NO_INCARNATION: u8 = 6;
-
-/// A node that is up, the service of its ESMEs, and of each session the octets of the PDU that has not come whole.
+/// What stands beside a node of a world that is up: the service of its ESMEs, and of each session the octets of the PDU that has not come whole.
+/// After an `Err` of a call, which is want of memory, nothing is said of it.
 #[derive(Drop)]
 pub struct Site {
-    node: ScriptNode,
+    node: NodeNo,
     service: Service,
     streams: Streams,
 }
@@ -40,31 +35,17 @@ pub struct Site {
 impl Site {
     ghost use Rattle.node_model.specs.Reported.{receipt_of};
     ghost use Rattle.requests.specs.Replying.{reply_given};
-    ghost use Rattle.node_core.specs.Stops.{is_after};
-    ghost use Rattle.node_model.specs.Stepped.{stopped};
-    ghost use Rattle.script_node.specs.Nodes.{node_of};
-    ghost use Rattle.script_node.specs.Stops.{IsStopped};
-    ghost use Rattle.script_site.specs.Sites.{IsDone, comes_to, runner_of, tells};
-    ghost use Rattle.script_site.specs.Heeding.{asks_if, heeded};
+    ghost use Rattle.script_site.specs.Asking.{HasAsked};
+    ghost use Rattle.script_site.specs.Heeding.{heeded};
+    ghost use Rattle.script_site.specs.Sites.{Acts, tells};
+    ghost use Rattle.script_site.specs.Standing.{HasGivenUp, HasLeft, HasOpened, IsEmpty};
     ghost use Rattle.esme_service.specs.Sessions.{account_at};
     ghost use Rattle.script_text.specs.Pushes.{session_at};
-    ghost use Rattle.script_text.specs.Node.{opened_by};
-    ghost use Rattle.script_text.specs.Prints.{text_at};
-    ghost use Rattle.synod_acceptor.specs.Packets.{packet_of};
-    ghost use Rattle.script_text.specs.Runner.{ends, given_out, gives_up, gone_prints, held_in, makes_room, on_frame, on_grant, on_octets};
-    ghost use Rattle.script_text.specs.Runner.{on_restart, on_tick, opened_at, posts_for, runner_opened, sent};
+    ghost use Rattle.script_text.specs.Runner.{ends, held_in, makes_room, on_frame, on_grant, on_octets, on_tick, posts_for, sent};
 
-    /// A node that is set up so, over a new store, and no session. An `Err` is want of memory.
-    pub fn start(alloc: Global, setup: Setup) -> Result<Site, AllocError>
-        ensures { IfOk result (λ site. runner_of site ≡ runner_opened (opened_by setup)) }
-    {
-        let node = ScriptNode::open(alloc, setup)?;
-        Ok(Site::of(alloc, node))
-    }
-
-    /// A node, and no session.
-    pub fn of(alloc: Global, node: ScriptNode) -> Site
-        ensures { runner_of result ≡ runner_opened (node_of node) }
+    /// No session at a node.
+    pub fn none(alloc: Global, node: NodeNo) -> Site
+        ensures { IsEmpty node result }
     {
         Site {
             node,
@@ -73,32 +54,30 @@ impl Site {
         }
     }
 
-    /// The next octets of a session's stream came: adds the lines of what goes out for each PDU that is whole now. After an
-    /// `Err`, which is want of memory, nothing is said of the site.
+    /// The next octets of a session's stream came: adds the lines of what goes out for each PDU that is whole now.
     pub fn octets(
         &mut self,
+        world: &mut World,
         config: &Config,
-        node: NodeNo,
         number: u8,
         octets: &[u8],
         text: &mut Vec<u8>,
     ) -> Result<(), AllocError>
-        ensures { OnOk result (IsDone node (on_octets (settings_of config.now) (runner_of self.old) number octets.now)
-            (runner_of self.new) text.old.items text.new.items) }
+        ensures { OnOk result (Acts self.old.node (λ runner. on_octets (settings_of config.now) runner number octets.now)
+            (record { world = world.old; site = self.old }) (record { world = world.new; site = self.new }) text.old.items text.new.items) }
     {
-        let alloc = *text.allocator();
-        let mut framer = self.open(alloc, number)?;
+        let mut framer = self.open(*text.allocator(), number)?;
         let mut rest = octets;
         loop {
             let taken = match framer.feed(rest) {
                 Ok(count) => count,
-                Err(_) => return self.end(config, node, number, text),
+                Err(_) => return self.end(world, config, number, text),
             };
             rest = &rest[taken..];
             match framer.frame() {
-                Ok(Some(frame)) => self.serve(config, node, number, frame, text)?,
+                Ok(Some(frame)) => self.serve(world, config, number, frame, text)?,
                 Ok(None) => return self.streams.put_back(number, framer),
-                Err(_) => return self.end(config, node, number, text),
+                Err(_) => return self.end(world, config, number, text),
             }
             if !self.service.has(number) {
                 return Ok(());
@@ -107,10 +86,10 @@ impl Site {
         }
     }
 
-    /// Hands out what the stream of a session holds; a session that is not connected begins now. An `Err` is want of memory.
+    /// Hands out what the stream of a session holds; a session that is not connected begins now.
     fn open(&mut self, alloc: Global, number: u8) -> Result<Framer, AllocError>
-        ensures held { IfOk result (λ framer. framer ≡ held_in (runner_of self.old).streams number) }
-        ensures left { OnOk result (runner_of self.new ≡ opened_at (runner_of self.old) number) }
+        ensures held { IfOk result (λ framer. framer ≡ held_in self.old.streams number) }
+        ensures left { OnOk result (HasOpened self.old number self.new) }
     {
         self.service.begin(number)?;
         match self.streams.take_out(alloc, number) {
@@ -122,109 +101,113 @@ impl Site {
     /// The octets of one frame came on a session that is connected: it is served, and what waits for its account goes out.
     fn serve(
         &mut self,
+        world: &mut World,
         config: &Config,
-        node: NodeNo,
         number: u8,
         octets: &[u8],
         text: &mut Vec<u8>,
     ) -> Result<(), AllocError>
-        requires { is_none (session_at (runner_of self.old).sessions number) ≡ false }
-        ensures { OnOk result (IsDone node (on_frame (settings_of config.now) number (runner_of self.old) octets.now)
-            (runner_of self.new) text.old.items text.new.items) }
+        requires { is_none (session_at self.old.service.sessions number) ≡ false }
+        ensures { OnOk result (Acts self.old.node (λ runner. on_frame (settings_of config.now) number runner octets.now)
+            (record { world = world.old; site = self.old }) (record { world = world.new; site = self.new }) text.old.items text.new.items) }
     {
         let heard = self.service.hear(config, number, octets)?;
-        self.heed(config, node, number, heard, text)?;
-        self.post_on(node, number, text)
+        self.heed(world, config, number, heard, text)?;
+        self.post_on(world, number, text)
     }
 
     /// A wrong length ends a session that is connected.
     fn end(
         &mut self,
+        world: &mut World,
         config: &Config,
-        node: NodeNo,
         number: u8,
         text: &mut Vec<u8>,
     ) -> Result<(), AllocError>
-        requires { is_none (session_at (runner_of self.old).sessions number) ≡ false }
-        ensures { OnOk result (IsDone node (ends (settings_of config.now) number (runner_of self.old))
-            (runner_of self.new) text.old.items text.new.items) }
+        requires { is_none (session_at self.old.service.sessions number) ≡ false }
+        ensures { OnOk result (Acts self.old.node (ends (settings_of config.now) number)
+            (record { world = world.old; site = self.old }) (record { world = world.new; site = self.new }) text.old.items text.new.items) }
     {
         let heard = self.service.hear_wrong_length(number);
-        self.heed(config, node, number, heard, text)?;
-        self.post_on(node, number, text)
+        self.heed(world, config, number, heard, text)?;
+        self.post_on(world, number, text)
     }
 
     /// What was heard on a session goes to the node, and the lines of what goes out are added.
     fn heed(
         &mut self,
+        world: &mut World,
         config: &Config,
-        node: NodeNo,
         number: u8,
         heard: Heard,
         text: &mut Vec<u8>,
     ) -> Result<(), AllocError>
-        ensures { OnOk result (IsDone node (heeded (settings_of config.now) number (runner_of self.old) heard)
-            (runner_of self.new) text.old.items text.new.items) }
+        ensures { OnOk result (Acts self.old.node (λ runner. heeded (settings_of config.now) number runner heard)
+            (record { world = world.old; site = self.old }) (record { world = world.new; site = self.new }) text.old.items text.new.items) }
     {
+        let place = SessionPlace {
+            node: self.node,
+            number,
+        };
         match heard {
             Heard::Nothing => Ok(()),
-            Heard::Response(outgoing) => {
-                write_outgoing(
-                    text,
-                    SessionPlace { node, number },
-                    &config.system_id,
-                    outgoing,
-                )
-            }
-            Heard::Request(asked, request) => {
-                self.ask(config, SessionPlace { node, number }, asked, request, text)
-            }
+            Heard::Response(outgoing) => write_outgoing(text, place, &config.system_id, outgoing),
+            Heard::Request(asked, request) => match self.ask(world, number, asked, request)? {
+                Some(status) => {
+                    write_outgoing(text, place, &config.system_id, asked.refusal(status))
+                }
+                None => Ok(()),
+            },
             Heard::Answer(pushed, pdu) => {
                 let outcome = outcome_of(pushed.sequence, &pdu);
                 drop(pdu);
-                self.node.conclude_by(pushed.delivery, outcome)
+                conclude_by(world, self.node, pushed.delivery, outcome)
             }
             Heard::Gone(outgoing, abandoned) => {
-                self.node.give_up(abandoned.as_slice())?;
-                write_outgoing(
-                    text,
-                    SessionPlace { node, number },
-                    &config.system_id,
-                    outgoing,
-                )?;
-                write_gone(text, SessionPlace { node, number })
+                give_up(world, self.node, abandoned.as_slice())?;
+                write_outgoing(text, place, &config.system_id, outgoing)?;
+                write_gone(text, place)
             }
         }
     }
 
-    /// A request goes to the node: it waits on its session, or the line of the response is added that refuses it.
+    /// A request goes to the node: it waits on its session, or is refused with this status.
     fn ask(
         &mut self,
-        config: &Config,
-        place: SessionPlace,
+        world: &mut World,
+        number: u8,
         asked: Asked,
         request: Request,
-        text: &mut Vec<u8>,
-    ) -> Result<(), AllocError>
-        ensures { OnOk result (IsDone place.node (asks_if place.number (runner_of self.old) asked request
-            (account_at (runner_of self.old).sessions place.number)) (runner_of self.new) text.old.items text.new.items) }
+    ) -> Result<Option<Status>, AllocError>
+        ensures { IfOk result (HasAsked self.old.node number asked request
+            (record { world = world.old; site = self.old }) (record { world = world.new; site = self.new })) }
     {
-        let Some(account) = self.service.account(place.number) else {
+        let Some(account) = self.service.account(number) else {
             drop(request);
-            return Ok(());
+            return Ok(None);
         };
-        let answers = self.node.request(account, request)?;
-        self.service.wait(place.number, asked, answers.ticket);
-        match answers.refused {
-            Some(status) => write_outgoing(text, place, &config.system_id, asked.refusal(status)),
-            None => Ok(()),
-        }
+        let account = account.copy()?;
+        let given = take(
+            world,
+            Step::Request {
+                node: self.node,
+                account,
+                request,
+            },
+        )?;
+        self.service.wait(number, asked, given.ticket);
+        Ok(given.refused)
     }
 
     /// Adds the lines of the receipts that wait for the account of a session and go out now.
-    fn post_on(&mut self, node: NodeNo, number: u8, text: &mut Vec<u8>) -> Result<(), AllocError>
-        ensures { OnOk result (IsDone node (posts_for (runner_of self.old) (account_at (runner_of self.old).sessions number))
-            (runner_of self.new) text.old.items text.new.items) }
+    fn post_on(
+        &mut self,
+        world: &World,
+        number: u8,
+        text: &mut Vec<u8>,
+    ) -> Result<(), AllocError>
+        ensures { OnOk result (Acts self.old.node (λ runner. posts_for runner (account_at runner.sessions number))
+            (record { world = world.now; site = self.old }) (record { world = world.now; site = self.new }) text.old.items text.new.items) }
     {
         if !self.service.has_receipts() {
             return Ok(());
@@ -233,155 +216,125 @@ impl Site {
             return Ok(());
         };
         let account = account.copy()?;
-        let now = self.node.clock();
-        post_for(text, node, &mut self.service, now, &account)
+        let now = world.clock(self.node);
+        post_for(text, self.node, &mut self.service, now, &account)
     }
 
     /// A moment has come: adds the lines of what requests are answered that waited too long, and gives up each deliver_sm that waits for its
-    /// answer for 30 seconds or more. After an `Err`, which is want of memory, nothing is said of the site.
+    /// answer for 30 seconds or more.
     pub fn tick(
         &mut self,
-        node: NodeNo,
+        world: &mut World,
         moment: Moment,
         text: &mut Vec<u8>,
     ) -> Result<(), AllocError>
-        ensures { OnOk result (IsDone node (on_tick (runner_of self.old) moment) (runner_of self.new) text.old.items text.new.items) }
+        ensures { OnOk result (Acts self.old.node (λ runner. on_tick runner moment)
+            (record { world = world.old; site = self.old }) (record { world = world.new; site = self.new }) text.old.items text.new.items) }
     {
         let up = self.service.accounts_up()?;
-        let replies = self.node.tick(moment, up)?;
-        write_replies(text, node, &mut self.service, replies)?;
-        self.make_room(node, text)
+        let given = take(
+            world,
+            Step::Tick {
+                node: self.node,
+                moment,
+                up,
+            },
+        )?;
+        write_replies(text, self.node, &mut self.service, given.replies)?;
+        self.make_room(world, text)
     }
 
     /// Gives up what was pushed and waits too long, and adds the lines of the receipts that go out then.
-    fn make_room(&mut self, node: NodeNo, text: &mut Vec<u8>) -> Result<(), AllocError>
-        ensures { OnOk result (IsDone node (makes_room (runner_of self.old)) (runner_of self.new) text.old.items text.new.items) }
+    fn make_room(&mut self, world: &mut World, text: &mut Vec<u8>) -> Result<(), AllocError>
+        ensures { OnOk result (Acts self.old.node makes_room
+            (record { world = world.old; site = self.old }) (record { world = world.new; site = self.new }) text.old.items text.new.items) }
     {
-        self.give_up()?;
+        let now = world.clock(self.node);
+        self.give_up(world, now)?;
         let up = self.service.accounts_up()?;
-        let now = self.node.clock();
-        post_for_all(text, node, &mut self.service, now, &up)
+        let now = world.clock(self.node);
+        post_for_all(text, self.node, &mut self.service, now, &up)
     }
 
-    /// Gives up what was pushed and waits too long at the node's clock. After an `Err`, which is want of memory, nothing is said of the site.
-    fn give_up(&mut self) -> Result<(), AllocError>
-        ensures { OnOk result (runner_of self.new ≡ (gives_up (runner_of self.old) (runner_of self.old).node.kept.clock).next) }
+    /// Gives up what was pushed and waits too long at a moment.
+    fn give_up(&mut self, world: &mut World, now: Moment) -> Result<(), AllocError>
+        ensures { OnOk result (HasGivenUp self.old.node now
+            (record { world = world.old; site = self.old }) (record { world = world.new; site = self.new })) }
     {
-        let now = self.node.clock();
         let overdue = self.service.overdue(now)?;
-        self.node.give_up(&overdue)?;
+        give_up(world, self.node, &overdue)?;
         self.service.let_go_overdue(now);
         Ok(())
     }
 
-    /// The attempt of a message is asked for: adds the line of its deliver_sm, or the line that tells why it is not granted. After an `Err`,
-    /// which is want of memory, nothing is said of the site.
-    pub fn grant(&mut self, node: NodeNo, id: MsgId, text: &mut Vec<u8>) -> Result<(), AllocError>
-        ensures { OnOk result (IsDone node (on_grant (runner_of self.old) id) (runner_of self.new) text.old.items text.new.items) }
+    /// The attempt of a message is asked for: adds the line of its deliver_sm, or the line that tells why it is not granted.
+    pub fn grant(
+        &mut self,
+        world: &mut World,
+        id: MsgId,
+        text: &mut Vec<u8>,
+    ) -> Result<(), AllocError>
+        ensures { OnOk result (Acts self.old.node (λ runner. on_grant runner id)
+            (record { world = world.old; site = self.old }) (record { world = world.new; site = self.new }) text.old.items text.new.items) }
     {
-        match self.node.grant(id)? {
+        match grant(world, self.node, id)? {
             Granting::Refused(reason) => write_ungranted(text, reason),
-            Granting::Granted(chain) => self.send(node, chain, text),
+            Granting::Granted(chain) => self.send(world, chain, text),
         }
     }
 
     /// The attempt in which a chain ends goes out over a session of the account of its message; if none takes it, it has failed.
-    /// After an `Err`, which is want of memory, nothing is said of the site.
-    fn send(&mut self, node: NodeNo, chain: Chain, text: &mut Vec<u8>) -> Result<(), AllocError>
-        requires { EndsInAttempt chain.decrees }
-        ensures { OnOk result (IsDone node (sent (runner_of self.old) (slot_of chain.id chain.decrees) (taken_in chain.decrees))
-            (runner_of self.new) text.old.items text.new.items) }
+    fn send(
+        &mut self,
+        world: &mut World,
+        chain: Chain,
+        text: &mut Vec<u8>,
+    ) -> Result<(), AllocError>
+        ensures { OnOk result (EndsInAttempt chain.decrees →
+            Acts self.old.node (λ runner. sent runner (slot_of chain.id chain.decrees) (taken_in chain.decrees))
+            (record { world = world.old; site = self.old }) (record { world = world.new; site = self.new }) text.old.items text.new.items) }
     {
         let slot = Slot {
             id: chain.id(),
             place: chain.place(),
         };
-        let now = self.node.clock();
+        let now = world.clock(self.node);
         match self.service.push(&chain.submission().target, now, slot) {
-            Some(pushed) => write_sending(text, node, &Sending::Attempt(pushed, chain)),
+            Some(pushed) => write_sending(text, self.node, &Sending::Attempt(pushed, chain)),
             None => {
                 drop(chain);
-                self.node.conclude(slot, Outcome::unanswered())
+                conclude(world, self.node, slot, Outcome::unanswered())
             }
         }
     }
 
-    /// The node starts anew: adds the line of each session that it is gone, and keeps none. If it has begun its last incarnation, it adds a line
-    /// that tells so, and keeps all. After an `Err`, which is want of memory, nothing is said of the site.
-    pub fn restart(&mut self, node: NodeNo, text: &mut Vec<u8>) -> Result<(), AllocError>
-        ensures { OnOk result (IsDone node (on_restart (runner_of self.old)) (runner_of self.new) text.old.items text.new.items) }
-    {
-        if !self.node.restart()? {
-            return write_declined(text, NO_INCARNATION);
-        }
-        write_all_gone(text, node, &self.service)?;
-        self.service = Service::none(*text.allocator());
-        self.streams = Streams::none(*text.allocator());
-        Ok(())
-    }
-
-    /// The node stops as a packet comes, before the save of its step or after it: adds the line of each session that it is gone. An `Err` is want
-    /// of memory.
-    pub fn stop(
-        self,
-        node: NodeNo,
-        packet: &Packet,
-        found: Found,
-        text: &mut Vec<u8>,
-    ) -> Result<StoppedNode, AllocError>
-        ensures stopped { IfOk result (IsStopped (runner_of self).node.setup
-            (stopped (runner_of self).node.setup (runner_of self).node.kept (packet_of packet.now) (is_after found))) }
-        ensures text { OnOk result (text.new.items ≡ text.old.items ++ text_at node (gone_prints (runner_of self).sessions)) }
-    {
-        let Site {
-            node: running,
-            service,
-            ..
-        } = self;
-        write_all_gone(text, node, &service)?;
-        running.stop(packet, found)
-    }
-
-    /// A packet comes to the node: adds the lines of what it gives out. After an `Err`, which is want of memory, nothing is said of the site.
-    pub fn deliver(
+    /// Adds the lines of what a step of its node gave out: its replies, and then its receipts.
+    pub fn tell(
         &mut self,
-        node: NodeNo,
-        packet: Packet,
+        world: &World,
+        given: Given,
         text: &mut Vec<u8>,
     ) -> Result<(), AllocError>
-        ensures { OnOk result (IsDone node (comes_to (runner_of self.old) (packet_of packet)) (runner_of self.new) text.old.items text.new.items) }
-    {
-        let given = self.node.deliver(packet)?;
-        self.tell(node, given, text)
-    }
-
-    /// Adds the lines of what a step gave out: its replies, and then its receipts.
-    fn tell(&mut self, node: NodeNo, given: Given, text: &mut Vec<u8>) -> Result<(), AllocError>
-        ensures { OnOk result (IsDone node (tells (runner_of self.old) (map reply_given given.replies.items) (map receipt_of given.receipts.items))
-            (runner_of self.new) text.old.items text.new.items) }
+        ensures { OnOk result (Acts self.old.node (λ runner. tells runner (map reply_given given.replies.items) (map receipt_of given.receipts.items))
+            (record { world = world.now; site = self.old }) (record { world = world.now; site = self.new }) text.old.items text.new.items) }
     {
         let Given {
             replies,
             receipts,
             ..
         } = given;
-        write_replies(text, node, &mut self.service, replies)?;
-        let now = self.node.clock();
-        post_all(text, node, &mut self.service, now, receipts)
+        write_replies(text, self.node, &mut self.service, replies)?;
+        let now = world.clock(self.node);
+        post_all(text, self.node, &mut self.service, now, receipts)
     }
 
-    /// What a proof takes of it: its node is up. The call does nothing.
-    pub fn stands(&self)
-        ensures { (runner_of self.now).node.kept.up ≡ true }
+    /// Its node is gone: adds the line of each session that it is gone, and keeps none.
+    pub fn leave(&mut self, text: &mut Vec<u8>) -> Result<(), AllocError>
+        ensures { OnOk result (HasLeft self.old self.new text.old.items text.new.items) }
     {
-        self.node.stands();
-    }
-
-    /// The packets that the node sent, and that were not taken from it yet, come after all packets. An `Err` is want of memory.
-    pub fn give_packets(&mut self, all: &mut Packets) -> Result<(), AllocError>
-        ensures packets { OnOk result (map packet_of all.new.sent ≡ map packet_of all.old.sent ++ (runner_of self.old).node.packets) }
-        ensures runner { OnOk result (runner_of self.new ≡ given_out (runner_of self.old)) }
-    {
-        self.node.give_packets(all)
+        write_all_gone(text, self.node, &self.service)?;
+        self.service = Service::none(*text.allocator());
+        self.streams = Streams::none(*text.allocator());
+        Ok(())
     }
 }

@@ -66,9 +66,12 @@ shared world node acted = record {
   prints = map (At node) acted.prints;
 }
 
--- the numbers of the refusals: no packet has the number; the node is down
+-- the numbers of the refusals: no packet has the number; there is no such node; the node is down
 abbrev pub no_packet : ℕ
 no_packet = 1
+
+abbrev pub no_node : ℕ
+no_node = 2
 
 abbrev pub is_down : ℕ
 is_down = 4
@@ -83,7 +86,7 @@ abbrev pub is_up : Runner → Bool
 is_up runner = runner.node.kept.up
 
 abbrev pub up_or_refuses : World → (Runner → Moved) → Option Runner → Moved
-up_or_refuses world up None = stays world
+up_or_refuses world up None = refuses world no_node
 up_or_refuses world up (Some runner) = if is_up runner then up runner else refuses world is_down
 
 -- this is done if the node is up
@@ -97,7 +100,7 @@ acts world node act = if_up world node (λ runner. shared world node (act runner
 -- ---- a restart
 
 abbrev pub restarts_if : World → ℕ → Option Runner → Moved
-restarts_if world node None = stays world
+restarts_if world node None = refuses world no_node
 restarts_if world node (Some runner) = shared world node (on_restart runner)
 
 -- a node starts anew, whether it is up or down

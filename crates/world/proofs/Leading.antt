@@ -47,6 +47,12 @@ judged_sent : (packets : List Packet) (judged : Result Asked Status) → WasSent
 judged_sent packets (Ok request) = tt
 judged_sent packets (Err status) = tt
 
+-- ---- whether a node is up, and what stands for it
+
+pub stands_up : (k : Kept) (up : Bool) (m : Placed) → StandsAs k up m.node → k.up ≡ up
+stands_up k true m stands = ap (λ (kept : Kept). kept.up) (sym stands)
+stands_up k false m stands = stands.down
+
 module _ (cluster : Cluster) (behind : List Packet) (inputs : List NodeInput) (old : Scene) (now : IsAt cluster behind inputs old) where
   abbrev here : KeptCluster
   here = kept_reached cluster inputs
@@ -84,10 +90,6 @@ module _ (cluster : Cluster) (behind : List Packet) (inputs : List NodeInput) (o
   is_up node place m is up = ap (λ (k : Kept). k.up) (sym (kept_up node place m is up))
 
   -- ---- why nothing comes to a node
-
-  stands_up : (k : Kept) (up : Bool) (m : Placed) → StandsAs k up m.node → k.up ≡ up
-  stands_up k true m stands = ap (λ (kept : Kept). kept.up) (sym stands)
-  stands_up k false m stands = stands.down
 
   pub present : (node place : ℕ) (m : Placed) → IsPlace old node place m → absent cluster node ≡ None
   present node place m is =

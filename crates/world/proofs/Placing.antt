@@ -1,15 +1,19 @@
 -- One node of a world changed, or none did.
-use Rattle.std.proofs.Common.{◌≡◌, ℕ, ◌<◌, List, get_or, length, Some, refl, sym, ap, subst, ◌∙◌, inl, inr}
+use Rattle.std.proofs.Common.{◌≡◌, ℕ, zero, suc, ◌+◌, ◌<◌, Bool, true, false, List, [], ◌∷◌, get_or, length, Some, Result, Ok, Err}
+use Rattle.std.proofs.Common.{refl, sym, ap, subst, ◌∙◌, inl, inr, arith}
+use Rattle.std.specs.Prelude.{OnOk, IfOk}
 use Rattle.std.specs.List.{slice_get}
 use Rattle.std.proofs.Math.ListN.{set}
 use Rattle.std.proofs.lemmas.List.{length-set}
-use Rattle.std.proofs.lemmas.Option.{get_or_from_slice_get, slice_get-get_or}
+use Rattle.std.proofs.lemmas.Option.{get_or_from_slice_get, slice_get-get_or, slice_get_within}
 use Rattle.node_core.specs.Input.{Input}
 use Rattle.sim_net.proofs.Numbers.{set_get}
 use Rattle.world.specs.declared.given.Given.{Given}
-use Rattle.world.specs.Members.{HasTaken, IsSentIn, IsUnmoved, Keeps}
+use Rattle.synod_acceptor.specs.declared.packet.Packet.{Packet}
+use Rattle.world.specs.declared.fault.WorldFault.{WorldFault}
+use Rattle.world.specs.Members.{HasBegun, HasStopped, HasTaken, IsPlace, IsSentIn, IsUnmoved, Keeps}
 use Rattle.world.specs.Runs.{IsSomewhere}
-use Rattle.world.specs.Scenes.{Placed, Scene}
+use Rattle.world.specs.Scenes.{Placed, Scene, is_up, is_up_in}
 use Rattle.world.proofs.Going.{stays}
 use Rattle.world.proofs.Leading.{taken}
 
@@ -65,3 +69,36 @@ pub found_member : (old : Scene) (items : List Placed) (place : ℕ) (called : P
     called ≡ get_or items place called → slice_get old.members place ≡ Some called
 found_member old items place called same inside is =
     subst (λ (ms : List Placed). slice_get ms place ≡ Some called) same (slice_get-get_or items place called inside ∙ ap Some (sym is))
+
+-- ---- whether a node is up
+
+put_there : (members : List Placed) (place : ℕ) (m : Placed) → place < length members → slice_get (set members place m) place ≡ Some m
+put_there [] place m within = absurd (omega (arith, within))
+put_there (first ∷ members) zero m within = refl
+put_there (first ∷ members) (suc place) m within = put_there members place m (omega (arith, within))
+
+up_then : (old new : Scene) (node place : ℕ) (was m : Placed) → IsPlace old node place was → new.members ≡ set old.members place m
+    → is_up_in new node ≡ m.up
+up_then old new zero place was m is members = absurd (omega (arith, is.place_is))
+up_then old new (suc before) place was m is members =
+    let here : before ≡ place = omega (arith, is.place_is) in
+    ap (λ (k : ℕ). is_up (slice_get new.members k)) here
+    ∙ ap (λ (ms : List Placed). is_up (slice_get ms place)) members
+    ∙ ap is_up (put_there old.members place m (slice_get_within old.members place was is.found))
+
+pub taken_up : (old new : Scene) (node : ℕ) (input : Input) (result : Result Given WorldFault)
+    → IfOk result (λ given. HasTaken old node input given new) → OnOk result (is_up_in new node ≡ true)
+taken_up old new node input (Ok given) has = up_then old new node has.place has.member has.after has.is has.changed.members ∙ has.sent.up
+taken_up old new node input (Err fault) has = tt
+
+pub stopped_up : (old new : Scene) (node place : ℕ) (packet : Packet) (behind : Bool) (result : Result Given WorldFault) → node ≡ place + 1
+    → IfOk result (λ given. HasStopped old place packet behind given new) → OnOk result (is_up_in new node ≡ false)
+stopped_up old new node place packet behind (Ok given) is has =
+    ap (is_up_in new) is ∙ up_then old new (place + 1) place has.member has.after has.is has.changed.members ∙ has.crashed.down
+stopped_up old new node place packet behind (Err fault) is has = tt
+
+pub begun_up : (old new : Scene) (node place : ℕ) (result : Result Given WorldFault) → node ≡ place + 1
+    → IfOk result (λ given. HasBegun old place given new) → OnOk result (is_up_in new node ≡ true)
+begun_up old new node place (Ok given) is has =
+    ap (is_up_in new) is ∙ up_then old new (place + 1) place has.member has.after has.is has.changed.members ∙ has.restarted.up
+begun_up old new node place (Err fault) is has = tt

@@ -51,7 +51,32 @@ Comes cluster behind w (steps.Crash node number found) next =
     (packet : Packet) × HasNumber w.packets (number + behind) packet × (next ≡ comes_to node (Crash packet (is_after found)))
 Comes cluster behind w (steps.Restart node) next = next ≡ comes_to node (Restart 0)
 
+-- ---- the node that takes a step
+
+abbrev pub node_at : Step → ℕ
+node_at (steps.Deliver number node) = node
+node_at (steps.Request node account request) = node
+node_at (steps.Tick node moment up) = node
+node_at (steps.Grant node id) = node
+node_at (steps.Answered node slot outcome) = node
+node_at (steps.Crash node number found) = node
+node_at (steps.Restart node) = node
+
+-- whether it is up then
+abbrev pub leaves_up : Step → Bool
+leaves_up (steps.Crash node number found) = false
+leaves_up other = true
+
 -- ---- why a step is refused: the lowest number that fits, but that a node is down before why an attempt is not granted
+
+abbrev pub fault_number : WorldFault → ℕ
+fault_number faults.NoSuchPacket = 1
+fault_number faults.NoSuchNode = 2
+fault_number (faults.Grant refusal) = 3
+fault_number faults.Down = 4
+fault_number faults.NotGranted = 5
+fault_number faults.Spent = 6
+fault_number faults.Memory = 7
 
 abbrev pub or_else : Option WorldFault → Option WorldFault → Option WorldFault
 or_else (Some fault) other = Some fault

@@ -4,6 +4,7 @@ ghost use Rattle.std.specs.Prelude.{◌≡◌};
 ghost use Rattle.world.specs.declared.fault.StartFault.TheVariants as starts;
 ghost use Rattle.world.specs.declared.fault.WorldFault.TheVariants.{Memory};
 ghost use Rattle.world.specs.Members.{fault_from, fault_of_store};
+ghost use Rattle.world.specs.Runs.{fault_number};
 
 use node_core::{GrantRefusal, StepFault};
 use stable_store::StoreFault;
@@ -26,6 +27,23 @@ pub enum WorldFault {
     Spent,
     /// 7: there was no memory for it.
     Memory,
+}
+
+impl WorldFault {
+    /// Its number, 1 to 7.
+    pub fn number(self) -> u8
+        ensures { result ≡ fault_number self }
+    {
+        match self {
+            WorldFault::NoSuchPacket => 1,
+            WorldFault::NoSuchNode => 2,
+            WorldFault::Grant(_) => 3,
+            WorldFault::Down => 4,
+            WorldFault::NotGranted => 5,
+            WorldFault::Spent => 6,
+            WorldFault::Memory => 7,
+        }
+    }
 }
 
 impl From<AllocError> for WorldFault {

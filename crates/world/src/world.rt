@@ -6,7 +6,8 @@ ghost use Rattle.node_core.specs.Stops.{is_after};
 ghost use Rattle.mc_model.specs.message.Ids.{IsSerial};
 ghost use Rattle.world.specs.Members.{AreOpened, CantBegin, DoesNotTake, HasBegun, HasForgotten, HasStopped, HasTaken, IsAddressed};
 ghost use Rattle.world.specs.Members.{IsSentIn, IsUpAt, Keeps, RefusesTo, away_in, undelivered_in};
-ghost use Rattle.world.specs.Runs.{HaltsOver, IsAt, IsFault, IsSomewhere, IsStartFault, Leads, StartsOver, cluster_with, start_refusal};
+ghost use Rattle.world.specs.Runs.{HaltsOver, IsAt, IsFault, IsSomewhere, IsStartFault, Leads, StartsOver, cluster_with, leaves_up, node_at, start_refusal};
+ghost use Rattle.world.specs.Scenes.{clock_in, is_up_in};
 ghost use Rattle.world.specs.declared.fault.WorldFault.TheVariants.{Memory};
 ghost use Rattle.world.specs.declared.step.Step.TheVariants as steps;
 
@@ -14,7 +15,7 @@ use crate::fault::{StartFault, WorldFault};
 use crate::given::Given;
 use crate::member::Member;
 use crate::step::Step;
-use mc_types::{LAST_SERIAL, MOST_NODES, NodeNo};
+use mc_types::{LAST_SERIAL, MOST_NODES, Moment, NodeNo};
 use node_core::{Found, Input, Setup};
 use sim_net::Packets;
 use std::alloc::{AllocError, Global};
@@ -89,11 +90,31 @@ impl World {
         Ok(())
     }
 
-    /// How many nodes it has.
-    fn nodes(&self) -> usize
+    /// How many nodes it has: 1 to 9.
+    pub fn nodes(&self) -> usize
         ensures { result ≡ length self.now.members }
     {
         self.members.len()
+    }
+
+    /// Whether there is such a node, and it is up.
+    pub fn is_up(&self, node: NodeNo) -> bool
+        ensures { result ≡ is_up_in self.now node }
+    {
+        match self.members.get(node.number() as usize - 1) {
+            Some(member) => member.is_up(),
+            None => false,
+        }
+    }
+
+    /// The clock of a node, in seconds since 1970. The least moment if there is no such node, or if it is down: its clock begins anew.
+    pub fn clock(&self, node: NodeNo) -> Moment
+        ensures { result ≡ clock_in self.now node }
+    {
+        match self.members.get(node.number() as usize - 1) {
+            Some(member) if member.is_up() => member.clock(),
+            _ => Moment::least(),
+        }
     }
 
     /// No packet that was sent comes any more, and the next one has number 1.
@@ -121,7 +142,8 @@ impl World {
     /// Takes a step. Of several refusals the one with the lowest number is told, but that a node is down before why an attempt is not granted;
     /// Memory is want of memory. A step that is refused changes nothing.
     pub fn step(&mut self, step: Step) -> Result<Given, WorldFault>
-        ensures { Leads self.old step result self.new }
+        ensures leads { Leads self.old step result self.new }
+        ensures up { OnOk result (is_up_in self.new (node_at step) ≡ leaves_up step) }
     {
         match step {
             Step::Deliver { number, node } => self.deliver(number, node),
@@ -148,7 +170,9 @@ impl World {
 
     /// The packet with this number comes to a node.
     pub fn deliver(&mut self, number: u64, node: NodeNo) -> Result<Given, WorldFault>
-        ensures { Leads self.old (steps.Deliver number node) result self.new }
+        ensures leads { Leads self.old (steps.Deliver number node) result self.new }
+        ensures least { OnOk result (1 ≤ number) }
+        ensures up { OnOk result (is_up_in self.new (node_at (steps.Deliver number node)) ≡ leaves_up (steps.Deliver number node)) }
     {
         match self.addressed(number, node) {
             Ok((place, packet)) => self.take_at(node, place, Input::Packet(packet)),
@@ -158,7 +182,8 @@ impl World {
 
     /// A node stops in the save of the step of the packet with this number, before it or after it; if it saves nothing, at the end of that step.
     pub fn crash(&mut self, node: NodeNo, number: u64, found: Found) -> Result<Given, WorldFault>
-        ensures { Leads self.old (steps.Crash node number found) result self.new }
+        ensures leads { Leads self.old (steps.Crash node number found) result self.new }
+        ensures up { OnOk result (is_up_in self.new (node_at (steps.Crash node number found)) ≡ leaves_up (steps.Crash node number found)) }
     {
         match self.addressed(number, node) {
             Ok((place, packet)) => self.crash_at(place, &packet, found),
@@ -168,7 +193,8 @@ impl World {
 
     /// A node starts anew, in its next incarnation, with its stable records and nothing else.
     pub fn restart(&mut self, node: NodeNo) -> Result<Given, WorldFault>
-        ensures { Leads self.old (steps.Restart node) result self.new }
+        ensures leads { Leads self.old (steps.Restart node) result self.new }
+        ensures up { OnOk result (is_up_in self.new (node_at (steps.Restart node)) ≡ leaves_up (steps.Restart node)) }
     {
         let place = node.number() as usize - 1;
         if place >= self.members.len() {

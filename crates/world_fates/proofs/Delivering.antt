@@ -15,7 +15,7 @@ use Rattle.script_text.specs.Runner.{Owned, Runner, Told, in_front, on_grant, ow
 use Rattle.script_text.specs.Settings.{Settings}
 use Rattle.script_world.specs.Prints.{At, Refuses, WorldPrint}
 use Rattle.script_world.specs.Script.{Joins, Stepped, step_by, step_of, stepped}
-use Rattle.script_world.specs.World.{Moved, NodeInput as LineInput, World, grants, is_down, is_up, refuses, runner_at, shared, up_or_refuses}
+use Rattle.script_world.specs.World.{Moved, NodeInput as LineInput, World, grants, is_down, is_up, refuses, runner_at, shared, up_or_refuses, no_node}
 use Rattle.fate_laws.proofs.Printing.{of_all}
 use Rattle.fate_laws.proofs.StepsOut.{step_now}
 use Rattle.fate_laws.proofs.Telling.{IsNoDelivery}
@@ -86,18 +86,18 @@ printed_there world there id node print among = by_runner (runner_at world there
     same_node : (other : Print) → At node print ≡ At there other → node ≡ there
     same_node other is = cc
 
-    no_refusal : In (At node print) (Refuses is_down ∷ []) → ⊥
-    no_refusal (inl same) = cc
-    no_refusal (inr none) = none
+    no_refusal : (number : ℕ) → In (At node print) (Refuses number ∷ []) → ⊥
+    no_refusal number (inl same) = cc
+    no_refusal number (inr none) = none
 
     by_test : (runner : Runner) (up : Bool) →
         In (At node print) (if up then shared world there (on_grant runner id) else refuses world is_down).prints → node ≡ there
     by_test runner true among = let it = in_mapped (At there) (on_grant runner id).prints (At node print) among in same_node it.from it.is
-    by_test runner false among = absurd (no_refusal among)
+    by_test runner false among = absurd (no_refusal is_down among)
 
     by_runner : (found : Option Runner) →
         In (At node print) (up_or_refuses world (λ runner. shared world there (on_grant runner id)) found).prints → node ≡ there
-    by_runner None among = absurd among
+    by_runner None among = absurd (no_refusal no_node among)
     by_runner (Some runner) among = by_test runner (is_up runner) among
 
 -- ---- lines

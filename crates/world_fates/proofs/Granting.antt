@@ -28,7 +28,7 @@ use Rattle.script_text.specs.Runner.{Runner, granted_unless, on_grant}
 use Rattle.script_text.specs.Settings.{Settings}
 use Rattle.script_world.specs.Prints.{At, Refuses, WorldPrint}
 use Rattle.script_world.specs.Script.{Joins, Stage, Stepped, nodes_of, step_by, step_of, stepped}
-use Rattle.script_world.specs.World.{Moved, NodeInput as LineInput, World, grants, is_down, is_up, refuses, runner_at, shared, up_or_refuses}
+use Rattle.script_world.specs.World.{Moved, NodeInput as LineInput, World, grants, is_down, is_up, refuses, runner_at, shared, up_or_refuses, no_node}
 use Rattle.fate_laws.proofs.Behind.{behind, happened_before, input_to}
 use Rattle.fate_laws.proofs.Reports.{named_small}
 use Rattle.fate_laws.proofs.Standing.{IsAt, grant_steps}
@@ -152,7 +152,7 @@ grants_nothing cluster past world stands there id least final given = by_runner 
 
     by_runner : (found : Option Runner) → runner_at world there ≡ found →
         MovesNothing (up_or_refuses world (λ runner. shared world there (on_grant runner id)) found)
-    by_runner None is = record { inputs = refl; prints = λ node session pdu among. among }
+    by_runner None is = refusal_moves world no_node
     by_runner (Some runner) is = by_test runner is (is_up runner) refl
 
 -- what a line grants from where a world stands

@@ -19,7 +19,7 @@ use Rattle.script_text.specs.Runner.{Acted, Runner, given_out, most_deliveries, 
 use Rattle.script_text.specs.Settings.{Settings}
 use Rattle.script_world.specs.Prints.{At, Refuses, StopsSettling, WorldPrint}
 use Rattle.script_world.specs.Script.{Joins, Stage, Stepped, moved_by, step_by, step_of, stepped}
-use Rattle.script_world.specs.World.{Due, Moved, NodeInput as LineInput, World, acts, all_come, comes, comes_again, comes_if, comes_to as come_to}
+use Rattle.script_world.specs.World.{Due, Moved, NodeInput as LineInput, World, acts, all_come, comes, comes_again, comes_if, comes_to as come_to, no_node}
 use Rattle.script_world.specs.World.{crashed, crashes, crashes_if, due, grants, hears, if_due, if_up, is_down, is_up, is_up_at, marked, no_packet}
 use Rattle.script_world.specs.World.{node_numbers, on_replay, on_settle, packet_of, refuses, replays, restarts, restarts_if, runner_at, settles, shared}
 use Rattle.script_world.specs.World.{stays, then_moved, ticks, unsettled, up_or_refuses}
@@ -171,7 +171,7 @@ module _ (cluster : Cluster) (m : ℕ) (least_m : 1 ≤ m) (first : List NodeInp
 
         by_runner : (found : Option Runner) → runner_at world node ≡ found → May past (up_or_refuses world up found) →
             MovesWell past (up_or_refuses world up found)
-        by_runner None is may = stays_well past world well
+        by_runner None is may = refuses_well past world no_node well
         by_runner (Some runner) is may = by_test runner is (is_up runner) may
 
     -- the runner of the node
@@ -201,7 +201,7 @@ module _ (cluster : Cluster) (m : ℕ) (least_m : 1 ≤ m) (first : List NodeInp
     restarts_well = by_runner (runner_at world node) refl
       where
         by_runner : (found : Option Runner) → runner_at world node ≡ found → MovesWell past (restarts_if world node found)
-        by_runner None is = stays_well past world well
+        by_runner None is = refuses_well past world no_node well
         by_runner (Some runner) is =
             shared_well (on_restart runner) (λ same. restart_well cluster m first Before Says says past runner (the_runner runner is same))
 

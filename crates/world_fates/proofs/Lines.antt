@@ -20,7 +20,7 @@ use Rattle.script_text.specs.Runner.{Acted, Runner, given_out, held_in, most_del
 use Rattle.script_text.specs.Settings.{Settings}
 use Rattle.script_world.specs.Prints.{At, Refuses, StopsSettling}
 use Rattle.script_world.specs.Script.{Stepped, moved_by, step_by, step_of, stepped}
-use Rattle.script_world.specs.World.{Due, Moved, NodeInput, World, acts, all_come, comes as packet_comes, comes_again, comes_if, comes_to}
+use Rattle.script_world.specs.World.{Due, Moved, NodeInput, World, acts, all_come, comes as packet_comes, comes_again, comes_if, comes_to, no_node}
 use Rattle.script_world.specs.World.{crashed, crashes, crashes_if, due, grants, hears, if_due, if_up}
 use Rattle.script_world.specs.World.{is_down, is_up, is_up_at, marked, no_packet, node_numbers, on_replay, on_settle, opened, packet_of, refuses}
 use Rattle.script_world.specs.World.{replays, restarts, restarts_if, runner_at, setup_of, settles, shared, stays, then_moved, ticks, unsettled}
@@ -200,7 +200,7 @@ if_up_moves Answers world node sound up so = by_runner (runner_at world node) re
     by_test runner is false = refuses_moves Answers world is_down sound
 
     by_runner : (found : Option Runner) → runner_at world node ≡ found → MovesOn Answers world (up_or_refuses world up found)
-    by_runner None is = stays_moves Answers world sound
+    by_runner None is = refuses_moves Answers world no_node sound
     by_runner (Some runner) is = by_test runner is (is_up runner)
 
 acts_move : (world : World) (node : ℕ) → 1 ≤ node → AreSound world → (Answers : Runner → Slot → Type 0) (act : Runner → Acted) →
@@ -221,7 +221,7 @@ restarts_move : (world : World) (node : ℕ) → 1 ≤ node → AreSound world �
 restarts_move world node least sound = by_runner (runner_at world node) refl
   where
     by_runner : (found : Option Runner) → runner_at world node ≡ found → MovesOn NothingAt world (restarts_if world node found)
-    by_runner None is = stays_moves NothingAt world sound
+    by_runner None is = refuses_moves NothingAt world no_node sound
     by_runner (Some runner) is =
         nothing_moves world node (shared world node (on_restart runner))
         (shared_moves world node least sound runner is (λ other. Nothing) (on_restart runner) (restart_keeps runner (sound node least runner is)))
@@ -427,7 +427,7 @@ module _ (settings : Settings) (world : World) (sound : AreSound world) (line : 
 
       by_runner : (found : Option Runner) → runner_at world node ≡ found →
           LeadsOn world line (done_by (up_or_refuses world (λ runner. shared world node (on_grant runner id)) found))
-      by_runner None is = moves_lead (stays world) (stays_moves NothingAt world sound)
+      by_runner None is = moves_lead (refuses world no_node) (refuses_moves NothingAt world no_node sound)
       by_runner (Some runner) is = by_test runner is (is_up runner)
 
   said_leads : (said : Said) (done : Stepped) → said_within (length world.runners) line ≡ Some said → moved_by settings world said ≡ Some done →

@@ -20,7 +20,7 @@ use Rattle.script_text.specs.Prints.{Print}
 use Rattle.script_text.specs.Runner.{Acted, Runner, given_out, most_deliveries, on_delivery, on_grant, on_octets, on_restart, on_tick}
 use Rattle.script_text.specs.Settings.{Settings}
 use Rattle.script_world.specs.Prints.{At, Refuses, StopsSettling, WorldPrint}
-use Rattle.script_world.specs.World.{Due, Moved, NodeInput as LineInput, World, acts, all_come, comes, comes_again, comes_if, comes_to}
+use Rattle.script_world.specs.World.{Due, Moved, NodeInput as LineInput, World, acts, all_come, comes, comes_again, comes_if, comes_to, no_node}
 use Rattle.script_world.specs.World.{crashed, crashes, crashes_if, due, due_among, due_at, due_first, grants, hears, if_due, if_up}
 use Rattle.script_world.specs.World.{is_down, is_up, is_up_at, lacks, marked, no_packet, node_numbers, on_replay, on_settle, packet_of}
 use Rattle.script_world.specs.World.{refuses, replays, restarts, restarts_if, runner_at, settles, shared, stays, takes_part, then_moved}
@@ -264,7 +264,7 @@ module _ (cluster : Cluster) (Tells : FactOfPrints) (telling : IsTelling cluster
         by_test runner one_of stood false is = refuses_so past world is_down stands
 
         by_runner : (found : Option Runner) → runner_at world number ≡ found → MovesSo cluster Tells past (up_or_refuses world up found)
-        by_runner None is = stays_so past world stands
+        by_runner None is = refuses_so past world no_node stands
         by_runner (Some runner) is =
             let one_of = one_of_many cluster past world stands number runner least is in
             by_test runner one_of (stands.each number one_of runner is) (is_up runner) refl
@@ -298,7 +298,7 @@ module _ (cluster : Cluster) (Tells : FactOfPrints) (telling : IsTelling cluster
     restarts_so number least = by_runner (runner_at world number) refl
       where
         by_runner : (found : Option Runner) → runner_at world number ≡ found → MovesSo cluster Tells past (restarts_if world number found)
-        by_runner None is = stays_so past world stands
+        by_runner None is = refuses_so past world no_node stands
         by_runner (Some runner) is =
             let one_of = one_of_many cluster past world stands number runner least is in
             let stood = stands.each number one_of runner is in

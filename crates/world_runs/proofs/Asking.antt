@@ -17,8 +17,8 @@ use Rattle.desk.specs.declared.request.Request.{Request as Asked}
 use Rattle.world.specs.declared.given.Given.{Given}
 use Rattle.world.specs.declared.step.Step.{Step}
 use Rattle.world.specs.declared.step.Step.TheVariants as steps
-use Rattle.world.specs.Runs.{given_out}
-use Rattle.world_runs.specs.Traces.{AcceptedAreKnown, Answer, Event, IsAnsweredLater, IsRepliedTo, LaterQueriesAreTold, LivesOn, Reaches, node_at, told_in}
+use Rattle.world.specs.Runs.{given_out, node_at}
+use Rattle.world_runs.specs.Traces.{AcceptedAreKnown, Answer, Event, IsAnsweredLater, IsRepliedTo, LaterQueriesAreTold, LivesOn, Reaches, told_in}
 use Rattle.world_runs.proofs.Coming.{arrived, node_of_step, started_by_step}
 use Rattle.world_runs.proofs.Events.{GoesOnBy, ReachesBy, given_in, goes_on_by, reached_by, until}
 use Rattle.world_runs.proofs.Tracing.{states_given, states_nothing}

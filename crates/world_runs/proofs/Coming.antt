@@ -22,8 +22,7 @@ use Rattle.desk.specs.Arrivals.{door_at, judged_as, next_id, requested}
 use Rattle.desk.specs.declared.request.Request.{Request as Asked}
 use Rattle.world.specs.declared.step.Step.{Step}
 use Rattle.world.specs.declared.step.Step.TheVariants as steps
-use Rattle.world.specs.Runs.{Comes}
-use Rattle.world_runs.specs.Traces.{node_at}
+use Rattle.world.specs.Runs.{Comes, node_at}
 
 -- by a request no attempt is granted, none is answered, and no node starts anew
 no_grant_asked : (slot : Slot) (judged : Result Request Status) → Grant slot ≡ judged_as judged → ⊥

@@ -16,7 +16,7 @@ use Rattle.world.specs.declared.fault.WorldFault.{WorldFault}
 use Rattle.world.specs.declared.given.Given.{Given}
 use Rattle.world.specs.declared.step.Step.{Step}
 use Rattle.world.specs.declared.step.Step.TheVariants as steps
-use Rattle.world.specs.Runs.{Comes, IsAt, IsFault, IsGiven, given_out, refusal_of}
+use Rattle.world.specs.Runs.{Comes, IsAt, IsFault, IsGiven, given_out, node_at, refusal_of}
 use Rattle.world.specs.Scenes.{Scene}
 
 abbrev pub Answer : Type 0
@@ -153,16 +153,6 @@ AreChosen nodes packets answers =
     WasVotedFor nodes packets id says.chain
 
 -- ---- what a later request is answered
-
--- the node that takes a step
-abbrev pub node_at : Step → ℕ
-node_at (steps.Deliver number node) = node
-node_at (steps.Request node account request) = node
-node_at (steps.Tick node moment up) = node
-node_at (steps.Grant node id) = node
-node_at (steps.Answered node slot outcome) = node
-node_at (steps.Crash node number found) = node
-node_at (steps.Restart node) = node
 
 -- a request came to a node, and waits there under this ticket
 pub record Waits (event : Event) (node ticket : ℕ) : Type 0 where

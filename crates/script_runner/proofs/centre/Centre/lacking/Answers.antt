@@ -1,48 +1,26 @@
-use Rattle.std.proofs.Common.{◌≡◌, ◌+◌, true, false, Some, length, sym, ap, ◌∙◌, arith}
+use Rattle.std.proofs.Common.{◌≡◌, ◌+◌, true, false, Some, sym, ap, ◌∙◌, arith}
 use Rattle.mc_types.specs.Nodes.{has}
 use Rattle.script_lines.specs.Said.{nodes_with}
 use Rattle.script_world.specs.World.{lacks, takes_part}
 use Rattle.script_runner.proofs.Lacking.{first_lacks, lacks_so, none_lacks, one_further}
-use Rattle.script_runner.proofs.Replaying.{below, found_there, not_below}
 use Rattle.script_runner.proofs.centre.Centre.lacking.Goals as goal
-
-pub returns-in_err-station : goal.returns-in_err-station
-returns-in_err-station c =
-    λ w is.
-    let over = not_below c.loop-place.place (length c.deref.result.now) c.in_err-station.ensures.lookup.0 in
-    let items = ap length c.deref.ensures.value in
-    let part = sym (c.if-not-takes_part.ensures ∙ ap (takes_part (nodes_with (has c.args.nodes))) c.sender.ensures) in
-    c.from_residual-in_err-station.ensures
-    ∙ none_lacks c.args.self.now w (nodes_with (has c.args.nodes)) c.args.number c.in_ok-packet.packet.now is c.in_ok-packet.ensures.packet part
-    c.loop-place.place (omega (arith, over, items)) (c.loop-place.invariant w is)
 
 pub returns-then-lacks : goal.returns-then-lacks
 returns-then-lacks c =
     λ w is.
     let nodes = nodes_with (has c.args.nodes) in
-    let items = ap length c.deref.ensures.value in
     let part = sym (c.if-not-takes_part.ensures ∙ ap (takes_part nodes) c.sender.ensures) in
-    let here = below c.loop-place.place (length c.deref.result.now) c.in_ok-station.ensures.lookup.0 in
-    let found =
-    found_there c.args.self.now c.deref.result.now c.loop-place.place c.in_ok-station.station.now c.deref.ensures.value
-    c.in_ok-station.ensures.lookup.0 c.in_ok-station.ensures.lookup.1 in
-    let lacked = lacks_so c.args.self.now w nodes c.args.number c.loop-place.place c.of.result c.in_ok-station.station.now true is found
-    c.of.ensures c.if-lacks.ensures in
+    let lacked = lacks_so c.args.self.now w nodes c.args.number c.loop-place.place c.of.result true is c.of.ensures c.if-lacks.ensures in
     let number : c.of-then-lacks.result ≡ 1 + c.loop-place.place = omega (arith, c.of-then-lacks.ensures) in
     ap Some number
     ∙ first_lacks c.args.self.now w nodes c.args.number c.in_ok-packet.packet.now is c.in_ok-packet.ensures.packet part c.loop-place.place
-    (omega (arith, here, items))
     (c.loop-place.invariant w is) lacked
 
 pub loop-place-preserved : goal.loop-place-preserved
 loop-place-preserved c =
     λ w is.
     let nodes = nodes_with (has c.args.nodes) in
-    let found =
-    found_there c.args.self.now c.deref.result.now c.loop-place.place c.in_ok-station.station.now c.deref.ensures.value
-    c.in_ok-station.ensures.lookup.0 c.in_ok-station.ensures.lookup.1 in
-    let not_here = lacks_so c.args.self.now w nodes c.args.number c.loop-place.place c.of.result c.in_ok-station.station.now false is found
-    c.of.ensures c.if-lacks.ensures in
+    let not_here = lacks_so c.args.self.now w nodes c.args.number c.loop-place.place c.of.result false is c.of.ensures c.if-lacks.ensures in
     one_further (lacks w nodes c.args.number) c.loop-place.place (c.loop-place.invariant w is) not_here
 
 pub returns : goal.returns
@@ -50,5 +28,5 @@ returns c =
     λ w is.
     let nodes = nodes_with (has c.args.nodes) in
     let part = sym (c.if-not-takes_part.ensures ∙ ap (takes_part nodes) c.sender.ensures) in
-    none_lacks c.args.self.now w nodes c.args.number c.in_ok-packet.packet.now is c.in_ok-packet.ensures.packet part c.loop-place.place
-    (omega (arith, c.loop-place-test.false, is.nodes, is.few)) (c.loop-place.invariant w is)
+    none_lacks c.args.self.now w nodes c.args.number c.in_ok-packet.packet.now is c.in_ok-packet.ensures.packet part
+    (λ j below. c.loop-place.invariant w is j (omega (arith, c.loop-place-test.false, below)))

@@ -16,7 +16,7 @@ pub loop-time-preserved : goal.loop-time-preserved
 loop-time-preserved c =
     λ w is.
     let left = c.loop-time.invariant w is in
-    let sent = length c.args.self.now.packets.sent in
+    let sent = length c.args.self.now.world.packets in
     one_done (on_replay w c.args.count) (replays (c.args.count - c.loop-time._time) sent) (replays (c.args.count - (c.loop-time._time + 1)) sent)
     (λ v. all_come (reverse (range_with_len 1 sent)) v) c.loop-time.self c.all_come.new.self c.args.text.now.items c.loop-time.text.items
     c.all_come.new.text.items left
@@ -28,5 +28,5 @@ returns c =
     λ w is.
     let left = c.loop-time.invariant w is in
     all_done (on_replay w c.args.count) (replays (c.args.count - c.loop-time._time)
-    (length c.args.self.now.packets.sent)) c.loop-time.self c.args.text.now.items c.loop-time.text.items left
-    (replayed_all (c.args.count - c.loop-time._time) (length c.args.self.now.packets.sent) left.world (omega (arith, c.loop-time-test.false)))
+    (length c.args.self.now.world.packets)) c.loop-time.self c.args.text.now.items c.loop-time.text.items left
+    (replayed_all (c.args.count - c.loop-time._time) (length c.args.self.now.world.packets) left.world (omega (arith, c.loop-time-test.false)))

@@ -1,12 +1,10 @@
-use Rattle.std.proofs.Common.{refl, ◌∙◌}
-use Rattle.script_site.specs.Sites.{runner_of}
-use Rattle.script_site.proofs.Ticking.{room_made_if}
+use Rattle.std.proofs.Common.{◌∙◌}
+use Rattle.script_site.proofs.Ticking.{room_acts}
 use Rattle.script_site.proofs.site.Site.make_room.Goals as goal
 
 pub returns : goal.returns
 returns c =
-    room_made_if c.args.node c.post_for_all.result (runner_of c.args.self.now) (runner_of c.give_up.new.self)
-    (runner_of (record c.give_up.new.self { service = c.post_for_all.new.service })) c.post_for_all.new.service c.clock-now.result
-    c.deref.result.now
-    c.args.text.now.items c.post_for_all.new.text.items c.in_ok-give_up.ensures (c.deref.ensures.value ∙ c.in_ok-up.ensures) c.clock-now.ensures
-    c.post_for_all.ensures refl
+    room_acts c.post_for_all.result (record { world = c.args.world.now; site = c.args.self.now })
+    (record { world = c.give_up.new.world; site = c.give_up.new.self }) c.post_for_all.new.service c.clock-now.result c.clock-now-2.result c.deref.result.now
+    c.args.text.now.items c.post_for_all.new.text.items
+    c.clock-now.ensures c.in_ok-give_up.ensures (c.deref.ensures.value ∙ c.in_ok-up.ensures) c.clock-now-2.ensures c.post_for_all.ensures

@@ -2,63 +2,70 @@ use Rattle.std.proofs.Common.{Ok, Err, refl, ◌++◌, length, take, drop, ◌-�
 use Rattle.pdu_frames.specs.Frames.{IsPart, HasWrongLength}
 use Rattle.script_text.specs.Settings.{settings_of}
 use Rattle.script_text.specs.Pushes.{session_at}
-use Rattle.script_site.specs.Sites.{runner_of}
-use Rattle.script_site.proofs.Streaming.{after_kept_if, after_last, after_take, after_wrong_if, all_taken, is_opened, is_there, joined, not_there}
-use Rattle.script_site.proofs.Streaming.{nothing_done, wrong_in_front}
+use Rattle.script_site.specs.Sites.{Placed}
+use Rattle.script_site.proofs.Streaming.{all_taken, is_opened, is_there, joined, kept_acts, last_acts, not_there, opened, proceeds, wrong_acts}
+use Rattle.script_site.proofs.Streaming.{wrong_in_front}
 use Rattle.script_site.proofs.site.Site.octets.Goals as goal
 
 pub loop-count-init : goal.loop-count-init
-loop-count-init c = (
-  is_opened (runner_of c.args.self.now) (runner_of c.open.new.self) c.args.number c.in_ok-framer.ensures.left,
-  nothing_done c.args.node (settings_of c.args.config.now) c.args.number (runner_of c.args.self.now) (runner_of c.open.new.self) c.in_ok-framer.framer
-      c.args.octets.now c.args.text.now.items
-      c.in_ok-framer.ensures.held c.in_ok-framer.ensures.left,
-)
+loop-count-init c =
+    let start : Placed = record { world = c.args.world.now; site = c.args.self.now } in (
+      is_opened c.args.self.now c.open.new.self c.args.number c.in_ok-framer.ensures.left,
+      opened c.args.self.now.node (settings_of c.args.config.now) c.args.number c.args.octets.now start c.args.text.now.items c.open.new.self
+          c.in_ok-framer.framer c.in_ok-framer.ensures.held c.in_ok-framer.ensures.left,
+    )
 
 pub returns-in-Err : goal.returns-in-Err
 returns-in-Err c =
     let wrong = c.feed.ensures.wrong.1 (c.in-Err.is ∙ ap Err c.in-Err.ensures.fault.0) in
-    after_wrong_if c.args.node (settings_of c.args.config.now) c.args.number _ c.args.text.now.items (runner_of c.loop-count.self) (runner_of c.end.new.self)
-    (c.loop-count.framer ++ c.loop-count.rest.now)
-    c.loop-count.text.items c.end.new.text.items c.end.result c.loop-count.invariant.1
-    (wrong_in_front c.loop-count.framer c.loop-count.rest.now wrong) c.end.ensures
+    wrong_acts c.args.self.now.node (settings_of c.args.config.now) c.args.number c.args.octets.now
+    (record { world = c.args.world.now; site = c.args.self.now }) c.args.text.now.items
+    (record { world = c.loop-count.world; site = c.loop-count.self }) c.loop-count.text.items c.end.result
+    (record { world = c.end.new.world; site = c.end.new.self }) (c.loop-count.framer ++ c.loop-count.rest.now) c.end.new.text.items
+    c.loop-count.invariant.1 (wrong_in_front c.loop-count.framer c.loop-count.rest.now wrong) c.end.ensures
 
 pub returns-in-Ok-None : goal.returns-in-Ok-None
 returns-in-Ok-None c =
     let part = c.frame.ensures.part.1 (c.in-Ok-None.is ∙ ap Ok c.in-Ok-None.field-0-is) in
     let all = all_taken c.loop-count.framer c.loop-count.rest.now c.feed.new.self c.in-Ok.count c.in-Ok.ensures.taken (c.in-Ok.ensures.all part) in
-    after_kept_if c.args.node (settings_of c.args.config.now) c.args.number _ c.args.text.now.items (runner_of c.loop-count.self)
-    (c.loop-count.framer ++ c.loop-count.rest.now) c.loop-count.text.items c.feed.new.self
-    c.put_back.new.self c.put_back.result c.loop-count.invariant.1 (subst (λ s. IsPart s) all part) all c.put_back.ensures
+    kept_acts c.args.self.now.node (settings_of c.args.config.now) c.args.number c.args.octets.now
+    (record { world = c.args.world.now; site = c.args.self.now }) c.args.text.now.items
+    (record { world = c.loop-count.world; site = c.loop-count.self }) c.loop-count.text.items c.put_back.result c.put_back.new.self
+    (c.loop-count.framer ++ c.loop-count.rest.now) c.feed.new.self c.loop-count.invariant.1 (subst (λ s. IsPart s) all part) all c.put_back.ensures
 
 pub returns-in-Err-frame : goal.returns-in-Err-frame
 returns-in-Err-frame c =
     let wrong = c.frame.ensures.wrong.1 (c.in-Err-frame.is ∙ ap Err c.in-Err-frame.ensures.fault) in
     let rest = take (length c.loop-count.rest.now - c.in-Ok.count) (drop c.in-Ok.count c.loop-count.rest.now) in
     let parts = joined c.loop-count.framer c.loop-count.rest.now c.feed.new.self c.in-Ok.count c.in-Ok.ensures.taken in
-    after_wrong_if c.args.node (settings_of c.args.config.now) c.args.number _ c.args.text.now.items (runner_of c.loop-count.self)
-    (runner_of c.end-in-Err-frame.new.self) (c.loop-count.framer ++ c.loop-count.rest.now)
-    c.loop-count.text.items c.end-in-Err-frame.new.text.items c.end-in-Err-frame.result c.loop-count.invariant.1
-    (subst (λ s. HasWrongLength s) parts (wrong_in_front c.feed.new.self rest wrong)) c.end-in-Err-frame.ensures
+    wrong_acts c.args.self.now.node (settings_of c.args.config.now) c.args.number c.args.octets.now
+    (record { world = c.args.world.now; site = c.args.self.now }) c.args.text.now.items
+    (record { world = c.loop-count.world; site = c.loop-count.self }) c.loop-count.text.items c.end-in-Err-frame.result
+    (record { world = c.end-in-Err-frame.new.world; site = c.end-in-Err-frame.new.self }) (c.loop-count.framer ++ c.loop-count.rest.now)
+    c.end-in-Err-frame.new.text.items
+    c.loop-count.invariant.1 (subst (λ s. HasWrongLength s) parts (wrong_in_front c.feed.new.self rest wrong)) c.end-in-Err-frame.ensures
 
 pub returns-then-not-has : goal.returns-then-not-has
 returns-then-not-has c =
     let held = rw c.in-Ok-Some.field-0-is at c.in-Ok-Some.ensures.frame in
     let gone = not_there (session_at c.serve.new.self.service.sessions c.args.number) c.has.result c.has.ensures c.if-not-has.true in
-    after_last c.args.node (settings_of c.args.config.now) c.args.number _ c.args.text.now.items (runner_of c.loop-count.self) (runner_of c.serve.new.self)
-    c.loop-count.framer c.loop-count.rest.now c.feed.new.self c.feed.new.self
-    c.loop-count.text.items c.serve.new.text.items c.in-Ok.count c.loop-count.invariant.1 c.in-Ok.ensures.taken (held.0, refl)
-    (rw held.1 at c.in_ok-serve-in-Ok-Some.ensures) gone
+    last_acts c.args.self.now.node (settings_of c.args.config.now) c.args.number c.args.octets.now
+    (record { world = c.args.world.now; site = c.args.self.now }) c.args.text.now.items
+    (record { world = c.loop-count.world; site = c.loop-count.self }) c.loop-count.text.items (record { world = c.serve.new.world; site = c.serve.new.self })
+    c.loop-count.framer c.loop-count.rest.now c.feed.new.self c.feed.new.self c.serve.new.text.items c.in-Ok.count c.loop-count.invariant.1
+    c.in-Ok.ensures.taken (held.0, refl) (rw held.1 at c.in_ok-serve-in-Ok-Some.ensures) gone
 
 pub loop-count-preserved : goal.loop-count-preserved
 loop-count-preserved c =
     let held = rw c.in-Ok-Some.field-0-is at c.in-Ok-Some.ensures.frame in
     let stays = is_there (session_at c.serve.new.self.service.sessions c.args.number) c.has.result c.has.ensures c.if-not-has.false in (
       stays,
-      after_take c.args.node (settings_of c.args.config.now) c.args.number _ c.args.text.now.items (runner_of c.loop-count.self) (runner_of c.serve.new.self)
-          c.loop-count.framer c.loop-count.rest.now c.feed.new.self c.feed.new.self
-          c.let_go.new.self c.loop-count.text.items c.serve.new.text.items c.in-Ok.count c.loop-count.invariant.1 c.in-Ok.ensures.taken c.let_go.ensures
-          (rw held.1 at c.in_ok-serve-in-Ok-Some.ensures) stays,
+      proceeds c.args.self.now.node (settings_of c.args.config.now) c.args.number c.args.octets.now
+          (record { world = c.args.world.now; site = c.args.self.now }) c.args.text.now.items
+          (record { world = c.loop-count.world; site = c.loop-count.self }) c.loop-count.text.items
+          (record { world = c.serve.new.world; site = c.serve.new.self })
+          c.loop-count.framer c.loop-count.rest.now c.feed.new.self c.feed.new.self c.let_go.new.self c.serve.new.text.items c.in-Ok.count
+          c.loop-count.invariant.1 c.in-Ok.ensures.taken c.let_go.ensures (rw held.1 at c.in_ok-serve-in-Ok-Some.ensures) stays,
     )
 
 pub end-requires : goal.end-requires

@@ -1,18 +1,19 @@
 use Rattle.std.proofs.Common.{refl}
+use Rattle.node_core.specs.Stops.{is_after}
 use Rattle.world.proofs.Ending.{crash_leads, undelivered}
 use Rattle.world.proofs.Going.{stays}
-use Rattle.world.proofs.Placing.{keeps_all}
+use Rattle.world.proofs.Placing.{keeps_all, stopped_up}
 use Rattle.world.proofs.world.World.crash.Goals as goal
 
-pub returns-in-Ok : goal.returns-in-Ok
-returns-in-Ok c =
+pub returns-in-Ok-clause-leads : goal.returns-in-Ok-clause-leads
+returns-in-Ok-clause-leads c =
     let found = c.in-Ok.ensures.found in
     crash_leads c.args.self.now c.crash_at.new.self c.args.node c.args.number c.in-Ok.place c.in-Ok.packet c.args.found c.crash_at.result
     found.up.is.place_is found.packet_is found.up.member found.up.is found.up.up
     c.crash_at.ensures.stopped c.crash_at.ensures.fault c.crash_at.ensures.stays
 
-pub returns-in-Err : goal.returns-in-Err
-returns-in-Err c =
+pub returns-in-Err-clause-leads : goal.returns-in-Err-clause-leads
+returns-in-Err-clause-leads c =
     let old = c.args.self.now in
     record {
       fresh = refl;
@@ -21,3 +22,9 @@ returns-in-Err c =
         at = stays cluster behind inputs old now old (keeps_all old);
       };
     }
+
+pub returns-in-Ok-clause-up : goal.returns-in-Ok-clause-up
+returns-in-Ok-clause-up c =
+    let found = c.in-Ok.ensures.found in
+    stopped_up c.args.self.now c.crash_at.new.self c.args.node c.in-Ok.place c.in-Ok.packet (is_after c.args.found) c.crash_at.result
+    found.up.is.place_is c.crash_at.ensures.stopped

@@ -1,5 +1,6 @@
-use Rattle.std.proofs.Common.{Result, Ok, Err, inr, refl}
-use Rattle.std.specs.Prelude.{IfErr}
+use Rattle.std.proofs.Common.{◌≡◌, ℕ, zero, suc, ◌≤◌, List, Some, Result, Ok, Err, inr, refl, arith}
+use Rattle.std.specs.Prelude.{IfErr, OnOk}
+use Rattle.sim_net.specs.Network.{numbered}
 use Rattle.node_core.specs.Input.{Input}
 use Rattle.node_core.specs.Input.TheVariants as given
 use Rattle.world.specs.declared.fault.WorldFault.{WorldFault}
@@ -9,7 +10,7 @@ use Rattle.world.specs.Scenes.{Scene}
 use Rattle.world.proofs.Answering.{deliver_is, input_leads}
 use Rattle.world.proofs.Ending.{undelivered}
 use Rattle.world.proofs.Going.{stays}
-use Rattle.world.proofs.Placing.{keeps_all}
+use Rattle.world.proofs.Placing.{keeps_all, taken_up}
 use Rattle.world.proofs.world.World.deliver.Goals as goal
 
 refuses : (old : Scene) (node : _) (input : Input) (result : Result Given WorldFault) → IfErr result (RefusesTo old node input)
@@ -17,8 +18,8 @@ refuses : (old : Scene) (node : _) (input : Input) (result : Result Given WorldF
 refuses old node input (Ok given) is = tt
 refuses old node input (Err fault) is = inr is
 
-pub returns-in-Ok : goal.returns-in-Ok
-returns-in-Ok c =
+pub returns-in-Ok-clause-leads : goal.returns-in-Ok-clause-leads
+returns-in-Ok-clause-leads c =
     let old = c.args.self.now in
     let found = c.in-Ok.ensures.found in
     let input = given.Packet c.in-Ok.packet in
@@ -26,8 +27,8 @@ returns-in-Ok c =
     c.addressed.ensures.least found.sent c.take_at.ensures.taken (refuses old c.args.node input c.take_at.result c.take_at.ensures.refused)
     c.take_at.ensures.stays
 
-pub returns-in-Err : goal.returns-in-Err
-returns-in-Err c =
+pub returns-in-Err-clause-leads : goal.returns-in-Err-clause-leads
+returns-in-Err-clause-leads c =
     let old = c.args.self.now in
     record {
       fresh = refl;
@@ -36,3 +37,16 @@ returns-in-Err c =
         at = stays cluster behind inputs old now old (keeps_all old);
       };
     }
+
+-- a packet with a number has one from 1 on
+least_of : {A : Type 0} (xs : List A) (number : ℕ) (x : A) (result : Result Given WorldFault) → numbered xs number ≡ Some x → OnOk result (1 ≤ number)
+least_of xs number x (Err fault) is = tt
+least_of xs zero x (Ok given) is = absurd cc
+least_of xs (suc place) x (Ok given) is = omega arith
+
+pub returns-in-Ok-clause-least : goal.returns-in-Ok-clause-least
+returns-in-Ok-clause-least c = least_of c.args.self.now.packets c.args.number c.in-Ok.packet c.take_at.result c.in-Ok.ensures.found.packet_is
+
+pub returns-in-Ok-clause-up : goal.returns-in-Ok-clause-up
+returns-in-Ok-clause-up c =
+    taken_up c.args.self.now c.take_at.new.self c.args.node (given.Packet c.in-Ok.packet) c.take_at.result c.take_at.ensures.taken

@@ -1,0 +1,89 @@
+-- What came of attempts is told to the node.
+use Rattle.std.proofs.Common.{◌≡◌, ℕ, ◌+◌, ◌<◌, ◌≤◌, Bool, true, false, List, [], ◌∷◌, drop, get_or, length, Option, Some, None, Ok, Err, Result, refl, sym, ap, subst, ◌∙◌}
+use Rattle.std.proofs.lemmas.List.{drop-past}
+use Rattle.std.specs.Prelude.{OnOk, option_map, if◌then◌else◌}
+use Rattle.std.specs.declared.alloc.AllocError.{AllocError}
+use Rattle.mc_model.specs.node.Outcome.{Outcome as Came, no_answer_error, Unanswered}
+use Rattle.mc_model.specs.synod.Packet.{Slot}
+use Rattle.node_model.specs.Granted.{is_open}
+use Rattle.node_model.specs.Kept.{Kept}
+use Rattle.node_laws.specs.Clusters.{kept_reached}
+use Rattle.delivery.specs.Kept.{outcome_kept}
+use Rattle.delivery.specs.declared.outcome.Outcome.{Outcome}
+use Rattle.sessions.specs.declared.pushed.Delivery.{Delivery}
+use Rattle.sessions.specs.declared.pushed.Delivery.TheVariants as deliveries
+use Rattle.sessions.specs.declared.pushed.Pushed.{Pushed}
+use Rattle.world.specs.Runs.{Leads, away}
+use Rattle.world.specs.Scenes.{Scene}
+use Rattle.world.specs.declared.fault.WorldFault.{WorldFault}
+use Rattle.world.specs.declared.fault.WorldFault.TheVariants as faults
+use Rattle.world.specs.declared.given.Given.{Given}
+use Rattle.world.specs.declared.step.Step.TheVariants as steps
+use Rattle.script_text.specs.Attempts.{Went, all_given_up, concluded, delivered_so, given_up, rests_at, then_went, unanswered, went}
+use Rattle.script_text.specs.Node.{Node}
+use Rattle.script_world.specs.World.{World}
+use Rattle.script_site.specs.Sites.{Goes, IsGoing, Takes}
+use Rattle.script_site.proofs.Going.{behind_it}
+use Rattle.script_site.proofs.Refusing.{closed_so, open_so}
+use Rattle.script_site.proofs.Stepping.{answer_goes, stays}
+
+pub rests_so : (home : ℕ) (scene : Scene) → Goes home rests_at scene scene
+rests_so home scene w node going = going
+
+module _ (home : ℕ) (slot : Slot) (outcome : Outcome) (old new : Scene) where
+  by_open : (w : World) (node : Node) (open : Bool) → is_open node.kept slot ≡ open
+      → IsGoing home new w (if◌then◌else◌ {A = Went} open (went node _) (rests_at node)).node → IsGoing home new w (concluded node slot (outcome_kept outcome)).node
+  by_open w node open is going = subst (λ (b : Bool). IsGoing home new w (if b then went node _ else rests_at node).node) (sym is) going
+
+  -- it was open
+  pub concluded_so : (given : Given) → Takes old (steps.Answered home slot outcome) given new → Goes home (λ n. concluded n slot (outcome_kept outcome)) old new
+  concluded_so given takes w node going =
+      by_open w node true (open_so home old w node going slot outcome given new takes.leads)
+      (answer_goes home old w node going slot outcome given new takes).0
+
+  -- or it was not
+  pub closed_goes : Leads old (steps.Answered home slot outcome) (Err faults.NotGranted) new → Goes home (λ n. concluded n slot (outcome_kept outcome)) old new
+  closed_goes leads w node going =
+      by_open w node false (closed_so home old w node going slot outcome new leads)
+      (stays home old w node going (steps.Answered home slot outcome) faults.NotGranted new leads)
+
+-- ---- one after another
+
+-- What is left to give up leads to what all leads to.
+pub record IsLeft (home : ℕ) (start : Scene) (all : List Pushed) (now : Scene) (rest : List Pushed) : Type 0 where
+  pub each : (w : World) (node : Node) → IsGoing home start w node
+      → (mid : Node) × IsGoing home now w mid × ((all_given_up mid rest).node ≡ (all_given_up node all).node)
+
+pub all_left : (home : ℕ) (start : Scene) (all rest : List Pushed) → rest ≡ all → IsLeft home start all start rest
+all_left home start all rest same = record { each = λ w node going. (node, (going, ap (λ (ps : List Pushed). (all_given_up node ps).node) same)) }
+
+first_so : (node : Node) (pushed : Pushed) (others : List Pushed)
+    → all_given_up node (pushed ∷ others) ≡ then_went (given_up node pushed) (all_given_up (given_up node pushed).node others)
+unfolding all_given_up
+first_so node pushed others = refl
+
+pub one_left : (home : ℕ) (start : Scene) (all : List Pushed) (now : Scene) (place : ℕ) (pushed : Pushed) (new : Scene)
+    → IsLeft home start all now (drop place all) → place < length all → pushed ≡ get_or all place pushed
+    → Goes home (λ n. delivered_so n pushed.delivery (Some unanswered)) now new → IsLeft home start all new (drop (place + 1) all)
+one_left home start all now place pushed new left within is goes = record {
+  each = λ w node going.
+      let here = left.each w node going in
+      let rest = behind_it all place pushed within is in (
+        (given_up here.0 pushed).node,
+        (
+          goes w here.0 here.1,
+          ap (λ (went : Went). went.node) (sym (first_so here.0 pushed (drop (place + 1) all)))
+              ∙ ap (λ (ps : List Pushed). (all_given_up here.0 ps).node) (sym rest) ∙ here.2,
+        ),
+      );
+}
+
+none_so : (node : Node) → (all_given_up node []).node ≡ node
+unfolding all_given_up
+none_so node = refl
+
+pub none_left : (home : ℕ) (start : Scene) (all : List Pushed) (now : Scene) (rest : List Pushed) → rest ≡ [] → IsLeft home start all now rest
+    → Goes home (λ n. all_given_up n all) start now
+none_left home start all now rest none left w node going =
+    let here = left.each w node going in
+    subst (IsGoing home now w) (sym (none_so here.0) ∙ ap (λ (ps : List Pushed). (all_given_up here.0 ps).node) (sym none) ∙ here.2) here.1

@@ -1,0 +1,168 @@
+-- What comes of what was heard on a session.
+use Rattle.std.proofs.Common.{◌≡◌, ℕ, List, [], ◌∷◌, ◌++◌, Option, Some, None, Result, Ok, Err, refl, sym, ap, subst, ◌∙◌, append_assoc}
+use Rattle.std.proofs.lemmas.List.{append-nil}
+use Rattle.std.specs.Prelude.{OnOk, option_map}
+use Rattle.std.specs.declared.alloc.AllocError.{AllocError}
+use Rattle.delivery.specs.Kept.{outcome_kept}
+use Rattle.delivery.specs.Outcomes.{told_in}
+use Rattle.delivery.specs.declared.outcome.Outcome.{Outcome}
+use Rattle.desk.specs.declared.request.Request.{Request}
+use Rattle.mc_model.specs.node.Outcome.{Outcome as Came}
+use Rattle.mc_model.specs.node.Outputs.{Outputs}
+use Rattle.pdu_bodies.specs.declared.pdu.Pdu.{Pdu}
+use Rattle.pdu_tables.specs.StatusCodes.{status_code}
+use Rattle.pdu_tables.specs.declared.status.Status.{Status}
+use Rattle.sessions.specs.Responses.{pdu_of}
+use Rattle.sessions.specs.Session.{Session}
+use Rattle.sessions.specs.declared.outgoing.Outgoing.{Outgoing}
+use Rattle.sessions.specs.declared.pushed.Pushed.{Pushed}
+use Rattle.world.specs.Scenes.{Scene}
+use Rattle.world.specs.declared.given.Given.{Given}
+use Rattle.world.specs.declared.step.Step.TheVariants as steps
+use Rattle.esme_service.specs.Service.{Service}
+use Rattle.esme_service.specs.Sessions.{account_at, waits_at}
+use Rattle.esme_service.specs.declared.heard.Asked.{Asked}
+use Rattle.esme_service.specs.declared.heard.Heard.{Heard}
+use Rattle.esme_service.specs.declared.heard.Heard.TheVariants as heards
+use Rattle.script_text.specs.Attempts.{Went, all_given_up, delivered_so}
+use Rattle.script_text.specs.Node.{Node, request_at, step_at}
+use Rattle.script_text.specs.Prints.{AtOnce, Gone, gone_line, pdu_line, text_at}
+use Rattle.script_text.specs.Responses.{refused_with}
+use Rattle.script_text.specs.Runner.{Acted, Runner, refusal_prints, rests}
+use Rattle.script_text.specs.Settings.{Settings}
+use Rattle.script_world.specs.World.{World}
+use Rattle.script_site.specs.Asking.{HasAsked, IsAskedSo}
+use Rattle.script_site.specs.Heeding.{asked_by, asks_if, by_went, heeded}
+use Rattle.script_site.specs.Sites.{Acts, Goes, HasActed, IsRunning, Placed, Takes}
+use Rattle.script_site.proofs.Acting.{nothing_acts}
+use Rattle.script_site.proofs.Stepping.{request_goes}
+
+-- ---- a request
+
+-- it was handed to the node, and waits, or is refused
+pub asked_so : (at : Placed) (new : Scene) (left : Service) (number : ℕ) (asked : Asked) (request : Request) (account : List ℕ) (given : Given)
+    → Some account ≡ account_at at.site.service.sessions number → Takes at.world (steps.Request at.site.node account request) given new
+    → left ≡ record at.site.service { sessions = waits_at at.site.service.sessions number asked.requested asked.sequence given.ticket }
+    → HasAsked at.site.node number asked request at (record { world = new; site = record at.site { service = left } }) given.refused
+asked_so at new left number asked request account given bound takes waits w runner running =
+    let home = at.site.node in
+    let went = request_goes home at.world w runner.node running.going account request given new takes in
+    let step = step_at runner.node (request_at runner.node account request) in
+    let ticket = ap (λ (o : Outputs). o.ticket) went.1.others in
+    let refused = ap (λ (o : Outputs). o.refused) went.1.others in
+    let accounts : Some account ≡ account_at runner.sessions number =
+    bound ∙ ap (λ (sessions : List (ℕ × Session)). account_at sessions number) running.sessions in
+    let so : IsAskedSo home w (asked_by number runner asked (request_at runner.node account request) step) number asked given.refused
+    (record { world = new; site = record at.site { service = left } }) = record {
+      running = record {
+        home_is = refl;
+        going = went.0;
+        sessions = ap (λ (s : Service). s.sessions) waits
+            ∙ (λ i. waits_at (running.sessions i) number asked.requested asked.sequence (ticket i));
+        streams = running.streams;
+        waiting = ap (λ (s : Service). s.waiting) waits ∙ running.waiting;
+      };
+      prints = ap (refusal_prints number asked.requested asked.sequence) (sym refused);
+    } in
+    subst (λ (found : Option (List ℕ)). IsAskedSo home w (asks_if number runner asked request found) number asked given.refused
+    (record { world = new; site = record at.site { service = left } })) accounts so
+
+-- nobody is bound there
+pub unasked_so : (at : Placed) (number : ℕ) (asked : Asked) (request : Request) → None ≡ account_at at.site.service.sessions number
+    → HasAsked at.site.node number asked request at at None
+unasked_so at number asked request unbound w runner running =
+    let nobody : None ≡ account_at runner.sessions number =
+    unbound ∙ ap (λ (sessions : List (ℕ × Session)). account_at sessions number) running.sessions in
+    subst (λ (found : Option (List ℕ)). IsAskedSo at.site.node w (asks_if number runner asked request found) number asked None at) nobody
+    (record { running = running; prints = refl })
+
+module _ (settings : Settings) (number : ℕ) (at : Placed) where
+  abbrev home : ℕ
+  home = at.site.node
+
+  -- what is heeded on the session
+  abbrev Heeds : Heard → Placed → List ℕ → List ℕ → Type 0
+  Heeds heard new before after = Acts home (λ runner. heeded settings number runner heard) at new before after
+
+  pub nothing_heeded : (heard : Heard) (text : List ℕ) → heard ≡ heards.Nothing → Heeds heard at text text
+  nothing_heeded heard text is = subst (λ (h : Heard). Heeds h at text text) (sym is) (nothing_acts home at text)
+
+  pub response_heeded : (r : Result (Unit {0}) AllocError) (heard : Heard) (outgoing : Outgoing) (before after : List ℕ) → heard ≡ heards.Response outgoing
+      → OnOk r (after ≡ before ++ pdu_line home number (pdu_of settings.system_id outgoing)) → OnOk r (Heeds heard at before after)
+  response_heeded (Err fault) heard outgoing before after is wrote = tt
+  response_heeded (Ok done) heard outgoing before after is wrote =
+      subst (λ (h : Heard). Heeds h at before after) (sym is)
+      (λ w runner running. record {
+        running = running;
+        text = wrote ∙ ap (λ (t : List ℕ). before ++ t) (sym (append-nil (pdu_line home number (pdu_of settings.system_id outgoing))));
+      })
+
+  -- a request that is refused, and one that is not
+  pub refused_heeded : (r : Result (Unit {0}) AllocError) (heard : Heard) (asked : Asked) (request : Request) (new : Placed) (status : Status)
+      (outgoing : Outgoing) (before after : List ℕ) → heard ≡ heards.Request asked request
+      → HasAsked home number asked request at new (Some status)
+      → pdu_of settings.system_id outgoing ≡ refused_with asked.requested asked.sequence (status_code status)
+      → OnOk r (after ≡ before ++ pdu_line home number (pdu_of settings.system_id outgoing)) → OnOk r (Heeds heard new before after)
+  refused_heeded (Err fault) heard asked request new status outgoing before after is has same wrote = tt
+  refused_heeded (Ok done) heard asked request new status outgoing before after is has same wrote =
+      subst (λ (h : Heard). Heeds h new before after) (sym is)
+      (λ w runner running.
+      let so = has w runner running in
+      let pdu = refused_with asked.requested asked.sequence (status_code status) in
+      record {
+        running = so.running;
+        text = wrote ∙ ap (λ (p : Pdu). before ++ pdu_line home number p) same
+            ∙ ap (λ (t : List ℕ). before ++ t) (sym (append-nil (pdu_line home number pdu)))
+            ∙ ap (λ (prints : List _). before ++ text_at home prints) (sym so.prints);
+      })
+
+  pub waiting_heeded : (heard : Heard) (asked : Asked) (request : Request) (new : Placed) (text : List ℕ) → heard ≡ heards.Request asked request
+      → HasAsked home number asked request at new None → Heeds heard new text text
+  waiting_heeded heard asked request new text is has =
+      subst (λ (h : Heard). Heeds h new text text) (sym is)
+      (λ w runner running.
+      let so = has w runner running in
+      record {
+        running = so.running;
+        text = sym (append-nil text) ∙ ap (λ (prints : List _). text ++ text_at home prints) (sym so.prints);
+      })
+
+  -- ---- what came of attempts
+
+  -- the node went on by what came of attempts
+  went_on : (act : Node → Went) (new : Scene) (w : World) (runner : Runner) → Goes home act at.world new → IsRunning home at w runner
+      → IsRunning home (record { world = new; site = at.site }) w (record runner { node = (act runner.node).node })
+  went_on act new w runner goes running = record {
+    home_is = running.home_is;
+    going = goes w runner.node running.going;
+    sessions = running.sessions;
+    streams = running.streams;
+    waiting = running.waiting;
+  }
+
+  pub answer_heeded : (r : Result (Unit {0}) AllocError) (heard : Heard) (pushed : Pushed) (pdu : Pdu) (outcome : Option Outcome) (new : Scene)
+      (text : List ℕ) → heard ≡ heards.Answer pushed pdu → option_map outcome_kept outcome ≡ told_in pushed.sequence pdu
+      → OnOk r (Goes home (λ n. delivered_so n pushed.delivery (option_map outcome_kept outcome)) at.world new)
+      → OnOk r (Heeds heard (record { world = new; site = at.site }) text text)
+  answer_heeded (Err fault) heard pushed pdu outcome new text is told goes = tt
+  answer_heeded (Ok done) heard pushed pdu outcome new text is told goes =
+      subst (λ (h : Heard). Heeds h (record { world = new; site = at.site }) text text) (sym is)
+      (λ w runner running. record {
+        running = went_on (λ n. delivered_so n pushed.delivery (told_in pushed.sequence pdu)) new w runner
+            (subst (λ (o : Option Came). Goes home (λ n. delivered_so n pushed.delivery o) at.world new) told goes) running;
+        text = sym (append-nil text);
+      })
+
+  pub gone_heeded : (r : Result (Unit {0}) AllocError) (heard : Heard) (outgoing : Outgoing) (abandoned : List Pushed) (new : Scene)
+      (before text after : List ℕ) → heard ≡ heards.Gone outgoing abandoned → Goes home (λ n. all_given_up n abandoned) at.world new
+      → text ≡ before ++ pdu_line home number (pdu_of settings.system_id outgoing) → OnOk r (after ≡ text ++ gone_line home number)
+      → OnOk r (Heeds heard (record { world = new; site = at.site }) before after)
+  gone_heeded (Err fault) heard outgoing abandoned new before text after is goes wrote told = tt
+  gone_heeded (Ok done) heard outgoing abandoned new before text after is goes wrote told =
+      let line = pdu_line home number (pdu_of settings.system_id outgoing) in
+      subst (λ (h : Heard). Heeds h (record { world = new; site = at.site }) before after) (sym is)
+      (λ w runner running. record {
+        running = went_on (λ n. all_given_up n abandoned) new w runner goes running;
+        text = told ∙ ap (λ (t : List ℕ). t ++ gone_line home number) wrote ∙ append_assoc before line (gone_line home number)
+            ∙ ap (λ (t : List ℕ). before ++ (line ++ t)) (sym (append-nil (gone_line home number)));
+      })
