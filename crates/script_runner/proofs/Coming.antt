@@ -270,7 +270,7 @@ module _ (old mid told : Centre) (node place number : ℕ) (given : Given) (befo
       → OnOk r ((other at : ℕ) → came_in new.arrivals other at ≡ ((other == number && at == node) || came_in told.arrivals other at))
       → OnOk r (Does (λ w. comes w number node) old new before after)
   delivered_does_if (Err fault) new arrivals world same_sites came = tt
-  delivered_does_if (Ok done) new arrivals world same_sites came w was =
+  delivered_does_if (Ok done) new arrivals world same_sites came = λ w was.
       let told_w = told_so w was in
       let come_so = told_w.come_so in
       let has = told_w.has in
@@ -342,7 +342,7 @@ pub undelivered_does_if : (r : Result (Unit {0}) AllocError) (old new : Centre) 
     → node ≡ suc place → Leads old.world (steps.Deliver number node) (Err fault) new.world → new.sites.items ≡ old.sites.items → new.arrivals ≡ old.arrivals
     → OnOk r (IsRefused fault before after) → OnOk r (Does (λ w. comes w number node) old new before after)
 undelivered_does_if (Err error) old new node place number fault before after here leads sites arrivals told = tt
-undelivered_does_if (Ok done) old new node place number fault before after here leads sites arrivals told w was =
+undelivered_does_if (Ok done) old new node place number fault before after here leads sites arrivals told = λ w was.
     unsent_refused old new w was (same_place old w (steps.Deliver number node) fault new leads sites arrivals was) node place here number fault
     (comes_if w number node) (λ packet runner. shared (marked w number node) node (on_delivery runner packet [])) before after refl (λ packet. refl)
     (leads.each was.cluster [] was.inputs was.at).refused told
@@ -352,7 +352,7 @@ pub uncrashed_does_if : (r : Result (Unit {0}) AllocError) (old new : Centre) (n
     → new.sites.items ≡ old.sites.items → new.arrivals ≡ old.arrivals
     → OnOk r (IsRefused fault before after) → OnOk r (Does (λ w. crashes w node number (is_after found)) old new before after)
 uncrashed_does_if (Err error) old new node place number found fault before after here leads sites arrivals told = tt
-uncrashed_does_if (Ok done) old new node place number found fault before after here leads sites arrivals told w was =
+uncrashed_does_if (Ok done) old new node place number found fault before after here leads sites arrivals told = λ w was.
     unsent_refused old new w was (same_place old w (steps.Crash node number found) fault new leads sites arrivals was) node place here number fault
     (crashes_if w node (is_after found)) (λ packet runner. shared w node (crashed packet (is_after found) runner)) before after refl (λ packet. refl)
     (leads.each was.cluster [] was.inputs was.at).refused told
@@ -387,12 +387,12 @@ pub undelivered_ups_if : (r : Result (Unit {0}) AllocError) (old : Centre) (new 
     → node ≡ suc place → Leads old.world (steps.Deliver number node) (Err fault) new
     → OnOk r (IsRefused fault before after) → OnOk r (KeepsUp old number node)
 undelivered_ups_if (Err error) old new node place number fault before after here leads told = tt
-undelivered_ups_if (Ok done) old new node place number fault before after here leads told w was other = by_packet (packet_of w.packets number) refl
+undelivered_ups_if (Ok done) old new node place number fault before after here leads told = λ w was other. by_packet w was other (packet_of w.packets number) refl
   where
-    by_packet : (found : Option Packet) → packet_of w.packets number ≡ found
+    by_packet : (w : World) (was : IsWorld old w) (other : ℕ) (found : Option Packet) → packet_of w.packets number ≡ found
         → is_up_at (runner_at (comes_if w number node found).next other) ≡ is_up_at (runner_at w other)
-    by_packet None is = refl
-    by_packet (Some packet) is =
+    by_packet w was other None is = refl
+    by_packet w was other (Some packet) is =
         let refused = subst (λ (o : Option WorldFault). IsFault (or_else o (away was.cluster (kept_reached was.cluster was.inputs) node)) fault)
         (unsent_is (kept_reached was.cluster was.inputs) w.packets number (Some packet) was.stands.packets is)
         (leads.each was.cluster [] was.inputs was.at).refused in

@@ -68,7 +68,7 @@ pub crashed_does_if : (r : Result (Unit {0}) AllocError) (old mid new : Centre) 
     → mid.sites.items ≡ old.sites.items → mid.arrivals ≡ old.arrivals → OnOk r (Leaves mid node new before after)
     → OnOk r (Does (λ w. crashes w node number (is_after found)) old new before after)
 crashed_does_if (Err fault) old mid new node place number found given before after here leads sites arrivals leaves_so = tt
-crashed_does_if (Ok done) old mid new node place number found given before after here leads sites arrivals leaves_so w was =
+crashed_does_if (Ok done) old mid new node place number found given before after here leads sites arrivals leaves_so = λ w was.
     let input : Packet → Input = λ packet. Crash packet (is_after found) in
     let come_so : HasCome w place number given input mid.world =
     came_so old w was node place number here (steps.Crash node number found) input given mid.world leads refl (λ next comes. comes) in
@@ -154,7 +154,7 @@ module _ (old mid : Centre) (node place : ℕ) (here : node ≡ suc place) where
       → mid.sites.items ≡ old.sites.items → mid.arrivals ≡ old.arrivals → OnOk r (Leaves mid node new before after)
       → OnOk r (Does (λ w. restarts w node) old new before after)
   restarted_does_if (Err fault) new given before after leads sites arrivals leaves_so = tt
-  restarted_does_if (Ok done) new given before after leads sites arrivals leaves_so w was =
+  restarted_does_if (Ok done) new given before after leads sites arrivals leaves_so = λ w was.
       let on = leads.each was.cluster [] was.inputs was.at in
       let present = may_begin w was on.allowed in
       let found = runner_here old old w was was node place here present.0 in

@@ -236,7 +236,7 @@ pub acts_does_if : (r : Result (Unit {0}) AllocError) (old new : Centre) (node p
     → new.world ≡ left.world → new.sites.items ≡ slice_set old.sites.items place left.site → new.arrivals ≡ old.arrivals
     → OnOk r (Does (λ w. acts w node act) old new before after)
 acts_does_if (Err fault) old new node place act site left before after up is did world sites arrivals = tt
-acts_does_if (Ok done) old new node place act site left before after up is did world sites arrivals w was =
+acts_does_if (Ok done) old new node place act site left before after up is did world sites arrivals = λ w was.
     let found : slice_get old.sites.items place ≡ Some site = slice_get-get_or old.sites.items place site up.within ∙ ap Some (sym is) in
     let there = found_too old.sites.items w.runners place site was.nodes found in
     let runner = there.0 in

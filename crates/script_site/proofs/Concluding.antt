@@ -1,9 +1,9 @@
 -- What came of attempts is told to the node.
 use Rattle.std.proofs.Common.{◌≡◌, ℕ, ◌+◌, ◌<◌, ◌≤◌, Bool, true, false, List, [], ◌∷◌, drop, get_or, length, Option, Some, None, Ok, Err, Result, refl, sym, ap, subst, ◌∙◌}
-use Rattle.std.proofs.lemmas.List.{drop-past}
 use Rattle.std.specs.Prelude.{OnOk, option_map, if◌then◌else◌}
 use Rattle.std.specs.declared.alloc.AllocError.{AllocError}
-use Rattle.mc_model.specs.node.Outcome.{Outcome as Came, no_answer_error, Unanswered}
+use Rattle.mc_model.specs.node.Input.{Response}
+use Rattle.mc_model.specs.node.Outcome.{Outcome as Came}
 use Rattle.mc_model.specs.synod.Packet.{Slot}
 use Rattle.node_model.specs.Granted.{is_open}
 use Rattle.node_model.specs.Kept.{Kept}
@@ -31,9 +31,9 @@ pub rests_so : (home : ℕ) (scene : Scene) → Goes home rests_at scene scene
 rests_so home scene w node going = going
 
 module _ (home : ℕ) (slot : Slot) (outcome : Outcome) (old new : Scene) where
-  by_open : (w : World) (node : Node) (open : Bool) → is_open node.kept slot ≡ open
-      → IsGoing home new w (if◌then◌else◌ {A = Went} open (went node _) (rests_at node)).node → IsGoing home new w (concluded node slot (outcome_kept outcome)).node
-  by_open w node open is going = subst (λ (b : Bool). IsGoing home new w (if b then went node _ else rests_at node).node) (sym is) going
+  by_open : (w : World) (node : Node) (is_so : Bool) → is_open node.kept slot ≡ is_so
+      → IsGoing home new w (if◌then◌else◌ {A = Went} is_so (went node (Response slot (outcome_kept outcome))) (rests_at node)).node → IsGoing home new w (concluded node slot (outcome_kept outcome)).node
+  by_open w node is_so is going = subst (λ (b : Bool). IsGoing home new w (if b then went node (Response slot (outcome_kept outcome)) else rests_at node).node) (sym is) going
 
   -- it was open
   pub concluded_so : (given : Given) → Takes old (steps.Answered home slot outcome) given new → Goes home (λ n. concluded n slot (outcome_kept outcome)) old new
@@ -47,6 +47,15 @@ module _ (home : ℕ) (slot : Slot) (outcome : Outcome) (old new : Scene) where
       by_open w node false (closed_so home old w node going slot outcome new leads)
       (stays home old w node going (steps.Answered home slot outcome) faults.NotGranted new leads)
 
+-- what was pushed has an outcome
+pub delivered_if : (r : Result (Unit {0}) AllocError) (home : ℕ) (delivery : Delivery) (outcome : Option Outcome) (slot : Slot) (one : Outcome)
+    (old new : Scene) → delivery ≡ deliveries.Attempt slot → outcome ≡ Some one → OnOk r (Goes home (λ n. concluded n slot (outcome_kept one)) old new)
+    → OnOk r (Goes home (λ n. delivered_so n delivery (option_map outcome_kept outcome)) old new)
+delivered_if (Err fault) home delivery outcome slot one old new is some goes = tt
+delivered_if (Ok done) home delivery outcome slot one old new is some goes =
+    subst (λ (d : Delivery). Goes home (λ n. delivered_so n d (option_map outcome_kept outcome)) old new) (sym is)
+    (subst (λ (o : Option Outcome). Goes home (λ n. delivered_so n (deliveries.Attempt slot) (option_map outcome_kept o)) old new) (sym some) goes)
+
 -- ---- one after another
 
 -- What is left to give up leads to what all leads to.
@@ -55,7 +64,7 @@ pub record IsLeft (home : ℕ) (start : Scene) (all : List Pushed) (now : Scene)
       → (mid : Node) × IsGoing home now w mid × ((all_given_up mid rest).node ≡ (all_given_up node all).node)
 
 pub all_left : (home : ℕ) (start : Scene) (all rest : List Pushed) → rest ≡ all → IsLeft home start all start rest
-all_left home start all rest same = record { each = λ w node going. (node, (going, ap (λ (ps : List Pushed). (all_given_up node ps).node) same)) }
+all_left home start all rest same = record { each = λ w node going. (node, going, ap (λ (ps : List Pushed). (all_given_up node ps).node) same) }
 
 first_so : (node : Node) (pushed : Pushed) (others : List Pushed)
     → all_given_up node (pushed ∷ others) ≡ then_went (given_up node pushed) (all_given_up (given_up node pushed).node others)
@@ -70,11 +79,9 @@ one_left home start all now place pushed new left within is goes = record {
       let here = left.each w node going in
       let rest = behind_it all place pushed within is in (
         (given_up here.0 pushed).node,
-        (
-          goes w here.0 here.1,
-          ap (λ (went : Went). went.node) (sym (first_so here.0 pushed (drop (place + 1) all)))
-              ∙ ap (λ (ps : List Pushed). (all_given_up here.0 ps).node) (sym rest) ∙ here.2,
-        ),
+        goes w here.0 here.1,
+        ap (λ (went : Went). went.node) (sym (first_so here.0 pushed (drop (place + 1) all)))
+            ∙ ap (λ (ps : List Pushed). (all_given_up here.0 ps).node) (sym rest) ∙ here.2,
       );
 }
 

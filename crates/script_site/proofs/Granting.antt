@@ -1,7 +1,9 @@
 -- An attempt is asked for: it is granted and goes out, or fails; or it is not granted.
 use Rattle.std.proofs.Common.{◌≡◌, ℕ, List, [], ◌∷◌, ◌++◌, Option, Some, None, Result, Ok, Err, refl, sym, ap, subst, ◌∙◌}
 use Rattle.std.proofs.lemmas.List.{append-nil}
-use Rattle.std.specs.Prelude.{OnOk}
+use Rattle.std.specs.Prelude.{OnOk, Bool, true, option_map, if◌then◌else◌}
+use Rattle.node_model.specs.Outputs.{Stepped}
+use Rattle.node_model.specs.Stepped.{stepped_down, stepped_up}
 use Rattle.std.specs.declared.alloc.AllocError.{AllocError}
 use Rattle.mc_model.specs.message.Chain.{taken_in}
 use Rattle.mc_model.specs.message.Decree.{Decree}
@@ -14,17 +16,25 @@ use Rattle.node_model.specs.Granted.{known_slot}
 use Rattle.node_model.specs.Kept.{message_at}
 use Rattle.delivery.specs.Deliveries.{EndsInAttempt}
 use Rattle.fate_chain.specs.declared.chain.Chain.{Chain}
+use Rattle.node_core.specs.Attempting.{refusal_of}
+use Rattle.node_core.specs.Steps.{granted_of}
+use Rattle.mc_model.specs.node.Outputs.{Outputs}
+use Rattle.world.specs.Runs.{Leads}
 use Rattle.world.specs.Scenes.{Scene}
+use Rattle.world.specs.declared.fault.WorldFault.TheVariants as faults
+use Rattle.world.specs.declared.given.Given.{Given}
+use Rattle.world.specs.declared.step.Step.TheVariants as steps
 use Rattle.script_text.specs.Attempts.{submission_at, taken_on}
-use Rattle.script_text.specs.Node.{step_at, with_step}
+use Rattle.script_text.specs.Node.{Node, step_at, with_step}
 use Rattle.script_text.specs.Prints.{text_at, ungranted_line}
 use Rattle.script_text.specs.Runner.{Acted, Runner, followed_by, granted, granted_unless, on_grant, sent}
 use Rattle.script_world.specs.World.{World}
 use Rattle.script_site.specs.Grantings.{GrantsChain, IsGranting, RefusesGrant}
-use Rattle.script_site.specs.Sites.{Acts, HasActed, IsRunning, Placed}
+use Rattle.script_site.specs.Sites.{Acts, HasActed, IsRunning, Placed, Takes}
 use Rattle.script_site.specs.declared.steps.Granting.TheVariants as grantings
 use Rattle.script_site.proofs.Acting.{has_acted, like}
-use Rattle.script_site.proofs.Replies.{in_turn}
+use Rattle.script_site.proofs.Refusing.{allowed_so, ends_so, known_so, refused_so}
+use Rattle.script_site.proofs.Stepping.{grant_goes, node_up, stays}
 
 unless_so : (runner : Runner) (id : ℕ) (refusal : Option GrantRefusal) → grant_refusal runner.node.setup runner.node.kept id ≡ refusal
     → granted_unless runner id (known_slot runner.node.kept id) refusal ≡ on_grant runner id
@@ -45,7 +55,7 @@ module _ (at : Placed) (id : ℕ) where
       (there scene) new before after)
       → OnOk r (Acts home (λ runner. on_grant runner id) at new before after)
   granted_acts (Err fault) scene new chain before after grants sends = tt
-  granted_acts (Ok done) scene new chain before after grants sends w runner running =
+  granted_acts (Ok done) scene new chain before after grants sends = λ w runner running.
       let given = grants w runner.node running.going in
       let place = known_slot runner.node.kept id in
       let first = granted runner (Grant place) in
@@ -69,7 +79,7 @@ module _ (at : Placed) (id : ℕ) where
       → IsGranting home id at.world (grantings.Refused number) scene → OnOk r (after ≡ before ++ ungranted_line number)
       → OnOk r (Acts home (λ runner. on_grant runner id) at (there scene) before after)
   refused_acts (Err fault) scene number before after refuses wrote = tt
-  refused_acts (Ok done) scene number before after refuses wrote w runner running =
+  refused_acts (Ok done) scene number before after refuses wrote = λ w runner running.
       let refused = refuses w runner.node running.going in
       has_acted home w (granted_unless runner id (known_slot runner.node.kept id) (Some refused.refusal)) (on_grant runner id) (there scene) before after
       (like (unless_so runner id (Some refused.refusal) refused.reason)) (record {
@@ -83,3 +93,40 @@ module _ (at : Placed) (id : ℕ) where
         text = wrote ∙ ap (λ (n : ℕ). before ++ ungranted_line n) refused.told
             ∙ ap (λ (octets : List ℕ). before ++ octets) (sym (append-nil (ungranted_line (refusal_number refused.refusal))));
       })
+
+-- ---- by the step of the world
+
+-- of a node that is up
+granted_up : (node : Node) → node.kept.up ≡ true → (slot : Slot) → (step_at node (Grant slot)).outputs.granted ≡ Some slot
+granted_up node up slot =
+    ap (λ (b : Bool). (if◌then◌else◌ {A = Stepped} b (stepped_up node.setup node.kept (Grant slot))
+    (stepped_down node.setup node.kept (Grant slot))).outputs.granted) up
+
+pub grants_so : (home id : ℕ) (old new : Scene) (given : Given) (chain : Chain) → Takes old (steps.Grant home id) given new → given.granted ≡ Some chain
+    → IsGranting home id old (grantings.Granted chain) new
+grants_so home id old new given chain takes is w node going =
+    let allowed = allowed_so home old w node going id given new takes.leads in
+    let known = known_so home old w node going id given new chain takes.leads is in
+    let went = grant_goes home old w node going id given new takes in
+    record {
+      allowed = allowed;
+      going = went.0;
+      slot = slot_is (sym (ap (option_map granted_of) is) ∙ ap (λ (o : Outputs). o.granted) went.1.others
+          ∙ granted_up node (node_up home old w node going) (known_slot node.kept id));
+      known = known.1;
+      ends = ends_so node.setup node.kept id chain.decrees allowed known.1;
+    }
+  where
+    slot_is : {one other : Slot} → Some one ≡ Some other → one ≡ other
+    slot_is same = cc
+
+pub refuses_so : (home id : ℕ) (old new : Scene) (reason : _) (number : ℕ) → Leads old (steps.Grant home id) (Err (faults.Grant reason)) new
+    → number ≡ refusal_number (refusal_of reason) → IsGranting home id old (grantings.Refused number) new
+refuses_so home id old new reason number leads numbered w node going =
+    let so = refused_so home old w node going id number reason new leads numbered in
+    record {
+      refusal = so.refusal;
+      reason = so.reason;
+      told = so.told;
+      going = stays home old w node going (steps.Grant home id) (faults.Grant reason) new leads;
+    }

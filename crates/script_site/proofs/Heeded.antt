@@ -14,7 +14,7 @@ use Rattle.pdu_tables.specs.StatusCodes.{status_code}
 use Rattle.pdu_tables.specs.declared.status.Status.{Status}
 use Rattle.sessions.specs.Responses.{pdu_of}
 use Rattle.sessions.specs.Session.{Session}
-use Rattle.sessions.specs.declared.outgoing.Outgoing.{Outgoing}
+use Rattle.sessions.specs.declared.response.Outgoing.{Outgoing}
 use Rattle.sessions.specs.declared.pushed.Pushed.{Pushed}
 use Rattle.world.specs.Scenes.{Scene}
 use Rattle.world.specs.declared.given.Given.{Given}
@@ -26,12 +26,11 @@ use Rattle.esme_service.specs.declared.heard.Heard.{Heard}
 use Rattle.esme_service.specs.declared.heard.Heard.TheVariants as heards
 use Rattle.script_text.specs.Attempts.{Went, all_given_up, delivered_so}
 use Rattle.script_text.specs.Node.{Node, request_at, step_at}
-use Rattle.script_text.specs.Prints.{AtOnce, Gone, gone_line, pdu_line, text_at}
-use Rattle.script_text.specs.Responses.{refused_with}
+use Rattle.script_text.specs.Prints.{Print, gone_line, pdu_line, text_at}
 use Rattle.script_text.specs.Runner.{Acted, Runner, refusal_prints, rests}
 use Rattle.script_text.specs.Settings.{Settings}
 use Rattle.script_world.specs.World.{World}
-use Rattle.script_site.specs.Asking.{HasAsked, IsAskedSo}
+use Rattle.script_site.specs.Asking.{HasAsked, IsAskedSo, refusal_of}
 use Rattle.script_site.specs.Heeding.{asked_by, asks_if, by_went, heeded}
 use Rattle.script_site.specs.Sites.{Acts, Goes, HasActed, IsRunning, Placed, Takes}
 use Rattle.script_site.proofs.Acting.{nothing_acts}
@@ -41,10 +40,11 @@ use Rattle.script_site.proofs.Stepping.{request_goes}
 
 -- it was handed to the node, and waits, or is refused
 pub asked_so : (at : Placed) (new : Scene) (left : Service) (number : ℕ) (asked : Asked) (request : Request) (account : List ℕ) (given : Given)
-    → Some account ≡ account_at at.site.service.sessions number → Takes at.world (steps.Request at.site.node account request) given new
+    (refusal : Option Outgoing) → Some account ≡ account_at at.site.service.sessions number → Takes at.world (steps.Request at.site.node account request) given new
     → left ≡ record at.site.service { sessions = waits_at at.site.service.sessions number asked.requested asked.sequence given.ticket }
-    → HasAsked at.site.node number asked request at (record { world = new; site = record at.site { service = left } }) given.refused
-asked_so at new left number asked request account given bound takes waits w runner running =
+    → refusal ≡ option_map (refusal_of asked) given.refused
+    → HasAsked at.site.node number asked request at (record { world = new; site = record at.site { service = left } }) refusal
+asked_so at new left number asked request account given refusal bound takes waits is w runner running =
     let home = at.site.node in
     let went = request_goes home at.world w runner.node running.going account request given new takes in
     let step = step_at runner.node (request_at runner.node account request) in
@@ -52,7 +52,7 @@ asked_so at new left number asked request account given bound takes waits w runn
     let refused = ap (λ (o : Outputs). o.refused) went.1.others in
     let accounts : Some account ≡ account_at runner.sessions number =
     bound ∙ ap (λ (sessions : List (ℕ × Session)). account_at sessions number) running.sessions in
-    let so : IsAskedSo home w (asked_by number runner asked (request_at runner.node account request) step) number asked given.refused
+    let so : IsAskedSo home w (asked_by number runner asked (request_at runner.node account request) step) number asked refusal
     (record { world = new; site = record at.site { service = left } }) = record {
       running = record {
         home_is = refl;
@@ -62,9 +62,11 @@ asked_so at new left number asked request account given bound takes waits w runn
         streams = running.streams;
         waiting = ap (λ (s : Service). s.waiting) waits ∙ running.waiting;
       };
+      status = given.refused;
+      refused = is;
       prints = ap (refusal_prints number asked.requested asked.sequence) (sym refused);
     } in
-    subst (λ (found : Option (List ℕ)). IsAskedSo home w (asks_if number runner asked request found) number asked given.refused
+    subst (λ (found : Option (List ℕ)). IsAskedSo home w (asks_if number runner asked request found) number asked refusal
     (record { world = new; site = record at.site { service = left } })) accounts so
 
 -- nobody is bound there
@@ -74,7 +76,7 @@ unasked_so at number asked request unbound w runner running =
     let nobody : None ≡ account_at runner.sessions number =
     unbound ∙ ap (λ (sessions : List (ℕ × Session)). account_at sessions number) running.sessions in
     subst (λ (found : Option (List ℕ)). IsAskedSo at.site.node w (asks_if number runner asked request found) number asked None at) nobody
-    (record { running = running; prints = refl })
+    (record { running = running; status = None; refused = refl; prints = refl })
 
 module _ (settings : Settings) (number : ℕ) (at : Placed) where
   abbrev home : ℕ
@@ -98,23 +100,31 @@ module _ (settings : Settings) (number : ℕ) (at : Placed) where
       })
 
   -- a request that is refused, and one that is not
-  pub refused_heeded : (r : Result (Unit {0}) AllocError) (heard : Heard) (asked : Asked) (request : Request) (new : Placed) (status : Status)
+  pub refused_heeded : (r : Result (Unit {0}) AllocError) (heard : Heard) (asked : Asked) (request : Request) (new : Placed)
       (outgoing : Outgoing) (before after : List ℕ) → heard ≡ heards.Request asked request
-      → HasAsked home number asked request at new (Some status)
-      → pdu_of settings.system_id outgoing ≡ refused_with asked.requested asked.sequence (status_code status)
-      → OnOk r (after ≡ before ++ pdu_line home number (pdu_of settings.system_id outgoing)) → OnOk r (Heeds heard new before after)
-  refused_heeded (Err fault) heard asked request new status outgoing before after is has same wrote = tt
-  refused_heeded (Ok done) heard asked request new status outgoing before after is has same wrote =
+      → HasAsked home number asked request at new (Some outgoing)
+      → OnOk r (after ≡ before ++ pdu_line new.site.node number (pdu_of settings.system_id outgoing)) → OnOk r (Heeds heard new before after)
+  refused_heeded (Err fault) heard asked request new outgoing before after is has wrote = tt
+  refused_heeded (Ok done) heard asked request new outgoing before after is has wrote =
       subst (λ (h : Heard). Heeds h new before after) (sym is)
       (λ w runner running.
       let so = has w runner running in
-      let pdu = refused_with asked.requested asked.sequence (status_code status) in
       record {
         running = so.running;
-        text = wrote ∙ ap (λ (p : Pdu). before ++ pdu_line home number p) same
-            ∙ ap (λ (t : List ℕ). before ++ t) (sym (append-nil (pdu_line home number pdu)))
-            ∙ ap (λ (prints : List _). before ++ text_at home prints) (sym so.prints);
+        text = wrote ∙ ap (λ (n : ℕ). before ++ pdu_line n number (pdu_of settings.system_id outgoing)) so.running.home_is
+            ∙ by_status so.status so.refused ∙ ap (λ (prints : List Print). before ++ text_at home prints) (sym so.prints);
       })
+    where
+      same_out : (status : Status) → Some outgoing ≡ Some (refusal_of asked status) → outgoing ≡ refusal_of asked status
+      same_out status so = cc
+
+      by_status : (status : Option Status) → Some outgoing ≡ option_map (refusal_of asked) status
+          → before ++ pdu_line home number (pdu_of settings.system_id outgoing)
+          ≡ before ++ text_at home (refusal_prints number asked.requested asked.sequence (option_map status_code status))
+      by_status None so = absurd cc
+      by_status (Some status) so =
+          ap (λ (out : Outgoing). before ++ pdu_line home number (pdu_of settings.system_id out)) (same_out status so)
+          ∙ ap (λ (t : List ℕ). before ++ t) (sym (append-nil (pdu_line home number (pdu_of settings.system_id (refusal_of asked status)))))
 
   pub waiting_heeded : (heard : Heard) (asked : Asked) (request : Request) (new : Placed) (text : List ℕ) → heard ≡ heards.Request asked request
       → HasAsked home number asked request at new None → Heeds heard new text text
@@ -124,8 +134,13 @@ module _ (settings : Settings) (number : ℕ) (at : Placed) where
       let so = has w runner running in
       record {
         running = so.running;
-        text = sym (append-nil text) ∙ ap (λ (prints : List _). text ++ text_at home prints) (sym so.prints);
+        text = sym (append-nil text) ∙ by_status so.status so.refused ∙ ap (λ (prints : List Print). text ++ text_at home prints) (sym so.prints);
       })
+    where
+      by_status : (status : Option Status) → None ≡ option_map (refusal_of asked) status
+          → text ++ text_at home [] ≡ text ++ text_at home (refusal_prints number asked.requested asked.sequence (option_map status_code status))
+      by_status None so = refl
+      by_status (Some status) so = absurd cc
 
   -- ---- what came of attempts
 

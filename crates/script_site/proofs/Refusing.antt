@@ -39,11 +39,11 @@ module _ (cluster : Cluster) (now : KeptCluster) (home : ℕ) where
   neither None other is = is
   neither (Some fault) other is = absurd cc
 
-open_if : (open : Bool) → (if open then None else Some faults.NotGranted) ≡ None → open ≡ true
+open_if : (is_so : Bool) → (if is_so then None else Some faults.NotGranted) ≡ None → is_so ≡ true
 open_if true is = refl
 open_if false is = absurd cc
 
-not_open : (open : Bool) → IsFault (if open then None else Some faults.NotGranted) faults.NotGranted → open ≡ false
+not_open : (is_so : Bool) → IsFault (if is_so then None else Some faults.NotGranted) faults.NotGranted → is_so ≡ false
 not_open true is = absurd cc
 not_open false is = refl
 

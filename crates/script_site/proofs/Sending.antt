@@ -45,8 +45,8 @@ module _ (at : Placed) (chain : Chain) (taken : Submission) (slot : Slot) (is : 
       → left.waiting ≡ at.site.service.waiting → OnOk r (IsWritten home (sendings.Attempt pushed chain) before after)
       → OnOk r (EndsInAttempt chain.decrees → Sends (with_service at left) before after)
   pushed_acts (Err fault) left pushed now before after clock out waiting wrote = tt
-  pushed_acts (Ok done) left pushed now before after clock out waiting wrote ends =
-      sends (with_service at left) before after (λ w runner running.
+  pushed_acts (Ok done) left pushed now before after clock out waiting wrote =
+      λ ends. sends (with_service at left) before after (λ w runner running.
       let number = pushed.number in
       let over = ap (λ (sessions : List (ℕ × Session)). target_in sessions taken.target) (sym running.sessions) ∙ out.takes in
       let there = ap (λ (sessions : List (ℕ × Session)). session_at sessions number) (sym running.sessions) ∙ out.stands in
@@ -68,7 +68,7 @@ module _ (at : Placed) (chain : Chain) (taken : Submission) (slot : Slot) (is : 
       → OnOk r (Goes home (λ n. concluded n slot outcome) at.world new)
       → OnOk r (EndsInAttempt chain.decrees → Sends (record { world = new; site = record at.site { service = left } }) text text)
   untaken_acts (Err fault) new left outcome text nobody none sessions waiting goes = tt
-  untaken_acts (Ok done) new left outcome text nobody none sessions waiting goes ends =
+  untaken_acts (Ok done) new left outcome text nobody none sessions waiting goes = λ ends.
       let then : Placed = record { world = new; site = record at.site { service = left } } in
       sends then text text (λ w runner running.
       let nowhere = ap (λ (all : List (ℕ × Session)). target_in all taken.target) (sym running.sessions) ∙ none in

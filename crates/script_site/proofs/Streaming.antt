@@ -39,9 +39,9 @@ rest_cut rest end =
 -- ---- what is left to do
 
 -- this was done: it left this runner, and added the text of what it printed
-record IsDone (home : ℕ) (acted : Acted) (left : Runner) (before after : List ℕ) : Type 0 where
-  next : left ≡ acted.next
-  text : after ≡ before ++ text_at home acted.prints
+pub record IsDone (home : ℕ) (acted : Acted) (left : Runner) (before after : List ℕ) : Type 0 where
+  pub next : left ≡ acted.next
+  pub text : after ≡ before ++ text_at home acted.prints
 
 -- What the first octets do is what was done so far, and then what these octets do.
 pub record Continues (home : ℕ) (settings : Settings) (number : ℕ) (all : Acted) (before : List ℕ) (runner : Runner) (octets text : List ℕ) : Type 0 where
@@ -215,17 +215,15 @@ module _ (home : ℕ) (settings : Settings) (number : ℕ) (octets : List ℕ) (
   opened site held is opens = record {
     each = λ w runner running. (
       opened_at runner number,
-      (
-        record {
-          home_is = opens.node_is ∙ running.home_is;
-          going = running.going;
-          sessions = opens.sessions ∙ ap (λ (sessions : List (ℕ × Session)). put_at sessions number (session_in sessions number)) running.sessions;
-          streams = opens.streams ∙ ap (remove_entry (is_at (nat_cmp number))) running.streams;
-          waiting = opens.waiting ∙ running.waiting;
-        },
-        nothing_done home settings number runner (opened_at runner number) held octets before
-            (is ∙ ap (λ (streams : List (ℕ × List ℕ)). held_in streams number) running.streams) refl,
-      ),
+      record {
+        home_is = opens.node_is ∙ running.home_is;
+        going = running.going;
+        sessions = opens.sessions ∙ ap (λ (sessions : List (ℕ × Session)). put_at sessions number (session_in sessions number)) running.sessions;
+        streams = opens.streams ∙ ap (remove_entry (is_at (nat_cmp number))) running.streams;
+        waiting = opens.waiting ∙ running.waiting;
+      },
+      nothing_done home settings number runner (opened_at runner number) held octets before
+          (is ∙ ap (λ (streams : List (ℕ × List ℕ)). held_in streams number) running.streams) refl,
     );
   }
 
@@ -249,12 +247,10 @@ module _ (home : ℕ) (settings : Settings) (number : ℕ) (octets : List ℕ) (
           let done = subst (λ (node : ℕ). Acts node (λ r. on_frame settings number r frame) now new text told) here.1.home_is did w here.0 here.1 in
           let left = (on_frame settings number here.0 frame).next in (
             left,
-            (
-              done.running,
-              after_take home settings number (on_octets settings runner number octets) before here.0 left held piece mid frame fresh text told count here.2 taken
-                  gave
-                  (record { next = refl; text = done.text }) (connected_so new w left false done.running stays),
-            ),
+            done.running,
+            after_take home settings number (on_octets settings runner number octets) before here.0 left held piece mid frame fresh text told count here.2 taken
+                gave
+                (record { next = refl; text = done.text }) (connected_so new w left false done.running stays),
           );
     }
 
@@ -279,7 +275,7 @@ module _ (home : ℕ) (settings : Settings) (number : ℕ) (octets : List ℕ) (
         → OnOk r (Acts now.site.node (ends settings number) now new text told)
         → OnOk r (Acts home (λ runner. on_octets settings runner number octets) start new before told)
     wrong_acts (Err fault) new rest told so wrong did = tt
-    wrong_acts (Ok fine) new rest told so wrong did w runner running =
+    wrong_acts (Ok fine) new rest told so wrong did = λ w runner running.
         let here = so.each w runner running in
         let done = subst (λ (node : ℕ). Acts node (ends settings number) now new text told) here.1.home_is did w here.0 here.1 in
         let left = (ends settings number here.0).next in
@@ -294,7 +290,7 @@ module _ (home : ℕ) (settings : Settings) (number : ℕ) (octets : List ℕ) (
         → OnOk r (Acts home (λ runner. on_octets settings runner number octets) start
         (record { world = now.world; site = record now.site { streams = streams } }) before text)
     kept_acts (Err fault) streams rest held so part same keeps = tt
-    kept_acts (Ok fine) streams rest held so part same keeps w runner running =
+    kept_acts (Ok fine) streams rest held so part same keeps = λ w runner running.
         let here = so.each w runner running in
         let kept = keeps ∙ ap (λ (all : List (ℕ × List ℕ)). insert_entry nat_cmp all number held) here.1.streams in
         let all = after_kept_if home settings number (on_octets settings runner number octets) before here.0 rest text held streams (Ok fine) here.2 part same

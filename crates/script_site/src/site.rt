@@ -19,7 +19,7 @@ use esme_service::{Asked, Heard, Sending, Service};
 use fate_chain::Chain;
 use mc_types::{Moment, MsgId, NodeNo, Slot};
 use pdu_frames::Framer;
-use pdu_tables::Status;
+use sessions::Outgoing;
 use std::alloc::{AllocError, Global};
 use world::{Given, Step, World};
 
@@ -145,19 +145,19 @@ impl Site {
         ensures { OnOk result (Acts self.old.node (λ runner. heeded (settings_of config.now) number runner heard)
             (record { world = world.old; site = self.old }) (record { world = world.new; site = self.new }) text.old.items text.new.items) }
     {
-        let place = SessionPlace {
-            node: self.node,
-            number,
-        };
         match heard {
             Heard::Nothing => Ok(()),
-            Heard::Response(outgoing) => write_outgoing(text, place, &config.system_id, outgoing),
-            Heard::Request(asked, request) => match self.ask(world, number, asked, request)? {
-                Some(status) => {
-                    write_outgoing(text, place, &config.system_id, asked.refusal(status))
+            Heard::Response(outgoing) => {
+                write_outgoing(text, self.place(number), &config.system_id, outgoing)
+            }
+            Heard::Request(asked, request) => {
+                match self.ask(world, number, asked, request)? {
+                    Some(refusal) => {
+                        write_outgoing(text, self.place(number), &config.system_id, refusal)
+                    }
+                    None => Ok(()),
                 }
-                None => Ok(()),
-            },
+            }
             Heard::Answer(pushed, pdu) => {
                 let outcome = outcome_of(pushed.sequence, &pdu);
                 drop(pdu);
@@ -165,20 +165,30 @@ impl Site {
             }
             Heard::Gone(outgoing, abandoned) => {
                 give_up(world, self.node, abandoned.as_slice())?;
-                write_outgoing(text, place, &config.system_id, outgoing)?;
-                write_gone(text, place)
+                write_outgoing(text, self.place(number), &config.system_id, outgoing)?;
+                write_gone(text, self.place(number))
             }
         }
     }
 
-    /// A request goes to the node: it waits on its session, or is refused with this status.
+    /// Where the session of a number is.
+    fn place(&self, number: u8) -> SessionPlace
+        ensures { result ≡ record { node = self.now.node; number = number } }
+    {
+        SessionPlace {
+            node: self.node,
+            number,
+        }
+    }
+
+    /// A request goes to the node: it waits on its session, or this response refuses it.
     fn ask(
         &mut self,
         world: &mut World,
         number: u8,
         asked: Asked,
         request: Request,
-    ) -> Result<Option<Status>, AllocError>
+    ) -> Result<Option<Outgoing>, AllocError>
         ensures { IfOk result (HasAsked self.old.node number asked request
             (record { world = world.old; site = self.old }) (record { world = world.new; site = self.new })) }
     {
@@ -195,8 +205,27 @@ impl Site {
                 request,
             },
         )?;
-        self.service.wait(number, asked, given.ticket);
-        Ok(given.refused)
+        let Asked {
+            requested,
+            sequence,
+        } = asked;
+        self.service.wait(
+            number,
+            Asked {
+                requested,
+                sequence,
+            },
+            given.ticket,
+        );
+        match given.refused {
+            Some(status) => Ok(Some(
+                Asked {
+                    requested,
+                    sequence,
+                }.refusal(status),
+            )),
+            None => Ok(None),
+        }
     }
 
     /// Adds the lines of the receipts that wait for the account of a session and go out now.

@@ -38,12 +38,15 @@ pub(crate) fn grant(world: &mut World, node: NodeNo, id: MsgId) -> Result<Granti
     ensures { IfOk result (λ granting. IsGranting node id world.old granting world.new) }
 {
     match world.step(Step::Grant { node, id }) {
-        Ok(Given {
-            granted: Some(chain),
-            ..
-        }) => Ok(Granting::Granted(chain)),
+        Ok(given) => {
+            let Given { granted, .. } = given;
+            match granted {
+                Some(chain) => Ok(Granting::Granted(chain)),
+                None => Err(AllocError),
+            }
+        }
         Err(WorldFault::Grant(refusal)) => Ok(Granting::Refused(refusal.number())),
-        _ => Err(AllocError),
+        Err(_) => Err(AllocError),
     }
 }
 
@@ -62,7 +65,11 @@ pub(crate) fn conclude(
         slot,
         outcome,
     }) {
-        Ok(_) | Err(WorldFault::NotGranted) => Ok(()),
+        Ok(given) => {
+            drop(given);
+            Ok(())
+        }
+        Err(WorldFault::NotGranted) => Ok(()),
         Err(_) => Err(AllocError),
     }
 }
