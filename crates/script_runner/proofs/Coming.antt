@@ -40,7 +40,7 @@ use Rattle.script_runner.proofs.Moving.{absent_moved, among_all, down_moved, fou
 
 -- ---- packets by their numbers
 
-pub same_number : {A : Type 0} (packets : List Packet) (number : ℕ) → packet_of packets number ≡ numbered packets number
+pub same_number : (packets : List Packet) (number : ℕ) → packet_of packets number ≡ numbered packets number
 same_number packets zero = refl
 same_number packets (suc place) = refl
 
@@ -82,12 +82,12 @@ module _ (old new : Centre) (w : World) (was : IsWorld old w) (is : IsWorld new 
   abbrev now : KeptCluster
   now = kept_reached was.cluster was.inputs
 
-  runner_here : nat_le node was.cluster.nodes ≡ true → (runner : Runner) × (slice_get w.runners place ≡ Some runner)
+  pub runner_here : nat_le node was.cluster.nodes ≡ true → (runner : Runner) × (slice_get w.runners place ≡ Some runner)
   runner_here there =
       let count = was.stands.count in
       found_at w.runners place (grind (arith, nat_tests))
 
-  nobody : nat_le node was.cluster.nodes ≡ false → runner_at w node ≡ None
+  pub nobody : nat_le node was.cluster.nodes ≡ false → runner_at w node ≡ None
   nobody none =
       ap (λ (n : ℕ). slice_get w.runners (pred n)) here
       ∙ slice_get_past w.runners place (let count = was.stands.count in grind (arith, nat_tests))
@@ -217,7 +217,7 @@ delivery_like runner packet none =
 -- What came to a node that is up is told there: it did what the text of a script says.
 module _ (old mid told : Centre) (node place number : ℕ) (given : Given) (before after : List ℕ) (here : node ≡ suc place)
     (leads : Leads old.world (steps.Deliver number node) (Ok given) mid.world) (up : is_up_in mid.world node ≡ true)
-    (sites : mid.sites.items ≡ old.sites.items) (tells_so : Tells mid node given told before after) where
+    (sites : mid.sites.items ≡ old.sites.items) (tells_so : Tells mid place given told before after) where
   come : (w : World) (was : IsWorld old w) → HasCome w place number given Delivery mid.world
   come w was =
       came_so old w was node place number here (steps.Deliver number node) Delivery given mid.world leads refl (λ next comes. comes)
@@ -225,9 +225,8 @@ module _ (old mid told : Centre) (node place number : ℕ) (given : Given) (befo
   -- the site of the node, and what it did
   pub record IsTold (w : World) : Type 0 where
     pub come_so : HasCome w place number given Delivery mid.world
-    pub site : Site
     pub left : Site
-    pub has : HasSite mid node site left told
+    pub has : HasSite mid place left told
     pub did : HasActed (suc place) w (on_delivery come_so.runner come_so.packet []) (record { world = mid.world; site = left }) before after
 
   pub told_so : (w : World) → IsWorld old w → IsTold w
@@ -237,9 +236,7 @@ module _ (old mid told : Centre) (node place number : ℕ) (given : Given) (befo
       let found = found_too w.runners old.sites.items place runner (sym was.nodes) come_so.there in
       let site = found.0 in
       let beside = was.each place site runner found.1 come_so.there in
-      let at_node : slice_get mid.sites.items (pred node) ≡ Some site =
-      ap (λ (ss : List Site). slice_get ss (pred node)) sites ∙ ap (λ (n : ℕ). slice_get old.sites.items (pred n)) here ∙ found.1 in
-      let said = tells_so site at_node in
+      let said = tells_so site (ap (λ (ss : List Site). slice_get ss place) sites ∙ found.1) in
       let step = step_at runner.node (Delivery come_so.packet) in
       let first : Runner = record runner { node = with_step runner.node step } in
       let running : IsRunning (suc place) (record { world = mid.world; site = site }) w first = record {
@@ -250,7 +247,7 @@ module _ (old mid told : Centre) (node place number : ℕ) (given : Given) (befo
         waiting = beside.waiting;
       } in
       let acts = subst (λ (n : ℕ). Acts n (λ r. tells r (map reply_given given.replies.items) (map receipt_of given.receipts.items))
-      (record { world = mid.world; site = site }) (record { world = mid.world; site = said.0 }) before after) beside.node_is said.1.1 w first running in
+      (record { world = mid.world; site = site }) (record { world = mid.world; site = said.0 }) before after) beside.node_is said.2 w first running in
       let given_so : tells first (map reply_given given.replies.items) (map receipt_of given.receipts.items)
       ≡ tells first step.outputs.replies step.outputs.receipts =
       λ i. tells first (come_so.gives.others i).replies (come_so.gives.others i).receipts in
@@ -258,9 +255,8 @@ module _ (old mid told : Centre) (node place number : ℕ) (given : Given) (befo
       subst (λ (a : Acted). IsLike a (on_delivery runner come_so.packet [])) (sym given_so) (delivery_like runner come_so.packet beside.taken) in
       record {
         come_so = come_so;
-        site = site;
         left = said.0;
-        has = said.1.0;
+        has = said.1;
         did = has_acted (suc place) w (tells first (map reply_given given.replies.items) (map receipt_of given.receipts.items))
             (on_delivery runner come_so.packet []) (record { world = mid.world; site = said.0 }) before after like_both acts;
       }
@@ -277,9 +273,8 @@ module _ (old mid told : Centre) (node place number : ℕ) (given : Given) (befo
       let did = told_w.did in
       let acted = on_delivery come_so.runner come_so.packet [] in
       let ran = did.running in
-      let same_place : pred node ≡ place = ap pred here in
       let sites_now : new.sites.items ≡ slice_set old.sites.items place told_w.left =
-      same_sites ∙ has.sites ∙ (λ i. slice_set (sites i) (same_place i) told_w.left) in
+      same_sites ∙ has.sites ∙ (λ i. slice_set (sites i) place told_w.left) in
       let moved = shared_moved old new w (marked w number node) place told_w.left acted before after was sites_now
       (subst (λ (scene : Scene). IsAmong (suc place) scene w acted.next.node) (sym (world ∙ has.world)) ran.going.among)
       (taken_from told_w.left (suc place) acted.next ran.home_is ran.sessions ran.streams ran.waiting) refl refl
@@ -308,7 +303,7 @@ set_up (first ∷ runners) (suc place) (suc k) runner left there same = set_up r
 
 pub delivered_ups : (old mid told : Centre) (node place number : ℕ) (given : Given) (before after : List ℕ) (here : node ≡ suc place)
     (leads : Leads old.world (steps.Deliver number node) (Ok given) mid.world) (up : is_up_in mid.world node ≡ true)
-    (sites : mid.sites.items ≡ old.sites.items) (tells_so : Tells mid node given told before after) → KeepsUp old number node
+    (sites : mid.sites.items ≡ old.sites.items) (tells_so : Tells mid place given told before after) → KeepsUp old number node
 delivered_ups old mid told node place number given before after here leads up sites tells_so w was other =
     let told_w = told_so old mid told node place number given before after here leads up sites tells_so w was in
     let come_so = told_w.come_so in
@@ -402,7 +397,7 @@ undelivered_ups_if (Ok done) old new node place number fault before after here l
 
 pub delivered_ups_if : (r : Result (Unit {0}) AllocError) (old mid told : Centre) (node place number : ℕ) (given : Given) (before after : List ℕ)
     → node ≡ suc place → Leads old.world (steps.Deliver number node) (Ok given) mid.world → is_up_in mid.world node ≡ true
-    → mid.sites.items ≡ old.sites.items → Tells mid node given told before after → OnOk r (KeepsUp old number node)
+    → mid.sites.items ≡ old.sites.items → Tells mid place given told before after → OnOk r (KeepsUp old number node)
 delivered_ups_if (Err fault) old mid told node place number given before after here leads up sites tells_so = tt
 delivered_ups_if (Ok done) old mid told node place number given before after here leads up sites tells_so =
     delivered_ups old mid told node place number given before after here leads up sites tells_so

@@ -51,6 +51,14 @@ module _ (centre : Centre) (w : World) (nodes : List ℕ) (number : ℕ) (packet
   first_lacks place none here =
       sym (due_is ∙ first_found (lacks w nodes number) 1 (length w.runners) place (lacks_within w nodes number place here) none here)
 
+-- a packet of a node that does not take part
+pub not_due : (centre : Centre) (w : World) (nodes : List ℕ) (number : ℕ) (packet : Sent) → IsWorld centre w
+    → Some packet ≡ numbered centre.world.packets number → takes_part nodes (sender_of (packet_by packet)) ≡ false
+    → None ≡ due_at w nodes number (packet_of w.packets number)
+not_due centre w nodes number packet is sent part =
+    sym (ap (due_at w nodes number) (packet_in centre w number (Some packet) is sent)
+    ∙ ap (λ (b : Bool). if b then find (lacks w nodes number) (node_numbers w) else None) part)
+
 pub lacks_so : (centre : Centre) (w : World) (nodes : List ℕ) (number place node : ℕ) (b : Bool) → IsWorld centre w →
     node ≡ place + 1 → b ≡ (takes_part nodes node && (is_up_in centre.world node && not (came_in centre.arrivals number node)))
     → lacks w nodes number (1 + place) ≡ b

@@ -26,7 +26,7 @@ use Rattle.script_runner.specs.Arrivals.{Came, came_in}
 use Rattle.script_runner.specs.Centres.{Does, IsMoved, IsWorld}
 use Rattle.script_runner.specs.Sites.{HasSite, IsRefused, Leaves}
 use Rattle.script_runner.specs.declared.centre.Centre.{Centre}
-use Rattle.script_runner.proofs.Coming.{HasCome, came_so, nobody, runner_here}
+use Rattle.script_runner.proofs.Coming.{HasCome, came_so, nobody, runner_here, same_place}
 use Rattle.script_runner.proofs.Moving.{among_all, found_too, refused_moved, shared_moved, some_same, taken_from, up_moved}
 
 -- a runner without sessions, whose node is this
@@ -36,24 +36,21 @@ without runner input = record { node = with_step runner.node (step_at runner.nod
 -- no session is there any more, and it is as such a runner
 module _ (old mid new : Centre) (w : World) (was : IsWorld old w) (node place : ℕ) (here : node ≡ suc place) (runner : Runner)
     (there : slice_get w.runners place ≡ Some runner) (before after : List ℕ) (sites : mid.sites.items ≡ old.sites.items)
-    (arrivals : mid.arrivals ≡ old.arrivals) (leaves_so : Leaves mid node new before after) where
+    (arrivals : mid.arrivals ≡ old.arrivals) (leaves_so : Leaves mid place new before after) where
   pub left_moved : (acted : Acted) (input : Input) → acted.next ≡ without runner input → acted.prints ≡ gone_prints runner.sessions
       → IsAmong (suc place) mid.world w (with_step runner.node (step_at runner.node input)) → IsMoved (shared w node acted) new before after
   left_moved acted input next prints among =
       let found = found_too w.runners old.sites.items place runner (sym was.nodes) there in
       let site = found.0 in
       let beside = was.each place site runner found.1 there in
-      let at_node : slice_get mid.sites.items (pred node) ≡ Some site =
-      ap (λ (ss : List Site). slice_get ss (pred node)) sites ∙ ap (λ (n : ℕ). slice_get old.sites.items (pred n)) here ∙ found.1 in
-      let said = leaves_so site at_node in
+      let said = leaves_so site (ap (λ (ss : List Site). slice_get ss place) sites ∙ found.1) in
       let left = said.0 in
-      let has = said.1.0 in
-      let gone = said.1.1 in
-      let same_place : pred node ≡ place = ap pred here in
+      let has = said.1 in
+      let gone = said.2 in
       let own = taken_from left (suc place) (without runner input) (gone.empty.node_is ∙ beside.node_is) gone.empty.sessions gone.empty.streams
       gone.empty.waiting in
       let moved = shared_moved old new w w place left (record acted { next = without runner input }) before after was
-      (has.sites ∙ (λ i. slice_set (sites i) (same_place i) left))
+      (has.sites ∙ (λ i. slice_set (sites i) place left))
       (subst (λ (scene : _). IsAmong (suc place) scene w (with_step runner.node (step_at runner.node input))) (sym has.world) among) own refl refl
       (λ number other. ap (λ (all : Came). came_in all number other) (has.arrivals ∙ arrivals) ∙ was.came number other)
       (gone.text ∙ (λ i. before ++ text_at (beside.node_is i) (gone_prints (beside.sessions i)))
@@ -65,7 +62,7 @@ module _ (old mid new : Centre) (w : World) (was : IsWorld old w) (node place : 
 
 pub crashed_does_if : (r : Result (Unit {0}) AllocError) (old mid new : Centre) (node place number : ℕ) (found : Found) (given : Given)
     (before after : List ℕ) → node ≡ suc place → Leads old.world (steps.Crash node number found) (Ok given) mid.world
-    → mid.sites.items ≡ old.sites.items → mid.arrivals ≡ old.arrivals → OnOk r (Leaves mid node new before after)
+    → mid.sites.items ≡ old.sites.items → mid.arrivals ≡ old.arrivals → OnOk r (Leaves mid place new before after)
     → OnOk r (Does (λ w. crashes w node number (is_after found)) old new before after)
 crashed_does_if (Err fault) old mid new node place number found given before after here leads sites arrivals leaves_so = tt
 crashed_does_if (Ok done) old mid new node place number found given before after here leads sites arrivals leaves_so = λ w was.
@@ -151,7 +148,7 @@ module _ (old mid : Centre) (node place : ℕ) (here : node ≡ suc place) where
 
   pub restarted_does_if : (r : Result (Unit {0}) AllocError) (new : Centre) (given : Given) (before after : List ℕ)
       → Leads old.world (steps.Restart node) (Ok given) mid.world
-      → mid.sites.items ≡ old.sites.items → mid.arrivals ≡ old.arrivals → OnOk r (Leaves mid node new before after)
+      → mid.sites.items ≡ old.sites.items → mid.arrivals ≡ old.arrivals → OnOk r (Leaves mid place new before after)
       → OnOk r (Does (λ w. restarts w node) old new before after)
   restarted_does_if (Err fault) new given before after leads sites arrivals leaves_so = tt
   restarted_does_if (Ok done) new given before after leads sites arrivals leaves_so = λ w was.
@@ -169,3 +166,12 @@ module _ (old mid : Centre) (node place : ℕ) (here : node ≡ suc place) where
       subst (λ (m : Moved). IsMoved m new before after)
       (ap (shared w node) (restarts_so w was runner true more) ∙ ap (restarts_if w node) (sym somebody))
       (left_moved old mid new w was node place here runner found.1 before after sites arrivals leaves_so (restarted runner) (Restart 0) refl refl went.0)
+
+  -- or it does not
+  pub unbegun_does_if : (r : Result (Unit {0}) AllocError) (fault : WorldFault) (before after : List ℕ)
+      → Leads old.world (steps.Restart node) (Err fault) mid.world → mid.sites.items ≡ old.sites.items → mid.arrivals ≡ old.arrivals
+      → OnOk r (IsRefused fault before after) → OnOk r (Does (λ w. restarts w node) old mid before after)
+  unbegun_does_if (Err error) fault before after leads sites arrivals told = tt
+  unbegun_does_if (Ok done) fault before after leads sites arrivals told = λ w was.
+      not_begun w was mid fault before after (same_place old w (steps.Restart node) fault mid leads sites arrivals was)
+      (leads.each was.cluster [] was.inputs was.at).refused told

@@ -1,5 +1,5 @@
 -- A node of the centre does something, as a runner of a world.
-use Rattle.std.proofs.Common.{◌≡◌, ◌⊎◌, ℕ, zero, suc, ◌-◌, ◌<◌, ◌≤◌, pred, Bool, true, false, List, [], ◌∷◌, ◌++◌, length, get_or, Option}
+use Rattle.std.proofs.Common.{◌≡◌, ◌⊎◌, ℕ, zero, suc, ◌-◌, ◌<◌, ◌≤◌, pred, Bool, true, false, List, [], ◌∷◌, ◌++◌, length, map, get_or, Option}
 use Rattle.std.proofs.Common.{Some, None, Result, Ok, Err, refl, sym, ap, subst, ◌∙◌, inl, inr, arith}
 use Rattle.std.specs.Prelude.{OnOk, reverse, slice_get, slice_set, if◌then◌else◌}
 use Rattle.std.specs.declared.alloc.AllocError.{AllocError}
@@ -9,18 +9,22 @@ use Rattle.std.proofs.lemmas.List.{append-nil, length-set}
 use Rattle.mc_model.specs.synod.Packet.{Packet}
 use Rattle.node_laws.specs.Clusters.{kept_reached}
 use Rattle.node_model.specs.Kept.{Kept}
+use Rattle.node_model.specs.Reported.{receipt_of}
+use Rattle.requests.specs.Replying.{reply_given}
 use Rattle.sim_net.proofs.Numbers.{set_get}
 use Rattle.world.specs.Scenes.{Placed, Scene, is_up, is_up_in}
+use Rattle.world.specs.declared.given.Given.{Given}
 use Rattle.world.proofs.Leading.{stands_up}
 use Rattle.script_text.specs.Prints.{declined_line, text_at}
 use Rattle.script_text.specs.Runner.{Acted, Runner, given_out}
 use Rattle.script_world.proofs.Texts.{at_node}
 use Rattle.script_world.specs.Runs.{IsNodeOf}
 use Rattle.script_world.specs.World.{Moved, World, acts, if_up, is_down, is_up_at, no_node, refuses, runner_at, shared, up_or_refuses}
-use Rattle.script_site.specs.Sites.{Acts, IsAmong, IsRunning, Placed as Beside}
+use Rattle.script_site.specs.Sites.{Acts, IsAmong, IsRunning, Placed as Beside, tells}
 use Rattle.script_site.specs.declared.site.Site.{Site}
 use Rattle.script_runner.specs.Arrivals.{Came, came_in}
 use Rattle.script_runner.specs.Centres.{Does, IsBeside, IsMoved, IsPlaceUp, IsWorld, declines}
+use Rattle.script_runner.specs.Sites.{Tells}
 use Rattle.script_runner.specs.declared.centre.Centre.{Centre}
 
 -- ---- places
@@ -70,7 +74,7 @@ ups_of centre w node place is same =
 -- ---- one node of a world
 
 -- it stands where its runner does
-pub among_all : (old : Centre) (w : World) (place : ℕ) (runner : Runner) → IsWorld old w → slice_get w.runners place ≡ Some runner
+abbrev pub among_all : (old : Centre) (w : World) (place : ℕ) (runner : Runner) → IsWorld old w → slice_get w.runners place ≡ Some runner
     → runner.node.packets ≡ [] → IsAmong (suc place) old.world w runner.node
 among_all old w place runner is there taken = record {
   cluster = is.cluster;
@@ -252,3 +256,20 @@ acts_does_if (Ok done) old new node place act site left before after up is did w
     up_moved new w node place (λ r. shared w node (act r)) runner before after up.place_is there.1
     (sym (ap is_up_at there.1) ∙ sym (ups old w place was) ∙ up_there)
     (subst (λ (n : ℕ). IsMoved (shared w n (act runner)) new before after) (sym up.place_is) moved)
+
+-- ---- what a step gave out is told
+
+pub told_if : (r : Result (Unit {0}) AllocError) (old new : Centre) (place : ℕ) (site left : Site) (given : Given) (before after : List ℕ)
+    → place < length old.sites.items → site ≡ get_or old.sites.items place site → new.sites.items ≡ slice_set old.sites.items place left
+    → new.world ≡ old.world → new.arrivals ≡ old.arrivals
+    → OnOk r (Acts site.node (λ runner. tells runner (map reply_given given.replies.items) (map receipt_of given.receipts.items))
+    (record { world = old.world; site = site }) (record { world = old.world; site = left }) before after)
+    → OnOk r (Tells old place given new before after)
+told_if (Err fault) old new place site left given before after within is sites world arrivals acts = tt
+told_if (Ok done) old new place site left given before after within is sites world arrivals acts = λ other found.
+    let same : site ≡ other = some_same (ap Some is ∙ sym (slice_get-get_or old.sites.items place site within) ∙ found) in (
+      left,
+      record { sites = sites; world = world; arrivals = arrivals },
+      subst (λ (s : Site). Acts s.node (λ runner. tells runner (map reply_given given.replies.items) (map receipt_of given.receipts.items))
+      (record { world = old.world; site = s }) (record { world = old.world; site = left }) before after) same acts,
+    )

@@ -53,10 +53,10 @@ pub starts_as : (settings : Settings) (nodes serial : ℕ) (centre : Centre) →
     → IsAt (cluster_with nodes serial settings.validity) [] [] centre.world
     → ((number node : ℕ) → came_in centre.arrivals number node ≡ false) → IsWorld centre (opened settings nodes serial)
 starts_as settings nodes serial centre few are at nobody =
-    let open : ℕ → Runner = λ node. runner_opened (opened_by (setup_of settings nodes serial node)) in
-    let count = length-map-range_with_len open 1 nodes in
-    let runner_is : (place : ℕ) (runner : Runner) → slice_get (map open (range_with_len 1 nodes)) place ≡ Some runner → runner ≡ open (suc place) =
-    λ place runner there. at_place open 1 nodes place runner there ∙ ap open (let same : 1 + place ≡ suc place = omega arith in same) in
+    let opens : ℕ → Runner = λ node. runner_opened (opened_by (setup_of settings nodes serial node)) in
+    let count = length-map-range_with_len opens 1 nodes in
+    let runner_is : (place : ℕ) (runner : Runner) → slice_get (map opens (range_with_len 1 nodes)) place ≡ Some runner → runner ≡ opens (suc place) =
+    λ place runner there. at_place opens 1 nodes place runner there ∙ ap opens (let same : 1 + place ≡ suc place = omega arith in same) in
     record {
       cluster = cluster_with nodes serial settings.validity;
       inputs = [];

@@ -119,6 +119,13 @@ one_passed number node place old now before text way same down w world =
     below_or_past zero (suc b) = inl (omega arith)
     below_or_past (suc a) (suc b) = elim (below_or_past a b) [ inl less ↦ inl (omega (arith, less)) | inr more ↦ inr (omega (arith, more)) ]
 
+-- as the code joins both
+pub came_to : (number place : ℕ) (old now : Centre) (before text : List ℕ) (last : Centre) (written : List ℕ) → now ≡ last → text ≡ written
+    → IsComing number (place + 1) old last before written → IsComing number (place + 1) old now before text
+came_to number place old now before text last written same wrote way =
+    subst (λ (c : Centre). IsComing number (place + 1) old c before text) (sym same)
+    (subst (λ (t : List ℕ). IsComing number (place + 1) old last before t) (sym wrote) way)
+
 -- no node is left
 pub all_came : (number place : ℕ) (old now : Centre) (before text : List ℕ) → 9 ≤ place → IsComing number place old now before text →
     Does (λ w. comes_to number (node_numbers w) w) old now before text

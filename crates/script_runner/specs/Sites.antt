@@ -1,5 +1,5 @@
 -- What stands beside one node of the centre.
-use Rattle.std.specs.Prelude.{◌≡◌, ⊥, ℕ, List, [], ◌++◌, length, map, pred, slice_get, slice_set, Some}
+use Rattle.std.specs.Prelude.{◌≡◌, ℕ, List, [], ◌++◌, length, map, slice_get, slice_set, Some}
 use Rattle.node_model.specs.Reported.{receipt_of}
 use Rattle.requests.specs.Replying.{reply_given}
 use Rattle.world.specs.Runs.{fault_number}
@@ -17,22 +17,21 @@ abbrev pub IsRefused : WorldFault → List ℕ → List ℕ → Type 0
 IsRefused Memory before after = ⊥
 IsRefused fault before after = after ≡ before ++ declined_line (fault_number fault)
 
--- what stands beside the node of a number is another now, and nothing else changed
-pub record HasSite (old : Centre) (node : ℕ) (site left : Site) (new : Centre) : Type 0 where
-  pub found : slice_get old.sites.items (pred node) ≡ Some site
-  pub sites : new.sites.items ≡ slice_set old.sites.items (pred node) left
+-- what stands at a place is another now, and nothing else changed
+pub record HasSite (old : Centre) (place : ℕ) (left : Site) (new : Centre) : Type 0 where
+  pub sites : new.sites.items ≡ slice_set old.sites.items place left
   pub world : new.world ≡ old.world
   pub arrivals : new.arrivals ≡ old.arrivals
 
 -- there, what a step gave out is told
 abbrev pub Tells : Centre → ℕ → Given → Centre → List ℕ → List ℕ → Type 0
-Tells old node given new before after =
-    (site : Site) → slice_get old.sites.items (pred node) ≡ Some site
-    → (left : Site) × HasSite old node site left new
+Tells old place given new before after =
+    (site : Site) → slice_get old.sites.items place ≡ Some site
+    → (left : Site) × HasSite old place left new
     × Acts site.node (λ runner. tells runner (map reply_given given.replies.items) (map receipt_of given.receipts.items))
       (record { world = old.world; site = site }) (record { world = old.world; site = left }) before after
 
 -- no session is there any more
 abbrev pub Leaves : Centre → ℕ → Centre → List ℕ → List ℕ → Type 0
-Leaves old node new before after =
-    (site : Site) → slice_get old.sites.items (pred node) ≡ Some site → (left : Site) × HasSite old node site left new × HasLeft site left before after
+Leaves old place new before after =
+    (site : Site) → slice_get old.sites.items place ≡ Some site → (left : Site) × HasSite old place left new × HasLeft site left before after

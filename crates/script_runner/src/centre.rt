@@ -1,6 +1,6 @@
 //! The centre: a world, and what stands beside each of its nodes.
 
-ghost use Rattle.std.specs.Prelude.{◌≡◌, ℕ, ◌==◌, ◌&&◌, ◌<◌, ◌≤◌, false, length, map, not, reverse, IfErr, OnOk, IfOk};
+ghost use Rattle.std.specs.Prelude.{◌≡◌, ℕ, ◌==◌, ◌&&◌, ◌<◌, ◌≤◌, false, length, not, reverse, suc, IfErr, OnOk, IfOk};
 ghost use Rattle.std.specs.List.{range_with_len};
 ghost use Rattle.mc_types.specs.Nodes.{has};
 ghost use Rattle.node_core.specs.Stops.{is_after};
@@ -125,7 +125,7 @@ impl Centre {
         ensures found { IfOk result (IsPlaceUp self.now node) }
         ensures away { IfErr result (declines self.now node) }
     {
-        let at = node.number() as usize - 1;
+        let at = place_of(node);
         if at >= self.sites.len() {
             return Err(NO_NODE);
         }
@@ -145,20 +145,20 @@ impl Centre {
         ensures comes { OnOk result (Does (λ w. comes w number node) self.old self.new text.old.items text.new.items) }
         ensures up { OnOk result (KeepsUp self.old number node) }
     {
+        let at = place_of(node);
         match self.world.deliver(number, node) {
             Ok(given) => {
-                self.tell(node, given, text)?;
+                self.tell(at, given, text)?;
                 self.arrivals.add(number, node)
             }
             Err(fault) => refuse(text, fault),
         }
     }
 
-    /// Adds the lines of what a step of a node gave out. If there is no such node, it does nothing.
-    fn tell(&mut self, node: NodeNo, given: Given, text: &mut Vec<u8>) -> Result<(), AllocError>
-        ensures { OnOk result (Tells self.old node given self.new text.old.items text.new.items) }
+    /// Adds the lines of what a step of the node at a place gave out. If there is no such node, it does nothing.
+    fn tell(&mut self, at: usize, given: Given, text: &mut Vec<u8>) -> Result<(), AllocError>
+        ensures { OnOk result (Tells self.old at given self.new text.old.items text.new.items) }
     {
-        let at = node.number() as usize - 1;
         if at >= self.sites.len() {
             drop(given);
             return Ok(());
@@ -176,10 +176,11 @@ impl Centre {
     ) -> Result<(), AllocError>
         ensures { OnOk result (Does (λ w. crashes w node number (is_after found)) self.old self.new text.old.items text.new.items) }
     {
+        let at = place_of(node);
         match self.world.crash(node, number, found) {
             Ok(given) => {
                 drop(given);
-                self.leave(node, text)
+                self.leave(at, text)
             }
             Err(fault) => refuse(text, fault),
         }
@@ -189,20 +190,20 @@ impl Centre {
     pub fn restart(&mut self, node: NodeNo, text: &mut Vec<u8>) -> Result<(), AllocError>
         ensures { OnOk result (Does (λ w. restarts w node) self.old self.new text.old.items text.new.items) }
     {
+        let at = place_of(node);
         match self.world.restart(node) {
             Ok(given) => {
                 drop(given);
-                self.leave(node, text)
+                self.leave(at, text)
             }
             Err(fault) => refuse(text, fault),
         }
     }
 
-    /// Adds the line of each session of a node that it is gone; the node keeps none. If there is no such node, it does nothing.
-    fn leave(&mut self, node: NodeNo, text: &mut Vec<u8>) -> Result<(), AllocError>
-        ensures { OnOk result (Leaves self.old node self.new text.old.items text.new.items) }
+    /// Adds the line of each session of the node at a place that it is gone; the node keeps none. If there is no such node, it does nothing.
+    fn leave(&mut self, at: usize, text: &mut Vec<u8>) -> Result<(), AllocError>
+        ensures { OnOk result (Leaves self.old at self.new text.old.items text.new.items) }
     {
-        let at = node.number() as usize - 1;
         if at >= self.sites.len() {
             return Ok(());
         }
@@ -322,6 +323,13 @@ impl Centre {
         }
         Ok(())
     }
+}
+
+/// The place at which what stands beside a node is.
+fn place_of(node: NodeNo) -> usize
+    ensures { node ≡ suc result }
+{
+    node.number() as usize - 1
 }
 
 /// Adds the line that tells why a line is refused. An `Err` is want of memory, also if the line is refused for that.
