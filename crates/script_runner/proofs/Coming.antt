@@ -1,13 +1,13 @@
 -- A packet comes to a node of the centre, which takes it or stops, and a node starts anew.
-use Rattle.std.proofs.Common.{◌≡◌, ℕ, zero, suc, ◌+◌, ◌<◌, ◌≤◌, pred, Bool, true, false, List, [], ◌∷◌, ◌++◌, length, map, Option, Some, None}
+use Rattle.std.proofs.Common.{◌≡◌, ℕ, zero, suc, ◌+◌, pred, Bool, true, false, List, [], ◌∷◌, ◌++◌, length, map, Option, Some, None}
 use Rattle.std.proofs.Common.{Result, Ok, Err, refl, sym, ap, subst, ◌∙◌, arith, append_assoc}
-use Rattle.std.specs.Prelude.{◌==◌, ◌&&◌, ◌||◌, OnOk, is_some, nat_lt, nat_le, reverse, slice_get, slice_set, if◌then◌else◌}
+use Rattle.std.specs.Prelude.{◌==◌, ◌&&◌, ◌||◌, OnOk, is_some, nat_le, reverse, slice_get, slice_set, if◌then◌else◌}
 use Rattle.std.specs.declared.alloc.AllocError.{AllocError}
 use Rattle.std.proofs.lemmas.Bool.Decides.{nat_tests}
-use Rattle.std.proofs.lemmas.List.{append-nil, length-reverse, reverse-append, reverse-reverse}
+use Rattle.std.proofs.lemmas.List.{length-reverse, reverse-append, reverse-reverse}
 use Rattle.std.proofs.lemmas.Option.{slice_get_past, slice_get_within}
 use Rattle.mc_model.specs.synod.Packet.{Packet}
-use Rattle.mc_model.specs.node.Input.{Crash, Delivery, Input, Restart}
+use Rattle.mc_model.specs.node.Input.{Delivery, Input}
 use Rattle.mc_model.specs.node.Outputs.{HasNumber}
 use Rattle.node_core.specs.Found.{Found}
 use Rattle.node_core.specs.Stops.{is_after}
@@ -25,7 +25,6 @@ use Rattle.world.specs.declared.given.Given.{Given}
 use Rattle.world.specs.declared.step.Step.{Step}
 use Rattle.world.specs.declared.step.Step.TheVariants as steps
 use Rattle.script_text.specs.Node.{Node, awaiting, step_at, with_step}
-use Rattle.script_text.specs.Prints.{text_at}
 use Rattle.script_text.specs.Runner.{Acted, Runner, given_out, on_delivery, reports_by}
 use Rattle.script_world.specs.World.{Moved, World, comes, comes_if, crashed, crashes, crashes_if, if_up, is_down, is_up_at, marked, no_packet, packet_of, refuses, runner_at, shared, up_or_refuses}
 use Rattle.script_site.specs.Sites.{Acts, HasActed, IsAmong, IsRunning, tells}
@@ -145,9 +144,9 @@ pub record HasCome (w : World) (place number : ℕ) (given : Given) (input : Pac
 module _ (old : Centre) (w : World) (was : IsWorld old w) (node place number : ℕ) (here : node ≡ suc place) (step : Step) (input : Packet → Input)
     (given : Given) (left : Scene) (leads : Leads old.world step (Ok given) left)
     (refused : refusal_of was.cluster 0 (kept_reached was.cluster was.inputs) step
-        ≡ or_else (unsent 0 (kept_reached was.cluster was.inputs) number) (away was.cluster (kept_reached was.cluster was.inputs) node))
+    ≡ or_else (unsent 0 (kept_reached was.cluster was.inputs) number) (away was.cluster (kept_reached was.cluster was.inputs) node))
     (numbers : (next : NodeInput) → Comes was.cluster 0 (kept_reached was.cluster was.inputs) step next
-        → (packet : Packet) × HasNumber (kept_reached was.cluster was.inputs).packets (number + 0) packet × (next ≡ cluster_comes node (input packet))) where
+    → (packet : Packet) × HasNumber (kept_reached was.cluster was.inputs).packets (number + 0) packet × (next ≡ cluster_comes node (input packet))) where
   abbrev reached : KeptCluster
   reached = kept_reached was.cluster was.inputs
 

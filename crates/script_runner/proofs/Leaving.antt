@@ -16,15 +16,14 @@ use Rattle.world.specs.declared.given.Given.{Given}
 use Rattle.world.specs.declared.step.Step.TheVariants as steps
 use Rattle.script_text.specs.Node.{step_at, with_step}
 use Rattle.script_text.specs.Prints.{declined_line, text_at}
-use Rattle.script_text.specs.Runner.{Acted, Runner, declined, given_out, gone_prints, last_incarnation, no_incarnation, on_restart, restarted}
-use Rattle.script_world.specs.World.{Moved, World, crashed, crashes, crashes_if, no_node, refuses, restarts, restarts_if, runner_at, shared}
+use Rattle.script_text.specs.Runner.{Acted, Runner, declined, gone_prints, last_incarnation, no_incarnation, on_restart, restarted}
+use Rattle.script_world.specs.World.{Moved, World, crashed, crashes, crashes_if, no_node, restarts, restarts_if, runner_at, shared}
 use Rattle.script_site.specs.Sites.{IsAmong}
-use Rattle.script_site.specs.Standing.{HasLeft}
 use Rattle.script_site.specs.declared.site.Site.{Site}
 use Rattle.script_site.proofs.Stepping.{goes}
 use Rattle.script_runner.specs.Arrivals.{Came, came_in}
 use Rattle.script_runner.specs.Centres.{Does, IsMoved, IsWorld}
-use Rattle.script_runner.specs.Sites.{HasSite, IsRefused, Leaves}
+use Rattle.script_runner.specs.Sites.{IsRefused, Leaves}
 use Rattle.script_runner.specs.declared.centre.Centre.{Centre}
 use Rattle.script_runner.proofs.Coming.{HasCome, came_so, nobody, runner_here, same_place}
 use Rattle.script_runner.proofs.Moving.{among_all, found_too, refused_moved, shared_moved, some_same, taken_from, up_moved}

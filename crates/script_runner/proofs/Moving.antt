@@ -3,7 +3,6 @@ use Rattle.std.proofs.Common.{◌≡◌, ◌⊎◌, ℕ, zero, suc, ◌-◌, ◌
 use Rattle.std.proofs.Common.{Some, None, Result, Ok, Err, refl, sym, ap, subst, ◌∙◌, inl, inr, arith}
 use Rattle.std.specs.Prelude.{OnOk, reverse, slice_get, slice_set, if◌then◌else◌}
 use Rattle.std.specs.declared.alloc.AllocError.{AllocError}
-use Rattle.std.proofs.lemmas.Bool.{true≢false}
 use Rattle.std.proofs.lemmas.Option.{slice_get-get_or, slice_get_past}
 use Rattle.std.proofs.lemmas.List.{append-nil, length-set}
 use Rattle.mc_model.specs.synod.Packet.{Packet}
@@ -66,10 +65,6 @@ ups centre w place is = by_member (slice_get centre.world.members place) refl
         let kept = (is.stands.each place there.0 there.1).kept in
         sym (ap is_up_at there.1 ∙ ap (λ (k : Kept). k.up) kept
         ∙ stands_up ((kept_reached is.cluster is.inputs).kept (suc place)) m.up m (is.at.members (suc place) m found).stands)
-
-pub ups_of : (centre : Centre) (w : World) (node place : ℕ) → IsWorld centre w → node ≡ suc place → is_up_in centre.world node ≡ is_up_at (runner_at w node)
-ups_of centre w node place is same =
-    ap (is_up_in centre.world) same ∙ ups centre w place is ∙ ap (λ (n : ℕ). is_up_at (slice_get w.runners (pred n))) (sym same)
 
 -- ---- one node of a world
 
@@ -271,5 +266,5 @@ told_if (Ok done) old new place site left given before after within is sites wor
       left,
       record { sites = sites; world = world; arrivals = arrivals },
       subst (λ (s : Site). Acts s.node (λ runner. tells runner (map reply_given given.replies.items) (map receipt_of given.receipts.items))
-      (record { world = old.world; site = s }) (record { world = old.world; site = left }) before after) same acts,
+          (record { world = old.world; site = s }) (record { world = old.world; site = left }) before after) same acts,
     )

@@ -1,5 +1,5 @@
 -- All packets come again, so many times.
-use Rattle.std.proofs.Common.{◌≡◌, ℕ, zero, suc, List, [], ◌∷◌, ◌++◌, length, map, Option, refl, sym, ap, subst, ◌∙◌}
+use Rattle.std.proofs.Common.{◌≡◌, ℕ, zero, suc, List, [], ◌∷◌, length, map, Option, refl, sym, ap, subst, ◌∙◌}
 use Rattle.std.specs.Prelude.{option_map, reverse, slice_get}
 use Rattle.std.proofs.lemmas.List.{append-nil, length-map, reverse-reverse}
 use Rattle.mc_model.specs.synod.Packet.{Packet}

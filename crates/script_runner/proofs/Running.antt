@@ -1,18 +1,18 @@
 -- How far a script has run, and what comes of the next line.
-use Rattle.std.proofs.Common.{◌≡◌, ℕ, suc, ◌+◌, ◌*◌, ◌-◌, ◌<◌, ◌≤◌, List, [], ◌∷◌, ◌++◌, length, get_or, take, drop, Option, Some, None, true, false, Bool}
+use Rattle.std.proofs.Common.{◌≡◌, ℕ, suc, ◌+◌, ◌*◌, ◌-◌, ◌<◌, ◌≤◌, List, [], ◌∷◌, ◌++◌, length, get_or, take, drop, Option, Some, None}
 use Rattle.std.proofs.Common.{Result, Ok, Err, add-one, refl, sym, ap, subst, ◌∙◌, append_assoc, arith, inl, inr}
 use Rattle.std.proofs.lemmas.Bool.{cases_lt}
-use Rattle.std.proofs.lemmas.List.{append-nil, length-append, length-drop, length-take, drop_more, get_or-take, take_all, take-append-drop}
+use Rattle.std.proofs.lemmas.List.{append-nil, length-append, length-drop, length-take, get_or-take, take_all, take-append-drop}
 use Rattle.std.proofs.lemmas.Option.{slice_get_within, get_or_from_slice_get}
 use Rattle.std.proofs.Math.Seq.{take-append-add, take-suc}
-use Rattle.std.specs.Prelude.{◌⊎◌, MatchBool}
+use Rattle.std.specs.Prelude.{◌⊎◌}
 use Rattle.std.specs.Result.{IsErrAnd}
 use Rattle.std.specs.Io.KnownBytes.{Consumes, Appends, IsAtEnd}
 use Rattle.octet_io.specs.Reads.{Reads, Ends, GoesOn, Stops, most_reads}
 use Rattle.octet_io.specs.Writes.{Sends, SendsFront, Writes}
 use Rattle.octet_io.proofs.KnownOctets.{appended_none, appended_on, consumed_none, consumed_on}
 use Rattle.script_lines.specs.Lines.{NeedsMore, lines_of, BeginsWithLine, IsLastLine, IsOneLine, BeginsTooLong, LinesAreRead}
-use Rattle.script_lines.specs.Finding.{IsFound, Reaches, ReadsAsNeeded, held_before, is_at_end}
+use Rattle.script_lines.specs.Finding.{Reaches, ReadsAsNeeded, held_before}
 use Rattle.script_lines.specs.declared.buffer.Found.{Found}
 use Rattle.script_lines.specs.declared.buffer.Found.TheVariants as found
 use Rattle.std.proofs.lemmas.Grind.{flat_map-append}
@@ -21,7 +21,7 @@ use Rattle.script_world.specs.Prints.{world_line, world_text}
 use Rattle.script_world.specs.Script.{Stage, Stepped, after, step_of, prints_from, bad_from, text_of, bad_line}
 use Rattle.script_lines.specs.Said.{Said, said_of}
 use Rattle.script_runner.specs.Outcome.{AreLines, StandsAt, IsRun, WritesLineAt, HasRead, IsInWork, IsWhole, IsDecided, StopsAt, StopsInLine}
-use Rattle.script_runner.specs.Outcome.{StopsWriting, WantsMemory, IsOutcome, line_at}
+use Rattle.script_runner.specs.Outcome.{StopsWriting, WantsMemory, IsOutcome}
 use Rattle.script_runner.specs.declared.centre.Centre.{Centre}
 use Rattle.script_runner.specs.declared.fault.ScriptFault.{ScriptFault}
 use Rattle.script_runner.specs.declared.fault.ScriptFault.TheVariants.{BadLine, Read, Write, Memory}

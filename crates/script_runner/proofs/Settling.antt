@@ -1,5 +1,5 @@
 -- Packets come that are due, one after another.
-use Rattle.std.proofs.Common.{◌≡◌, ℕ, zero, suc, ◌+◌, ◌<◌, ◌≤◌, Bool, true, false, List, [], ◌∷◌, ◌++◌, find, length, map, Option, Some}
+use Rattle.std.proofs.Common.{◌≡◌, ℕ, zero, suc, ◌+◌, ◌<◌, ◌≤◌, Bool, true, false, List, [], ◌∷◌, ◌++◌, find, length, Option, Some}
 use Rattle.std.proofs.Common.{None, Result, Ok, Err, refl, sym, ap, ◌∙◌, inl, inr, eq-or-lt_of_le, arith}
 use Rattle.std.specs.Prelude.{◌&&◌, ◌==◌, OnOk, not, pred, slice_get, if◌then◌else◌}
 use Rattle.std.specs.List.{range_with_len}

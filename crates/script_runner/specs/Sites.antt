@@ -1,5 +1,5 @@
 -- What stands beside one node of the centre.
-use Rattle.std.specs.Prelude.{◌≡◌, ℕ, List, [], ◌++◌, length, map, slice_get, slice_set, Some}
+use Rattle.std.specs.Prelude.{◌≡◌, ℕ, List, ◌++◌, map, slice_get, slice_set, Some}
 use Rattle.node_model.specs.Reported.{receipt_of}
 use Rattle.requests.specs.Replying.{reply_given}
 use Rattle.world.specs.Runs.{fault_number}
@@ -29,7 +29,7 @@ Tells old place given new before after =
     (site : Site) → slice_get old.sites.items place ≡ Some site
     → (left : Site) × HasSite old place left new
     × Acts site.node (λ runner. tells runner (map reply_given given.replies.items) (map receipt_of given.receipts.items))
-      (record { world = old.world; site = site }) (record { world = old.world; site = left }) before after
+    (record { world = old.world; site = site }) (record { world = old.world; site = left }) before after
 
 -- no session is there any more
 abbrev pub Leaves : Centre → ℕ → Centre → List ℕ → List ℕ → Type 0

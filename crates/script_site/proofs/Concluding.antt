@@ -1,21 +1,17 @@
 -- What came of attempts is told to the node.
-use Rattle.std.proofs.Common.{◌≡◌, ℕ, ◌+◌, ◌<◌, ◌≤◌, Bool, true, false, List, [], ◌∷◌, drop, get_or, length, Option, Some, None, Ok, Err, Result, refl, sym, ap, subst, ◌∙◌}
+use Rattle.std.proofs.Common.{◌≡◌, ℕ, ◌+◌, ◌<◌, Bool, true, false, List, [], ◌∷◌, drop, get_or, length, Option, Some, Ok, Err, Result, refl, sym, ap, subst, ◌∙◌}
 use Rattle.std.specs.Prelude.{OnOk, option_map, if◌then◌else◌}
 use Rattle.std.specs.declared.alloc.AllocError.{AllocError}
 use Rattle.mc_model.specs.node.Input.{Response}
-use Rattle.mc_model.specs.node.Outcome.{Outcome as Came}
 use Rattle.mc_model.specs.synod.Packet.{Slot}
 use Rattle.node_model.specs.Granted.{is_open}
-use Rattle.node_model.specs.Kept.{Kept}
-use Rattle.node_laws.specs.Clusters.{kept_reached}
 use Rattle.delivery.specs.Kept.{outcome_kept}
 use Rattle.delivery.specs.declared.outcome.Outcome.{Outcome}
 use Rattle.sessions.specs.declared.pushed.Delivery.{Delivery}
 use Rattle.sessions.specs.declared.pushed.Delivery.TheVariants as deliveries
 use Rattle.sessions.specs.declared.pushed.Pushed.{Pushed}
-use Rattle.world.specs.Runs.{Leads, away}
+use Rattle.world.specs.Runs.{Leads}
 use Rattle.world.specs.Scenes.{Scene}
-use Rattle.world.specs.declared.fault.WorldFault.{WorldFault}
 use Rattle.world.specs.declared.fault.WorldFault.TheVariants as faults
 use Rattle.world.specs.declared.given.Given.{Given}
 use Rattle.world.specs.declared.step.Step.TheVariants as steps
@@ -26,9 +22,6 @@ use Rattle.script_site.specs.Sites.{Goes, IsGoing, Takes}
 use Rattle.script_site.proofs.Going.{behind_it}
 use Rattle.script_site.proofs.Refusing.{closed_so, open_so}
 use Rattle.script_site.proofs.Stepping.{answer_goes, stays}
-
-pub rests_so : (home : ℕ) (scene : Scene) → Goes home rests_at scene scene
-rests_so home scene w node going = going
 
 module _ (home : ℕ) (slot : Slot) (outcome : Outcome) (old new : Scene) where
   by_open : (w : World) (node : Node) (is_so : Bool) → is_open node.kept slot ≡ is_so

@@ -1,19 +1,16 @@
 -- An attempt is asked for: it is granted and goes out, or fails; or it is not granted.
-use Rattle.std.proofs.Common.{◌≡◌, ℕ, List, [], ◌∷◌, ◌++◌, Option, Some, None, Result, Ok, Err, refl, sym, ap, subst, ◌∙◌}
+use Rattle.std.proofs.Common.{◌≡◌, ℕ, List, ◌++◌, Option, Some, None, Result, Ok, Err, sym, ap, ◌∙◌}
 use Rattle.std.proofs.lemmas.List.{append-nil}
 use Rattle.std.specs.Prelude.{OnOk, Bool, true, option_map, if◌then◌else◌}
 use Rattle.node_model.specs.Outputs.{Stepped}
 use Rattle.node_model.specs.Stepped.{stepped_down, stepped_up}
 use Rattle.std.specs.declared.alloc.AllocError.{AllocError}
 use Rattle.mc_model.specs.message.Chain.{taken_in}
-use Rattle.mc_model.specs.message.Decree.{Decree}
-use Rattle.mc_model.specs.message.Submission.{Submission}
 use Rattle.mc_model.specs.node.Grant.{GrantRefusal, refusal_number}
 use Rattle.mc_model.specs.node.Input.{Grant}
 use Rattle.mc_model.specs.synod.Packet.{Slot, slot_of}
 use Rattle.node_model.specs.Attempts.{grant_refusal}
 use Rattle.node_model.specs.Granted.{known_slot}
-use Rattle.node_model.specs.Kept.{message_at}
 use Rattle.delivery.specs.Deliveries.{EndsInAttempt}
 use Rattle.fate_chain.specs.declared.chain.Chain.{Chain}
 use Rattle.node_core.specs.Attempting.{refusal_of}
@@ -25,12 +22,11 @@ use Rattle.world.specs.declared.fault.WorldFault.TheVariants as faults
 use Rattle.world.specs.declared.given.Given.{Given}
 use Rattle.world.specs.declared.step.Step.TheVariants as steps
 use Rattle.script_text.specs.Attempts.{submission_at, taken_on}
-use Rattle.script_text.specs.Node.{Node, step_at, with_step}
-use Rattle.script_text.specs.Prints.{text_at, ungranted_line}
-use Rattle.script_text.specs.Runner.{Acted, Runner, followed_by, granted, granted_unless, on_grant, sent}
-use Rattle.script_world.specs.World.{World}
-use Rattle.script_site.specs.Grantings.{GrantsChain, IsGranting, RefusesGrant}
-use Rattle.script_site.specs.Sites.{Acts, HasActed, IsRunning, Placed, Takes}
+use Rattle.script_text.specs.Node.{Node, step_at}
+use Rattle.script_text.specs.Prints.{ungranted_line}
+use Rattle.script_text.specs.Runner.{Acted, Runner, granted, granted_unless, on_grant, sent}
+use Rattle.script_site.specs.Grantings.{IsGranting}
+use Rattle.script_site.specs.Sites.{Acts, IsRunning, Placed, Takes}
 use Rattle.script_site.specs.declared.steps.Granting.TheVariants as grantings
 use Rattle.script_site.proofs.Acting.{has_acted, like}
 use Rattle.script_site.proofs.Refusing.{allowed_so, ends_so, known_so, refused_so}

@@ -1,5 +1,5 @@
 -- What comes of what was heard on a session.
-use Rattle.std.proofs.Common.{◌≡◌, ℕ, List, [], ◌∷◌, ◌++◌, Option, Some, None, Result, Ok, Err, refl, sym, ap, subst, ◌∙◌, append_assoc}
+use Rattle.std.proofs.Common.{◌≡◌, ℕ, List, [], ◌++◌, Option, Some, None, Result, Ok, Err, refl, sym, ap, subst, ◌∙◌, append_assoc}
 use Rattle.std.proofs.lemmas.List.{append-nil}
 use Rattle.std.specs.Prelude.{OnOk, option_map}
 use Rattle.std.specs.declared.alloc.AllocError.{AllocError}
@@ -27,12 +27,12 @@ use Rattle.esme_service.specs.declared.heard.Heard.TheVariants as heards
 use Rattle.script_text.specs.Attempts.{Went, all_given_up, delivered_so}
 use Rattle.script_text.specs.Node.{Node, request_at, step_at}
 use Rattle.script_text.specs.Prints.{Print, gone_line, pdu_line, text_at}
-use Rattle.script_text.specs.Runner.{Acted, Runner, refusal_prints, rests}
+use Rattle.script_text.specs.Runner.{Runner, refusal_prints}
 use Rattle.script_text.specs.Settings.{Settings}
 use Rattle.script_world.specs.World.{World}
 use Rattle.script_site.specs.Asking.{HasAsked, IsAskedSo, refusal_of}
-use Rattle.script_site.specs.Heeding.{asked_by, asks_if, by_went, heeded}
-use Rattle.script_site.specs.Sites.{Acts, Goes, HasActed, IsRunning, Placed, Takes}
+use Rattle.script_site.specs.Heeding.{asked_by, asks_if, heeded}
+use Rattle.script_site.specs.Sites.{Acts, Goes, IsRunning, Placed, Takes}
 use Rattle.script_site.proofs.Acting.{nothing_acts}
 use Rattle.script_site.proofs.Stepping.{request_goes}
 

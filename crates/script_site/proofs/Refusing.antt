@@ -4,7 +4,7 @@ use Rattle.std.specs.Prelude.{IfSome, option_map, nat_le, if◌then◌else◌}
 use Rattle.mc_model.specs.message.Decree.{Attempt, Decree, Failed, Fate, Kind, Taken}
 use Rattle.mc_model.specs.node.Grant.{AlreadyGranted, Closed, GrantRefusal, NotChosen, NotMine, OlderIncarnation, refusal_number}
 use Rattle.mc_model.specs.node.Setup.{Setup}
-use Rattle.mc_model.specs.cluster.Steps.{Cluster, setup_of}
+use Rattle.mc_model.specs.cluster.Steps.{Cluster}
 use Rattle.mc_model.specs.synod.Packet.{Slot}
 use Rattle.node_model.specs.Attempts.{grant_refusal, known_refusal, newest_refusal}
 use Rattle.node_model.specs.Granted.{is_open}
@@ -14,7 +14,7 @@ use Rattle.delivery.specs.Deliveries.{EndsInAttempt, IsAttempt}
 use Rattle.fate_chain.specs.declared.chain.Chain.{Chain}
 use Rattle.node_core.specs.Attempting.{reason_of, refusal_of as refusal_of_reason}
 use Rattle.node_core.specs.Steps.{IsKnown}
-use Rattle.world.specs.Runs.{IsFault, Leads, absent, away, down, or_else, refusal_of, ungranted}
+use Rattle.world.specs.Runs.{IsFault, Leads, away, or_else}
 use Rattle.world.specs.Scenes.{Scene}
 use Rattle.world.specs.declared.fault.WorldFault.{WorldFault}
 use Rattle.world.specs.declared.fault.WorldFault.TheVariants as faults

@@ -1,5 +1,5 @@
 -- The deliver_sm of an attempt goes out, or nobody takes it.
-use Rattle.std.proofs.Common.{◌≡◌, ℕ, List, [], ◌∷◌, ◌++◌, Option, Some, None, Result, Ok, Err, refl, sym, ap, subst, ◌∙◌}
+use Rattle.std.proofs.Common.{◌≡◌, ℕ, List, ◌++◌, Option, Some, None, Result, Ok, Err, refl, sym, ap, subst, ◌∙◌}
 use Rattle.std.proofs.lemmas.List.{append-nil}
 use Rattle.std.specs.Prelude.{OnOk}
 use Rattle.std.specs.declared.alloc.AllocError.{AllocError}
@@ -13,17 +13,15 @@ use Rattle.fate_chain.specs.declared.chain.Chain.{Chain}
 use Rattle.sessions.specs.Session.{Session}
 use Rattle.sessions.specs.declared.pushed.Delivery.TheVariants.{Attempt}
 use Rattle.world.specs.Scenes.{Scene, clock_in}
-use Rattle.esme_service.specs.Pushes.{deliver_sm, knows_optional}
+use Rattle.esme_service.specs.Pushes.{deliver_sm}
 use Rattle.esme_service.specs.Pushing.{GoesOut}
 use Rattle.esme_service.specs.Service.{Service}
 use Rattle.esme_service.specs.declared.pushed_on.PushedOn.{PushedOn}
 use Rattle.esme_service.specs.declared.sending.Sending.TheVariants as sendings
 use Rattle.script_text.specs.Attempts.{concluded, unanswered}
-use Rattle.script_text.specs.Prints.{text_at}
 use Rattle.script_text.specs.Pushes.{session_at, target_in, with_push}
-use Rattle.script_text.specs.Runner.{Acted, Runner, fails_by, pushes, sent, sent_to}
-use Rattle.script_world.specs.World.{World}
-use Rattle.script_site.specs.Sites.{Acts, Goes, HasActed, IsRunning, Placed}
+use Rattle.script_text.specs.Runner.{Acted, fails_by, pushes, sent, sent_to}
+use Rattle.script_site.specs.Sites.{Acts, Goes, HasActed, Placed}
 use Rattle.script_site.specs.Written.{IsWritten, line_of}
 use Rattle.script_site.proofs.Acting.{clock_so, served, with_service}
 

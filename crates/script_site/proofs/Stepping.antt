@@ -1,14 +1,12 @@
 -- The world takes a step of the node that does something.
-use Rattle.std.proofs.Common.{◌≡◌, ℕ, suc, Bool, true, false, List, [], ◌∷◌, ◌++◌, length, map, Option, Some, None, Ok, Err, Result, refl, sym, ap, subst, ◌∙◌}
-use Rattle.std.proofs.Common.{inl, inr, arith, append_assoc, ◌<◌, ◌≤◌, zero}
-use Rattle.std.specs.Prelude.{reverse, slice_get, if◌then◌else◌, option_map}
+use Rattle.std.proofs.Common.{◌≡◌, ℕ, suc, Bool, true, false, List, [], ◌∷◌, ◌++◌, length, Option, Some, None, Ok, Err, refl, sym, ap, subst, ◌∙◌}
+use Rattle.std.proofs.Common.{inl, inr, arith, append_assoc, ◌<◌, zero}
+use Rattle.std.specs.Prelude.{reverse, slice_get, if◌then◌else◌}
 use Rattle.std.proofs.lemmas.Bool.{true≢false}
 use Rattle.std.proofs.lemmas.List.{reverse-append}
-use Rattle.std.proofs.lemmas.Option.{slice_get-get_or, slice_get_within}
-use Rattle.mc_model.specs.synod.Packet.{Packet}
-use Rattle.mc_model.specs.node.Input.{Delivery, Grant, Input, Response}
+use Rattle.mc_model.specs.node.Input.{Grant, Input, Response}
 use Rattle.mc_model.specs.node.Actor.{opening_clock}
-use Rattle.mc_model.specs.cluster.Steps.{Cluster, setup_of}
+use Rattle.mc_model.specs.cluster.Steps.{Cluster}
 use Rattle.mc_laws.proofs.Growth.{changed_cases, changed_here}
 use Rattle.node_model.specs.Granted.{known_slot}
 use Rattle.node_model.specs.Kept.{Kept}
@@ -19,9 +17,8 @@ use Rattle.desk.specs.Arrivals.{requested}
 use Rattle.desk.specs.declared.request.Request.{Request}
 use Rattle.delivery.specs.Kept.{outcome_kept}
 use Rattle.delivery.specs.declared.outcome.Outcome.{Outcome}
-use Rattle.node_core.specs.Keeping.{kept_of}
 use Rattle.sim_net.specs.Network.{numbered}
-use Rattle.world.specs.Runs.{Comes, IsAt, IsGiven, IsMember, Leads, StandsAs, leaves_up, node_at}
+use Rattle.world.specs.Runs.{Comes, IsAt, IsGiven, Leads, StandsAs, leaves_up, node_at}
 use Rattle.world.specs.Scenes.{Placed, Scene, clock_in, clock_of, is_up, is_up_in}
 use Rattle.world.specs.declared.fault.WorldFault.{WorldFault}
 use Rattle.world.specs.declared.given.Given.{Given}

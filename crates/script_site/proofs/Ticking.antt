@@ -1,5 +1,5 @@
 -- A moment has come: the node is told of it, its replies go out, and what waits too long is given up.
-use Rattle.std.proofs.Common.{◌≡◌, ℕ, List, [], ◌∷◌, ◌++◌, map, Result, Ok, Err, refl, sym, ap, subst, ◌∙◌}
+use Rattle.std.proofs.Common.{◌≡◌, ℕ, List, ◌++◌, map, Result, refl, sym, ap, subst, ◌∙◌}
 use Rattle.std.proofs.lemmas.List.{append-nil}
 use Rattle.std.specs.Global.{Vec}
 use Rattle.std.specs.Prelude.{OnOk}
@@ -12,18 +12,17 @@ use Rattle.world.specs.Scenes.{Scene, clock_in}
 use Rattle.world.specs.declared.given.Given.{Given}
 use Rattle.world.specs.declared.step.Step.TheVariants as steps
 use Rattle.script_text.specs.Attempts.{all_given_up}
-use Rattle.script_text.specs.Node.{step_at, tick_at, with_step}
+use Rattle.script_text.specs.Node.{step_at, tick_at}
 use Rattle.script_text.specs.Pushes.{accounts_up, overdue_in, timely_in}
 use Rattle.script_text.specs.Receipts.{posted_for_all}
 use Rattle.script_text.specs.Prints.{text_at}
-use Rattle.script_text.specs.Runner.{Acted, Runner, Told, gives_up, mail_of, makes_room, on_tick, posts_for_all, ticked, ticks_by, told}
-use Rattle.script_world.specs.World.{World}
+use Rattle.script_text.specs.Runner.{Told, gives_up, mail_of, makes_room, on_tick, posts_for_all, ticked, ticks_by, told}
 use Rattle.esme_service.specs.Service.{Service}
 use Rattle.script_site.specs.Posting.{IsPosted, mail_in}
 use Rattle.script_site.specs.Sites.{Acts, Goes, HasActed, IsGoing, IsRunning, Placed, Takes}
 use Rattle.script_site.specs.Standing.{HasGivenUp}
 use Rattle.script_site.specs.Told.{AreTold}
-use Rattle.script_site.proofs.Acting.{clock_so, mail_is, posted_acts, served, then_acts_if, with_service}
+use Rattle.script_site.proofs.Acting.{clock_so, mail_is, posted_acts, then_acts_if, with_service}
 use Rattle.script_site.proofs.Stepping.{tick_goes}
 
 -- The node was told of a moment, and its replies went out.

@@ -218,23 +218,17 @@ impl Site {
             given.ticket,
         );
         match given.refused {
-            Some(status) => Ok(Some(
-                Asked {
-                    requested,
-                    sequence,
-                }.refusal(status),
-            )),
+            Some(status) => Ok(Some(Asked {
+                requested,
+                sequence,
+            }
+            .refusal(status))),
             None => Ok(None),
         }
     }
 
     /// Adds the lines of the receipts that wait for the account of a session and go out now.
-    fn post_on(
-        &mut self,
-        world: &World,
-        number: u8,
-        text: &mut Vec<u8>,
-    ) -> Result<(), AllocError>
+    fn post_on(&mut self, world: &World, number: u8, text: &mut Vec<u8>) -> Result<(), AllocError>
         ensures { OnOk result (Acts self.old.node (λ runner. posts_for runner (account_at runner.sessions number))
             (record { world = world.now; site = self.old }) (record { world = world.now; site = self.new }) text.old.items text.new.items) }
     {

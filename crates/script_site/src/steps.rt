@@ -93,11 +93,7 @@ pub(crate) fn conclude_by(
 }
 
 /// Nobody answers these pushed requests any more. After an `Err`, which is want of memory, some of them are given up.
-pub(crate) fn give_up(
-    world: &mut World,
-    node: NodeNo,
-    pushed: &[Pushed],
-) -> Result<(), AllocError>
+pub(crate) fn give_up(world: &mut World, node: NodeNo, pushed: &[Pushed]) -> Result<(), AllocError>
     ensures { OnOk result (Goes node (λ n. all_given_up n pushed.now) world.old world.new) }
 {
     for request in pushed {

@@ -9,7 +9,5 @@ mod world;
 
 pub use fault::{StartFault, WorldFault};
 pub use given::Given;
-pub use member::Member;
-pub use node_core::{Found, Input, Setup, StepFault};
 pub use step::Step;
 pub use world::World;

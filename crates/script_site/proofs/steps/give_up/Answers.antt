@@ -1,5 +1,5 @@
 use Rattle.std.proofs.lemmas.List.{drop_all}
-use Rattle.std.proofs.Common.{◌≡◌, ℕ, length, refl, subst, arith}
+use Rattle.std.proofs.Common.{refl, subst, arith}
 use Rattle.mc_model.specs.node.Outcome.{Outcome}
 use Rattle.std.specs.Prelude.{Some}
 use Rattle.script_text.specs.Attempts.{delivered_so}
