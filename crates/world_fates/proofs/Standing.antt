@@ -418,7 +418,7 @@ script_run settings (line ∷ lines) came prints world joins =
         let cluster = cluster_of settings count serial in
         let on = leads_on (Some first) is in
         let wording = (spells_within 9 line (Nodes count serial) says).wording in
-        let rest = joined_so settings cluster nothing_told (tells_nothing cluster) (λ last past node print prints mute told. tt) lines [] first
+        let rest = joined_so settings cluster nothing_told (tells_nothing cluster) (λ last past node number session taken prints submitted told. tt) lines [] first
         (opened_stands settings count serial wording.0.most wording.1) joins.1 joins.2 (Some world) on.1 in
         let still = lines_to cluster settings lines first joins.1 joins.2 world on.1 [] (opened_still settings count serial) in
         let now : behind (inputs_of joins.1) [] ≡ newest_first came = newest_is joins.1 ∙ ap newest_first (sym on.0) in
