@@ -43,7 +43,7 @@ TellsNone body = (answer : QueryAnswer) → body ≡ QuerySmResp (Some answer) �
 abbrev pub IsNoDeliverSm : Body → Type 0
 IsNoDeliverSm body = (message : Message) → body ≡ DeliverSm message → ⊥
 
-refusal_tells_none : (requested : Requested) → TellsNone (refusal_body requested)
+pub refusal_tells_none : (requested : Requested) → TellsNone (refusal_body requested)
 refusal_tells_none requests.BindReceiver answer is = cc
 refusal_tells_none requests.BindTransmitter answer is = cc
 refusal_tells_none requests.BindTransceiver answer is = cc
@@ -63,7 +63,7 @@ response_tells_none system_id sequence (Bound roles.Transceiver version) answer 
 response_tells_none system_id sequence Unbound answer is = cc
 response_tells_none system_id sequence Linked answer is = cc
 
-refusal_delivers_none : (requested : Requested) → IsNoDeliverSm (refusal_body requested)
+pub refusal_delivers_none : (requested : Requested) → IsNoDeliverSm (refusal_body requested)
 refusal_delivers_none requests.BindReceiver message is = cc
 refusal_delivers_none requests.BindTransmitter message is = cc
 refusal_delivers_none requests.BindTransceiver message is = cc

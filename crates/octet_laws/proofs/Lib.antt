@@ -1,0 +1,6 @@
+pub mod Words
+pub mod Lines
+pub mod Reading
+pub mod Receipts
+pub mod Printed
+pub mod Fates

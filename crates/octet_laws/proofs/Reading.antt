@@ -1,0 +1,195 @@
+-- A PDU that is read of the octets of another has its command, and what stands in front of and in its fields, if its texts have no zero octet.
+use Rattle.std.proofs.Common.{◌≡◌, ℕ, ◌<◌, ◌^◌, List, [], ◌∷◌, ◌++◌, length, drop, Option, Some, None, Ok, refl, sym, ap, subst, ◌∙◌, append_assoc, arith}
+use Rattle.std.specs.List.{AllByRecursion}
+use Rattle.std.proofs.lemmas.Bool.{ltb-true}
+use Rattle.std.proofs.lemmas.Nat.{from_be_bytes-to_be_bytes_4}
+use Rattle.std.proofs.lemmas.List.Elements.{recursion_from_All}
+use Rattle.octet_fields.specs.Texts.{IsOctets}
+use Rattle.pdu_tables.specs.CommandCodes.{command_code, command_of}
+use Rattle.pdu_tables.specs.declared.command.Command.{Command}
+use Rattle.pdu_tables.specs.declared.command.Command.TheVariants as commands
+use Rattle.pdu_fields.specs.Grammar.{word_at}
+use Rattle.pdu_bodies.specs.Bodies.{BodyFits, body_octets, command_in}
+use Rattle.pdu_bodies.specs.declared.pdu.Body.{Body}
+use Rattle.pdu_bodies.specs.declared.pdu.Body.TheVariants as bodies
+use Rattle.pdu_bodies.specs.declared.pdu.Message.{Message}
+use Rattle.pdu_bodies.specs.declared.pdu.Pdu.{Pdu}
+use Rattle.pdu_bodies.specs.declared.pdu.QueryAnswer.{QueryAnswer}
+use Rattle.pdu_codec.specs.Pdu.{framed, octets_of, read_pdu}
+use Rattle.pdu_codec.proofs.PduSpelling.{read_pdu-takes, served}
+use Rattle.fate_laws.proofs.Clear.{HasNoZero}
+use Rattle.octet_laws.proofs.Words.{IsSplit, Lacks, cons_first, cons_rest, split}
+
+-- ---- texts
+
+pub lacks_zero : (text : List ℕ) → HasNoZero text → Lacks 0 text
+lacks_zero text none = by_each text (recursion_from_All (λ (octet : ℕ). 0 < octet) text none)
+  where
+    by_each : (text : List ℕ) → AllByRecursion (λ (octet : ℕ). 0 < octet) text → Lacks 0 text
+    by_each [] each = tt
+    by_each (first ∷ text) each = let above = each.0 in (λ same. absurd (omega (arith, above, same)), by_each text each.1)
+
+-- a text ends at its first zero
+text_back : (one other first second : List ℕ) → Lacks 0 one → Lacks 0 other → one ++ 0 ∷ [] ++ first ≡ other ++ 0 ∷ [] ++ second →
+    IsSplit one other first second
+text_back one other first second none also is =
+    split 0 one other first second none also (sym (append_assoc one (0 ∷ []) first) ∙ is ∙ append_assoc other (0 ∷ []) second)
+
+pub same_front : (one other first second : List ℕ) → length one ≡ length other → one ++ first ≡ other ++ second → one ≡ other
+same_front [] [] first second same is = refl
+same_front [] (octet ∷ other) first second same is = absurd (omega (arith, same))
+same_front (octet ∷ one) [] first second same is = absurd (omega (arith, same))
+same_front (octet ∷ one) (digit ∷ other) first second same is =
+    let rest = same_front one other first second (omega (arith, same)) (cons_rest octet digit (one ++ first) (other ++ second) is) in
+    λ i. cons_first octet digit (one ++ first) (other ++ second) is i ∷ rest i
+
+no_text : (text rest : List ℕ) → [] ≡ text ++ 0 ∷ [] ++ rest → ⊥
+no_text [] rest is = cc
+no_text (octet ∷ text) rest is = cc
+
+-- ---- commands
+
+of_query : (body : Body) → command_in body ≡ commands.QuerySmResp → (answer : Option QueryAnswer) × (body ≡ bodies.QuerySmResp answer)
+of_query (bodies.QuerySmResp answer) is = (answer, refl)
+of_query (bodies.BindReceiver bind) is = absurd cc
+of_query (bodies.BindReceiverResp answer) is = absurd cc
+of_query (bodies.BindTransmitter bind) is = absurd cc
+of_query (bodies.BindTransmitterResp answer) is = absurd cc
+of_query (bodies.BindTransceiver bind) is = absurd cc
+of_query (bodies.BindTransceiverResp answer) is = absurd cc
+of_query (bodies.SubmitSm message) is = absurd cc
+of_query (bodies.SubmitSmResp answer) is = absurd cc
+of_query (bodies.DeliverSm message) is = absurd cc
+of_query (bodies.DeliverSmResp answer) is = absurd cc
+of_query (bodies.QuerySm query) is = absurd cc
+of_query (bodies.CancelSm cancel) is = absurd cc
+of_query bodies.CancelSmResp is = absurd cc
+of_query bodies.Unbind is = absurd cc
+of_query bodies.UnbindResp is = absurd cc
+of_query bodies.EnquireLink is = absurd cc
+of_query bodies.EnquireLinkResp is = absurd cc
+of_query bodies.GenericNack is = absurd cc
+
+of_deliver : (body : Body) → command_in body ≡ commands.DeliverSm → (message : Message) × (body ≡ bodies.DeliverSm message)
+of_deliver (bodies.DeliverSm message) is = (message, refl)
+of_deliver (bodies.QuerySmResp answer) is = absurd cc
+of_deliver (bodies.BindReceiver bind) is = absurd cc
+of_deliver (bodies.BindReceiverResp answer) is = absurd cc
+of_deliver (bodies.BindTransmitter bind) is = absurd cc
+of_deliver (bodies.BindTransmitterResp answer) is = absurd cc
+of_deliver (bodies.BindTransceiver bind) is = absurd cc
+of_deliver (bodies.BindTransceiverResp answer) is = absurd cc
+of_deliver (bodies.SubmitSm message) is = absurd cc
+of_deliver (bodies.SubmitSmResp answer) is = absurd cc
+of_deliver (bodies.DeliverSmResp answer) is = absurd cc
+of_deliver (bodies.QuerySm query) is = absurd cc
+of_deliver (bodies.CancelSm cancel) is = absurd cc
+of_deliver bodies.CancelSmResp is = absurd cc
+of_deliver bodies.Unbind is = absurd cc
+of_deliver bodies.UnbindResp is = absurd cc
+of_deliver bodies.EnquireLink is = absurd cc
+of_deliver bodies.EnquireLinkResp is = absurd cc
+of_deliver bodies.GenericNack is = absurd cc
+
+-- ---- what is read
+
+-- one body is read of the octets of another
+pub record IsReadAs (body read : Body) : Type 0 where
+  pub command : command_in body ≡ command_in read
+  pub octets : body_octets body ≡ body_octets read
+  pub fits : BodyFits read
+
+code_in : (pdu : Pdu) → word_at 4 (octets_of pdu) ≡ command_code (command_in pdu.body)
+unfolding octets_of framed
+code_in pdu =
+    from_be_bytes-to_be_bytes_4 (command_code (command_in pdu.body)) (ltb-true (command_code (command_in pdu.body)) (2 ^ 32) (served (command_in pdu.body)).number)
+
+body_in : (pdu : Pdu) → drop 16 (octets_of pdu) ≡ body_octets pdu.body
+unfolding octets_of framed
+body_in pdu = refl
+
+pub read_as : (pdu read : Pdu) (octets : List ℕ) → octets ≡ octets_of pdu → IsOctets octets → read_pdu octets ≡ Ok read → IsReadAs pdu.body read.body
+read_as pdu read octets are bytes reads =
+    let takes = read_pdu-takes octets read bytes reads in
+    let same : octets_of pdu ≡ octets_of read = sym are ∙ takes.spelled in
+    let code = sym (code_in pdu) ∙ ap (word_at 4) same ∙ code_in read in
+    let both : Some (command_in pdu.body) ≡ Some (command_in read.body) =
+    sym (served (command_in pdu.body)).known ∙ ap command_of code ∙ (served (command_in read.body)).known in
+    record {
+      command = one_command _ _ both;
+      octets = sym (body_in pdu) ∙ ap (drop 16) same ∙ body_in read;
+      fits = takes.fits.body;
+    }
+  where
+    one_command : (one other : Command) → Some one ≡ Some other → one ≡ other
+    one_command one other is = cc
+
+-- ---- a query_sm_resp
+
+pub record IsAnswerOf (body : Body) (read : QueryAnswer) : Type 0 where
+  pub answer : QueryAnswer
+  pub body_is : body ≡ bodies.QuerySmResp (Some answer)
+  pub agrees : Lacks 0 answer.message_id → Lacks 0 answer.final_date → (read.message_id ≡ answer.message_id) × (read.message_state ≡ answer.message_state)
+
+pub query_back : (body read : Body) (told : QueryAnswer) → read ≡ bodies.QuerySmResp (Some told) → IsReadAs body read → IsAnswerOf body told
+query_back body read told read_is same =
+    let it = of_query body (same.command ∙ ap command_in read_is) in
+    by_answer it.0 it.1
+    (subst (λ (b : Body). body_octets b ≡ body_octets (bodies.QuerySmResp (Some told))) it.1 (same.octets ∙ ap body_octets read_is))
+    (subst BodyFits read_is same.fits)
+  where
+    by_answer : (answer : Option QueryAnswer) → body ≡ bodies.QuerySmResp answer →
+        body_octets (bodies.QuerySmResp answer) ≡ body_octets (bodies.QuerySmResp (Some told)) → BodyFits (bodies.QuerySmResp (Some told)) →
+        IsAnswerOf body told
+    by_answer None is octets fits = absurd (no_text told.message_id _ octets)
+    by_answer (Some answer) is octets fits = record {
+      answer = answer;
+      body_is = is;
+      agrees = λ id date.
+          let first = text_back answer.message_id told.message_id _ _ id (lacks_zero told.message_id fits.0.no_zero) octets in
+          let second = text_back answer.final_date told.final_date _ _ date (lacks_zero told.final_date fits.1.0.no_zero) first.rests in
+          (sym first.words, sym (cons_first answer.message_state told.message_state _ _ second.rests));
+    }
+
+-- ---- a deliver_sm
+
+-- the texts in front of what it brings have no zero
+pub record IsClearInFront (message : Message) : Type 0 where
+  pub service_type : Lacks 0 message.service_type
+  pub source : Lacks 0 message.source.digits
+  pub destination : Lacks 0 message.destination.digits
+  pub schedule : Lacks 0 message.schedule_delivery_time
+  pub validity : Lacks 0 message.validity_period
+
+pub record IsDeliveryOf (body : Body) (read : Message) : Type 0 where
+  pub message : Message
+  pub body_is : body ≡ bodies.DeliverSm message
+  pub agrees : IsClearInFront message → (read.esm_class ≡ message.esm_class) × (read.short_message ≡ message.short_message)
+
+pub deliver_back : (body read : Body) (told : Message) → read ≡ bodies.DeliverSm told → IsReadAs body read → IsDeliveryOf body told
+deliver_back body read told read_is same =
+    let it = of_deliver body (same.command ∙ ap command_in read_is) in
+    record {
+      message = it.0;
+      body_is = it.1;
+      agrees = agrees it.0
+          (subst (λ (b : Body). body_octets b ≡ body_octets (bodies.DeliverSm told)) it.1 (same.octets ∙ ap body_octets read_is))
+          (subst BodyFits read_is same.fits);
+    }
+  where
+    agrees : (message : Message) → body_octets (bodies.DeliverSm message) ≡ body_octets (bodies.DeliverSm told) → BodyFits (bodies.DeliverSm told) →
+        IsClearInFront message → (told.esm_class ≡ message.esm_class) × (told.short_message ≡ message.short_message)
+    agrees message octets fits clear =
+        let service = text_back message.service_type told.service_type _ _ clear.service_type (lacks_zero told.service_type fits.0.no_zero) octets in
+        let source = text_back message.source.digits told.source.digits _ _ clear.source (lacks_zero told.source.digits fits.1.1.1.0.no_zero)
+        (ap (drop 2) service.rests) in
+        let destination = text_back message.destination.digits told.destination.digits _ _ clear.destination
+        (lacks_zero told.destination.digits fits.1.1.1.1.1.1.0.no_zero) (ap (drop 2) source.rests) in
+        let schedule = text_back message.schedule_delivery_time told.schedule_delivery_time _ _ clear.schedule
+        (lacks_zero told.schedule_delivery_time fits.1.1.1.1.1.1.1.1.1.1.0.no_zero) (ap (drop 3) destination.rests) in
+        let validity = text_back message.validity_period told.validity_period _ _ clear.validity
+        (lacks_zero told.validity_period fits.1.1.1.1.1.1.1.1.1.1.1.0.no_zero) schedule.rests in
+        let text = ap (drop 4) validity.rests in (
+          sym (cons_first message.esm_class told.esm_class _ _ destination.rests),
+          sym (same_front message.short_message told.short_message _ _ (cons_first _ _ _ _ text) (cons_rest _ _ _ _ text)),
+        )

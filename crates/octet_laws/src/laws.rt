@@ -1,0 +1,9 @@
+//! The law of what the octets that a script writes tell of fates: nothing to call, but to cite.
+
+ghost use Rattle.octet_laws.specs.Laws.{OneFateIsWritten};
+
+/// Of the lines that a script writes all that tell a final state of one message, in a query_sm_resp with ESME_ROK (SMPP 3.4, 4.8.2 and 5.2.28) or in a
+/// delivery receipt (SMPP 3.4, 5.2.12 and appendix B), tell the same.
+pub fn one_fate_is_written()
+    ensures { OneFateIsWritten }
+{}
