@@ -5,7 +5,6 @@ use Rattle.std.specs.Prelude.{codes}
 use Rattle.std.specs.List.{AllByRecursion}
 use Rattle.std.specs.Int.Bits.{and_zero_r}
 use Rattle.std.proofs.lemmas.Nat.{and_assoc}
-use Rattle.hex.proofs.HexLemmas.{decode_of-ok}
 use Rattle.mc_model.specs.message.Submission.{Submission}
 use Rattle.mc_model.specs.node.Replies.{Accepted, Answer, Kept, NotMatched, NotOwner, Removed, Shown, TooLate, Unknown}
 use Rattle.mc_model.specs.synod.Lists.{In}
@@ -18,6 +17,7 @@ use Rattle.pdu_bodies.specs.declared.pdu.Body.TheVariants.{DeliverSm, QuerySmRes
 use Rattle.pdu_bodies.specs.declared.pdu.Message.{Message}
 use Rattle.pdu_bodies.specs.declared.pdu.Pdu.{Pdu}
 use Rattle.pdu_bodies.specs.declared.pdu.QueryAnswer.{QueryAnswer}
+use Rattle.pdu_codec.specs.Pdu.{octets_of}
 use Rattle.delivery.specs.Deliveries.{delivered_message, features_in}
 use Rattle.desk.specs.Desk.{final_moment}
 use Rattle.receipts.specs.Receipts.{receipt_message}
@@ -40,10 +40,10 @@ use Rattle.fate_laws.proofs.Tellings.{by_node}
 use Rattle.world_fates.proofs.Fates.{one_fate}
 use Rattle.world_fates.proofs.Printing.{StageSo, first_so, good_lines}
 use Rattle.world_fates.proofs.Worlds.{told_by, told_by_all}
-use Rattle.octet_laws.specs.Tellings.{AnswersState, IsReceiptText, ReportsState, TellsFate, message_type}
+use Rattle.octet_laws.specs.Tellings.{AnswersState, IsReceiptText, ReportsState, TellOneFate, TellsFate, message_type}
 use Rattle.octet_laws.proofs.Lines.{line_printed, pdu_printed}
 use Rattle.octet_laws.proofs.Printed.{IsMade, MadeAt, MadeFrom, made_takes, made_telling}
-use Rattle.octet_laws.proofs.Reading.{IsClearInFront, IsReadAs, deliver_back, lacks_zero, query_back, read_as}
+use Rattle.octet_laws.proofs.Reading.{IsClearInFront, answer_read, deliver_back, lacks_zero, message_read, query_back}
 use Rattle.octet_laws.proofs.Receipts.{receipt_told}
 use Rattle.octet_laws.proofs.Words.{Lacks, decimal_lacks, tests_lack}
 
@@ -156,16 +156,16 @@ features_are_none esm_class = and_assoc 0x3c esm_class 0xc0 ∙ and_zero_r esm_c
 -- ---- a print
 
 module _ (past : List NodeInput) (clear : (message : Submission) → WasSubmitted past message → IsClear message) (message_id : List ℕ) (state : ℕ) where
-  states : (printed : Print) (pdu read : Pdu) → pdu_in printed ≡ Some pdu → IsMade past printed → IsReadAs pdu.body read.body →
-      AnswersState read message_id state ⊎ ReportsState read message_id state → StatesFate printed message_id state
-  states (AtOnce session own) pdu read is made same (inl answers) =
-      let it = query_back pdu.body read.body answers.answer answers.body same in
+  states : (printed : Print) (pdu : Pdu) (octets : List ℕ) → pdu_in printed ≡ Some pdu → IsMade past printed → octets ≡ octets_of pdu →
+      AnswersState octets message_id state ⊎ ReportsState octets message_id state → StatesFate printed message_id state
+  states (AtOnce session own) pdu octets is made are (inl answers) =
+      let it = query_back pdu.body answers.answer (answer_read pdu octets are answers.answer answers.pdu) in
       absurd (made.0 it.answer (ap (λ (p : Pdu). p.body) (some_pdu own pdu is) ∙ it.body_is))
-  states (AtOnce session own) pdu read is made same (inr reports) =
-      let it = deliver_back pdu.body read.body reports.message reports.body same in
+  states (AtOnce session own) pdu octets is made are (inr reports) =
+      let it = deliver_back pdu.body reports.message (message_read pdu octets are reports.status reports.message reports.pdu) in
       absurd (made.1 it.message (ap (λ (p : Pdu). p.body) (some_pdu own pdu is) ∙ it.body_is))
-  states (Late session id own) pdu read is made same (inl answers) =
-      let it = query_back pdu.body read.body answers.answer answers.body same in
+  states (Late session id own) pdu octets is made are (inl answers) =
+      let it = query_back pdu.body answers.answer (answer_read pdu octets are answers.answer answers.pdu) in
       let reply : pdu ≡ reply_pdu made.requested made.sequence made.id made.answer = sym (some_pdu own pdu is) ∙ made.is in
       let shown = reply_shown made.requested made.sequence made.id made.answer it.answer (ap (λ (p : Pdu). p.body) (sym reply) ∙ it.body_is) in
       let agrees = it.agrees shown.id shown.date in
@@ -181,15 +181,15 @@ module _ (past : List NodeInput) (clear : (message : Submission) → WasSubmitte
         },
         answers.final,
       )
-  states (Late session id own) pdu read is made same (inr reports) =
-      let it = deliver_back pdu.body read.body reports.message reports.body same in
+  states (Late session id own) pdu octets is made are (inr reports) =
+      let it = deliver_back pdu.body reports.message (message_read pdu octets are reports.status reports.message reports.pdu) in
       let reply : pdu ≡ reply_pdu made.requested made.sequence made.id made.answer = sym (some_pdu own pdu is) ∙ made.is in
       absurd (reply_delivers_none made.requested made.sequence made.id made.answer it.message (ap (λ (p : Pdu). p.body) (sym reply) ∙ it.body_is))
-  states (Delivers session own) pdu read is made same (inl answers) =
-      let it = query_back pdu.body read.body answers.answer answers.body same in
+  states (Delivers session own) pdu octets is made are (inl answers) =
+      let it = query_back pdu.body answers.answer (answer_read pdu octets are answers.answer answers.pdu) in
       absurd (no_answer _ it.answer (ap (λ (p : Pdu). p.body) (sym made.is ∙ some_pdu own pdu is) ∙ it.body_is))
-  states (Delivers session own) pdu read is made same (inr reports) =
-      let it = deliver_back pdu.body read.body reports.message reports.body same in
+  states (Delivers session own) pdu octets is made are (inr reports) =
+      let it = deliver_back pdu.body reports.message (message_read pdu octets are reports.status reports.message reports.pdu) in
       let optional = knows_optional made.session in
       let message = message_same (with_optional optional (delivered_message made.taken)) it.message
       (ap (λ (p : Pdu). p.body) (sym made.is ∙ some_pdu own pdu is) ∙ it.body_is) in
@@ -197,11 +197,11 @@ module _ (past : List NodeInput) (clear : (message : Submission) → WasSubmitte
       let esm_class = agrees.0 ∙ ap (λ (m : Message). m.esm_class) (sym message) ∙ delivered_features optional made.taken in
       let none = sym (features_are_none made.taken.esm_class) ∙ ap message_type (sym esm_class) ∙ reports.receipt in
       absurd (omega (arith, none))
-  states (Reports session sequence optional report) pdu read is made same (inl answers) =
-      let it = query_back pdu.body read.body answers.answer answers.body same in
+  states (Reports session sequence optional report) pdu octets is made are (inl answers) =
+      let it = query_back pdu.body answers.answer (answer_read pdu octets are answers.answer answers.pdu) in
       absurd (no_answer _ it.answer (ap (λ (p : Pdu). p.body) (some_pdu (report_pdu sequence optional report) pdu is) ∙ it.body_is))
-  states (Reports session sequence optional report) pdu read is made same (inr reports) =
-      let it = deliver_back pdu.body read.body reports.message reports.body same in
+  states (Reports session sequence optional report) pdu octets is made are (inr reports) =
+      let it = deliver_back pdu.body reports.message (message_read pdu octets are reports.status reports.message reports.pdu) in
       let message = message_same (with_optional optional (receipt_message report)) it.message
       (ap (λ (p : Pdu). p.body) (some_pdu (report_pdu sequence optional report) pdu is) ∙ it.body_is) in
       let agrees = it.agrees (subst IsClearInFront message (reported_clear optional report (clear report.taken made))) in
@@ -216,10 +216,10 @@ module _ (past : List NodeInput) (clear : (message : Submission) → WasSubmitte
         message = told.0;
         state_is = told.1;
       }))
-  states (Gone session) pdu read is made same tells = absurd cc
-  states Unsettled pdu read is made same tells = absurd cc
-  states (Declined number) pdu read is made same tells = absurd cc
-  states (Ungranted reason) pdu read is made same tells = absurd cc
+  states (Gone session) pdu octets is made are tells = absurd cc
+  states Unsettled pdu octets is made are tells = absurd cc
+  states (Declined number) pdu octets is made are tells = absurd cc
+  states (Ungranted reason) pdu octets is made are tells = absurd cc
 
 -- ---- a script
 
@@ -231,23 +231,21 @@ record IsStated (script message_id : List ℕ) (state : ℕ) : Type 0 where
   states_it : StatesFate print message_id state
 
 stage_states : (stage : Stage) (inputs : List LineInput) (prints : List WorldPrint) →
-    StageSo script_settings (λ cluster. MadeFrom) made_telling (λ cluster. made_takes) stage inputs prints → (node : ℕ) (printed : Print) (pdu read : Pdu)
-    (message_id : List ℕ) (state : ℕ) → In (At node printed) prints → pdu_in printed ≡ Some pdu → IsReadAs pdu.body read.body →
-    AnswersState read message_id state ⊎ ReportsState read message_id state → StatesFate printed message_id state
-stage_states None inputs prints so node printed pdu read message_id state among is same tells = absurd (subst (In (At node printed)) so among)
-stage_states (Some world) inputs prints so node printed pdu read message_id state among is same tells =
+    StageSo script_settings (λ cluster. MadeFrom) made_telling (λ cluster. made_takes) stage inputs prints → (node : ℕ) (printed : Print) (pdu : Pdu)
+    (octets message_id : List ℕ) (state : ℕ) → In (At node printed) prints → pdu_in printed ≡ Some pdu → octets ≡ octets_of pdu →
+    AnswersState octets message_id state ⊎ ReportsState octets message_id state → StatesFate printed message_id state
+stage_states None inputs prints so node printed pdu octets message_id state among is are tells = absurd (subst (In (At node printed)) so among)
+stage_states (Some world) inputs prints so node printed pdu octets message_id state among is are tells =
     let made = so.tell so.past [] (record { inputs = []; last_is = refl; all = tt }) in
     let all = subst (AllByRecursion (MadeAt so.past)) (append-nil (told_by prints)) made.all in
-    states so.past so.stands.fit.clear message_id state printed pdu read is
-    (of_all (MadeAt so.past) (told_by prints) (by_node node printed) all (told_by_all node printed prints among)) same tells
+    states so.past so.stands.fit.clear message_id state printed pdu octets is
+    (of_all (MadeAt so.past) (told_by prints) (by_node node printed) all (told_by_all node printed prints among)) are tells
 
 line_states : (script line message_id : List ℕ) (state : ℕ) → In line (lines_of (text_of script)) → TellsFate line message_id state →
     IsStated script message_id state
 line_states script line message_id state among tells =
     let print = line_printed (prints_of script) line among in
     let brings = pdu_printed print.print line tells.octets print.written tells.line_is in
-    let bytes = (decode_of-ok tells.line_is.digits tells.octets tells.line_is.hex).3 in
-    let same = read_as brings.pdu tells.pdu tells.octets brings.octets_are bytes tells.reads in
     let good = good_lines script_settings (lines_of script) None in
     let so = first_so script_settings (λ cluster. MadeFrom) made_telling (λ cluster. made_takes) good.lines good.inputs (prints_of script) good.last good.joins in
     let here = subst (λ (p : WorldPrint). In p (prints_of script)) brings.print_is print.among in
@@ -255,14 +253,12 @@ line_states script line message_id state among tells =
       node = brings.node;
       print = brings.printed;
       among = here;
-      states_it = stage_states good.last good.inputs (prints_of script) so brings.node brings.printed brings.pdu tells.pdu message_id state here brings.pdu_is
-          same tells.tells;
+      states_it = stage_states good.last good.inputs (prints_of script) so brings.node brings.printed brings.pdu tells.octets message_id state here
+          brings.pdu_is brings.octets_are tells.tells;
     }
 
-pub written_once : (script : List ℕ) (written later : List (List ℕ)) (one other message_id : List ℕ) (first second : ℕ) →
-    written ++ later ≡ lines_of (text_of script) → In one written → In other written → TellsFate one message_id first → TellsFate other message_id second →
-    first ≡ second
-written_once script written later one other message_id first second is one_in other_in tells also =
+pub written_once : (script : List ℕ) (written later : List (List ℕ)) → written ++ later ≡ lines_of (text_of script) → TellOneFate written
+written_once script written later is one other message_id first second one_in other_in tells also =
     let here = line_states script one message_id first (subst (In one) is (in_append one written later (inl one_in))) tells in
     let there = line_states script other message_id second (subst (In other) is (in_append other written later (inl other_in))) also in
     one_fate script here.node there.node here.print there.print message_id first second here.among there.among here.states_it there.states_it

@@ -1,23 +1,24 @@
 -- A PDU that is read of the octets of another has its command, and what stands in front of and in its fields, if its texts have no zero octet.
-use Rattle.std.proofs.Common.{◌≡◌, ℕ, ◌<◌, ◌^◌, List, [], ◌∷◌, ◌++◌, length, drop, Option, Some, None, Ok, refl, sym, ap, subst, ◌∙◌, append_assoc, arith}
+use Rattle.std.proofs.Common.{◌≡◌, ℕ, ◌<◌, ◌^◌, List, [], ◌∷◌, ◌++◌, length, drop, Option, Some, None, refl, sym, ap, subst, ◌∙◌, append_assoc, arith}
 use Rattle.std.specs.List.{AllByRecursion}
 use Rattle.std.proofs.lemmas.Bool.{ltb-true}
 use Rattle.std.proofs.lemmas.Nat.{from_be_bytes-to_be_bytes_4}
 use Rattle.std.proofs.lemmas.List.Elements.{recursion_from_All}
-use Rattle.octet_fields.specs.Texts.{IsOctets}
 use Rattle.pdu_tables.specs.CommandCodes.{command_code, command_of}
 use Rattle.pdu_tables.specs.declared.command.Command.{Command}
 use Rattle.pdu_tables.specs.declared.command.Command.TheVariants as commands
-use Rattle.pdu_fields.specs.Grammar.{word_at}
+use Rattle.pdu_fields.specs.Grammar.{message_parts, query_answer_parts, word_at}
 use Rattle.pdu_bodies.specs.Bodies.{BodyFits, body_octets, command_in}
+use Rattle.pdu_bodies.specs.Contents.{message_contents, query_answer_contents}
 use Rattle.pdu_bodies.specs.declared.pdu.Body.{Body}
 use Rattle.pdu_bodies.specs.declared.pdu.Body.TheVariants as bodies
 use Rattle.pdu_bodies.specs.declared.pdu.Message.{Message}
 use Rattle.pdu_bodies.specs.declared.pdu.Pdu.{Pdu}
 use Rattle.pdu_bodies.specs.declared.pdu.QueryAnswer.{QueryAnswer}
-use Rattle.pdu_codec.specs.Pdu.{framed, octets_of, read_pdu}
-use Rattle.pdu_codec.proofs.PduSpelling.{read_pdu-takes, served}
+use Rattle.pdu_codec.specs.Pdu.{framed, octets_of}
+use Rattle.pdu_codec.proofs.PduSpelling.{served}
 use Rattle.fate_laws.proofs.Clear.{HasNoZero}
+use Rattle.octet_laws.specs.Tellings.{IsPdu, deliver_sm, esme_rok, query_sm_resp}
 use Rattle.octet_laws.proofs.Words.{IsSplit, Lacks, cons_first, cons_rest, split}
 
 -- ---- texts
@@ -99,30 +100,46 @@ pub record IsReadAs (body read : Body) : Type 0 where
   pub octets : body_octets body ≡ body_octets read
   pub fits : BodyFits read
 
-code_in : (pdu : Pdu) → word_at 4 (octets_of pdu) ≡ command_code (command_in pdu.body)
-unfolding octets_of framed
-code_in pdu =
-    from_be_bytes-to_be_bytes_4 (command_code (command_in pdu.body)) (ltb-true (command_code (command_in pdu.body)) (2 ^ 32) (served (command_in pdu.body)).number)
+code_in : (command status sequence : ℕ) (body : List ℕ) → command < 2 ^ 32 → word_at 4 (framed command status sequence body) ≡ command
+unfolding framed
+code_in command status sequence body short = from_be_bytes-to_be_bytes_4 command short
 
-body_in : (pdu : Pdu) → drop 16 (octets_of pdu) ≡ body_octets pdu.body
-unfolding octets_of framed
-body_in pdu = refl
+body_in : (command status sequence : ℕ) (body : List ℕ) → drop 16 (framed command status sequence body) ≡ body
+unfolding framed
+body_in command status sequence body = refl
 
-pub read_as : (pdu read : Pdu) (octets : List ℕ) → octets ≡ octets_of pdu → IsOctets octets → read_pdu octets ≡ Ok read → IsReadAs pdu.body read.body
-read_as pdu read octets are bytes reads =
-    let takes = read_pdu-takes octets read bytes reads in
-    let same : octets_of pdu ≡ octets_of read = sym are ∙ takes.spelled in
-    let code = sym (code_in pdu) ∙ ap (word_at 4) same ∙ code_in read in
-    let both : Some (command_in pdu.body) ≡ Some (command_in read.body) =
-    sym (served (command_in pdu.body)).known ∙ ap command_of code ∙ (served (command_in read.body)).known in
+-- the command and the octets of a body are those in its PDU
+read_as : (pdu : Pdu) (octets : List ℕ) → octets ≡ octets_of pdu → (read : Body) (status sequence : ℕ) →
+    octets ≡ framed (command_code (command_in read)) status sequence (body_octets read) → BodyFits read → IsReadAs pdu.body read
+unfolding octets_of
+read_as pdu octets are read status sequence is fits =
+    let same = sym are ∙ is in
+    let code = sym (code_at pdu.body pdu.status pdu.sequence) ∙ ap (word_at 4) same ∙ code_at read status sequence in
+    let both : Some (command_in pdu.body) ≡ Some (command_in read) =
+    sym (served (command_in pdu.body)).known ∙ ap command_of code ∙ (served (command_in read)).known in
     record {
       command = one_command _ _ both;
-      octets = sym (body_in pdu) ∙ ap (drop 16) same ∙ body_in read;
-      fits = takes.fits.body;
+      octets = sym (body_in (command_code (command_in pdu.body)) pdu.status pdu.sequence (body_octets pdu.body)) ∙ ap (drop 16) same
+          ∙ body_in (command_code (command_in read)) status sequence (body_octets read);
+      fits = fits;
     }
   where
+    code_at : (body : Body) (status sequence : ℕ) →
+        word_at 4 (framed (command_code (command_in body)) status sequence (body_octets body)) ≡ command_code (command_in body)
+    code_at body status sequence =
+        code_in (command_code (command_in body)) status sequence (body_octets body)
+        (ltb-true (command_code (command_in body)) (2 ^ 32) (served (command_in body)).number)
+
     one_command : (one other : Command) → Some one ≡ Some other → one ≡ other
     one_command one other is = cc
+
+pub answer_read : (pdu : Pdu) (octets : List ℕ) → octets ≡ octets_of pdu → (answer : QueryAnswer) →
+    IsPdu octets query_sm_resp esme_rok query_answer_parts (query_answer_contents answer) → IsReadAs pdu.body (bodies.QuerySmResp (Some answer))
+answer_read pdu octets are answer is = read_as pdu octets are (bodies.QuerySmResp (Some answer)) esme_rok is.sequence is.octets_are is.within
+
+pub message_read : (pdu : Pdu) (octets : List ℕ) → octets ≡ octets_of pdu → (status : ℕ) (message : Message) →
+    IsPdu octets deliver_sm status message_parts (message_contents message) → IsReadAs pdu.body (bodies.DeliverSm message)
+message_read pdu octets are status message is = read_as pdu octets are (bodies.DeliverSm message) status is.sequence is.octets_are is.within
 
 -- ---- a query_sm_resp
 
@@ -131,12 +148,10 @@ pub record IsAnswerOf (body : Body) (read : QueryAnswer) : Type 0 where
   pub body_is : body ≡ bodies.QuerySmResp (Some answer)
   pub agrees : Lacks 0 answer.message_id → Lacks 0 answer.final_date → (read.message_id ≡ answer.message_id) × (read.message_state ≡ answer.message_state)
 
-pub query_back : (body read : Body) (told : QueryAnswer) → read ≡ bodies.QuerySmResp (Some told) → IsReadAs body read → IsAnswerOf body told
-query_back body read told read_is same =
-    let it = of_query body (same.command ∙ ap command_in read_is) in
-    by_answer it.0 it.1
-    (subst (λ (b : Body). body_octets b ≡ body_octets (bodies.QuerySmResp (Some told))) it.1 (same.octets ∙ ap body_octets read_is))
-    (subst BodyFits read_is same.fits)
+pub query_back : (body : Body) (told : QueryAnswer) → IsReadAs body (bodies.QuerySmResp (Some told)) → IsAnswerOf body told
+query_back body told same =
+    let it = of_query body same.command in
+    by_answer it.0 it.1 (subst (λ (b : Body). body_octets b ≡ body_octets (bodies.QuerySmResp (Some told))) it.1 same.octets) same.fits
   where
     by_answer : (answer : Option QueryAnswer) → body ≡ bodies.QuerySmResp answer →
         body_octets (bodies.QuerySmResp answer) ≡ body_octets (bodies.QuerySmResp (Some told)) → BodyFits (bodies.QuerySmResp (Some told)) →
@@ -166,15 +181,13 @@ pub record IsDeliveryOf (body : Body) (read : Message) : Type 0 where
   pub body_is : body ≡ bodies.DeliverSm message
   pub agrees : IsClearInFront message → (read.esm_class ≡ message.esm_class) × (read.short_message ≡ message.short_message)
 
-pub deliver_back : (body read : Body) (told : Message) → read ≡ bodies.DeliverSm told → IsReadAs body read → IsDeliveryOf body told
-deliver_back body read told read_is same =
-    let it = of_deliver body (same.command ∙ ap command_in read_is) in
+pub deliver_back : (body : Body) (told : Message) → IsReadAs body (bodies.DeliverSm told) → IsDeliveryOf body told
+deliver_back body told same =
+    let it = of_deliver body same.command in
     record {
       message = it.0;
       body_is = it.1;
-      agrees = agrees it.0
-          (subst (λ (b : Body). body_octets b ≡ body_octets (bodies.DeliverSm told)) it.1 (same.octets ∙ ap body_octets read_is))
-          (subst BodyFits read_is same.fits);
+      agrees = agrees it.0 (subst (λ (b : Body). body_octets b ≡ body_octets (bodies.DeliverSm told)) it.1 same.octets) same.fits;
     }
   where
     agrees : (message : Message) → body_octets (bodies.DeliverSm message) ≡ body_octets (bodies.DeliverSm told) → BodyFits (bodies.DeliverSm told) →
