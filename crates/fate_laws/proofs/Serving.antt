@@ -99,8 +99,8 @@ module _ (member : Member) (past : List NodeInput) (fit : IsFit member.cluster p
   nothing_asked : (session : Session) (prints : List Print) → AreMute prints → IsServed member past (unasked node session prints)
   nothing_asked session prints mute = record { leads = leads_still member past true node fit at; mute = mute }
 
-  request_served : (number : ℕ) (session : Session) (requested : Requested) (sequence : ℕ) (account : Option (List ℕ)) (request : Option Request) → IsClearRequest request →
-      IsServed member past (on_request number node session requested sequence account request)
+  request_served : (number : ℕ) (session : Session) (requested : Requested) (sequence : ℕ) (account : Option (List ℕ)) (request : Option Request) →
+      IsClearRequest request → IsServed member past (on_request number node session requested sequence account request)
   request_served number session requested sequence None request clear = nothing_asked session [] tt
   request_served number session requested sequence (Some account) None clear = nothing_asked session [] tt
   request_served number session requested sequence (Some account) (Some request) clear = record {

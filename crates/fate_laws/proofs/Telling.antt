@@ -133,7 +133,8 @@ at_once_is_mute session pdu none other =
     no_deliver number one is = subst (λ (p : Pdu). IsNoDeliverSm p.body) (same_pdu number one is) other
 
 pub refusal_is_mute : (session : ℕ) (requested : Requested) (sequence status : ℕ) → IsMute (AtOnce session (refused_with requested sequence status))
-refusal_is_mute session requested sequence status = at_once_is_mute session (refused_with requested sequence status) (refusal_tells_none requested) (refusal_delivers_none requested)
+refusal_is_mute session requested sequence status =
+    at_once_is_mute session (refused_with requested sequence status) (refusal_tells_none requested) (refusal_delivers_none requested)
 
 pub response_is_mute : (session : ℕ) (system_id : List ℕ) (outgoing : Outgoing) → IsMute (AtOnce session (pdu_of system_id outgoing))
 response_is_mute session system_id outgoing =

@@ -1,5 +1,5 @@
 -- What the octets of a print tell of a fate is what the print states.
-use Rattle.std.proofs.Common.{◌≡◌, ◌⊎◌, ℕ, ◌+◌, Bool, true, false, List, [], ◌++◌, Option, Some, None, refl, sym, ap, subst, ◌∙◌, inl, inr, arith}
+use Rattle.std.proofs.Common.{◌≡◌, ◌⊎◌, ℕ, ◌-◌, ◌/◌, ◌%◌, Bool, true, false, List, [], ◌++◌, Option, Some, None, refl, sym, ap, subst, ◌∙◌, inl, inr, arith}
 use Rattle.std.proofs.Common.{append-nil}
 use Rattle.std.specs.Prelude.{codes}
 use Rattle.std.specs.List.{AllByRecursion}
@@ -10,7 +10,8 @@ use Rattle.mc_model.specs.node.Replies.{Accepted, Answer, Kept, NotMatched, NotO
 use Rattle.mc_model.specs.synod.Lists.{In}
 use Rattle.node_laws.specs.Clusters.{NodeInput}
 use Rattle.node_laws.proofs.Orders.{in_append}
-use Rattle.smpp_time.specs.Texts.{time_text}
+use Rattle.smpp_time.specs.Calendar.{date_of}
+use Rattle.smpp_time.specs.Texts.{time_text, two_digits}
 use Rattle.pdu_tables.specs.StatusCodes.{status_code}
 use Rattle.pdu_tables.specs.declared.status.Status.TheVariants as statuses
 use Rattle.pdu_bodies.specs.declared.pdu.Body.TheVariants.{DeliverSm, QuerySmResp}
@@ -45,7 +46,7 @@ use Rattle.octet_laws.proofs.Lines.{line_printed, pdu_printed}
 use Rattle.octet_laws.proofs.Printed.{IsMade, MadeAt, MadeFrom, made_takes, made_telling}
 use Rattle.octet_laws.proofs.Reading.{IsClearInFront, answer_read, deliver_back, lacks_zero, message_read, query_back}
 use Rattle.octet_laws.proofs.Receipts.{receipt_told}
-use Rattle.octet_laws.proofs.Words.{Lacks, decimal_lacks, tests_lack}
+use Rattle.octet_laws.proofs.Words.{Lacks, both_lack, decimal_lacks, tests_lack}
 
 some_pdu : (one other : Pdu) → Some one ≡ Some other → one ≡ other
 some_pdu one other is = cc
@@ -55,10 +56,21 @@ some_pdu one other is = cc
 -- a moment is written in digits and a plus
 text_lacks : (moment : ℕ) → Lacks 0 (time_text moment)
 text_lacks moment =
-    (no_zero _, (no_zero _, (no_zero _, (no_zero _, (no_zero _, (no_zero _, (no_zero _, (no_zero _, (no_zero _, (no_zero _, (no_zero _, (no_zero _, tests_lack 0 (codes "000+") refl))))))))))))
+    let date = date_of (moment / 86400) in
+    let clock = moment % 86400 in
+    let years = two_digits (date.year - 2000) ++ two_digits date.month in
+    let days = years ++ two_digits date.day ++ two_digits (clock / 3600) in
+    both_lack 0 (days ++ two_digits (clock / 60 % 60) ++ two_digits (clock % 60)) (codes "000+")
+    (both_lack 0 (days ++ two_digits (clock / 60 % 60)) (two_digits (clock % 60))
+    (both_lack 0 days (two_digits (clock / 60 % 60))
+    (both_lack 0 (years ++ two_digits date.day) (two_digits (clock / 3600))
+    (both_lack 0 years (two_digits date.day)
+    (both_lack 0 (two_digits (date.year - 2000)) (two_digits date.month) (digits_lack (date.year - 2000)) (digits_lack date.month))
+    (digits_lack date.day)) (digits_lack (clock / 3600))) (digits_lack (clock / 60 % 60))) (digits_lack (clock % 60)))
+    (tests_lack 0 (codes "000+") refl)
   where
-    no_zero : (digit : ℕ) → 48 + digit ≡ 0 → ⊥
-    no_zero digit same = omega (arith, same)
+    digits_lack : (number : ℕ) → Lacks 0 (two_digits number)
+    digits_lack number = (λ same. absurd (omega (arith, same)), (λ same. absurd (omega (arith, same)), tt))
 
 date_lacks : (moment : Option ℕ) → Lacks 0 (final_date_of moment)
 date_lacks None = tt
@@ -247,7 +259,8 @@ line_states script line message_id state among tells =
     let print = line_printed (prints_of script) line among in
     let brings = pdu_printed print.print line tells.octets print.written tells.line_is in
     let good = good_lines script_settings (lines_of script) None in
-    let so = first_so script_settings (λ cluster. MadeFrom) made_telling (λ cluster. made_takes) good.lines good.inputs (prints_of script) good.last good.joins in
+    let so = first_so script_settings (λ cluster. MadeFrom) made_telling (λ cluster. made_takes) good.lines good.inputs (prints_of script) good.last
+    good.joins in
     let here = subst (λ (p : WorldPrint). In p (prints_of script)) brings.print_is print.among in
     record {
       node = brings.node;

@@ -4,3 +4,4 @@ pub mod Reading
 pub mod Receipts
 pub mod Printed
 pub mod Fates
+pub mod Example

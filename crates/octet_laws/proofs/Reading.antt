@@ -1,9 +1,10 @@
 -- A PDU that is read of the octets of another has its command, and what stands in front of and in its fields, if its texts have no zero octet.
-use Rattle.std.proofs.Common.{◌≡◌, ℕ, ◌<◌, ◌^◌, List, [], ◌∷◌, ◌++◌, length, drop, Option, Some, None, refl, sym, ap, subst, ◌∙◌, append_assoc, arith}
+use Rattle.std.proofs.Common.{◌≡◌, ℕ, ◌<◌, ◌^◌, List, [], ◌∷◌, ◌++◌, length, drop, Option, Some, None, Ok, refl, sym, ap, subst, ◌∙◌, append_assoc, arith}
 use Rattle.std.specs.List.{AllByRecursion}
 use Rattle.std.proofs.lemmas.Bool.{ltb-true}
 use Rattle.std.proofs.lemmas.Nat.{from_be_bytes-to_be_bytes_4}
 use Rattle.std.proofs.lemmas.List.Elements.{recursion_from_All}
+use Rattle.octet_fields.specs.Texts.{IsOctets}
 use Rattle.pdu_tables.specs.CommandCodes.{command_code, command_of}
 use Rattle.pdu_tables.specs.declared.command.Command.{Command}
 use Rattle.pdu_tables.specs.declared.command.Command.TheVariants as commands
@@ -15,9 +16,10 @@ use Rattle.pdu_bodies.specs.declared.pdu.Body.TheVariants as bodies
 use Rattle.pdu_bodies.specs.declared.pdu.Message.{Message}
 use Rattle.pdu_bodies.specs.declared.pdu.Pdu.{Pdu}
 use Rattle.pdu_bodies.specs.declared.pdu.QueryAnswer.{QueryAnswer}
-use Rattle.pdu_codec.specs.Pdu.{framed, octets_of}
-use Rattle.pdu_codec.proofs.PduSpelling.{served}
+use Rattle.pdu_codec.specs.Pdu.{framed, octets_of, read_pdu}
+use Rattle.pdu_codec.proofs.PduSpelling.{read_pdu-takes, served}
 use Rattle.fate_laws.proofs.Clear.{HasNoZero}
+use Rattle.octet_laws.specs.Laws.{IsSpelledAs}
 use Rattle.octet_laws.specs.Tellings.{IsPdu, deliver_sm, esme_rok, query_sm_resp}
 use Rattle.octet_laws.proofs.Words.{IsSplit, Lacks, cons_first, cons_rest, split}
 
@@ -140,6 +142,20 @@ answer_read pdu octets are answer is = read_as pdu octets are (bodies.QuerySmRes
 pub message_read : (pdu : Pdu) (octets : List ℕ) → octets ≡ octets_of pdu → (status : ℕ) (message : Message) →
     IsPdu octets deliver_sm status message_parts (message_contents message) → IsReadAs pdu.body (bodies.DeliverSm message)
 message_read pdu octets are status message is = read_as pdu octets are (bodies.DeliverSm message) status is.sequence is.octets_are is.within
+
+-- ---- what the codec reads
+
+pub read_spelled : (octets : List ℕ) (pdu : Pdu) → IsOctets octets → read_pdu octets ≡ Ok pdu → IsSpelledAs octets pdu.status pdu.body
+unfolding octets_of
+read_spelled octets pdu bytes reads =
+    let takes = read_pdu-takes octets pdu bytes reads in by_body pdu.body takes.spelled takes.fits.body
+  where
+    by_body : (body : Body) → octets ≡ framed (command_code (command_in body)) pdu.status pdu.sequence (body_octets body) → BodyFits body →
+        IsSpelledAs octets pdu.status body
+    by_body (bodies.QuerySmResp (Some answer)) is fits = record { sequence = pdu.sequence; octets_are = is; within = fits }
+    by_body (bodies.QuerySmResp None) is fits = tt
+    by_body (bodies.DeliverSm message) is fits = record { sequence = pdu.sequence; octets_are = is; within = fits }
+    by_body other is fits = tt
 
 -- ---- a query_sm_resp
 

@@ -47,7 +47,8 @@ digits_high (suc turns) number behind high = by_test (number / 10 == 0) (digits_
     here : 33 ≤ digit_glyph false (number % 10)
     here = glyph_high (number % 10) (omega arith)
 
-    by_test : (last : Bool) → ((more : List ℕ) → AreHigh more → AreHigh (digits_onto turns 10 false (number / 10) more)) → AreHigh (if last then digit_glyph false (number % 10) ∷ behind
+    by_test : (last : Bool) → ((more : List ℕ) → AreHigh more → AreHigh (digits_onto turns 10 false (number / 10) more)) →
+        AreHigh (if last then digit_glyph false (number % 10) ∷ behind
         else digits_onto turns 10 false (number / 10) (digit_glyph false (number % 10) ∷ behind))
     by_test true more = (here, high)
     by_test false more = more (digit_glyph false (number % 10) ∷ behind) (here, high)

@@ -3,4 +3,4 @@
 
 mod laws;
 
-pub use laws::one_fate_is_written;
+pub use laws::{one_fate_is_written, two_lines_tell_one_fate, what_is_read_is_spelled};

@@ -137,7 +137,8 @@ module _ (Goes : Node → List Input → Node → Type 0) (going : IsGoing Goes)
       ended = on_wrong_length (session_in runner.sessions number)
 
       at_test : (wrong : Bool) → ActedGoes runner (cond {A = Acted} wrong (ends settings number runner) (holds runner number rest))
-      at_test true = serves_goes runner number (on_done settings number runner.node nothing_came ended) (done_goes settings number runner.node nothing_came ended)
+      at_test true =
+          serves_goes runner number (on_done settings number runner.node nothing_came ended) (done_goes settings number runner.node nothing_came ended)
       at_test false = going.nowhere runner.node
 
   frames_go : (settings : Settings) (number : ℕ) (runner : Runner) (frames : List (List ℕ)) (rest : List ℕ) →

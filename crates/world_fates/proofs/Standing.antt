@@ -332,7 +332,8 @@ opened_still settings count serial = record {
   stands = record {
     count = length-map-range_with_len new 1 count;
     each = λ place runner is.
-        subst (λ (r : Runner). IsNodeOf (cluster_of settings count serial) [] (suc place) r.node) (new_at place runner is) (record { setup = refl; kept = refl });
+        subst (λ (r : Runner). IsNodeOf (cluster_of settings count serial) [] (suc place) r.node) (new_at place runner is)
+        (record { setup = refl; kept = refl });
     packets = refl;
   };
   none = λ place runner is. ap (λ (r : Runner). r.node.packets) (sym (new_at place runner is));
@@ -418,7 +419,8 @@ script_run settings (line ∷ lines) came prints world joins =
         let cluster = cluster_of settings count serial in
         let on = leads_on (Some first) is in
         let wording = (spells_within 9 line (Nodes count serial) says).wording in
-        let rest = joined_so settings cluster nothing_told (tells_nothing cluster) (λ last past node number session taken prints submitted told. tt) lines [] first
+        let rest = joined_so settings cluster nothing_told (tells_nothing cluster) (λ last past node number session taken prints submitted told. tt) lines []
+        first
         (opened_stands settings count serial wording.0.most wording.1) joins.1 joins.2 (Some world) on.1 in
         let still = lines_to cluster settings lines first joins.1 joins.2 world on.1 [] (opened_still settings count serial) in
         let now : behind (inputs_of joins.1) [] ≡ newest_first came = newest_is joins.1 ∙ ap newest_first (sym on.0) in
