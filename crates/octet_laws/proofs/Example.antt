@@ -1,6 +1,6 @@
 -- Two lines of a text that tell one fate, computed.
 use Rattle.std.proofs.Common.{◌≡◌, ℕ, List, [], ◌∷◌, ◌++◌, Ok, refl, inl, inr, arith}
-use Rattle.std.specs.Prelude.{codes}
+use Rattle.std.specs.Prelude.{codes, drop}
 use Rattle.std.specs.Fmt.{digits}
 use Rattle.std.proofs.lemmas.List.Elements.{All-from_recursion}
 use Rattle.hex.specs.Hex.{decode_of, decode_pairs, encode_with}
@@ -31,10 +31,10 @@ use Rattle.octet_laws.proofs.Reading.{read_spelled}
 use Rattle.octet_laws.proofs.Words.{tests_lack}
 
 answer_digits : List ℕ
-answer_digits = codes "0000002e80000003000000000000000331303030313030303031003030303130313030303030303030302b000400"
+answer_digits = drop 8 answer_line
 
 receipt_digits : List ℕ
-receipt_digits = codes "000000a3000000050000000000000001000101313535000101313434000400000000000000006869643a31303030313030303031207375623a30303120646c7672643a303030207375626d697420646174653a3030303130313030303020646f6e6520646174653a3030303130313030303020737461743a44454c45544544206572723a30303020746578743a4869001e000b31303030313030303031000427000104"
+receipt_digits = drop 8 receipt_line
 
 answer_octets : (octets : List ℕ) × (decode_of answer_digits ≡ Ok octets)
 unfolding answer_digits decode_pairs

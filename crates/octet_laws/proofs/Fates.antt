@@ -9,7 +9,6 @@ use Rattle.mc_model.specs.message.Submission.{Submission}
 use Rattle.mc_model.specs.node.Replies.{Accepted, Answer, Kept, NotMatched, NotOwner, Removed, Shown, TooLate, Unknown}
 use Rattle.mc_model.specs.synod.Lists.{In}
 use Rattle.node_laws.specs.Clusters.{NodeInput}
-use Rattle.node_laws.proofs.Orders.{in_append}
 use Rattle.smpp_time.specs.Calendar.{date_of}
 use Rattle.smpp_time.specs.Texts.{time_text, two_digits}
 use Rattle.pdu_tables.specs.StatusCodes.{status_code}
@@ -42,11 +41,11 @@ use Rattle.world_fates.proofs.Fates.{one_fate}
 use Rattle.world_fates.proofs.Printing.{StageSo, first_so, good_lines}
 use Rattle.world_fates.proofs.Worlds.{told_by, told_by_all}
 use Rattle.octet_laws.specs.Tellings.{AnswersState, IsReceiptText, ReportsState, TellOneFate, TellsFate, message_type}
-use Rattle.octet_laws.proofs.Lines.{line_printed, pdu_printed}
+use Rattle.octet_laws.proofs.Lines.{front_printed, pdu_printed}
 use Rattle.octet_laws.proofs.Printed.{IsMade, MadeAt, MadeFrom, made_takes, made_telling}
 use Rattle.octet_laws.proofs.Reading.{IsClearInFront, answer_read, deliver_back, lacks_zero, message_read, query_back}
 use Rattle.octet_laws.proofs.Receipts.{receipt_told}
-use Rattle.octet_laws.proofs.Words.{Lacks, both_lack, decimal_lacks, tests_lack}
+use Rattle.octet_laws.proofs.Words.{IsFrontRead, Lacks, both_lack, decimal_lacks, tests_lack}
 
 some_pdu : (one other : Pdu) → Some one ≡ Some other → one ≡ other
 some_pdu one other is = cc
@@ -168,7 +167,7 @@ features_are_none esm_class = and_assoc 0x3c esm_class 0xc0 ∙ and_zero_r esm_c
 -- ---- a print
 
 module _ (past : List NodeInput) (clear : (message : Submission) → WasSubmitted past message → IsClear message) (message_id : List ℕ) (state : ℕ) where
-  states : (printed : Print) (pdu : Pdu) (octets : List ℕ) → pdu_in printed ≡ Some pdu → IsMade past printed → octets ≡ octets_of pdu →
+  states : (printed : Print) (pdu : Pdu) (octets : List ℕ) → pdu_in printed ≡ Some pdu → IsMade past printed → IsFrontRead (octets_of pdu) octets →
       AnswersState octets message_id state ⊎ ReportsState octets message_id state → StatesFate printed message_id state
   states (AtOnce session own) pdu octets is made are (inl answers) =
       let it = query_back pdu.body answers.answer (answer_read pdu octets are answers.answer answers.pdu) in
@@ -244,7 +243,7 @@ record IsStated (script message_id : List ℕ) (state : ℕ) : Type 0 where
 
 stage_states : (stage : Stage) (inputs : List LineInput) (prints : List WorldPrint) →
     StageSo script_settings (λ cluster. MadeFrom) made_telling (λ cluster. made_takes) stage inputs prints → (node : ℕ) (printed : Print) (pdu : Pdu)
-    (octets message_id : List ℕ) (state : ℕ) → In (At node printed) prints → pdu_in printed ≡ Some pdu → octets ≡ octets_of pdu →
+    (octets message_id : List ℕ) (state : ℕ) → In (At node printed) prints → pdu_in printed ≡ Some pdu → IsFrontRead (octets_of pdu) octets →
     AnswersState octets message_id state ⊎ ReportsState octets message_id state → StatesFate printed message_id state
 stage_states None inputs prints so node printed pdu octets message_id state among is are tells = absurd (subst (In (At node printed)) so among)
 stage_states (Some world) inputs prints so node printed pdu octets message_id state among is are tells =
@@ -253,11 +252,11 @@ stage_states (Some world) inputs prints so node printed pdu octets message_id st
     states so.past so.stands.fit.clear message_id state printed pdu octets is
     (of_all (MadeAt so.past) (told_by prints) (by_node node printed) all (told_by_all node printed prints among)) are tells
 
-line_states : (script line message_id : List ℕ) (state : ℕ) → In line (lines_of (text_of script)) → TellsFate line message_id state →
-    IsStated script message_id state
-line_states script line message_id state among tells =
-    let print = line_printed (prints_of script) line among in
-    let brings = pdu_printed print.print line tells.octets print.written tells.line_is in
+line_states : (script front later line message_id : List ℕ) (state : ℕ) → front ++ later ≡ text_of script → In line (lines_of front) →
+    TellsFate line message_id state → IsStated script message_id state
+line_states script front later line message_id state is among tells =
+    let print = front_printed (prints_of script) front later line is among in
+    let brings = pdu_printed print.print line print.more tells.octets print.written tells.line_is in
     let good = good_lines script_settings (lines_of script) None in
     let so = first_so script_settings (λ cluster. MadeFrom) made_telling (λ cluster. made_takes) good.lines good.inputs (prints_of script) good.last
     good.joins in
@@ -270,8 +269,8 @@ line_states script line message_id state among tells =
           brings.pdu_is brings.octets_are tells.tells;
     }
 
-pub written_once : (script : List ℕ) (written later : List (List ℕ)) → written ++ later ≡ lines_of (text_of script) → TellOneFate written
+pub written_once : (script written later : List ℕ) → written ++ later ≡ text_of script → TellOneFate (lines_of written)
 written_once script written later is one other message_id first second one_in other_in tells also =
-    let here = line_states script one message_id first (subst (In one) is (in_append one written later (inl one_in))) tells in
-    let there = line_states script other message_id second (subst (In other) is (in_append other written later (inl other_in))) also in
+    let here = line_states script written later one message_id first is one_in tells in
+    let there = line_states script written later other message_id second is other_in also in
     one_fate script here.node there.node here.print there.print message_id first second here.among there.among here.states_it there.states_it

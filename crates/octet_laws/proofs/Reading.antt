@@ -1,5 +1,6 @@
 -- A PDU that is read of the octets of another has its command, and what stands in front of and in its fields, if its texts have no zero octet.
-use Rattle.std.proofs.Common.{◌≡◌, ℕ, ◌<◌, ◌^◌, List, [], ◌∷◌, ◌++◌, length, drop, Option, Some, None, Ok, refl, sym, ap, subst, ◌∙◌, append_assoc, arith}
+use Rattle.std.proofs.Common.{◌≡◌, ℕ, ◌<◌, ◌^◌, List, [], ◌∷◌, ◌++◌, length, drop, Option, Some, None, Ok, refl, sym, ap, subst, ◌∙◌}
+use Rattle.std.proofs.Common.{append_assoc, append-nil, arith}
 use Rattle.std.specs.List.{AllByRecursion}
 use Rattle.std.proofs.lemmas.Bool.{ltb-true}
 use Rattle.std.proofs.lemmas.Nat.{from_be_bytes-to_be_bytes_4}
@@ -21,7 +22,7 @@ use Rattle.pdu_codec.proofs.PduSpelling.{read_pdu-takes, served}
 use Rattle.fate_laws.proofs.Clear.{HasNoZero}
 use Rattle.octet_laws.specs.Laws.{IsSpelledAs}
 use Rattle.octet_laws.specs.Tellings.{IsPdu, deliver_sm, esme_rok, query_sm_resp}
-use Rattle.octet_laws.proofs.Words.{IsSplit, Lacks, cons_first, cons_rest, split}
+use Rattle.octet_laws.proofs.Words.{IsFrontRead, IsSplit, Lacks, cons_first, cons_rest, split}
 
 -- ---- texts
 
@@ -32,11 +33,12 @@ lacks_zero text none = by_each text (recursion_from_All (λ (octet : ℕ). 0 < o
     by_each [] each = tt
     by_each (first ∷ text) each = let above = each.0 in (λ same. absurd (omega (arith, above, same)), by_each text each.1)
 
--- a text ends at its first zero
-text_back : (one other first second : List ℕ) → Lacks 0 one → Lacks 0 other → one ++ 0 ∷ [] ++ first ≡ other ++ 0 ∷ [] ++ second →
-    IsSplit one other first second
-text_back one other first second none also is =
-    split 0 one other first second none also (sym (append_assoc one (0 ∷ []) first) ∙ is ∙ append_assoc other (0 ∷ []) second)
+-- a text ends at its first zero, whatever stands behind the last field
+text_back : (one other first second rest : List ℕ) → Lacks 0 one → Lacks 0 other → one ++ 0 ∷ [] ++ first ≡ other ++ 0 ∷ [] ++ second ++ rest →
+    IsSplit one other first (second ++ rest)
+text_back one other first second rest none also is =
+    split 0 one other first (second ++ rest) none also
+    (sym (append_assoc one (0 ∷ []) first) ∙ is ∙ append_assoc (other ++ 0 ∷ []) second rest ∙ append_assoc other (0 ∷ []) (second ++ rest))
 
 pub same_front : (one other first second : List ℕ) → length one ≡ length other → one ++ first ≡ other ++ second → one ≡ other
 same_front [] [] first second same is = refl
@@ -46,9 +48,9 @@ same_front (octet ∷ one) (digit ∷ other) first second same is =
     let rest = same_front one other first second (omega (arith, same)) (cons_rest octet digit (one ++ first) (other ++ second) is) in
     λ i. cons_first octet digit (one ++ first) (other ++ second) is i ∷ rest i
 
-no_text : (text rest : List ℕ) → [] ≡ text ++ 0 ∷ [] ++ rest → ⊥
-no_text [] rest is = cc
-no_text (octet ∷ text) rest is = cc
+no_text : (text more rest : List ℕ) → [] ≡ text ++ 0 ∷ [] ++ more ++ rest → ⊥
+no_text [] more rest is = cc
+no_text (octet ∷ text) more rest is = cc
 
 -- ---- commands
 
@@ -96,52 +98,56 @@ of_deliver bodies.GenericNack is = absurd cc
 
 -- ---- what is read
 
--- one body is read of the octets of another
+-- one body is read of the first octets of another
 pub record IsReadAs (body read : Body) : Type 0 where
   pub command : command_in body ≡ command_in read
-  pub octets : body_octets body ≡ body_octets read
+  pub rest : List ℕ
+  pub octets : body_octets body ≡ body_octets read ++ rest
   pub fits : BodyFits read
 
-code_in : (command status sequence : ℕ) (body : List ℕ) → command < 2 ^ 32 → word_at 4 (framed command status sequence body) ≡ command
+code_in : (command status sequence : ℕ) (body rest : List ℕ) → command < 2 ^ 32 → word_at 4 (framed command status sequence body ++ rest) ≡ command
 unfolding framed
-code_in command status sequence body short = from_be_bytes-to_be_bytes_4 command short
+code_in command status sequence body rest short = from_be_bytes-to_be_bytes_4 command short
 
-body_in : (command status sequence : ℕ) (body : List ℕ) → drop 16 (framed command status sequence body) ≡ body
+body_in : (command status sequence : ℕ) (body rest : List ℕ) → drop 16 (framed command status sequence body ++ rest) ≡ body ++ rest
 unfolding framed
-body_in command status sequence body = refl
+body_in command status sequence body rest = refl
 
 -- the command and the octets of a body are those in its PDU
-read_as : (pdu : Pdu) (octets : List ℕ) → octets ≡ octets_of pdu → (read : Body) (status sequence : ℕ) →
+read_as : (pdu : Pdu) (octets : List ℕ) → IsFrontRead (octets_of pdu) octets → (read : Body) (status sequence : ℕ) →
     octets ≡ framed (command_code (command_in read)) status sequence (body_octets read) → BodyFits read → IsReadAs pdu.body read
 unfolding octets_of
-read_as pdu octets are read status sequence is fits =
-    let same = sym are ∙ is in
-    let code = sym (code_at pdu.body pdu.status pdu.sequence) ∙ ap (word_at 4) same ∙ code_at read status sequence in
+read_as pdu octets front read status sequence is fits =
+    let own = body_octets pdu.body in
+    let same : framed (command_code (command_in pdu.body)) pdu.status pdu.sequence own ++ [] ≡ framed (command_code (command_in read)) status sequence
+    (body_octets read) ++ front.rest = append-nil _ ∙ front.is ∙ ap (λ (o : List ℕ). o ++ front.rest) is in
+    let code = sym (code_at pdu.body pdu.status pdu.sequence []) ∙ ap (word_at 4) same ∙ code_at read status sequence front.rest in
     let both : Some (command_in pdu.body) ≡ Some (command_in read) =
     sym (served (command_in pdu.body)).known ∙ ap command_of code ∙ (served (command_in read)).known in
     record {
       command = one_command _ _ both;
-      octets = sym (body_in (command_code (command_in pdu.body)) pdu.status pdu.sequence (body_octets pdu.body)) ∙ ap (drop 16) same
-          ∙ body_in (command_code (command_in read)) status sequence (body_octets read);
+      rest = front.rest;
+      octets = sym (append-nil own) ∙ sym (body_in (command_code (command_in pdu.body)) pdu.status pdu.sequence own []) ∙ ap (drop 16) same
+          ∙ body_in (command_code (command_in read)) status sequence (body_octets read) front.rest;
       fits = fits;
     }
   where
-    code_at : (body : Body) (status sequence : ℕ) →
-        word_at 4 (framed (command_code (command_in body)) status sequence (body_octets body)) ≡ command_code (command_in body)
-    code_at body status sequence =
-        code_in (command_code (command_in body)) status sequence (body_octets body)
+    code_at : (body : Body) (status sequence : ℕ) (rest : List ℕ) →
+        word_at 4 (framed (command_code (command_in body)) status sequence (body_octets body) ++ rest) ≡ command_code (command_in body)
+    code_at body status sequence rest =
+        code_in (command_code (command_in body)) status sequence (body_octets body) rest
         (ltb-true (command_code (command_in body)) (2 ^ 32) (served (command_in body)).number)
 
     one_command : (one other : Command) → Some one ≡ Some other → one ≡ other
     one_command one other is = cc
 
-pub answer_read : (pdu : Pdu) (octets : List ℕ) → octets ≡ octets_of pdu → (answer : QueryAnswer) →
+pub answer_read : (pdu : Pdu) (octets : List ℕ) → IsFrontRead (octets_of pdu) octets → (answer : QueryAnswer) →
     IsPdu octets query_sm_resp esme_rok query_answer_parts (query_answer_contents answer) → IsReadAs pdu.body (bodies.QuerySmResp (Some answer))
-answer_read pdu octets are answer is = read_as pdu octets are (bodies.QuerySmResp (Some answer)) esme_rok is.sequence is.octets_are is.within
+answer_read pdu octets front answer is = read_as pdu octets front (bodies.QuerySmResp (Some answer)) esme_rok is.sequence is.octets_are is.within
 
-pub message_read : (pdu : Pdu) (octets : List ℕ) → octets ≡ octets_of pdu → (status : ℕ) (message : Message) →
+pub message_read : (pdu : Pdu) (octets : List ℕ) → IsFrontRead (octets_of pdu) octets → (status : ℕ) (message : Message) →
     IsPdu octets deliver_sm status message_parts (message_contents message) → IsReadAs pdu.body (bodies.DeliverSm message)
-message_read pdu octets are status message is = read_as pdu octets are (bodies.DeliverSm message) status is.sequence is.octets_are is.within
+message_read pdu octets front status message is = read_as pdu octets front (bodies.DeliverSm message) status is.sequence is.octets_are is.within
 
 -- ---- what the codec reads
 
@@ -167,18 +173,19 @@ pub record IsAnswerOf (body : Body) (read : QueryAnswer) : Type 0 where
 pub query_back : (body : Body) (told : QueryAnswer) → IsReadAs body (bodies.QuerySmResp (Some told)) → IsAnswerOf body told
 query_back body told same =
     let it = of_query body same.command in
-    by_answer it.0 it.1 (subst (λ (b : Body). body_octets b ≡ body_octets (bodies.QuerySmResp (Some told))) it.1 same.octets) same.fits
+    by_answer it.0 it.1 same.rest
+    (subst (λ (b : Body). body_octets b ≡ body_octets (bodies.QuerySmResp (Some told)) ++ same.rest) it.1 same.octets) same.fits
   where
-    by_answer : (answer : Option QueryAnswer) → body ≡ bodies.QuerySmResp answer →
-        body_octets (bodies.QuerySmResp answer) ≡ body_octets (bodies.QuerySmResp (Some told)) → BodyFits (bodies.QuerySmResp (Some told)) →
+    by_answer : (answer : Option QueryAnswer) → body ≡ bodies.QuerySmResp answer → (rest : List ℕ) →
+        body_octets (bodies.QuerySmResp answer) ≡ body_octets (bodies.QuerySmResp (Some told)) ++ rest → BodyFits (bodies.QuerySmResp (Some told)) →
         IsAnswerOf body told
-    by_answer None is octets fits = absurd (no_text told.message_id _ octets)
-    by_answer (Some answer) is octets fits = record {
+    by_answer None is rest octets fits = absurd (no_text told.message_id _ rest octets)
+    by_answer (Some answer) is rest octets fits = record {
       answer = answer;
       body_is = is;
       agrees = λ id date.
-          let first = text_back answer.message_id told.message_id _ _ id (lacks_zero told.message_id fits.0.no_zero) octets in
-          let second = text_back answer.final_date told.final_date _ _ date (lacks_zero told.final_date fits.1.0.no_zero) first.rests in
+          let first = text_back answer.message_id told.message_id _ _ rest id (lacks_zero told.message_id fits.0.no_zero) octets in
+          let second = text_back answer.final_date told.final_date _ _ rest date (lacks_zero told.final_date fits.1.0.no_zero) first.rests in
           (sym first.words, sym (cons_first answer.message_state told.message_state _ _ second.rests));
     }
 
@@ -203,22 +210,24 @@ deliver_back body told same =
     record {
       message = it.0;
       body_is = it.1;
-      agrees = agrees it.0 (subst (λ (b : Body). body_octets b ≡ body_octets (bodies.DeliverSm told)) it.1 same.octets) same.fits;
+      agrees = agrees it.0 same.rest (subst (λ (b : Body). body_octets b ≡ body_octets (bodies.DeliverSm told) ++ same.rest) it.1 same.octets) same.fits;
     }
   where
-    agrees : (message : Message) → body_octets (bodies.DeliverSm message) ≡ body_octets (bodies.DeliverSm told) → BodyFits (bodies.DeliverSm told) →
+    agrees : (message : Message) (rest : List ℕ) → body_octets (bodies.DeliverSm message) ≡ body_octets (bodies.DeliverSm told) ++ rest →
+        BodyFits (bodies.DeliverSm told) →
         IsClearInFront message → (told.esm_class ≡ message.esm_class) × (told.short_message ≡ message.short_message)
-    agrees message octets fits clear =
-        let service = text_back message.service_type told.service_type _ _ clear.service_type (lacks_zero told.service_type fits.0.no_zero) octets in
-        let source = text_back message.source.digits told.source.digits _ _ clear.source (lacks_zero told.source.digits fits.1.1.1.0.no_zero)
+    agrees message rest octets fits clear =
+        let service = text_back message.service_type told.service_type _ _ rest clear.service_type (lacks_zero told.service_type fits.0.no_zero) octets in
+        let source = text_back message.source.digits told.source.digits _ _ rest clear.source (lacks_zero told.source.digits fits.1.1.1.0.no_zero)
         (ap (drop 2) service.rests) in
-        let destination = text_back message.destination.digits told.destination.digits _ _ clear.destination
+        let destination = text_back message.destination.digits told.destination.digits _ _ rest clear.destination
         (lacks_zero told.destination.digits fits.1.1.1.1.1.1.0.no_zero) (ap (drop 2) source.rests) in
-        let schedule = text_back message.schedule_delivery_time told.schedule_delivery_time _ _ clear.schedule
+        let schedule = text_back message.schedule_delivery_time told.schedule_delivery_time _ _ rest clear.schedule
         (lacks_zero told.schedule_delivery_time fits.1.1.1.1.1.1.1.1.1.1.0.no_zero) (ap (drop 3) destination.rests) in
-        let validity = text_back message.validity_period told.validity_period _ _ clear.validity
+        let validity = text_back message.validity_period told.validity_period _ _ rest clear.validity
         (lacks_zero told.validity_period fits.1.1.1.1.1.1.1.1.1.1.1.0.no_zero) schedule.rests in
         let text = ap (drop 4) validity.rests in (
           sym (cons_first message.esm_class told.esm_class _ _ destination.rests),
-          sym (same_front message.short_message told.short_message _ _ (cons_first _ _ _ _ text) (cons_rest _ _ _ _ text)),
+          sym (same_front message.short_message told.short_message _ _ (cons_first _ _ _ _ text)
+              (cons_rest _ _ _ _ text ∙ append_assoc told.short_message _ rest)),
         )

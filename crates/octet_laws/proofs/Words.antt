@@ -101,33 +101,57 @@ then_ok (Err fault) f y is = absurd cc
 same_ok : {A : Type 0} (one other : A) → ◌≡◌ {A = Result A FromHexError} (Ok one) (Ok other) → one ≡ other
 same_ok one other is = cc
 
--- each octet that digits name was written so
-pairs_back : (at : ℕ) (octets read : List ℕ) → decode_pairs at (encode_lower octets) ≡ Ok read → read ≡ octets
-unfolding encode_with decode_pairs
-pairs_back at [] read is = same_ok read [] (sym is)
-pairs_back at (octet ∷ octets) read is = elim (cases_lt octet 256) [
-  | inl below ↦
-      let high : octet / 16 < 16 = omega (arith, below) in
-      let low : octet % 16 < 16 = omega arith in
-      let first : pair_value (slice_index lower_digits (octet / 16)) (slice_index lower_digits (octet % 16)) at ≡ Ok (octet / 16 * 16 + octet % 16) =
-      rw (
-        ap (digit_or_error (slice_index lower_digits (octet / 16)) at) (IsDigits-lower_digits (octet / 16) high),
-        ap (digit_or_error (slice_index lower_digits (octet % 16)) (at + 1)) (IsDigits-lower_digits (octet % 16) low),
-      ) refl in
-      let one = then_ok (pair_value (slice_index lower_digits (octet / 16)) (slice_index lower_digits (octet % 16)) at) _ read is in
-      let rest = then_ok (decode_pairs (at + 2) (encode_lower octets)) _ read one.2 in
-      let byte : one.0 ≡ octet / 16 * 16 + octet % 16 = same_ok _ _ (sym one.1 ∙ first) in
-      let whole : octet / 16 * 16 + octet % 16 ≡ octet = omega arith in
-      sym (same_ok _ read rest.2) ∙ (λ i. (byte ∙ whole) i ∷ pairs_back (at + 2) octets rest.0 rest.1 i)
-  | inr above ↦
-      let none = beyond_digits (octet / 16) (omega (arith, above)) in
-      let bad = ap (λ (digit : ℕ). decode_pairs at (digit ∷ slice_index lower_digits (octet % 16) ∷ encode_lower octets)) (sym none) ∙ is in
-      absurd cc
-]
+one_ok : (r : Result ℕ FromHexError) (one other : ℕ) → r ≡ Ok one → r ≡ Ok other → one ≡ other
+one_ok r one other is also = same_ok one other (sym is ∙ also)
 
-pub decoded : (digits octets read : List ℕ) → digits ≡ encode_lower octets → decode_of digits ≡ Ok read → read ≡ octets
-decoded digits octets read same is = by_test (length digits % 2 == 1) is
+-- octets are read of the front of these
+pub record IsFrontRead (octets read : List ℕ) : Type 0 where
+  pub rest : List ℕ
+  pub is : octets ≡ read ++ rest
+
+-- each octet that digits name was written so
+pairs_back : (at : ℕ) (text more octets read : List ℕ) → text ++ more ≡ encode_lower octets → decode_pairs at text ≡ Ok read → IsFrontRead octets read
+unfolding encode_with decode_pairs
+pairs_back at [] more octets read same is = record { rest = octets; is = ap (λ (front : List ℕ). front ++ octets) (same_ok [] read is) }
+pairs_back at (digit ∷ []) more octets read same is = absurd cc
+pairs_back at (high ∷ low ∷ text) more [] read same is = absurd cc
+pairs_back at (high ∷ low ∷ text) more (octet ∷ octets) read same is =
+    let first_digit = slice_index lower_digits (octet / 16) in
+    let last_digit = slice_index lower_digits (octet % 16) in
+    let behind = cons_rest high first_digit (low ∷ (text ++ more)) (last_digit ∷ encode_lower octets) same in
+    let highs = cons_first high first_digit (low ∷ (text ++ more)) (last_digit ∷ encode_lower octets) same in
+    let lows = cons_first low last_digit (text ++ more) (encode_lower octets) behind in
+    let reads : decode_pairs at (first_digit ∷ last_digit ∷ text) ≡ Ok read =
+    subst (λ (named : List ℕ). decode_pairs at named ≡ Ok read) (λ i. highs i ∷ lows i ∷ text) is in
+    elim (cases_lt octet 256) [
+      | inl below ↦
+          let above_half : octet / 16 < 16 = omega (arith, below) in
+          let below_half : octet % 16 < 16 = omega arith in
+          let first : pair_value first_digit last_digit at ≡ Ok (octet / 16 * 16 + octet % 16) =
+          rw (
+            ap (digit_or_error first_digit at) (IsDigits-lower_digits (octet / 16) above_half),
+            ap (digit_or_error last_digit (at + 1)) (IsDigits-lower_digits (octet % 16) below_half),
+          ) refl in
+          let one = then_ok (pair_value first_digit last_digit at) _ read reads in
+          let others = then_ok (decode_pairs (at + 2) text) _ read one.2 in
+          let later = pairs_back (at + 2) text more octets others.0
+          (cons_rest low last_digit (text ++ more) (encode_lower octets) behind) others.1 in
+          let byte : one.0 ≡ octet / 16 * 16 + octet % 16 = one_ok (pair_value first_digit last_digit at) one.0 _ one.1 first in
+          let whole : octet / 16 * 16 + octet % 16 ≡ octet = omega arith in
+          record {
+            rest = later.rest;
+            is = subst (λ (front : List ℕ). octet ∷ octets ≡ front ++ later.rest) (same_ok (one.0 ∷ others.0) read others.2)
+                (λ i. sym (byte ∙ whole) i ∷ later.is i);
+          }
+      | inr above ↦
+          let none = beyond_digits (octet / 16) (omega (arith, above)) in
+          let bad = ap (λ (digit : ℕ). decode_pairs at (digit ∷ last_digit ∷ text)) (sym none) ∙ reads in
+          absurd cc
+    ]
+
+pub decoded : (text more octets read : List ℕ) → text ++ more ≡ encode_lower octets → decode_of text ≡ Ok read → IsFrontRead octets read
+decoded text more octets read same is = by_test (length text % 2 == 1) is
   where
-    by_test : (odd : Bool) → (if odd then Err OddLength else decode_pairs 0 digits) ≡ Ok read → read ≡ octets
+    by_test : (odd : Bool) → (if odd then Err OddLength else decode_pairs 0 text) ≡ Ok read → IsFrontRead octets read
     by_test true is = absurd cc
-    by_test false is = pairs_back 0 octets read (subst (λ (d : List ℕ). decode_pairs 0 d ≡ Ok read) same is)
+    by_test false is = pairs_back 0 text more octets read same is

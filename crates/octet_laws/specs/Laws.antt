@@ -11,12 +11,12 @@ use Rattle.script_lines.specs.Lines.{lines_of}
 use Rattle.script_world.specs.Script.{text_of}
 use Rattle.octet_laws.specs.Tellings.{IsPdu, TellOneFate, deliver_sm, query_sm_resp}
 
--- The lines that a script writes, and so the first of them, tell one fate of each message.
+-- The lines of the octets that a script writes, all or the first of them, tell one fate of each message.
 abbrev pub OneFateIsWritten : Type 0
 OneFateIsWritten =
-    (script : List ℕ) (written later : List (List ℕ))
-    → written ++ later ≡ lines_of (text_of script)
-    → TellOneFate written
+    (script written later : List ℕ)
+    → written ++ later ≡ text_of script
+    → TellOneFate (lines_of written)
 
 -- octets are what a query_sm_resp or a deliver_sm with this body is
 abbrev pub IsSpelledAs : List ℕ → ℕ → Body → Type 0
