@@ -1,7 +1,9 @@
 -- Where a node of a script stands after an act, and what it prints.
-use Rattle.std.proofs.Common.{◌≡◌, ◌⊎◌, ℕ, ◌<◌, ◌^◌, Bool, true, false, cond, List, [], ◌∷◌, ◌++◌, map, Option, Some, None, refl, sym, subst, inl, inr, arith}
+use Rattle.std.proofs.Common.{◌≡◌, ◌⊎◌, ℕ, ◌<◌, ◌^◌, Bool, true, false, cond, List, [], ◌∷◌, ◌++◌, map, Option, Some, None, refl, sym, ◌∙◌, ap, subst, inl, inr}
+use Rattle.std.proofs.Common.{arith}
 use Rattle.std.specs.Prelude.{if◌then◌else◌, is_none, nat_lt}
 use Rattle.std.proofs.lemmas.Bool.Decides.{nat_tests}
+use Rattle.mc_model.specs.message.Decree.{Decree}
 use Rattle.mc_model.specs.message.Submission.{Submission}
 use Rattle.mc_model.specs.synod.Lists.{In}
 use Rattle.mc_model.specs.synod.Packet.{Packet, Slot}
@@ -12,26 +14,27 @@ use Rattle.mc_model.specs.cluster.Steps.{Cluster}
 use Rattle.node_model.specs.Attempts.{grant_refusal}
 use Rattle.node_model.specs.Granted.{known_slot}
 use Rattle.node_model.specs.Outputs.{Stepped as NodeStep}
-use Rattle.node_laws.specs.Clusters.{MayHappen, NodeInput}
+use Rattle.node_model.specs.Kept.{message_at}
+use Rattle.node_laws.specs.Clusters.{MayHappen, NodeInput, kept_reached}
 use Rattle.pdu_codec.specs.Pdu.{read_pdu}
 use Rattle.pdu_frames.specs.Frames.{Cut, cut, begins_wrong}
 use Rattle.sessions.specs.Session.{Session}
 use Rattle.script_text.specs.Settings.{Settings}
 use Rattle.script_text.specs.Node.{Node, awaiting, step_at, tick_at, with_step}
-use Rattle.script_text.specs.Attempts.{concluded, submission_at, unanswered}
+use Rattle.script_text.specs.Attempts.{concluded, submission_at, taken_on, unanswered}
 use Rattle.std.specs.Map.{remove_entry}
 use Rattle.std.specs.Ordering.{nat_cmp}
 use Rattle.std.specs.BTreeMap.{is_at}
 use Rattle.sessions.specs.States.{is_gone}
-use Rattle.script_text.specs.Prints.{Delivers}
-use Rattle.script_text.specs.Pushes.{accounts_up, delivery_on, overdue_in, session_at, target_in}
+use Rattle.script_text.specs.Pushes.{accounts_up, overdue_in, session_at, target_in}
 use Rattle.script_text.specs.Receipts.{Posted, all_posted, posted_for_all, posted_for_any}
 use Rattle.script_text.specs.Runner.{Runner, Acted, Served, answered_by, declined, ends, fails_by, followed_by, gives_up, gone_prints}
 use Rattle.script_text.specs.Runner.{granted, granted_unless, held_in, holds, last_incarnation, mail_of, makes_room, no_incarnation}
 use Rattle.script_text.specs.Runner.{on_delivery, on_frame, on_frames, on_grant, on_octets, on_read, on_rest, on_restart, on_tick}
 use Rattle.script_text.specs.Runner.{opened_at, posts, posts_for, posts_for_all, pushes, put_at, reports_by, restarted, sent, sent_to}
 use Rattle.script_text.specs.Runner.{served_at, serves, session_in, ticked, told, with_posted, with_session}
-use Rattle.fate_laws.proofs.Telling.{AreMute, declined_is_mute, delivery_is_mute, gone_is_mute, ungranted_is_mute}
+use Rattle.fate_laws.proofs.Submitted.{WasSubmitted, known_submitted, submitted_later}
+use Rattle.fate_laws.proofs.Telling.{AreMute, declined_is_mute, gone_is_mute, ungranted_is_mute}
 use Rattle.fate_laws.proofs.Behind.{came_to, input_to}
 use Rattle.fate_laws.proofs.ReceiptsOut.{AreReceiptsOut, receipts_out_later}
 use Rattle.fate_laws.proofs.Standing.{IsAt, IsFit, Leads, Member, StepsTo, WereSent, delivery_steps, grant_steps, leads_still, restart_steps, tick_steps}
@@ -174,7 +177,7 @@ module _ (member : Member) (Tells : FactOfPrints) (telling : IsTelling member.cl
   frame_acts settings number past runner octets s =
       let session = session_in runner.sessions number in
       serves_act past runner s number (on_read settings number runner.node session octets (read_pdu octets))
-      (read_served member past s.fit runner.node s.at settings number session octets (read_pdu octets))
+      (read_served member past s.fit runner.node s.at settings number session octets (read_pdu octets) refl)
 
   rest_acts : (settings : Settings) (number : ℕ) (past : List NodeInput) (runner : Runner) (rest : List ℕ) → IsServing past runner →
       ActsSo member Tells past true (on_rest settings number runner rest)
@@ -249,24 +252,37 @@ module _ (member : Member) (Tells : FactOfPrints) (telling : IsTelling member.cl
     fails_acts slot =
         mute_acts past true (fails_by runner (concluded runner.node slot unanswered)) (unanswered_leads member past s.fit runner.node s.at slot) s.waiting tt
 
-    pushes_acts : (slot : Slot) (taken : Submission) (number : ℕ) (session : Option Session) →
+    pushes_acts : (slot : Slot) (taken : Submission) → WasSubmitted past taken → (number : ℕ) (session : Option Session) →
         ActsSo member Tells past true (pushes runner slot taken number session)
-    pushes_acts slot taken number None =
+    pushes_acts slot taken submitted number None =
         mute_acts past true (pushes runner slot taken number None) (leads_still member past true runner.node s.fit s.at) s.waiting tt
-    pushes_acts slot taken number (Some session) = record {
+    pushes_acts slot taken submitted number (Some session) = record {
       leads = leads_still member past true runner.node s.fit s.at;
       waiting = s.waiting;
-      tell = λ last prints tells.
-          takes last past member.number (Delivers number (delivery_on session taken)) prints (delivery_is_mute number session taken) tells;
+      tell = λ last prints tells. takes last past member.number number session taken prints submitted tells;
     }
 
-    sent_to_acts : (slot : Slot) (taken : Submission) (target : Option ℕ) → ActsSo member Tells past true (sent_to runner slot taken target)
-    sent_to_acts slot taken None = fails_acts slot
-    sent_to_acts slot taken (Some number) = pushes_acts slot taken number (session_at runner.sessions number)
+    sent_to_acts : (slot : Slot) (taken : Submission) → WasSubmitted past taken → (target : Option ℕ) →
+        ActsSo member Tells past true (sent_to runner slot taken target)
+    sent_to_acts slot taken submitted None = fails_acts slot
+    sent_to_acts slot taken submitted (Some number) = pushes_acts slot taken submitted number (session_at runner.sessions number)
 
-    sent_acts : (slot : Slot) (taken : Option Submission) → ActsSo member Tells past true (sent runner slot taken)
-    sent_acts slot None = fails_acts slot
-    sent_acts slot (Some taken) = sent_to_acts slot taken (target_in runner.sessions taken.target)
+    sent_acts : (slot : Slot) (taken : Option Submission) → ((message : Submission) → taken ≡ Some message → WasSubmitted past message) →
+        ActsSo member Tells past true (sent runner slot taken)
+    sent_acts slot None submitted = fails_acts slot
+    sent_acts slot (Some taken) submitted = sent_to_acts slot taken (submitted taken refl) (target_in runner.sessions taken.target)
+
+  -- what the node knows of a message was submitted
+  submitted_here : (past : List NodeInput) (runner : Runner) (id : ℕ) → IsServing past runner → (message : Submission) →
+      submission_at runner.node id ≡ Some message → WasSubmitted past message
+  submitted_here past runner id s message is =
+      by_known (message_at ((kept_reached cluster past).kept member.number) id).known refl
+      (ap (λ (n : Node). submission_at n id) (sym s.at.is) ∙ is)
+    where
+      by_known : (known : Option (List Decree)) → (message_at ((kept_reached cluster past).kept member.number) id).known ≡ known →
+          taken_on known ≡ Some message → WasSubmitted past message
+      by_known None known_is takes = absurd cc
+      by_known (Some chain) known_is takes = known_submitted cluster past s.fit.may member.number id chain known_is message takes
 
   pub grant_acts : TakesDeliveries Tells → (past : List NodeInput) (runner : Runner) (id : ℕ) → IsServing past runner →
       ActsSo member Tells past true (on_grant runner id)
@@ -284,7 +300,10 @@ module _ (member : Member) (Tells : FactOfPrints) (telling : IsTelling member.cl
           let one = granted runner (Grants slot) in
           let here = mute_acts past true one (grant_steps member past s.fit runner.node s.at id is).leads s.waiting tt in
           acts_then past true one (sent one.next slot (submission_at runner.node id)) here
-          (sent_acts takes here.leads.later one.next (serving_then past one here) slot (submission_at runner.node id))
+          (sent_acts takes here.leads.later one.next (serving_then past one here) slot (submission_at runner.node id)
+          (λ message taken_is.
+          subst (λ (now : List NodeInput). WasSubmitted now message) (sym here.leads.later_is)
+          (submitted_later (input_to member.number (Grants slot) ∷ []) past message (submitted_here past runner id s message taken_is))))
 
   -- ---- packets
 

@@ -12,7 +12,8 @@ use Rattle.node_laws.specs.Clusters.{MayHappen, NodeInput}
 use Rattle.pdu_tables.specs.StateCodes.{state_code}
 use Rattle.fate_chain.specs.States.{state_of}
 use Rattle.sessions.specs.Session.{Session}
-use Rattle.script_text.specs.Prints.{Late, Print, Reports}
+use Rattle.script_text.specs.Prints.{Delivers, Late, Print, Reports}
+use Rattle.script_text.specs.Pushes.{delivery_on}
 use Rattle.script_text.specs.Responses.{reply_pdu}
 use Rattle.script_text.specs.Runner.{Owned, Told, in_front, owner_of, replied, reply_prints, told}
 use Rattle.script_text.specs.Laws.{StatesFate}
@@ -20,7 +21,7 @@ use Rattle.fate_laws.proofs.Decided.{IsDecided}
 use Rattle.fate_laws.proofs.Replying.{AreFit, Grows, replies_fit}
 use Rattle.fate_laws.proofs.Behind.{after_holds, decided_next, next_acts, next_run, next_world, world_after}
 use Rattle.fate_laws.proofs.StepsOut.{replies_are, step_now}
-use Rattle.fate_laws.proofs.Telling.{IsMute, TellsFates, TellsOnly, fates_told_later, mute_tells_fates, mute_tells_only, reply_is_told}
+use Rattle.fate_laws.proofs.Telling.{IsMute, TellsFates, TellsOnly, delivery_is_mute, fates_told_later, mute_tells_fates, mute_tells_only, reply_is_told}
 use Rattle.fate_laws.proofs.Telling.{reply_tells_fates, reply_tells_only, report_tells_fates, report_tells_no_state}
 use Rattle.fate_laws.proofs.Tellings.{IsTelling, NodePrint, TakesDeliveries, by_node, prints_at}
 
@@ -165,7 +166,8 @@ mute_then cluster past may node print prints mute tell =
     (λ id final small is. mute_tells_only (decimal id) (state_code (state_of (Some final))) print mute) tell
 
 pub tell_takes : (cluster : Cluster) → TakesDeliveries (TellFrom cluster)
-tell_takes cluster end past node print prints mute tell may = mute_then cluster past may node print prints mute (tell may)
+tell_takes cluster end past node number session taken prints submitted tell may =
+    mute_then cluster past may node (Delivers number (delivery_on session taken)) prints (delivery_is_mute number session taken) (tell may)
 
 pub tell_telling : (cluster : Cluster) → IsTelling cluster (TellFrom cluster)
 tell_telling cluster = record {

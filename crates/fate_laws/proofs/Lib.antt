@@ -8,6 +8,8 @@ pub mod Replying
 pub mod Reporting
 pub mod Reports
 pub mod Behind
+pub mod Submitted
+pub mod Clear
 pub mod ReceiptsOut
 pub mod StepsOut
 pub mod Standing

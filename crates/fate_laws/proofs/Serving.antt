@@ -8,6 +8,7 @@ use Rattle.node_model.specs.Granted.{is_open}
 use Rattle.node_laws.specs.Clusters.{NodeInput}
 use Rattle.pdu_tables.specs.CommandCodes.{command_of}
 use Rattle.pdu_codec.specs.Grammar.{word_at}
+use Rattle.pdu_codec.specs.Pdu.{read_pdu}
 use Rattle.pdu_fields.specs.declared.fault.PduFault.{PduFault}
 use Rattle.pdu_bodies.specs.declared.pdu.Pdu.{Pdu}
 use Rattle.sessions.specs.Session.{Session}
@@ -25,6 +26,7 @@ use Rattle.script_text.specs.Settings.{Settings}
 use Rattle.script_text.specs.Node.{Node, request_at, step_at}
 use Rattle.script_text.specs.Prints.{Print}
 use Rattle.script_text.specs.Runner.{Came, Served, came_by, nothing_came, on_done, on_read, on_reaction, on_request, refusal_prints, unasked}
+use Rattle.fate_laws.proofs.Clear.{IsClearRequest, read_clear, request_clear}
 use Rattle.fate_laws.proofs.Concluding.{IsPossible, told_possible}
 use Rattle.fate_laws.proofs.Telling.{AreMute, gone_is_mute, refusal_is_mute, response_is_mute}
 use Rattle.fate_laws.proofs.Behind.{behind, behind_then, came_to, input_to}
@@ -84,9 +86,9 @@ refusal_mute : (number : ℕ) (requested : Requested) (sequence : ℕ) (refused 
 refusal_mute number requested sequence None = tt
 refusal_mute number requested sequence (Some status) = ((refusal_is_mute number requested sequence status, tt), tt)
 
--- what comes tells only of outcomes that are possible
-abbrev TellsPossible : Came → Type 0
-TellsPossible came = (sequence : ℕ) → IsPossible (came.outcome sequence)
+-- what comes tells only of outcomes that are possible, and submits clear texts
+abbrev IsSound : Came → Type 0
+IsSound came = ((sequence : ℕ) → IsPossible (came.outcome sequence)) × IsClearRequest came.request
 
 -- the node goes on, and what is printed tells nothing of a fate
 pub record IsServed (member : Member) (past : List NodeInput) (served : Served) : Type 0 where
@@ -98,43 +100,44 @@ module _ (member : Member) (past : List NodeInput) (fit : IsFit member.cluster p
   nothing_asked session prints mute = record { leads = leads_still member past true node fit at; mute = mute }
 
   request_served : (number : ℕ) (session : Session) (requested : Requested) (sequence : ℕ) (account : Option (List ℕ)) (request : Option Request) →
-      IsServed member past (on_request number node session requested sequence account request)
-  request_served number session requested sequence None request = nothing_asked session [] tt
-  request_served number session requested sequence (Some account) None = nothing_asked session [] tt
-  request_served number session requested sequence (Some account) (Some request) = record {
-    leads = (request_steps member past fit node at account request).leads;
+      IsClearRequest request → IsServed member past (on_request number node session requested sequence account request)
+  request_served number session requested sequence None request clear = nothing_asked session [] tt
+  request_served number session requested sequence (Some account) None clear = nothing_asked session [] tt
+  request_served number session requested sequence (Some account) (Some request) clear = record {
+    leads = (request_steps member past fit node at account request clear).leads;
     mute = refusal_mute number requested sequence (step_at node (request_at node account request)).outputs.refused;
   }
 
-  reaction_served : (settings : Settings) (number : ℕ) (came : Came) (session : Session) (reaction : Reaction) → TellsPossible came →
+  reaction_served : (settings : Settings) (number : ℕ) (came : Came) (session : Session) (reaction : Reaction) → IsSound came →
       IsServed member past (on_reaction settings number node came session reaction)
-  reaction_served settings number came session (reactions.Ask requested) possible =
-      request_served number session requested came.sequence session.account came.request
-  reaction_served settings number came session (reactions.Answered pushed) possible = record {
-    leads = delivered_leads member past fit node at pushed.delivery (came.outcome pushed.sequence) (possible pushed.sequence);
+  reaction_served settings number came session (reactions.Ask requested) sound =
+      request_served number session requested came.sequence session.account came.request sound.1
+  reaction_served settings number came session (reactions.Answered pushed) sound = record {
+    leads = delivered_leads member past fit node at pushed.delivery (came.outcome pushed.sequence) (sound.0 pushed.sequence);
     mute = tt;
   }
-  reaction_served settings number came session (reactions.Respond outgoing) possible =
+  reaction_served settings number came session (reactions.Respond outgoing) sound =
       nothing_asked session _ ((response_is_mute number settings.system_id outgoing, tt), tt)
-  reaction_served settings number came session (reactions.Leave outgoing abandoned) possible = record {
+  reaction_served settings number came session (reactions.Leave outgoing abandoned) sound = record {
     leads = all_lead member past fit node at abandoned;
     mute = ((response_is_mute number settings.system_id outgoing, tt), ((gone_is_mute number, tt), tt));
   }
-  reaction_served settings number came session other possible = nothing_asked session [] tt
+  reaction_served settings number came session other sound = nothing_asked session [] tt
 
-  done_served : (settings : Settings) (number : ℕ) (came : Came) (done : Done) → TellsPossible came →
+  done_served : (settings : Settings) (number : ℕ) (came : Came) (done : Done) → IsSound came →
       IsServed member past (on_done settings number node came done)
-  done_served settings number came done possible = reaction_served settings number came done.next done.reaction possible
+  done_served settings number came done sound = reaction_served settings number came done.next done.reaction sound
 
   pub read_served : (settings : Settings) (number : ℕ) (session : Session) (octets : List ℕ) (read : Result Pdu PduFault) →
-      IsServed member past (on_read settings number node session octets read)
-  read_served settings number session octets (Ok pdu) =
-      done_served settings number (came_by settings pdu) (on_pdu settings.accounts session pdu) (λ sequence. told_possible sequence pdu)
-  read_served settings number session octets (Err fault) =
+      read_pdu octets ≡ read → IsServed member past (on_read settings number node session octets read)
+  read_served settings number session octets (Ok pdu) is =
+      done_served settings number (came_by settings pdu) (on_pdu settings.accounts session pdu)
+      (λ sequence. told_possible sequence pdu, request_clear settings.routes pdu.body (read_clear octets pdu is))
+  read_served settings number session octets (Err fault) is =
       done_served settings number nothing_came (on_fault session fault (requested_by (command_of (word_at 4 octets))) (word_at 12 octets))
-      (λ sequence. tt)
+      (λ sequence. tt, tt)
 
   -- a length is wrong
   pub wrong_length_served : (settings : Settings) (number : ℕ) (session : Session) →
       IsServed member past (on_done settings number node nothing_came (on_wrong_length session))
-  wrong_length_served settings number session = done_served settings number nothing_came (on_wrong_length session) (λ sequence. tt)
+  wrong_length_served settings number session = done_served settings number nothing_came (on_wrong_length session) (λ sequence. tt, tt)

@@ -1,7 +1,8 @@
 -- Where a node of a cluster stands after inputs, and what a step leads to.
-use Rattle.std.proofs.Common.{◌≡◌, ℕ, ◌<◌, ◌≤◌, ◌^◌, Bool, true, false, List, [], ◌∷◌, ◌++◌, None, refl, sym, ap, subst, ◌∙◌, inl, inr, arith}
+use Rattle.std.proofs.Common.{◌≡◌, ℕ, ◌<◌, ◌≤◌, ◌^◌, Bool, true, false, List, [], ◌∷◌, ◌++◌, Some, None, refl, sym, ap, subst, ◌∙◌, inl, inr, arith}
 use Rattle.std.specs.Prelude.{if◌then◌else◌}
 use Rattle.mc_model.specs.message.Ids.{IsIncarnation}
+use Rattle.mc_model.specs.message.Submission.{Submission}
 use Rattle.mc_model.specs.synod.Lists.{In}
 use Rattle.mc_model.specs.synod.Packet.{Packet, Prepare, Propose, Slot}
 use Rattle.mc_model.specs.node.Input.{Crash, Delivery, Grant, Input, Response, Restart}
@@ -31,6 +32,8 @@ use Rattle.fate_laws.proofs.Answering.{IsAsked}
 use Rattle.fate_laws.proofs.Stepping.{GoesOn, goes_on, up_for}
 use Rattle.fate_laws.proofs.WellMade.{well_made}
 use Rattle.fate_laws.proofs.Behind.{came_to, input_to}
+use Rattle.fate_laws.proofs.Clear.{ComesClear, IsClear, IsClearRequest, requested_clear}
+use Rattle.fate_laws.proofs.Submitted.{WasSubmitted}
 use Rattle.fate_laws.proofs.ReceiptsOut.{AreReceiptsOut}
 use Rattle.fate_laws.proofs.StepsOut.{step_now, step_receipts_out}
 
@@ -41,17 +44,19 @@ pub record IsSteady (k : Kept) : Type 0 where
   pub begun : 1 ≤ k.serial
   pub small : (h : Held) → In h k.held → id_of h < 2 ^ 64
 
--- the inputs may come, and the nodes are steady then
+-- the inputs may come, and the nodes are steady then; and what was submitted has clear texts
 pub record IsFit (cluster : Cluster) (past : List NodeInput) : Type 0 where
   pub may : MayHappen cluster past
   pub first : (node : ℕ) → 1 ≤ cluster.serials node
   pub steady : (node : ℕ) → IsSteady ((kept_reached cluster past).kept node)
+  pub clear : (message : Submission) → WasSubmitted past message → IsClear message
 
 pub opened_fit : (cluster : Cluster) → ((node : ℕ) → 1 ≤ cluster.serials node) → IsFit cluster []
 opened_fit cluster first = record {
   may = tt;
   first = first;
   steady = λ node. record { begun = first node; small = λ h among. absurd among };
+  clear = λ message came. absurd came.among;
 }
 
 abbrev pub WereSent : Cluster → List NodeInput → List Packet → Type 0
@@ -115,7 +120,15 @@ module _ (member : Member) (past : List NodeInput) (fit : IsFit member.cluster p
   abbrev next : NodeInput
   next = input_to member.number input
 
-  module _ (up : IsUpFor k input) (may : MayCome own_setup k input) (came : WasSentBefore (kept_reached member.cluster past).packets input) where
+  -- what was submitted then
+  clear_then : ComesClear input → (message : Submission) → WasSubmitted (next ∷ past) message → IsClear message
+  clear_then clear message came = elim came.among [
+    | inl same ↦ clear came.id message (ap (λ (n : NodeInput). n.input) (sym same))
+    | inr old ↦ fit.clear message (record { node = came.node; id = came.id; among = old })
+  ]
+
+  module _ (up : IsUpFor k input) (may : MayCome own_setup k input) (came : WasSentBefore (kept_reached member.cluster past).packets input)
+      (clear : ComesClear input) where
     abbrev happens : MayHappen member.cluster (next ∷ past)
     happens = (member.one_of, up, may, came, fit.may)
 
@@ -136,7 +149,7 @@ module _ (member : Member) (past : List NodeInput) (fit : IsFit member.cluster p
       leads = record {
         later = next ∷ past;
         later_is = refl;
-        fit = record { may = happens; first = fit.first; steady = steady_then steady };
+        fit = record { may = happens; first = fit.first; steady = steady_then steady; clear = clear_then clear };
         at = record {
           is = λ i. record { setup = own_setup; kept = sym then_is i; packets = rest ++ step.outputs.packets };
           sent = λ packet among. in_append packet _ _ (elim (in_either packet rest step.outputs.packets among) [
@@ -153,7 +166,7 @@ module _ (member : Member) (past : List NodeInput) (fit : IsFit member.cluster p
   -- ---- of what is no restart and no crash
 
   module _ (plain : IsPlain input) (up : k.up ≡ true) (may : MayCome own_setup k input) (came : WasSentBefore (kept_reached member.cluster past).packets input)
-      (small : (id : ℕ) → ComesAbout input id → id < 2 ^ 64) where
+      (small : (id : ℕ) → ComesAbout input id → id < 2 ^ 64) (clear : ComesClear input) where
     goes : GoesOn k input step
     goes = goes_on own_setup k input up plain
 
@@ -169,19 +182,19 @@ module _ (member : Member) (past : List NodeInput) (fit : IsFit member.cluster p
     plain_from : (rest : List Packet) → WereSent member.cluster past rest →
         StepsTo member past input step true (record { setup = own_setup; kept = step.kept; packets = rest ++ step.outputs.packets })
     plain_from rest sent =
-        step_from ((up_for k input plain).1 up) may came rest sent steady (λ reply among. asked_small reply.id (goes.replies reply among)) true
+        step_from ((up_for k input plain).1 up) may came clear rest sent steady (λ reply among. asked_small reply.id (goes.replies reply among)) true
         (goes.up ∙ up)
 
 -- a step of a node of a script, from what is said of it
 plain_steps : (member : Member) (past : List NodeInput) → IsFit member.cluster past → (node : Node) → IsAt member past true node →
     (rest : List Packet) → WereSent member.cluster past rest → (input : Input) → IsPlain input → MayCome node.setup node.kept input →
-    WasSentBefore (kept_reached member.cluster past).packets input → ((id : ℕ) → ComesAbout input id → id < 2 ^ 64) →
+    WasSentBefore (kept_reached member.cluster past).packets input → ((id : ℕ) → ComesAbout input id → id < 2 ^ 64) → ComesClear input →
     StepsTo member past input (step_at node input) true (with_step (awaiting node rest) (step_at node input))
-plain_steps member past fit node at rest sent input plain may came small =
+plain_steps member past fit node at rest sent input plain may came small clear =
     subst (λ (n : Node). StepsTo member past input (step_at n input) true (with_step (awaiting n rest) (step_at n input))) (sym at.is)
     (plain_from member past fit input plain
     (ap (λ (n : Node). n.kept.up) (sym at.is) ∙ at.up_is)
-    (subst (λ (n : Node). MayCome n.setup n.kept input) at.is may) came small rest sent)
+    (subst (λ (n : Node). MayCome n.setup n.kept input) at.is may) came small clear rest sent)
 
 -- ---- requests, ticks, attempts and packets
 
@@ -191,10 +204,10 @@ module _ (member : Member) (past : List NodeInput) (fit : IsFit member.cluster p
       let stands = (clustered member.cluster past fit.may).stands member.number in
       subst (λ (n : Node). IsIncarnation n.kept.incarnation) (sym at.is) (subst IsIncarnation (sym stands.agrees.incarnation) stands.agrees.coherent.life)
 
-  pub request_steps : (account : List ℕ) (request : Request) →
+  pub request_steps : (account : List ℕ) (request : Request) → IsClearRequest (Some request) →
       StepsTo member past (request_at node account request) (step_at node (request_at node account request)) true
       (with_step node (step_at node (request_at node account request)))
-  request_steps account request =
+  request_steps account request clear =
       let number : node.setup.node ≡ member.number = ap (λ (n : Node). n.setup.node) at.is in
       let least = member.one_of.least in
       let most = member.one_of.most in
@@ -203,12 +216,12 @@ module _ (member : Member) (past : List NodeInput) (fit : IsFit member.cluster p
       let comes = request_comes node.setup node.kept
       (record { least = omega (arith, number, least); most = omega (arith, number, most, few) }) lives begun account request in
       plain_steps member past fit node at node.packets at.sent (request_at node account request) comes.plain comes.may
-      (comes.unsent (kept_reached member.cluster past).packets) comes.small
+      (comes.unsent (kept_reached member.cluster past).packets) comes.small (requested_clear node.setup node.kept account request clear)
 
   pub tick_steps : (moment : ℕ) (up : List (List ℕ)) →
       StepsTo member past (tick_at moment up) (step_at node (tick_at moment up)) true (with_step node (step_at node (tick_at moment up)))
   tick_steps moment up =
-      plain_steps member past fit node at node.packets at.sent (tick_at moment up) tt tt tt (λ id about. absurd about)
+      plain_steps member past fit node at node.packets at.sent (tick_at moment up) tt tt tt (λ id about. absurd about) (λ id message is. absurd cc)
 
   -- a grant that is not refused
   pub grant_steps : (id : ℕ) → grant_refusal node.setup node.kept id ≡ None →
@@ -216,14 +229,14 @@ module _ (member : Member) (past : List NodeInput) (fit : IsFit member.cluster p
       (with_step node (step_at node (Grant (known_slot node.kept id))))
   grant_steps id free =
       plain_steps member past fit node at node.packets at.sent (Grant (known_slot node.kept id)) tt (grant_comes node.setup node.kept id free) tt
-      (λ other about. absurd about)
+      (λ other about. absurd about) (λ other message is. absurd cc)
 
   -- the outcome of an attempt that is open
   pub response_steps : (slot : Slot) (outcome : Outcome) → IsOutcome outcome → is_open node.kept slot ≡ true →
       StepsTo member past (Response slot outcome) (step_at node (Response slot outcome)) true (with_step node (step_at node (Response slot outcome)))
   response_steps slot outcome possible there =
       plain_steps member past fit node at node.packets at.sent (Response slot outcome) tt (outcome_comes node.kept slot outcome possible there) tt
-      (λ id about. absurd about)
+      (λ id about. absurd about) (λ id message is. absurd cc)
 
   -- a packet that was sent, and others that still wait
   pub delivery_steps : (packet : Packet) (others : List Packet) → WereSent member.cluster past (packet ∷ others) →
@@ -231,7 +244,7 @@ module _ (member : Member) (past : List NodeInput) (fit : IsFit member.cluster p
   delivery_steps packet others sent =
       plain_steps member past fit node at others (λ other among. sent other (inr among)) (Delivery packet) tt
       (well_made member.cluster past (clustered member.cluster past fit.may) packet (sent packet (inl refl))) (sent packet (inl refl))
-      (λ id about. absurd about)
+      (λ id about. absurd about) (λ id message is. absurd cc)
 
 -- ---- a stop, and a start
 
@@ -265,7 +278,8 @@ pub crash_steps : (member : Member) (past : List NodeInput) → IsFit member.clu
     Leads member past (Crash packet after ∷ []) false (with_step node (step_at node (Crash packet after)))
 crash_steps member past fit node at packet after sent =
     subst (λ (n : Node). Leads member past (Crash packet after ∷ []) false (with_step (awaiting n node.packets) (step_at n (Crash packet after)))) (sym at.is)
-    (step_from member past fit input up (well_made member.cluster past (clustered member.cluster past fit.may) packet sent) sent node.packets at.sent
+    (step_from member past fit input up (well_made member.cluster past (clustered member.cluster past fit.may) packet sent) sent
+    (λ id message same. absurd cc) node.packets at.sent
     (subst (λ (step : Stepped). IsSteady step.kept) is (stopped_steady kept (stopped setup kept packet after) stops (fit.steady member.number)))
     (subst AreSmall is (λ reply among. absurd among))
     false (ap (λ (step : Stepped). step.kept.up) (sym is) ∙ stops.up)).leads
@@ -300,7 +314,7 @@ pub restart_steps : (member : Member) (past : List NodeInput) → IsFit member.c
     Leads member past (Restart 0 ∷ []) true (with_step node (step_at node (Restart 0)))
 restart_steps member past fit node up at left =
     subst (λ (n : Node). Leads member past (Restart 0 ∷ []) true (with_step (awaiting n node.packets) (step_at n (Restart 0)))) (sym at.is)
-    (step_from member past fit (Restart 0) tt (omega (arith, lost)) tt node.packets at.sent
+    (step_from member past fit (Restart 0) tt (omega (arith, lost)) tt (λ id message same. absurd cc) node.packets at.sent
     (subst (λ (step : Stepped). IsSteady step.kept) is (record { begun = fit.first member.number; small = λ h among. absurd among }))
     (subst AreSmall is (λ reply among. absurd among))
     true (ap (λ (step : Stepped). step.kept.up) (sym is))).leads

@@ -36,10 +36,14 @@ use Rattle.fate_laws.proofs.Decided.{IsDecided}
 -- ---- PDUs that tell no state
 
 -- a body that is not a query_sm_resp with an answer
-abbrev TellsNone : Body → Type 0
+abbrev pub TellsNone : Body → Type 0
 TellsNone body = (answer : QueryAnswer) → body ≡ QuerySmResp (Some answer) → ⊥
 
-refusal_tells_none : (requested : Requested) → TellsNone (refusal_body requested)
+-- a body that is no deliver_sm
+abbrev pub IsNoDeliverSm : Body → Type 0
+IsNoDeliverSm body = (message : Message) → body ≡ DeliverSm message → ⊥
+
+pub refusal_tells_none : (requested : Requested) → TellsNone (refusal_body requested)
 refusal_tells_none requests.BindReceiver answer is = cc
 refusal_tells_none requests.BindTransmitter answer is = cc
 refusal_tells_none requests.BindTransceiver answer is = cc
@@ -59,6 +63,26 @@ response_tells_none system_id sequence (Bound roles.Transceiver version) answer 
 response_tells_none system_id sequence Unbound answer is = cc
 response_tells_none system_id sequence Linked answer is = cc
 
+pub refusal_delivers_none : (requested : Requested) → IsNoDeliverSm (refusal_body requested)
+refusal_delivers_none requests.BindReceiver message is = cc
+refusal_delivers_none requests.BindTransmitter message is = cc
+refusal_delivers_none requests.BindTransceiver message is = cc
+refusal_delivers_none requests.SubmitSm message is = cc
+refusal_delivers_none requests.DeliverSm message is = cc
+refusal_delivers_none requests.QuerySm message is = cc
+refusal_delivers_none requests.CancelSm message is = cc
+refusal_delivers_none requests.Unbind message is = cc
+refusal_delivers_none requests.EnquireLink message is = cc
+
+response_delivers_none : (system_id : List ℕ) (sequence : ℕ) (response : Response) → IsNoDeliverSm (response_pdu system_id sequence response).body
+response_delivers_none system_id sequence (Nack status) message is = cc
+response_delivers_none system_id sequence (Refused requested status) message is = refusal_delivers_none requested message is
+response_delivers_none system_id sequence (Bound roles.Transmitter version) message is = cc
+response_delivers_none system_id sequence (Bound roles.Receiver version) message is = cc
+response_delivers_none system_id sequence (Bound roles.Transceiver version) message is = cc
+response_delivers_none system_id sequence Unbound message is = cc
+response_delivers_none system_id sequence Linked message is = cc
+
 -- ---- prints that tell nothing of a fate, and answer no request that waited
 
 pub record IsMute (print : Print) : Type 0 where
@@ -66,11 +90,13 @@ pub record IsMute (print : Print) : Type 0 where
   pub deletion : (message_id : List ℕ) → TellsDeletion print message_id → ⊥
   pub receipt : (message_id : List ℕ) (state : ℕ) → TellsReceipt print message_id state → ⊥
   pub late : (session id : ℕ) (other : Pdu) → print ≡ Late session id other → ⊥
+  pub once : (session : ℕ) (other : Pdu) → print ≡ AtOnce session other → TellsNone other.body × IsNoDeliverSm other.body
 
 -- it is neither the answer to a request that waited nor a receipt
 record IsNoAnswer (print : Print) : Type 0 where
   late : (session id : ℕ) (other : Pdu) → print ≡ Late session id other → ⊥
   receipt : (session sequence : ℕ) (optional : Bool) (report : Report) → print ≡ Reports session sequence optional report → ⊥
+  once : (session : ℕ) (other : Pdu) → print ≡ AtOnce session other → IsNoDeliverSm other.body
 
 -- a PDU that tells none goes out, and is neither
 other_is_mute : (print : Print) (pdu : Pdu) → pdu_in print ≡ Some pdu → TellsNone pdu.body → IsNoAnswer print → IsMute print
@@ -81,13 +107,18 @@ other_is_mute print pdu is none never = record {
   deletion = λ message_id tells. never.late tells.session tells.id tells.pdu tells.printed;
   receipt = λ message_id state tells. never.receipt tells.session tells.sequence tells.optional tells.report tells.printed;
   late = never.late;
+  once = λ session other same. (
+    subst (λ (p : Pdu). TellsNone p.body) (some_is pdu other (sym is ∙ ap (λ (p : Print). pdu_in p) same)) none,
+    never.once session other same,
+  );
 }
   where
     some_is : (one other : Pdu) → Some one ≡ Some other → one ≡ other
     some_is one other is = cc
 
-at_once_is_mute : (session : ℕ) (pdu : Pdu) → TellsNone pdu.body → IsMute (AtOnce session pdu)
-at_once_is_mute session pdu none = other_is_mute (AtOnce session pdu) pdu refl none (record { late = not_late; receipt = no_receipt })
+at_once_is_mute : (session : ℕ) (pdu : Pdu) → TellsNone pdu.body → IsNoDeliverSm pdu.body → IsMute (AtOnce session pdu)
+at_once_is_mute session pdu none other =
+    other_is_mute (AtOnce session pdu) pdu refl none (record { late = not_late; receipt = no_receipt; once = no_deliver })
   where
     not_late : (number id : ℕ) (other : Pdu) → AtOnce session pdu ≡ Late number id other → ⊥
     not_late number id other is = cc
@@ -95,24 +126,39 @@ at_once_is_mute session pdu none = other_is_mute (AtOnce session pdu) pdu refl n
     no_receipt : (number sequence : ℕ) (optional : Bool) (report : Report) → AtOnce session pdu ≡ Reports number sequence optional report → ⊥
     no_receipt number sequence optional report is = cc
 
+    same_pdu : (number : ℕ) (one : Pdu) → AtOnce session pdu ≡ AtOnce number one → pdu ≡ one
+    same_pdu number one is = cc
+
+    no_deliver : (number : ℕ) (one : Pdu) → AtOnce session pdu ≡ AtOnce number one → IsNoDeliverSm one.body
+    no_deliver number one is = subst (λ (p : Pdu). IsNoDeliverSm p.body) (same_pdu number one is) other
+
 pub refusal_is_mute : (session : ℕ) (requested : Requested) (sequence status : ℕ) → IsMute (AtOnce session (refused_with requested sequence status))
-refusal_is_mute session requested sequence status = at_once_is_mute session (refused_with requested sequence status) (refusal_tells_none requested)
+refusal_is_mute session requested sequence status =
+    at_once_is_mute session (refused_with requested sequence status) (refusal_tells_none requested) (refusal_delivers_none requested)
 
 pub response_is_mute : (session : ℕ) (system_id : List ℕ) (outgoing : Outgoing) → IsMute (AtOnce session (pdu_of system_id outgoing))
 response_is_mute session system_id outgoing =
     at_once_is_mute session (pdu_of system_id outgoing) (response_tells_none system_id outgoing.sequence outgoing.response)
+    (response_delivers_none system_id outgoing.sequence outgoing.response)
 
 -- the deliver_sm of an attempt goes out
 pub delivery_is_mute : (number : ℕ) (session : Session) (taken : Submission) → IsMute (Delivers number (delivery_on session taken))
 delivery_is_mute number session taken =
     other_is_mute (Delivers number (delivery_on session taken)) (delivery_on session taken) refl (λ answer is. cc)
-    (record { late = not_late (delivery_on session taken); receipt = no_receipt (delivery_on session taken) })
+    (record {
+      late = not_late (delivery_on session taken);
+      receipt = no_receipt (delivery_on session taken);
+      once = λ other pdu is. absurd (not_once (delivery_on session taken) other pdu is);
+    })
   where
     not_late : (pdu : Pdu) (other id : ℕ) (late : Pdu) → Delivers number pdu ≡ Late other id late → ⊥
     not_late pdu other id late is = cc
 
     no_receipt : (pdu : Pdu) (other sequence : ℕ) (optional : Bool) (report : Report) → Delivers number pdu ≡ Reports other sequence optional report → ⊥
     no_receipt pdu other sequence optional report is = cc
+
+    not_once : (pdu : Pdu) (other : ℕ) (once : Pdu) → Delivers number pdu ≡ AtOnce other once → ⊥
+    not_once pdu other once is = cc
 
 -- no PDU goes out
 silent_is_mute : (print : Print) → pdu_in print ≡ None → IsMute print
@@ -121,6 +167,7 @@ silent_is_mute print none = record {
   deletion = λ message_id tells. none_is_some tells.pdu (sym none ∙ ap (λ (p : Print). pdu_in p) tells.printed);
   receipt = λ message_id state tells. none_is_some _ (sym none ∙ ap (λ (p : Print). pdu_in p) tells.printed);
   late = λ session id other is. none_is_some other (sym none ∙ ap (λ (p : Print). pdu_in p) is);
+  once = λ session other is. absurd (none_is_some other (sym none ∙ ap (λ (p : Print). pdu_in p) is));
 }
   where
     none_is_some : (pdu : Pdu) → None ≡ Some pdu → ⊥

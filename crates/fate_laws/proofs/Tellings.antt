@@ -1,19 +1,22 @@
 -- What is told by prints from where a cluster stands on, one after the other.
 use Rattle.std.proofs.Common.{◌≡◌, ℕ, ◌<◌, ◌^◌, Bool, List, [], ◌∷◌, ◌++◌, map, sym, ap, ◌∙◌, append_assoc}
 use Rattle.std.proofs.lemmas.List.{map-append}
+use Rattle.mc_model.specs.message.Submission.{Submission}
 use Rattle.mc_model.specs.synod.Lists.{In}
 use Rattle.mc_model.specs.node.Outputs.{Receipt, Reply}
 use Rattle.mc_model.specs.cluster.Steps.{Cluster}
 use Rattle.node_laws.specs.Clusters.{MayHappen, NodeInput}
 use Rattle.receipts.specs.Texts.{Report}
 use Rattle.sessions.specs.Session.{Session}
-use Rattle.script_text.specs.Prints.{Print, Reports}
+use Rattle.script_text.specs.Prints.{Delivers, Print, Reports}
+use Rattle.script_text.specs.Pushes.{delivery_on}
 use Rattle.script_text.specs.Runner.{told}
 use Rattle.fate_laws.proofs.Reports.{IsReportOf}
 use Rattle.fate_laws.proofs.Telling.{AreMute, IsMute, IsNoDelivery}
 use Rattle.fate_laws.proofs.Behind.{behind, happened_before}
 use Rattle.fate_laws.proofs.ReceiptsOut.{IsReceiptOut}
 use Rattle.fate_laws.proofs.StepsOut.{step_now}
+use Rattle.fate_laws.proofs.Submitted.{WasSubmitted}
 
 -- what a node prints
 abbrev pub NodePrint : Type 0
@@ -45,11 +48,13 @@ pub record IsTelling (cluster : Cluster) (Tells : FactOfPrints) : Type 0 where
       Tells last (next ∷ past) prints →
       Tells last past (prints_at next.node (told connected (step_now cluster next past).outputs.replies).prints ++ prints)
 
--- and so it is with a deliver_sm of an attempt in front
+-- and so it is with the deliver_sm of an attempt of what was submitted in front
 abbrev pub TakesDeliveries : FactOfPrints → Type 0
 TakesDeliveries Tells =
-    (last past : List NodeInput) (node : ℕ) (print : Print) (prints : List NodePrint) → IsMute print → Tells last past prints
-    → Tells last past (by_node node print ∷ prints)
+    (last past : List NodeInput) (node number : ℕ) (session : Session) (taken : Submission) (prints : List NodePrint)
+    → WasSubmitted past taken
+    → Tells last past prints
+    → Tells last past (by_node node (Delivers number (delivery_on session taken)) ∷ prints)
 
 pub both_at : (node : ℕ) (first last : List Print) (prints : List NodePrint) →
     prints_at node first ++ (prints_at node last ++ prints) ≡ prints_at node (first ++ last) ++ prints

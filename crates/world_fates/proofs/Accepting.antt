@@ -15,7 +15,8 @@ use Rattle.pdu_tables.specs.StatusCodes.{status_code}
 use Rattle.pdu_tables.specs.declared.status.Status.TheVariants as statuses
 use Rattle.sessions.specs.Session.{Session}
 use Rattle.sessions.specs.declared.requested.Requested.{Requested}
-use Rattle.script_text.specs.Prints.{Late, Print, Reports}
+use Rattle.script_text.specs.Prints.{Delivers, Late, Print, Reports}
+use Rattle.script_text.specs.Pushes.{delivery_on}
 use Rattle.script_text.specs.Responses.{reply_pdu}
 use Rattle.script_text.specs.Runner.{Owned, Told, in_front, owner_of, replied, reply_prints, told}
 use Rattle.script_text.specs.Settings.{Settings}
@@ -25,6 +26,7 @@ use Rattle.script_world.specs.World.{NodeInput as LineInput, World}
 use Rattle.fate_laws.proofs.Behind.{behind, given_later, input_to}
 use Rattle.fate_laws.proofs.Printing.{of_all}
 use Rattle.fate_laws.proofs.StepsOut.{step_now}
+use Rattle.fate_laws.proofs.Telling.{delivery_is_mute}
 use Rattle.fate_laws.proofs.Tellings.{IsTelling, NodePrint, TakesDeliveries, by_node, prints_at}
 use Rattle.world_fates.specs.Questions.{AnswersWhatWaited, TellsAcceptance, TellsUnknown}
 use Rattle.world_fates.proofs.Worlds.{told_by, told_by_all}
@@ -137,7 +139,9 @@ module _ (cluster : Cluster) where
           (reply_accepts past outputs given owned.number request.requested request.sequence reply (out reply (inl refl))) others
 
   pub accepted_takes : TakesDeliveries AcceptedFrom
-  accepted_takes last past node print prints mute it = accepted_then last past node print prints (never_accepts past print mute.late) it
+  accepted_takes last past node number session taken prints submitted it =
+      let print = Delivers number (delivery_on session taken) in
+      accepted_then last past node print prints (never_accepts past print (delivery_is_mute number session taken).late) it
 
   pub accepted_telling : IsTelling cluster AcceptedFrom
   accepted_telling = record {

@@ -14,7 +14,8 @@ use Rattle.pdu_tables.specs.StateCodes.{state_code}
 use Rattle.fate_chain.specs.States.{final_code, state_of}
 use Rattle.receipts.specs.Texts.{Report}
 use Rattle.sessions.specs.Session.{Session}
-use Rattle.script_text.specs.Prints.{Late, Print, Reports}
+use Rattle.script_text.specs.Prints.{Delivers, Late, Print, Reports}
+use Rattle.script_text.specs.Pushes.{delivery_on}
 use Rattle.script_text.specs.Responses.{reply_pdu}
 use Rattle.script_text.specs.Runner.{Owned, Told, in_front, owner_of, replied, reply_prints, told}
 use Rattle.script_text.specs.Settings.{Settings}
@@ -23,7 +24,7 @@ use Rattle.script_world.specs.Prints.{At, WorldPrint}
 use Rattle.script_world.specs.World.{NodeInput as LineInput, World}
 use Rattle.fate_laws.proofs.Reports.{IsReportOf}
 use Rattle.fate_laws.proofs.Printing.{of_all}
-use Rattle.fate_laws.proofs.Telling.{IsMute, IsTold, Shows, reply_is_told, report_tells_no_deletion, report_tells_no_state}
+use Rattle.fate_laws.proofs.Telling.{IsMute, IsTold, Shows, delivery_is_mute, reply_is_told, report_tells_no_deletion, report_tells_no_state}
 use Rattle.fate_laws.proofs.Behind.{behind, given_later}
 use Rattle.fate_laws.proofs.ReceiptsOut.{IsReceiptOut}
 use Rattle.fate_laws.proofs.StepsOut.{removal_ends, step_now}
@@ -205,7 +206,9 @@ module _ (cluster : Cluster) where
           others
 
   pub given_takes : TakesDeliveries GivenFrom
-  given_takes last past node print prints mute given = given_then last past node print prints (mute_tells past print mute) given
+  given_takes last past node number session taken prints submitted given =
+      let print = Delivers number (delivery_on session taken) in
+      given_then last past node print prints (mute_tells past print (delivery_is_mute number session taken)) given
 
   pub given_telling : IsTelling cluster GivenFrom
   given_telling = record {

@@ -1,6 +1,7 @@
 pub mod Places
 pub mod Worlds
 pub mod Printing
+pub mod Standing
 pub mod Fates
 pub mod Given
 pub mod Reaching

@@ -9,11 +9,12 @@ use Rattle.node_laws.specs.Clusters.{NodeInput}
 use Rattle.pdu_bodies.specs.declared.pdu.Pdu.{Pdu}
 use Rattle.sessions.specs.Session.{Session}
 use Rattle.script_text.specs.Laws.{TellsState}
-use Rattle.script_text.specs.Prints.{Late, Print}
+use Rattle.script_text.specs.Prints.{Delivers, Late, Print}
+use Rattle.script_text.specs.Pushes.{delivery_on}
 use Rattle.script_text.specs.Responses.{reply_pdu}
 use Rattle.script_text.specs.Runner.{Owned, Told, in_front, owner_of, replied, reply_prints, told}
 use Rattle.fate_laws.proofs.StepsOut.{step_now}
-use Rattle.fate_laws.proofs.Telling.{IsMute, reply_is_told, report_tells_no_state}
+use Rattle.fate_laws.proofs.Telling.{IsMute, delivery_is_mute, reply_is_told, report_tells_no_state}
 use Rattle.fate_laws.proofs.Tellings.{IsTelling, NodePrint, TakesDeliveries, by_node, prints_at}
 
 -- it answers a request that waited, for the message of a message_id, whose id is a short number
@@ -64,7 +65,8 @@ replies_named node connected (reply ∷ replies) prints small all =
         )
 
 pub named_takes : TakesDeliveries NamedFrom
-named_takes last past node print prints mute all = (mute_named node print mute, all)
+named_takes last past node number session taken prints submitted all =
+    (mute_named node (Delivers number (delivery_on session taken)) (delivery_is_mute number session taken), all)
 
 pub named_telling : (cluster : Cluster) → IsTelling cluster NamedFrom
 named_telling cluster = record {

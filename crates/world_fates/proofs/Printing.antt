@@ -19,6 +19,7 @@ use Rattle.script_world.specs.World.{restarts, setup_of, ticks}
 use Rattle.fate_laws.proofs.Behind.{behind}
 use Rattle.fate_laws.proofs.Standing.{opened_fit}
 use Rattle.fate_laws.proofs.Tellings.{FactOfPrints, IsTelling, NodePrint, TakesDeliveries}
+use Rattle.world_fates.specs.Runs.{cluster_of}
 use Rattle.world_fates.proofs.Places.{row_at}
 use Rattle.world_fates.proofs.Worlds.{IsRunner, MovesSo, WorldStands, behind_lines, comes_so, crashes_so, grants_so, hears_so, inputs_of}
 use Rattle.world_fates.proofs.Worlds.{member_of, replay_so, restarts_so, settle_so, ticks_so, told_by, told_by_both}
@@ -132,10 +133,7 @@ module _ (settings : Settings) (cluster : Cluster) (Tells : FactOfPrints) (telli
 
 -- ---- a world that opens
 
-abbrev pub cluster_of : Settings → ℕ → ℕ → Cluster
-cluster_of settings count serial = record { nodes = count; serials = λ node. serial; validities = λ node. settings.validity }
-
-opened_stands : (settings : Settings) (count serial : ℕ) → count ≤ 9 → 1 ≤ serial →
+pub opened_stands : (settings : Settings) (count serial : ℕ) → count ≤ 9 → 1 ≤ serial →
     WorldStands (cluster_of settings count serial) [] (opened settings count serial)
 opened_stands settings count serial few least = record {
   fit = opened_fit (cluster_of settings count serial) (λ node. least);

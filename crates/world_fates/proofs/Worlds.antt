@@ -104,10 +104,10 @@ behind_lines first others past middle later first_is others_are =
     behind_then (inputs_of first) (inputs_of others) past middle later first_is others_are
     ∙ ap (λ (inputs : List NodeInput). behind inputs past) (sym (map-append to_cluster first others))
 
-abbrev at_line : ℕ → Input → LineInput
+abbrev pub at_line : ℕ → Input → LineInput
 at_line node input = record { node = node; input = input }
 
-of_one_node : (node : ℕ) (inputs : List Input) → inputs_of (map (at_line node) inputs) ≡ map (input_to node) inputs
+pub of_one_node : (node : ℕ) (inputs : List Input) → inputs_of (map (at_line node) inputs) ≡ map (input_to node) inputs
 of_one_node node [] = refl
 of_one_node node (input ∷ inputs) = ap (λ (others : List NodeInput). input_to node input ∷ others) (of_one_node node inputs)
 

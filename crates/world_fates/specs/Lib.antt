@@ -2,4 +2,5 @@ pub mod Laws
 pub mod Deliveries
 pub mod Refusals
 pub mod Questions
+pub mod Runs
 pub mod Example

@@ -19,6 +19,12 @@ ghost use Rattle.world_fates.specs.Questions.{
   LaterRequestsAreOfKnownMessages,
 };
 ghost use Rattle.world_fates.specs.Refusals.{IdsAreNotRefusedAtOnce};
+ghost use Rattle.world_fates.specs.Runs.{AScriptIsARun};
+
+/// A script is a run of the model: its lines lead a cluster to where its nodes and their packets stand, by what came to the nodes.
+pub fn a_script_is_a_run()
+    ensures { AScriptIsARun }
+{}
 
 /// Two final states that a script prints for one message are equal, at whatever nodes, by a query_sm_resp (SMPP 3.4, 4.8.2 and 5.2.28),
 /// by a cancel_sm_resp (SMPP 3.4, 4.9.2) or by a delivery receipt (SMPP 3.4, appendix B).

@@ -1,0 +1,209 @@
+-- Each line of a written text is that of one print, and a line of octets that of a PDU.
+use Rattle.std.proofs.Common.{◌≡◌, ℕ, Bool, true, false, List, [], ◌∷◌, ◌++◌, Some, refl, sym, ap, subst, ◌∙◌, append_assoc, inl, inr, arith}
+use Rattle.std.specs.Prelude.{codes, ◌==◌, if◌then◌else◌}
+use Rattle.std.specs.Fmt.{decimal}
+use Rattle.std.proofs.lemmas.List.{append_cancel_right}
+use Rattle.std.proofs.lemmas.List.Elements.{All-from_recursion}
+use Rattle.hex.specs.Hex.{encode_lower}
+use Rattle.mc_model.specs.synod.Lists.{In}
+use Rattle.pdu_bodies.specs.declared.pdu.Pdu.{Pdu}
+use Rattle.pdu_codec.specs.Pdu.{octets_of}
+use Rattle.script_lines.specs.Lines.{IsOneLine, lines_of, onto_first}
+use Rattle.script_lines.proofs.LineLemmas.{lines_of-next}
+use Rattle.script_text.specs.Laws.{pdu_in}
+use Rattle.script_text.specs.Prints.{AtOnce, Declined, Delivers, Gone, Late, Print, Reports, Ungranted, Unsettled, gone_line, octets_line, report_pdu}
+use Rattle.script_world.specs.Prints.{At, Refuses, StopsSettling, WorldPrint, world_line, world_text}
+use Rattle.octet_laws.specs.Tellings.{IsPduLine}
+use Rattle.octet_laws.proofs.Words.{IsFrontRead, Lacks, both_lack, cons_first, decimal_lacks, decoded, hex_lacks_feed, split, tests_lack}
+
+abbrev feed : List ℕ
+feed = 10 ∷ []
+
+-- ---- what is printed is one line
+
+record HasLine (text : List ℕ) : Type 0 where
+  line : List ℕ
+  written : text ≡ line ++ feed
+  one : Lacks 10 line
+
+-- four parts behind a first word, and what stands behind them
+abbrev parted : List ℕ → ℕ → ℕ → List ℕ
+parted first node session = first ++ decimal node ++ codes " " ++ decimal session
+
+parted_lack : (first : List ℕ) → Lacks 10 first → (node session : ℕ) → Lacks 10 (parted first node session)
+parted_lack first none node session =
+    both_lack 10 (first ++ decimal node ++ codes " ") (decimal session)
+    (both_lack 10 (first ++ decimal node) (codes " ")
+    (both_lack 10 first (decimal node) none (decimal_lacks 10 (omega arith) node)) (tests_lack 10 (codes " ") refl))
+    (decimal_lacks 10 (omega arith) session)
+
+parted_is : (first : List ℕ) (node session : ℕ) (rest : List ℕ) → parted first node session ++ codes " " ++ rest ≡
+    first ++ (decimal node ++ (32 ∷ (decimal session ++ (32 ∷ rest))))
+parted_is first node session rest =
+    append_assoc (parted first node session) (codes " ") rest
+    ∙ append_assoc (first ++ decimal node ++ codes " ") (decimal session) (32 ∷ rest)
+    ∙ append_assoc (first ++ decimal node) (codes " ") (decimal session ++ (32 ∷ rest))
+    ∙ append_assoc first (decimal node) (32 ∷ (decimal session ++ (32 ∷ rest)))
+
+octets_has : (node session : ℕ) (octets : List ℕ) → HasLine (octets_line node session octets)
+octets_has node session octets = record {
+  line = parted (codes "pdu ") node session ++ codes " " ++ encode_lower octets;
+  written = refl;
+  one = both_lack 10 (parted (codes "pdu ") node session ++ codes " ") (encode_lower octets)
+      (both_lack 10 (parted (codes "pdu ") node session) (codes " ") (parted_lack (codes "pdu ") (tests_lack 10 (codes "pdu ") refl) node session)
+      (tests_lack 10 (codes " ") refl))
+      (hex_lacks_feed octets);
+}
+
+numbered_has : (front : List ℕ) → Lacks 10 front → (number : ℕ) → HasLine (front ++ decimal number ++ feed)
+numbered_has front none number =
+    record { line = front ++ decimal number; written = refl; one = both_lack 10 front (decimal number) none (decimal_lacks 10 (omega arith) number) }
+
+gone_has : (node session : ℕ) → HasLine (gone_line node session)
+gone_has node session =
+    record { line = parted (codes "gone ") node session; written = refl; one = parted_lack (codes "gone ") (tests_lack 10 (codes "gone ") refl) node session }
+
+unsettled_has : HasLine (codes "unsettled" ++ feed)
+unsettled_has = record { line = codes "unsettled"; written = refl; one = tests_lack 10 (codes "unsettled") refl }
+
+has_line : (print : WorldPrint) → HasLine (world_line print)
+has_line (At node (AtOnce session pdu)) = octets_has node session (octets_of pdu)
+has_line (At node (Late session id pdu)) = octets_has node session (octets_of pdu)
+has_line (At node (Delivers session pdu)) = octets_has node session (octets_of pdu)
+has_line (At node (Reports session sequence optional report)) = octets_has node session (octets_of (report_pdu sequence optional report))
+has_line (At node (Gone session)) = gone_has node session
+has_line (At node Unsettled) = unsettled_has
+has_line (At node (Declined number)) = numbered_has (codes "refused ") (tests_lack 10 (codes "refused ") refl) number
+has_line (At node (Ungranted reason)) = numbered_has (codes "refused 3 ") (tests_lack 10 (codes "refused 3 ") refl) reason
+has_line (Refuses number) = numbered_has (codes "refused ") (tests_lack 10 (codes "refused ") refl) number
+has_line StopsSettling = unsettled_has
+
+-- ---- each line is that of a print
+
+record IsLineOf (prints : List WorldPrint) (line : List ℕ) : Type 0 where
+  print : WorldPrint
+  among : In print prints
+  written : world_line print ≡ line ++ feed
+
+line_printed : (prints : List WorldPrint) (line : List ℕ) → In line (lines_of (world_text prints)) → IsLineOf prints line
+line_printed [] line among = absurd among
+line_printed (first ∷ prints) line among =
+    let it = has_line first in
+    let one : IsOneLine it.line = All-from_recursion (λ (octet : ℕ). octet ≡ 10 → ⊥) it.line it.one in
+    let lines : lines_of (world_text (first ∷ prints)) ≡ it.line ∷ lines_of (world_text prints) =
+    ap lines_of (ap (λ (text : List ℕ). text ++ world_text prints) it.written ∙ append_assoc it.line feed (world_text prints))
+    ∙ lines_of-next it.line (world_text prints) one in
+    elim (subst (In line) lines among) [
+      | inl same ↦ record { print = first; among = inl refl; written = it.written ∙ ap (λ (l : List ℕ). l ++ feed) (sym same) }
+      | inr later ↦ (let rest = line_printed prints line later in record { print = rest.print; among = inr rest.among; written = rest.written })
+    ]
+
+-- ---- the lines of the first octets of a text
+
+-- each line is the front of one
+abbrev AreFronts : List (List ℕ) → List (List ℕ) → Type 0
+AreFronts [] wholes = Unit {0}
+AreFronts (line ∷ lines) [] = ⊥
+AreFronts (line ∷ lines) (whole ∷ wholes) = ((more : List ℕ) × (whole ≡ line ++ more)) × AreFronts lines wholes
+
+onto_fronts : (octet : ℕ) (lines wholes : List (List ℕ)) → AreFronts lines wholes → AreFronts (onto_first octet lines) (onto_first octet wholes)
+onto_fronts octet [] [] fronts = (([], refl), tt)
+onto_fronts octet [] (whole ∷ wholes) fronts = ((whole, refl), tt)
+onto_fronts octet (line ∷ lines) [] fronts = absurd fronts
+onto_fronts octet (line ∷ lines) (whole ∷ wholes) fronts = ((fronts.0.0, ap (λ (text : List ℕ). octet ∷ text) fronts.0.1), fronts.1)
+
+lines_are_fronts : (front later : List ℕ) → AreFronts (lines_of front) (lines_of (front ++ later))
+lines_are_fronts [] later = tt
+lines_are_fronts (octet ∷ front) later = by_test (octet == 10) (lines_are_fronts front later)
+  where
+    by_test : (ends : Bool) → AreFronts (lines_of front) (lines_of (front ++ later)) →
+        AreFronts (if ends then [] ∷ lines_of front else onto_first octet (lines_of front))
+        (if ends then [] ∷ lines_of (front ++ later) else onto_first octet (lines_of (front ++ later)))
+    by_test true fronts = (([], refl), fronts)
+    by_test false fronts = onto_fronts octet (lines_of front) (lines_of (front ++ later)) fronts
+
+record IsFrontAmong (lines : List (List ℕ)) (line : List ℕ) : Type 0 where
+  whole : List ℕ
+  more : List ℕ
+  among : In whole lines
+  is : whole ≡ line ++ more
+
+front_among : (lines wholes : List (List ℕ)) → AreFronts lines wholes → (line : List ℕ) → In line lines → IsFrontAmong wholes line
+front_among [] wholes fronts line among = absurd among
+front_among (first ∷ lines) [] fronts line among = absurd fronts
+front_among (first ∷ lines) (whole ∷ wholes) fronts line (inl same) =
+    record { whole = whole; more = fronts.0.0; among = inl refl; is = fronts.0.1 ∙ ap (λ (l : List ℕ). l ++ fronts.0.0) (sym same) }
+front_among (first ∷ lines) (whole ∷ wholes) fronts line (inr later) =
+    let it = front_among lines wholes fronts.1 line later in record { whole = it.whole; more = it.more; among = inr it.among; is = it.is }
+
+-- a line of the first octets of a text is the front of that of a print
+pub record IsFrontOfLine (prints : List WorldPrint) (line : List ℕ) : Type 0 where
+  pub print : WorldPrint
+  pub more : List ℕ
+  pub among : In print prints
+  pub written : world_line print ≡ line ++ more ++ feed
+
+pub front_printed : (prints : List WorldPrint) (front later line : List ℕ) → front ++ later ≡ world_text prints → In line (lines_of front) →
+    IsFrontOfLine prints line
+front_printed prints front later line is among =
+    let it = front_among (lines_of front) (lines_of (front ++ later)) (lines_are_fronts front later) line among in
+    let whole = line_printed prints it.whole (subst (λ (text : List ℕ). In it.whole (lines_of text)) is it.among) in
+    record { print = whole.print; more = it.more; among = whole.among; written = whole.written ∙ ap (λ (l : List ℕ). l ++ feed) it.is }
+
+-- ---- a line of octets is that of a PDU
+
+octets_back : (node session : ℕ) (written line more octets : List ℕ) → octets_line node session written ≡ line ++ more ++ feed → IsPduLine line octets →
+    IsFrontRead written octets
+octets_back node session written line more octets is said =
+    let same = append_cancel_right (parted (codes "pdu ") node session ++ codes " " ++ encode_lower written) (line ++ more) feed is
+    ∙ ap (λ (l : List ℕ). l ++ more) said.line_is
+    ∙ append_assoc (parted (codes "pdu ") said.node said.session ++ codes " ") said.digits more in
+    let behind = after_pdu _ _
+    (sym (parted_is (codes "pdu ") node session (encode_lower written)) ∙ same ∙ parted_is (codes "pdu ") said.node said.session (said.digits ++ more)) in
+    let first = split 32 (decimal node) (decimal said.node) _ _ (decimal_lacks 32 (omega arith) node) (decimal_lacks 32 (omega arith) said.node) behind in
+    let second = split 32 (decimal session) (decimal said.session) _ _ (decimal_lacks 32 (omega arith) session)
+    (decimal_lacks 32 (omega arith) said.session) first.rests in
+    decoded said.digits more written octets (sym second.rests) said.hex
+  where
+    after_pdu : (one other : List ℕ) → 112 ∷ 100 ∷ 117 ∷ 32 ∷ one ≡ 112 ∷ 100 ∷ 117 ∷ 32 ∷ other → one ≡ other
+    after_pdu one other is = cc
+
+-- the PDU that a print brings
+pub record BringsPdu (print : WorldPrint) (octets : List ℕ) : Type 0 where
+  pub node : ℕ
+  pub printed : Print
+  pub pdu : Pdu
+  pub print_is : print ≡ At node printed
+  pub pdu_is : pdu_in printed ≡ Some pdu
+  pub octets_are : IsFrontRead (octets_of pdu) octets
+
+pub pdu_printed : (print : WorldPrint) (line more octets : List ℕ) → world_line print ≡ line ++ more ++ feed → IsPduLine line octets → BringsPdu print octets
+pdu_printed print line more octets is said = by_print print is
+  where
+    brings : (node session : ℕ) (printed : Print) (pdu : Pdu) → pdu_in printed ≡ Some pdu → octets_line node session (octets_of pdu) ≡ line ++ more ++ feed →
+        BringsPdu (At node printed) octets
+    brings node session printed pdu pdu_is is = record {
+      node = node;
+      printed = printed;
+      pdu = pdu;
+      print_is = refl;
+      pdu_is = pdu_is;
+      octets_are = octets_back node session (octets_of pdu) line more octets is said;
+    }
+
+    -- a line that begins otherwise is none of octets
+    begins : (first : ℕ) (text : List ℕ) → first ∷ text ≡ line ++ more ++ feed → first ≡ 112
+    begins first text is = cons_first first 112 text _ (is ∙ ap (λ (l : List ℕ). l ++ more ++ feed) said.line_is)
+
+    by_print : (print : WorldPrint) → world_line print ≡ line ++ more ++ feed → BringsPdu print octets
+    by_print (At node (AtOnce session pdu)) is = brings node session (AtOnce session pdu) pdu refl is
+    by_print (At node (Late session id pdu)) is = brings node session (Late session id pdu) pdu refl is
+    by_print (At node (Delivers session pdu)) is = brings node session (Delivers session pdu) pdu refl is
+    by_print (At node (Reports session sequence optional report)) is =
+        brings node session (Reports session sequence optional report) (report_pdu sequence optional report) refl is
+    by_print (At node (Gone session)) is = absurd (let same = begins 103 _ is in omega (arith, same))
+    by_print (At node Unsettled) is = absurd (let same = begins 117 _ is in omega (arith, same))
+    by_print (At node (Declined number)) is = absurd (let same = begins 114 _ is in omega (arith, same))
+    by_print (At node (Ungranted reason)) is = absurd (let same = begins 114 _ is in omega (arith, same))
+    by_print (Refuses number) is = absurd (let same = begins 114 _ is in omega (arith, same))
+    by_print StopsSettling is = absurd (let same = begins 117 _ is in omega (arith, same))

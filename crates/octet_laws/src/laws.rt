@@ -1,0 +1,20 @@
+//! The law of what the octets that a script writes tell of fates: nothing to call, but to cite.
+
+ghost use Rattle.octet_laws.specs.Example.{TwoLinesTellOneFate};
+ghost use Rattle.octet_laws.specs.Laws.{OneFateIsWritten, WhatIsReadIsSpelled};
+
+/// Of the lines that a script writes all that tell a final state of one message, in a query_sm_resp with ESME_ROK (SMPP 3.4, 4.8.2 and 5.2.28) or in a
+/// delivery receipt (SMPP 3.4, 5.2.12 and appendix B), tell the same.
+pub fn one_fate_is_written()
+    ensures { OneFateIsWritten }
+{}
+
+/// And so do those that the codec reads: what `read_pdu` finds to be a query_sm_resp or a deliver_sm is one as the law has it.
+pub fn what_is_read_is_spelled()
+    ensures { WhatIsReadIsSpelled }
+{}
+
+/// The law speaks of something: a delivery receipt and a query_sm_resp at another node tell one fate.
+pub fn two_lines_tell_one_fate()
+    ensures { TwoLinesTellOneFate }
+{}

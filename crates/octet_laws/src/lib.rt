@@ -1,0 +1,6 @@
+//! What the octets that a script writes tell of fates.
+#![tactic(auto)]
+
+mod laws;
+
+pub use laws::{one_fate_is_written, two_lines_tell_one_fate, what_is_read_is_spelled};
