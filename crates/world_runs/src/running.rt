@@ -11,7 +11,9 @@ ghost use Rattle.world_runs.specs.Traces.{
   HasOneFate,
   LaterQueriesAreTold,
   LeadsAll,
+  events_of,
 };
+ghost use Rattle.world_runs.specs.Histories.{BecomesBy};
 ghost use Rattle.world_runs.specs.Statements.{Agree, statements_of};
 
 use crate::trace::Trace;
@@ -25,15 +27,16 @@ use world::{Step, World};
 /// later is answered by what was told, while its node does not start anew. An `Err` is want of memory for what the steps give; then none was taken.
 pub fn run(alloc: Global, world: &mut World, steps: Vec<Step>) -> Result<Trace, AllocError>
     ensures leads { IfOk result (λ trace. LeadsAll world.old steps.items trace.answers.items world.new) }
+    ensures becomes { IfOk result (λ trace. BecomesBy world.old (events_of steps.items trace.answers.items) world.new) }
     ensures one_fate { IfOk result (λ trace. HasOneFate trace.answers.items) }
     ensures agree { IfOk result (λ trace. Agree (statements_of trace.answers.items)) }
     ensures no_grant { IfOk result (λ trace. GrantsNoneAfterAFate trace.answers.items) }
-    ensures stands { IfOk result (λ trace. world.old.fresh ≡ true → DeliveriesStand steps.items trace.answers.items) }
+    ensures stands { IfOk result (λ trace. world.old.fresh ≡ true → DeliveriesStand (events_of steps.items trace.answers.items)) }
     ensures stands_in_its_run { IfOk result (λ trace. DeliveriesStandInRuns world.old steps.items trace.answers.items) }
     ensures chosen { IfOk result (λ trace. world.old.fresh ≡ true →
         AreChosen (length world.new.members) (map packet_of world.new.packets) trace.answers.items) }
-    ensures fresh_answers { IfOk result (λ trace. LaterQueriesAreTold steps.items trace.answers.items) }
-    ensures known { IfOk result (λ trace. AcceptedAreKnown steps.items trace.answers.items) }
+    ensures fresh_answers { IfOk result (λ trace. LaterQueriesAreTold (events_of steps.items trace.answers.items)) }
+    ensures known { IfOk result (λ trace. AcceptedAreKnown (events_of steps.items trace.answers.items)) }
     ensures stays { OnErr result (world.new ≡ world.old) }
 {
     world.stands();
