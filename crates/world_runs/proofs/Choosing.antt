@@ -60,8 +60,7 @@ module _ (cluster : Cluster) where
   sent_since [] inputs = ([], refl)
   sent_since (next ∷ newer) inputs =
       let it = sent_since newer inputs in
-      let here = reverse (outputs_at cluster (newer ++ inputs) next).packets in
-      (
+      let here = reverse (outputs_at cluster (newer ++ inputs) next).packets in (
         here ++ it.0,
         ap (λ (packets : List Packet). here ++ packets) it.1 ∙ sym (append_assoc here it.0 (kept_reached cluster inputs).packets),
       )

@@ -179,8 +179,8 @@ sent_by [] = 0
 sent_by (Ok given ∷ answers) = given.packets + sent_by answers
 sent_by (Err fault ∷ answers) = sent_by answers
 
--- Of each final state that is told the chain was chosen before: a majority of the nodes, which are so many, voted for it at one ballot, among the
--- packets, the oldest first, that were sent by the steps before the one that told it.
+-- Of each final state that is told the chain was chosen before (Paxos Made Simple, 2.3): a majority of the nodes, which are so many, voted for it at one
+-- ballot, and told so in those of these packets, the oldest first, that were sent by the steps before the one that told it.
 abbrev pub AreChosen : ℕ → List Packet → List Answer → Type 0
 AreChosen nodes packets answers =
     (older : List Answer) (telling : Answer) (newer : List Answer) (id : ℕ) (final : Final) → answers ≡ older ++ telling ∷ newer →

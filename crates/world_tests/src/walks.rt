@@ -236,3 +236,21 @@ pub fn assert_stated(rt: &impl Abort, alloc: Global, comes: &[Comes], wanted: &[
     let stated = stated_in(rt, alloc, trace_of(rt, alloc, 1, comes));
     assert_same(rt, &stated.as_slice(), &wanted);
 }
+
+// That a world of one node, which takes one list of steps, starts over its store, and takes another one, states this by the other one.
+pub fn assert_stated_again(
+    rt: &impl Abort,
+    alloc: Global,
+    first: &[Comes],
+    second: &[Comes],
+    wanted: &[(usize, Final)],
+) {
+    let mut world = world(rt, alloc, 1);
+    drop(run(alloc, &mut world, steps_of(rt, alloc, first)).expect(rt, "memory"));
+    let over = world.start_over();
+    let trace = run(alloc, &mut world, steps_of(rt, alloc, second));
+    drop(world);
+    assert_same(rt, &over, &Ok(()));
+    let stated = stated_in(rt, alloc, trace.expect(rt, "memory"));
+    assert_same(rt, &stated.as_slice(), &wanted);
+}
