@@ -5,3 +5,4 @@ pub use Rattle.node_core.specs.Stops
 pub mod Scenes
 pub mod Runs
 pub mod Members
+pub mod Copies
