@@ -9,8 +9,9 @@ use Rattle.world.specs.declared.step.Step.{Step}
 use Rattle.world.specs.Runs.{IsAt, IsSomewhere, Leads}
 use Rattle.world.specs.Scenes.{Scene}
 use Rattle.world_runs.specs.Histories.{BecomesBy, History, numbered_by}
-use Rattle.world_runs.specs.Traces.{AcceptedAreKnown, Answer, AreChosen, DeliveriesStand, DeliveriesStandInRuns, Event, GoesTo}
+use Rattle.world_runs.specs.Traces.{AcceptedAreKnown, Answer, AreChosen, AreCopies, DeliveriesStand, DeliveriesStandInRuns, Event, GoesTo}
 use Rattle.world_runs.specs.Traces.{GrantsNoneAfterAFate, HasOneFate, LaterQueriesAreTold, LeadsAll, Tried, answers_in, events_of}
+use Rattle.world_runs.proofs.Copying.{becomes_of, copies_count}
 use Rattle.world_runs.proofs.Linking.{accepted_known, chosen_all, deliveries_stand_in, goes_on_by, grants_none_after, has_one_fate, later_queries_told}
 use Rattle.world_runs.proofs.Standing.{deliveries_stand_in_run}
 
@@ -106,6 +107,12 @@ all_done old now given steps left rest answers room same way kept dropped =
       count = way.count ∙ ap length done;
       becomes = subst (λ (ss : List Step). BecomesBy old (events_of ss answers) now) done way.becomes;
     }
+
+-- also those of which they are copies
+pub done_of : (old now : Scene) (given steps : List Step) (answers : List Answer) → AreCopies given steps → AreDone old steps answers now →
+    AreDone old given answers now
+done_of old now given steps answers are done =
+    record { count = done.count ∙ copies_count given steps are; becomes = becomes_of old given steps answers now are done.becomes }
 
 pub leads_all : (old new : Scene) (steps : List Step) (answers : List Answer) → AreDone old steps answers new → LeadsAll old steps answers new
 leads_all old new steps answers all =

@@ -8,4 +8,5 @@ pub mod Voting
 pub mod Choosing
 pub mod Stating
 pub mod Linking
+pub mod Copying
 pub mod Leading

@@ -16,6 +16,7 @@ use Rattle.world.specs.declared.fault.WorldFault.{WorldFault}
 use Rattle.world.specs.declared.given.Given.{Given}
 use Rattle.world.specs.declared.step.Step.{Step}
 use Rattle.world.specs.declared.step.Step.TheVariants as steps
+use Rattle.world.specs.Copies.{IsCopy}
 use Rattle.world.specs.Runs.{Comes, IsAt, IsFault, IsGiven, given_out, node_at, refusal_of}
 use Rattle.world.specs.Scenes.{Scene}
 
@@ -71,6 +72,12 @@ abbrev pub GrantsNoneAfterAFate : List Answer → Type 0
 GrantsNoneAfterAFate answers =
     (telling granting : Answer) (id : ℕ) (final : Final) → CameBefore telling granting answers →
     StatesFinal (told_in telling) id final → GrantsOut (told_in granting) id → ⊥
+
+-- steps once more, each at its place
+abbrev pub AreCopies : List Step → List Step → Type 0
+AreCopies [] copies = copies ≡ []
+AreCopies (step ∷ steps) [] = ⊥
+AreCopies (step ∷ steps) (copy ∷ copies) = IsCopy step copy × AreCopies steps copies
 
 -- ---- what a world was asked
 

@@ -4,6 +4,7 @@ ghost use Rattle.std.specs.Prelude.{◌≡◌, length, map, true, IfOk, OnErr};
 ghost use Rattle.synod_acceptor.specs.Packets.{packet_of};
 ghost use Rattle.world_runs.specs.Traces.{
   AcceptedAreKnown,
+  AreCopies,
   AreChosen,
   DeliveriesStand,
   DeliveriesStandInRuns,
@@ -24,8 +25,10 @@ use world::{Step, World};
 /// Takes these steps, one after the other, whatever each gives. For every list of steps in which packets are delivered, lost, repeated or reordered
 /// and nodes stop and start anew: no two final states that are told of one message differ; once one was told, no attempt of the message is granted; each
 /// DELIVERED that is told stands on an attempt that was granted and answered by ESME_ROK, by these steps if no step was taken before them; and what comes
-/// later is answered by what was told, while its node does not start anew. An `Err` is want of memory for what the steps give; then none was taken.
+/// later is answered by what was told, while its node does not start anew. An `Err` is want of memory for the steps once more, or for what they give; then
+/// none was taken.
 pub fn run(alloc: Global, world: &mut World, steps: Vec<Step>) -> Result<Trace, AllocError>
+    ensures asked { IfOk result (λ trace. trace.steps.items ≡ steps.items) }
     ensures leads { IfOk result (λ trace. LeadsAll world.old steps.items trace.answers.items world.new) }
     ensures becomes { IfOk result (λ trace. BecomesBy world.old (events_of steps.items trace.answers.items) world.new) }
     ensures one_fate { IfOk result (λ trace. HasOneFate trace.answers.items) }
@@ -40,13 +43,25 @@ pub fn run(alloc: Global, world: &mut World, steps: Vec<Step>) -> Result<Trace, 
     ensures stays { OnErr result (world.new ≡ world.old) }
 {
     world.stands();
-    let mut answers = Vec::with_capacity(alloc, steps.len())?;
-    let mut steps = VecDeque::from_vec(steps);
-    while let Some(step) = steps.pop_front() {
+    let copies = copied(alloc, &steps)?;
+    let mut answers = Vec::with_capacity(alloc, copies.len())?;
+    let mut left = VecDeque::from_vec(copies);
+    while let Some(step) = left.pop_front() {
         let answer = world.step(step);
         let Ok(()) = answers.push(answer) else {
             unreachable!();
         };
     }
-    Ok(Trace { answers })
+    Ok(Trace { steps, answers })
+}
+
+/// The same steps once more. An `Err` is want of memory.
+fn copied(alloc: Global, steps: &Vec<Step>) -> Result<Vec<Step>, AllocError>
+    ensures { IfOk result (λ copies. AreCopies steps.now.items copies.items) }
+{
+    let mut copies = Vec::with_capacity(alloc, steps.len())?;
+    for step in steps {
+        copies.push(step.copy()?)?;
+    }
+    Ok(copies)
 }
