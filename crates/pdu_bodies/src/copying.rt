@@ -34,10 +34,8 @@ impl Query {
     pub fn copy(&self) -> Result<Query, AllocError>
         ensures { IfOk result (λ copy. copy ≡ self.now) }
     {
-        Ok(Query {
-            message_id: self.message_id.copy()?,
-            source: self.source.copy()?,
-        })
+        let (message_id, source) = (self.message_id.copy()?, self.source.copy()?);
+        Ok(Query { message_id, source })
     }
 }
 
@@ -46,11 +44,13 @@ impl Cancel {
     pub fn copy(&self) -> Result<Cancel, AllocError>
         ensures { IfOk result (λ copy. copy ≡ self.now) }
     {
+        let (service_type, message_id) = (self.service_type.copy()?, self.message_id.copy()?);
+        let (source, destination) = (self.source.copy()?, self.destination.copy()?);
         Ok(Cancel {
-            service_type: self.service_type.copy()?,
-            message_id: self.message_id.copy()?,
-            source: self.source.copy()?,
-            destination: self.destination.copy()?,
+            service_type,
+            message_id,
+            source,
+            destination,
         })
     }
 }

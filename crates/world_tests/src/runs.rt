@@ -1,6 +1,9 @@
 //! A list of steps.
 
-use crate::walks::{Answer, Comes, assert_answers, assert_stated, assert_stated_again};
+use crate::walks::{
+    Answer, Comes, assert_answers, assert_copied, assert_stated, assert_stated_again,
+    assert_told_by,
+};
 use fate_chain::Final;
 use world::WorldFault;
 
@@ -64,4 +67,16 @@ const STATED_AGAIN: &[(usize, Final)] = &[(7, Final::Deleted), (7, Final::Delete
 #[test]
 fn a_deletion_is_told_over_a_start_over(rt: HostRuntime) {
     assert_stated_again(&rt, rt.alloc(), DELETION, QUERY, STATED_AGAIN);
+}
+
+#[test]
+fn the_step_that_told_a_deletion_is_listed(rt: HostRuntime) {
+    assert_told_by(&rt, rt.alloc(), DELETION, Comes::Delivers(10, 1));
+}
+
+#[test]
+fn steps_are_copied(rt: HostRuntime) {
+    assert_copied(&rt, rt.alloc(), Comes::Delivers(7, 2));
+    assert_copied(&rt, rt.alloc(), Comes::Ticks(3, 1_706_659_200));
+    assert_copied(&rt, rt.alloc(), Comes::Restarts(1));
 }
