@@ -77,7 +77,7 @@ impl Step {
             Step::Tick { node, moment, up } => Step::Tick {
                 node: *node,
                 moment: *moment,
-                up: copy_of_accounts(up)?,
+                up: accounts_copied(up)?,
             },
             Step::Grant { node, id } => Step::Grant {
                 node: *node,
@@ -107,7 +107,7 @@ impl Step {
 }
 
 /// The same accounts once more.
-fn copy_of_accounts(accounts: &Vec<SystemId>) -> Result<Vec<SystemId>, AllocError>
+fn accounts_copied(accounts: &Vec<SystemId>) -> Result<Vec<SystemId>, AllocError>
     ensures { IfOk result (λ copies. copies.items ≡ accounts.now.items) }
 {
     let mut copies = Vec::new(*accounts.allocator());

@@ -43,7 +43,7 @@ pub fn run(alloc: Global, world: &mut World, steps: Vec<Step>) -> Result<Trace, 
     ensures stays { OnErr result (world.new ≡ world.old) }
 {
     world.stands();
-    let copies = copied(alloc, &steps)?;
+    let copies = steps_copied(&steps)?;
     let mut answers = Vec::with_capacity(alloc, copies.len())?;
     let mut left = VecDeque::from_vec(copies);
     while let Some(step) = left.pop_front() {
@@ -56,10 +56,10 @@ pub fn run(alloc: Global, world: &mut World, steps: Vec<Step>) -> Result<Trace, 
 }
 
 /// The same steps once more. An `Err` is want of memory.
-fn copied(alloc: Global, steps: &Vec<Step>) -> Result<Vec<Step>, AllocError>
+fn steps_copied(steps: &Vec<Step>) -> Result<Vec<Step>, AllocError>
     ensures { IfOk result (λ copies. AreCopies steps.now.items copies.items) }
 {
-    let mut copies = Vec::with_capacity(alloc, steps.len())?;
+    let mut copies = Vec::with_capacity(*steps.allocator(), steps.len())?;
     for step in steps {
         copies.push(step.copy()?)?;
     }

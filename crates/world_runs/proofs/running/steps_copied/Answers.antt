@@ -1,7 +1,7 @@
 use Rattle.std.proofs.Common.{◌≡◌, List, get_or, ap, ◌∙◌, arith}
 use Rattle.world.specs.declared.step.Step.{Step}
 use Rattle.world_runs.proofs.Copying.{one_copied}
-use Rattle.world_runs.proofs.running.copied.Goals as goal
+use Rattle.world_runs.proofs.running.steps_copied.Goals as goal
 
 pub loop-step-preserved : goal.loop-step-preserved
 loop-step-preserved c =
