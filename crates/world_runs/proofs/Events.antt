@@ -1,7 +1,6 @@
 -- The inputs of a run of the model's cluster, among the events of a world that they came by.
-use Rattle.std.proofs.Common.{◌≡◌, ◌⊎◌, ℕ, zero, suc, ◌≤◌, List, [], ◌∷◌, ◌++◌, length, map, Ok, Err, refl, sym, ap, subst, ◌∙◌, append_assoc, inl, inr}
+use Rattle.std.proofs.Common.{◌≡◌, ◌⊎◌, ℕ, zero, suc, ◌≤◌, List, [], ◌∷◌, ◌++◌, length, Ok, Err, refl, sym, ap, subst, ◌∙◌, append_assoc, inl, inr}
 use Rattle.std.proofs.Common.{arith}
-use Rattle.std.specs.Prelude.{zip}
 use Rattle.std.proofs.lemmas.Bool.{cases_lt}
 use Rattle.std.proofs.lemmas.List.{append_cancel_right}
 use Rattle.mc_model.specs.synod.Lists.{In}
@@ -11,9 +10,7 @@ use Rattle.mc_model.specs.node.Input.{Restart}
 use Rattle.mc_model.specs.node.Outputs.{Outputs}
 use Rattle.mc_parts.proofs.Membership.{in_either, in_left, in_right, of_only}
 use Rattle.node_laws.specs.Clusters.{NodeInput, cluster_outputs, comes_to, kept_reached, outputs_at, step_at}
-use Rattle.node_laws.proofs.Orders.{in_append}
-use Rattle.node_laws.proofs.Sources.{cut_at, in_cut}
-use Rattle.world.specs.declared.fault.WorldFault.{WorldFault}
+use Rattle.node_laws.proofs.Sources.{cut_at}
 use Rattle.world.specs.declared.given.Given.{Given}
 use Rattle.world.specs.declared.step.Step.{Step}
 use Rattle.world.specs.Runs.{Comes, IsGiven, begin_anew}

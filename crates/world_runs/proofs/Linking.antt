@@ -8,7 +8,7 @@ use Rattle.node_laws.specs.Clusters.{NodeInput, kept_reached}
 use Rattle.synod_acceptor.specs.Packets.{packet_of}
 use Rattle.world.specs.Runs.{IsAt, begin_anew}
 use Rattle.world.specs.Scenes.{Scene}
-use Rattle.world_runs.specs.Histories.{Becomes, BecomesBy, History, numbered_by, packets_of}
+use Rattle.world_runs.specs.Histories.{BecomesBy, History, numbered_by, packets_of}
 use Rattle.world_runs.specs.Traces.{AcceptedAreKnown, AreChosen, DeliveriesStand, Event, GrantsNoneAfterAFate, HaltedOver, HasOneFate}
 use Rattle.world_runs.specs.Traces.{LaterQueriesAreTold, StartedOver, Tried, answers_in}
 use Rattle.world_runs.proofs.Asking.{accepted_are_known, later_queries_are_told}

@@ -1,4 +1,3 @@
-use Rattle.world_runs.specs.Traces.{Answer, HasOneFate}
 use Rattle.world_runs.proofs.Leading.{all_done, chosen_of, done_of, goes_on, known_of, later_of, leads_all, no_grant_of, one_fate_of}
 use Rattle.world_runs.proofs.Leading.{stand_in_runs, stands_of}
 use Rattle.world_runs.proofs.Stating.{agree}
