@@ -1,8 +1,11 @@
 //! Requests and what they are answered.
 
+ghost use Rattle.std.specs.Prelude.{◌≡◌, IfOk};
+
 use mc_types::Moment;
 use pdu_codec::{Cancel, Message, Query, SystemId};
 use pdu_tables::State;
+use std::alloc::AllocError;
 
 /// A request of an account.
 #[derive(Drop)]
@@ -13,6 +16,31 @@ pub enum Request {
     Ask(Query),
     /// A cancel_sm.
     Cancel(Cancel),
+}
+
+impl Request {
+    /// The same once more. An `Err` is want of memory.
+    pub fn copy(&self) -> Result<Request, AllocError>
+        ensures { IfOk result (λ copy. copy ≡ self.now) }
+    {
+        match self {
+            Request::Submit(message, route) => {
+                Ok(Request::Submit(message.copy()?, copy_of_route(route)?))
+            }
+            Request::Ask(query) => Ok(Request::Ask(query.copy()?)),
+            Request::Cancel(cancel) => Ok(Request::Cancel(cancel.copy()?)),
+        }
+    }
+}
+
+/// The account that a route leads to, if one does, once more.
+fn copy_of_route(route: &Option<SystemId>) -> Result<Option<SystemId>, AllocError>
+    ensures { IfOk result (λ copy. copy ≡ route.now) }
+{
+    match route {
+        Some(account) => Ok(Some(account.copy()?)),
+        None => Ok(None),
+    }
 }
 
 /// The answer to a request that waited.

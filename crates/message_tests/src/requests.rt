@@ -193,3 +193,26 @@ fn requests_are_judged(rt: HostRuntime) {
         assert_judged(&rt, rt.alloc(), shows, &door(*serial, *busy), rows);
     }
 }
+
+// The body of a request's PDU, and whether a route leads to an account.
+fn told_of(request: Request) -> (Body, bool) {
+    match request {
+        Request::Submit(message, route) => (Body::SubmitSm(message), route.is_some()),
+        Request::Ask(query) => (Body::QuerySm(query), false),
+        Request::Cancel(cancel) => (Body::CancelSm(cancel), false),
+    }
+}
+
+fn assert_copied(rt: &impl Abort, alloc: Global, asked: Asked<'_>) {
+    let asked = request(rt, alloc, asked);
+    let copy = asked.copy().expect(rt, "memory");
+    assert_same(rt, &told_of(copy), &told_of(asked));
+}
+
+#[test]
+fn requests_are_copied(rt: HostRuntime) {
+    assert_copied(&rt, rt.alloc(), Asked::Submit(1));
+    assert_copied(&rt, rt.alloc(), Asked::Unrouted(0));
+    assert_copied(&rt, rt.alloc(), Asked::Query(FIRST, b"144"));
+    assert_copied(&rt, rt.alloc(), Asked::Cancel(FIRST, b"144", b"155"));
+}

@@ -1,3 +1,4 @@
 pub mod Scenes
 pub mod Runs
 pub mod Members
+pub mod Copies

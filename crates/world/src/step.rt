@@ -1,10 +1,14 @@
 //! What happens in a world.
 
+ghost use Rattle.std.specs.Prelude.{◌≡◌, IfOk};
+ghost use Rattle.world.specs.Copies.{IsCopy};
+
 use delivery::Outcome;
 use desk::Request;
 use mc_types::{Moment, MsgId, NodeNo, Slot};
 use node_core::Found;
 use pdu_codec::SystemId;
+use std::alloc::AllocError;
 
 /// What happens in a world: one step of one node.
 #[derive(Drop)]
@@ -49,4 +53,66 @@ pub enum Step {
     Restart {
         node: NodeNo,
     },
+}
+
+impl Step {
+    /// The same step once more. An `Err` is want of memory.
+    pub fn copy(&self) -> Result<Step, AllocError>
+        ensures { IfOk result (IsCopy self.now) }
+    {
+        Ok(match self {
+            Step::Deliver { number, node } => Step::Deliver {
+                number: *number,
+                node: *node,
+            },
+            Step::Request {
+                node,
+                account,
+                request,
+            } => Step::Request {
+                node: *node,
+                account: account.copy()?,
+                request: request.copy()?,
+            },
+            Step::Tick { node, moment, up } => Step::Tick {
+                node: *node,
+                moment: *moment,
+                up: accounts_copied(up)?,
+            },
+            Step::Grant { node, id } => Step::Grant {
+                node: *node,
+                id: *id,
+            },
+            Step::Answered {
+                node,
+                slot,
+                outcome,
+            } => Step::Answered {
+                node: *node,
+                slot: *slot,
+                outcome: *outcome,
+            },
+            Step::Crash {
+                node,
+                number,
+                found,
+            } => Step::Crash {
+                node: *node,
+                number: *number,
+                found: *found,
+            },
+            Step::Restart { node } => Step::Restart { node: *node },
+        })
+    }
+}
+
+/// The same accounts once more.
+fn accounts_copied(accounts: &Vec<SystemId>) -> Result<Vec<SystemId>, AllocError>
+    ensures { IfOk result (λ copies. copies.items ≡ accounts.now.items) }
+{
+    let mut copies = Vec::new(*accounts.allocator());
+    for account in accounts {
+        copies.push(account.copy()?)?;
+    }
+    Ok(copies)
 }

@@ -1,10 +1,8 @@
 -- What a request is answered that comes after something was told.
-use Rattle.std.proofs.Common.{◌≡◌, ℕ, List, ◌∷◌, ◌++◌, length, Some, Ok, Err, sym, ap, subst, ◌∙◌}
-use Rattle.std.specs.Prelude.{zip}
+use Rattle.std.proofs.Common.{◌≡◌, ℕ, List, ◌∷◌, ◌++◌, Some, Ok, Err, sym, ap, subst, ◌∙◌, arith}
 use Rattle.mc_model.specs.message.Decree.{Decree, Final}
 use Rattle.mc_model.specs.message.Chain.{final_in}
 use Rattle.mc_model.specs.synod.Lists.{In}
-use Rattle.mc_model.specs.synod.Packet.{Packet}
 use Rattle.mc_model.specs.node.Actor.{Request}
 use Rattle.mc_model.specs.node.Input.{Arrival, Input, Restart}
 use Rattle.mc_model.specs.node.Outputs.{Outputs, Reply}
@@ -18,9 +16,10 @@ use Rattle.world.specs.declared.given.Given.{Given}
 use Rattle.world.specs.declared.step.Step.{Step}
 use Rattle.world.specs.declared.step.Step.TheVariants as steps
 use Rattle.world.specs.Runs.{given_out, node_at}
-use Rattle.world_runs.specs.Traces.{AcceptedAreKnown, Answer, Event, IsAnsweredLater, IsRepliedTo, LaterQueriesAreTold, LivesOn, Reaches, told_in}
+use Rattle.world_runs.specs.Traces.{AcceptedAreKnown, Answer, BeginsAnew, Event, HaltedOver, IsAnsweredLater, IsRepliedTo, LaterQueriesAreTold}
+use Rattle.world_runs.specs.Traces.{LivesOn, StartedOver, Tried, told_by}
 use Rattle.world_runs.proofs.Coming.{arrived, node_of_step, started_by_step}
-use Rattle.world_runs.proofs.Events.{GoesOnBy, ReachesBy, given_in, goes_on_by, reached_by, until}
+use Rattle.world_runs.proofs.Events.{ComesBy, GoesOnBy, ReachesBy, given_in, goes_on_by, starts_only, until}
 use Rattle.world_runs.proofs.Tracing.{states_given, states_nothing}
 
 module _ (cluster : Cluster) where
@@ -61,85 +60,100 @@ module _ (cluster : Cluster) where
         replied = subst (λ (o : Outputs). In (reply ticket id answer) o.replies) outs replied;
       }
 
-  module _ (behind : List Packet) (inputs : List NodeInput) (older middle newer : List Event) (node : ℕ) (account : List ℕ) (asked : Asked) (here : Given)
-      (last : List NodeInput) where
-    lives_in : (events : List Event) → LivesOn node events → (first mid : List NodeInput) (way : GoesOnBy cluster behind first events mid) →
-        LivesIn node way.newer
-    lives_in events lives first mid way lost among =
-        let it = way.each (comes_to node (Restart lost)) among in
-        let starts = started_by_step cluster (length behind) (kept_reached cluster it.older) node lost it.step it.comes in
-        lives it.given (subst (λ (step : Step). In (step, Ok it.given) events) starts it.among)
+  -- a node that starts anew by an event begins anew
+  starts_by : (node lost : ℕ) (event : Event) → ComesBy cluster event (comes_to node (Restart lost)) → BeginsAnew node event
+  starts_by node lost (Tried step (Ok given)) c = started_by_step cluster c.1 (kept_reached cluster c.0) node lost step c.2
+  starts_by node lost (Tried step (Err fault)) none = none
+  starts_by node lost StartedOver c = tt
+  starts_by node lost (HaltedOver count fault) c =
+      let it = starts_only count (comes_to node (Restart lost)) c in
+      let same : node ≡ it.node = ap (λ (x : NodeInput). x.node) it.is in
+      let most = it.most in
+      omega (arith, same, most)
 
+  lives_in : (node : ℕ) (events : List Event) → LivesOn node events → (first mid : List NodeInput) (way : GoesOnBy cluster first events mid) →
+      LivesIn node way.newer
+  lives_in node events lives first mid way lost among =
+      let it = way.each (comes_to node (Restart lost)) among in lives it.event it.among (starts_by node lost it.event it.comes)
+
+  module _ (inputs : List NodeInput) (older middle newer : List Event) (node : ℕ) (account : List ℕ) (asked : Asked) (here : Given)
+      (last : List NodeInput) where
     -- where the run was as the request came
     record IsAnsweredThere (id : ℕ) (answer : Told) : Type 0 where
       before : List NodeInput
-      reaches : ReachesBy cluster behind inputs older before
+      reaches : ReachesBy cluster inputs older before
       is : IsAnsweredIn before id answer
 
     answered_there : (step : Step) (there : Given) →
-        ReachesBy cluster behind inputs (older ++ (steps.Request node account asked, Ok here) ∷ (middle ++ (step, Ok there) ∷ newer)) last →
+        ReachesBy cluster inputs (older ++ Tried (steps.Request node account asked) (Ok here) ∷ (middle ++ Tried step (Ok there) ∷ newer)) last →
         MayHappen cluster last → (ticket id : ℕ) (answer : Told) → here.ticket ≡ Some ticket → LivesOn node middle → node_at step ≡ node →
         In (reply ticket id answer) (given_out there).replies → IsAnsweredThere id answer
     answered_there step there r may ticket id answer under lives node_is replied =
-        let one = until cluster behind inputs older (steps.Request node account asked, Ok here) (middle ++ (step, Ok there) ∷ newer) last r in
+        let one = until cluster inputs older (Tried (steps.Request node account asked) (Ok here)) (middle ++ Tried step (Ok there) ∷ newer) last r in
         let first = one.goes_on.0 in
-        let two = until cluster behind (first ∷ one.mid) middle (step, Ok there) newer last one.goes_on.4 in
+        let two = until cluster (first ∷ one.mid) middle (Tried step (Ok there)) newer last one.goes_on.4 in
         let second = two.goes_on.0 in
-        let way = goes_on_by cluster behind (first ∷ one.mid) middle two.mid two.reaches in
-        let more = goes_on_by cluster behind (second ∷ two.mid) newer last two.goes_on.4 in
+        let way = goes_on_by cluster (first ∷ one.mid) middle two.mid two.reaches in
+        let more = goes_on_by cluster (second ∷ two.mid) newer last two.goes_on.4 in
         let ticket_is = sym (ap (λ (o : Outputs). o.ticket) one.goes_on.3.others) ∙ under in
         let came = arrived cluster (kept_reached cluster one.mid) node ticket account asked first one.goes_on.2 ticket_is in
         record {
           before = one.mid;
           reaches = one.reaches;
           is = answered_in one.mid way.newer two.mid first second node ticket id answer came.0 came.1
-              (node_of_step cluster (length behind) (kept_reached cluster two.mid) step second two.goes_on.2 ∙ node_is) way.split
+              (node_of_step cluster two.goes_on.1 (kept_reached cluster two.mid) step second two.goes_on.2 ∙ node_is) way.split
               (may_until cluster more.newer (second ∷ two.mid) (subst (MayHappen cluster) more.split may)) ticket_is
-              (lives_in middle lives (first ∷ one.mid) two.mid way)
+              (lives_in node middle lives (first ∷ one.mid) two.mid way)
               (subst (In (reply ticket id answer)) (ap (λ (o : Outputs). o.replies) two.goes_on.3.others) replied);
         }
 
-    by_reply : (replying : Event) →
-        ReachesBy cluster behind inputs (older ++ (steps.Request node account asked, Ok here) ∷ (middle ++ replying ∷ newer)) last → MayHappen cluster last →
-        (ticket id : ℕ) (answer : Told) → here.ticket ≡ Some ticket → LivesOn node middle → node_at replying.0 ≡ node → IsRepliedTo replying ticket id answer →
+    by_reply : (step : Step) (replying : Answer) →
+        ReachesBy cluster inputs (older ++ Tried (steps.Request node account asked) (Ok here) ∷ (middle ++ Tried step replying ∷ newer)) last →
+        MayHappen cluster last →
+        (ticket id : ℕ) (answer : Told) → here.ticket ≡ Some ticket → LivesOn node middle → node_at step ≡ node →
+        IsRepliedTo (Tried step replying) ticket id answer →
         IsAnsweredThere id answer
-    by_reply (step, Ok there) r may ticket id answer under lives node_is replied = answered_there step there r may ticket id answer under lives node_is replied
-    by_reply (step, Err fault) r may ticket id answer under lives node_is none = absurd none
+    by_reply step (Ok there) r may ticket id answer under lives node_is replied = answered_there step there r may ticket id answer under lives node_is replied
+    by_reply step (Err fault) r may ticket id answer under lives node_is none = absurd none
 
-  module _ (behind : List Packet) (inputs : List NodeInput) (steps : List Step) (answers : List Answer) (last : List NodeInput)
-      (r : Reaches cluster behind inputs steps answers last) (may : MayHappen cluster last) where
+  module _ (inputs : List NodeInput) (events : List Event) (last : List NodeInput)
+      (r : ReachesBy cluster inputs events last) (may : MayHappen cluster last) where
     record IsAfter (older : List Event) (id : ℕ) (answer : Told) : Type 0 where
       before : List NodeInput
-      reaches : ReachesBy cluster behind inputs older before
+      reaches : ReachesBy cluster inputs older before
       is : IsAnsweredIn before id answer
 
-    after : (older : List Event) (id : ℕ) (answer : Told) → IsAnsweredLater (zip steps answers) older id answer → IsAfter older id answer
+    after : (older : List Event) (id : ℕ) (answer : Told) → IsAnsweredLater events older id answer → IsAfter older id answer
     after older id answer it =
         let w = it.waits in
-        let events = it.split ∙ (λ i. older ++ (w.asked i, w.taken i) ∷ (it.middle ++ it.replying ∷ it.newer)) in
-        let there = by_reply behind inputs older it.middle it.newer it.node w.account w.request w.given last it.replying
-        (subst (λ (events : List Event). ReachesBy cluster behind inputs events last) events (reached_by cluster behind inputs steps answers last r)) may
+        let split = it.split ∙ ap (λ (asking : Event). older ++ asking ∷ (it.middle ++ Tried it.step it.replying ∷ it.newer)) w.is in
+        let there = by_reply inputs older it.middle it.newer it.node w.account w.request w.given last it.step it.replying
+        (subst (λ (es : List Event). ReachesBy cluster inputs es last) split r) may
         it.ticket id answer w.under it.lives it.node_is it.replied in
         record { before = there.before; reaches = there.reaches; is = there.is }
 
     told_fate : (older : List Event) (telling : Event) (id : ℕ) (chain : List Decree) (final : Final) → In telling older →
-        StatesFinal (told_in telling.1) id final → IsAfter older id (Shown chain) → final_in chain ≡ Some final
-    told_fate older (step, Ok given) id chain final among says it =
-        let given_there = given_in cluster behind inputs older it.before it.reaches step given among in
+        StatesFinal (told_by telling) id final → IsAfter older id (Shown chain) → final_in chain ≡ Some final
+    told_fate older (Tried step (Ok given)) id chain final among says it =
+        let given_there = given_in cluster inputs older it.before it.reaches step given among in
         fresh cluster it.before it.is.between it.is.node it.is.ticket it.is.request it.is.next id chain given_there.outputs final it.is.may given_there.among
         (states_given given given_there.outputs given_there.is id final says) it.is.under it.is.lives it.is.replied
-    told_fate older (step, Err fault) id chain final among says it = absurd (states_nothing id final says)
+    told_fate older (Tried step (Err fault)) id chain final among says it = absurd (states_nothing id final says)
+    told_fate older StartedOver id chain final among says it = absurd (states_nothing id final says)
+    told_fate older (HaltedOver count fault) id chain final among says it = absurd (states_nothing id final says)
 
     known_still : (older : List Event) (accepting : Event) (taken id : ℕ) → In accepting older → IsRepliedTo accepting taken id Accepted →
         IsAfter older id Unknown → ⊥
-    known_still older (step, Ok given) taken id among accepts it =
-        let given_there = given_in cluster behind inputs older it.before it.reaches step given among in
+    known_still older (Tried step (Ok given)) taken id among accepts it =
+        let given_there = given_in cluster inputs older it.before it.reaches step given among in
         never_unknown cluster it.before it.is.between it.is.node it.is.ticket it.is.request it.is.next id given_there.outputs taken it.is.may given_there.among
         (subst (In (reply taken id Accepted)) (ap (λ (o : Outputs). o.replies) given_there.is.others) accepts) it.is.under it.is.lives it.is.replied
-    known_still older (step, Err fault) taken id among none it = none
+    known_still older (Tried step (Err fault)) taken id among none it = none
+    known_still older StartedOver taken id among none it = none
+    known_still older (HaltedOver count fault) taken id among none it = none
 
-    pub later_queries_are_told : LaterQueriesAreTold steps answers
+    pub later_queries_are_told : LaterQueriesAreTold events
     later_queries_are_told older telling id chain final among says it = told_fate older telling id chain final among says (after older id (Shown chain) it)
 
-    pub accepted_are_known : AcceptedAreKnown steps answers
+    pub accepted_are_known : AcceptedAreKnown events
     accepted_are_known older accepting taken id among accepts it = known_still older accepting taken id among accepts (after older id Unknown it)

@@ -1,24 +1,28 @@
--- Each final state that a world tells was chosen, by votes that were sent.
-use Rattle.std.proofs.Common.{◌≡◌, ℕ, List, [], ◌∷◌, ◌++◌, length, map, Ok, Err, refl, sym, subst, inl, inr}
-use Rattle.std.specs.Prelude.{reverse, zip}
+-- Each final state that a world tells was chosen, by votes that were sent before.
+use Rattle.std.proofs.Common.{◌≡◌, ℕ, zero, suc, ◌+◌, List, [], ◌∷◌, ◌++◌, length, take, Ok, Err, refl, sym, ap, subst, ◌∙◌, arith, length-append}
+use Rattle.std.proofs.Common.{append_assoc}
+use Rattle.std.specs.Prelude.{reverse}
+use Rattle.std.proofs.lemmas.List.{length-reverse, reverse-append, take-append-le, take_all}
 use Rattle.mc_model.specs.message.Decree.{Decree, Final}
 use Rattle.mc_model.specs.synod.Lists.{In}
 use Rattle.mc_model.specs.synod.OneSlot.{vote_at}
 use Rattle.mc_model.specs.synod.Packet.{Packet, slot_of}
-use Rattle.mc_model.specs.cluster.Steps.{Cluster}
-use Rattle.mc_parts.proofs.Membership.{in_either, in_right}
+use Rattle.mc_model.specs.cluster.Steps.{Cluster, setup_of}
+use Rattle.mc_model.specs.node.Input.{Restart}
+use Rattle.mc_model.specs.node.Outputs.{Outputs}
+use Rattle.node_model.specs.Stepped.{restarted}
 use Rattle.node_laws.specs.Chosen.{WasVotedFor}
-use Rattle.node_laws.specs.Clusters.{MayHappen, NodeInput, StatesFinal, kept_reached, outputs_at}
-use Rattle.node_laws.proofs.Chosen.{given_out_was_chosen, learned_more}
-use Rattle.node_laws.proofs.Orders.{in_reverse}
-use Rattle.node_laws.proofs.Sources.{cut_at, may_until}
-use Rattle.synod_acceptor.specs.Packets.{packet_of}
+use Rattle.node_laws.specs.Clusters.{KeptCluster, MayHappen, NodeInput, StatesFinal, comes_to, kept_reached, outputs_at, step_at}
+use Rattle.node_laws.proofs.Chosen.{learned_more}
+use Rattle.node_laws.proofs.Orders.{reverse_in}
+use Rattle.node_laws.proofs.Sources.{may_until}
 use Rattle.world.specs.declared.step.Step.{Step}
-use Rattle.world.specs.Runs.{IsAt}
-use Rattle.world.specs.Scenes.{Scene}
-use Rattle.world_runs.specs.Traces.{Answer, AreChosen, Event, GoesTo, told_in}
-use Rattle.world_runs.proofs.Events.{ReachesBy, event_of, goes_on_by, reached_by, until}
+use Rattle.world.specs.Runs.{begin_anew}
+use Rattle.world.proofs.Ending.{gives_nothing}
+use Rattle.world_runs.specs.Traces.{Answer, AreChosen, Event, HaltedOver, StartedOver, Tried, answers_in, sent_by, told_in}
+use Rattle.world_runs.proofs.Events.{ReachesBy, events_cut, goes_on_by, until}
 use Rattle.world_runs.proofs.Tracing.{states_given, states_nothing}
+use Rattle.world_runs.proofs.Voting.{chosen_before}
 
 voted_still : (nodes more : ℕ) (fewer packets : List Packet) (id : ℕ) (chain : List Decree) → nodes ≡ more →
     ((packet : Packet) → In packet fewer → In packet packets) →
@@ -27,46 +31,102 @@ voted_still nodes more fewer packets id chain same still voted =
     subst (λ (n : ℕ). WasVotedFor n packets id chain) same
     (record { ballot = voted.ballot; votes = learned_more nodes fewer packets (slot_of id chain) (vote_at voted.ballot chain) still voted.votes })
 
-module _ (cluster : Cluster) (behind : List Packet) where
-  sent_still : (newer inputs : List NodeInput) (packet : Packet) → In packet (kept_reached cluster inputs).packets →
-      In packet (kept_reached cluster (newer ++ inputs)).packets
-  sent_still [] inputs packet sent = sent
-  sent_still (next ∷ newer) inputs packet sent =
-      in_right packet (reverse (outputs_at cluster (newer ++ inputs) next).packets) (kept_reached cluster (newer ++ inputs)).packets
-      (sent_still newer inputs packet sent)
+-- the oldest of some packets, the newest first
+oldest_are : (more fewer : List Packet) → take (length fewer) (reverse (more ++ fewer)) ≡ reverse fewer
+oldest_are more fewer =
+    let count = length-reverse fewer in
+    ap (take (length fewer)) (reverse-append more fewer)
+    ∙ take-append-le (length fewer) (reverse fewer) (reverse more) (omega (arith, count))
+    ∙ take_all (length fewer) (reverse fewer) (omega (arith, count))
 
-  chosen_at : (inputs : List NodeInput) (older : List Event) (event : Event) (newer : List Event) (last : List NodeInput) →
-      ReachesBy cluster behind inputs (older ++ event ∷ newer) last → MayHappen cluster last →
-      (id : ℕ) (final : Final) (says : StatesFinal (told_in event.1) id final) →
-      WasVotedFor cluster.nodes (kept_reached cluster last).packets id says.chain
-  chosen_at inputs older (step, Ok given) newer last r may id final says =
-      let it = until cluster behind inputs older (step, Ok given) newer last r in
-      let next = it.goes_on.0 in
-      let more = goes_on_by cluster behind (next ∷ it.mid) newer last it.goes_on.4 in
-      let there = may_until cluster more.newer (next ∷ it.mid) (subst (MayHappen cluster) more.split may) in
-      let voted = given_out_was_chosen cluster next it.mid there id final (states_given given (outputs_at cluster it.mid next) it.goes_on.3 id final says) in
-      subst (λ (is : List NodeInput). WasVotedFor cluster.nodes (kept_reached cluster is).packets id says.chain) (sym more.split)
-      (voted_still cluster.nodes cluster.nodes (kept_reached cluster (next ∷ it.mid)).packets
-      (kept_reached cluster (more.newer ++ next ∷ it.mid)).packets id says.chain refl
-      (sent_still more.newer (next ∷ it.mid)) voted)
-  chosen_at inputs older (step, Err fault) newer last r may id final says = absurd (states_nothing id final says)
+-- nodes that start anew send nothing
+sends_nothing : (cluster : Cluster) (w : KeptCluster) (node : ℕ) → (step_at cluster w (comes_to node (Restart 0))).outputs.packets ≡ []
+sends_nothing cluster w node =
+    ap (λ (o : Outputs). o.packets)
+    (gives_nothing (w.kept node).up (restarted (setup_of cluster node) (w.kept node) 0) (restarted (setup_of cluster node) (w.kept node) 0))
 
-  -- in a world from whose beginning on all packets are numbered
-  numbered_all : (inputs : List NodeInput) (w : Scene) → IsAt cluster behind inputs w → behind ≡ [] →
-      (packet : Packet) → In packet (kept_reached cluster inputs).packets →
-      In packet (map packet_of w.packets)
-  numbered_all inputs w at none packet sent = elim (in_either packet (reverse (map packet_of w.packets)) behind (subst (In packet) at.packets sent)) [
-    | inl here ↦ in_reverse packet (map packet_of w.packets) here
-    | inr before ↦ absurd (subst (In packet) none before)
-  ]
+same_packets : (cluster : Cluster) (inputs : List NodeInput) (count : ℕ) →
+    (kept_reached cluster (begin_anew count ++ inputs)).packets ≡ (kept_reached cluster inputs).packets
+same_packets cluster inputs zero = refl
+same_packets cluster inputs (suc count) =
+    ap (λ (ps : List Packet). reverse ps ++ (kept_reached cluster (begin_anew count ++ inputs)).packets)
+    (sends_nothing cluster (kept_reached cluster (begin_anew count ++ inputs)) (suc count))
+    ∙ same_packets cluster inputs count
 
-  pub are_chosen : (inputs : List NodeInput) (steps : List Step) (answers : List Answer) (new : Scene) → behind ≡ [] →
-      GoesTo cluster behind inputs steps answers new → AreChosen (length new.members) (map packet_of new.packets) answers
-  are_chosen inputs steps answers new none so answer id final among says =
-      let of_step = event_of cluster behind inputs steps answers so.last so.reaches answer among in
-      let cut = cut_at (of_step.0, answer) (zip steps answers) of_step.1 in
-      let by = subst (λ (events : List Event). ReachesBy cluster behind inputs events so.last) cut.split
-      (reached_by cluster behind inputs steps answers so.last so.reaches) in
-      voted_still cluster.nodes (length new.members) (kept_reached cluster so.last).packets (map packet_of new.packets) id says.chain (sym so.at.nodes)
-      (numbered_all so.last new so.at none)
-      (chosen_at inputs cut.newer (of_step.0, answer) cut.older so.last by so.at.may id final says)
+module _ (cluster : Cluster) where
+  -- the packets that were sent by some inputs, and those before
+  sent_since : (newer inputs : List NodeInput) →
+      (more : List Packet) × ((kept_reached cluster (newer ++ inputs)).packets ≡ more ++ (kept_reached cluster inputs).packets)
+  sent_since [] inputs = ([], refl)
+  sent_since (next ∷ newer) inputs =
+      let it = sent_since newer inputs in
+      let here = reverse (outputs_at cluster (newer ++ inputs) next).packets in (
+        here ++ it.0,
+        ap (λ (packets : List Packet). here ++ packets) it.1 ∙ sym (append_assoc here it.0 (kept_reached cluster inputs).packets),
+      )
+
+  -- how many were sent by events
+  sent_counted : (inputs : List NodeInput) (events : List Event) (last : List NodeInput) → ReachesBy cluster inputs events last →
+      length (kept_reached cluster last).packets ≡ sent_by (answers_in events) + length (kept_reached cluster inputs).packets
+  sent_counted inputs [] last same = let count = ap (λ (is : List NodeInput). length (kept_reached cluster is).packets) same in omega (arith, count)
+  sent_counted inputs (Tried step (Ok given) ∷ events) last r =
+      let rest = sent_counted (r.0 ∷ inputs) events last r.4 in
+      let sent = (outputs_at cluster inputs r.0).packets in
+      let parts = length-append (reverse sent) (kept_reached cluster inputs).packets in
+      let count = length-reverse sent in
+      let gave = r.3.packets in
+      omega (arith, rest, parts, count, gave)
+  sent_counted inputs (Tried step (Err fault) ∷ events) last r = sent_counted inputs events last r
+  sent_counted inputs (StartedOver ∷ events) last r =
+      sent_counted (begin_anew cluster.nodes ++ inputs) events last r
+      ∙ ap (λ (packets : List Packet). sent_by (answers_in events) + length packets) (same_packets cluster inputs cluster.nodes)
+  sent_counted inputs (HaltedOver count fault ∷ events) last r =
+      sent_counted (begin_anew count ++ inputs) events last r
+      ∙ ap (λ (packets : List Packet). sent_by (answers_in events) + length packets) (same_packets cluster inputs count)
+
+  -- in a run without inputs before, of which these are all packets, the oldest first
+  chosen_at : (packets : List Packet) (before : List Event) (mid : List NodeInput) (after : List Event) (last : List NodeInput) →
+      packets ≡ reverse (kept_reached cluster last).packets → ReachesBy cluster [] before mid →
+      (next : NodeInput) → ReachesBy cluster (next ∷ mid) after last → MayHappen cluster last →
+      (id : ℕ) (final : Final) (says : StatesFinal (outputs_at cluster mid next) id final) →
+      WasVotedFor cluster.nodes (take (sent_by (answers_in before)) packets) id says.chain
+  chosen_at packets before mid after last all first next second may id final says =
+      let way = goes_on_by cluster (next ∷ mid) after last second in
+      let there = may_until cluster way.newer (next ∷ mid) (subst (MayHappen cluster) way.split may) in
+      let since = sent_since way.newer (next ∷ mid) in
+      let one = sent_since (next ∷ []) mid in
+      let earlier = (kept_reached cluster mid).packets in
+      let split : (kept_reached cluster last).packets ≡ (since.0 ++ one.0) ++ earlier =
+      ap (λ (is : List NodeInput). (kept_reached cluster is).packets) way.split
+      ∙ since.1
+      ∙ ap (λ (ps : List Packet). since.0 ++ ps) one.1
+      ∙ sym (append_assoc since.0 one.0 earlier) in
+      let count : length earlier ≡ sent_by (answers_in before) = let counted = sent_counted [] before mid first in omega (arith, counted) in
+      let are : take (sent_by (answers_in before)) packets ≡ reverse earlier =
+      ap (λ (n : ℕ). take n packets) (sym count)
+      ∙ ap (take (length earlier)) (all ∙ ap reverse split)
+      ∙ oldest_are (since.0 ++ one.0) earlier in
+      voted_still cluster.nodes cluster.nodes earlier (take (sent_by (answers_in before)) packets) id says.chain refl
+      (λ packet sent. subst (In packet) (sym are) (reverse_in packet earlier sent))
+      (chosen_before cluster next mid there id final says)
+
+  by_answer : (packets : List Packet) (before : List Event) (step : Step) (telling : Answer) (after : List Event) (last : List NodeInput) →
+      packets ≡ reverse (kept_reached cluster last).packets →
+      ReachesBy cluster [] (before ++ Tried step telling ∷ after) last → MayHappen cluster last →
+      (id : ℕ) (final : Final) (says : StatesFinal (told_in telling) id final) →
+      WasVotedFor cluster.nodes (take (sent_by (answers_in before)) packets) id says.chain
+  by_answer packets before step (Ok given) after last all r may id final says =
+      let it = until cluster [] before (Tried step (Ok given)) after last r in
+      chosen_at packets before it.mid after last all it.reaches it.goes_on.0 it.goes_on.4 may id final
+      (states_given given (outputs_at cluster it.mid it.goes_on.0) it.goes_on.3 id final says)
+  by_answer packets before step (Err fault) after last all r may id final says = absurd (states_nothing id final says)
+
+  pub are_chosen : (nodes : ℕ) (packets : List Packet) (events : List Event) (last : List NodeInput) → cluster.nodes ≡ nodes →
+      packets ≡ reverse (kept_reached cluster last).packets → ReachesBy cluster [] events last → MayHappen cluster last →
+      AreChosen nodes packets (answers_in events)
+  are_chosen nodes packets events last same all r may older telling newer id final split says =
+      let cut = events_cut events older telling newer split in
+      let voted = by_answer packets cut.before cut.step telling cut.after last all
+      (subst (λ (es : List Event). ReachesBy cluster [] es last) cut.split r) may id final says in
+      subst (λ (n : ℕ). WasVotedFor n (take (sent_by older) packets) id says.chain) same
+      (subst (λ (answers : List Answer). WasVotedFor cluster.nodes (take (sent_by answers) packets) id says.chain) cut.are voted)

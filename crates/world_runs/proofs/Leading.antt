@@ -6,41 +6,45 @@ use Rattle.mc_model.specs.cluster.Steps.{Cluster}
 use Rattle.node_laws.specs.Clusters.{NodeInput}
 use Rattle.synod_acceptor.specs.Packets.{packet_of}
 use Rattle.world.specs.declared.step.Step.{Step}
-use Rattle.world.specs.Runs.{Answers, IsSomewhere, Leads}
+use Rattle.world.specs.Runs.{IsAt, IsSomewhere, Leads}
 use Rattle.world.specs.Scenes.{Scene}
-use Rattle.world_runs.specs.Traces.{AcceptedAreKnown, Answer, AreChosen, DeliveriesStand, DeliveriesStandInRuns, GoesTo}
-use Rattle.world_runs.specs.Traces.{GrantsNoneAfterAFate, HasOneFate, LaterQueriesAreTold, LeadsAll, Reaches}
-use Rattle.world_runs.proofs.Asking.{accepted_are_known, later_queries_are_told}
-use Rattle.world_runs.proofs.Choosing.{are_chosen}
-use Rattle.world_runs.proofs.Standing.{deliveries_stand, deliveries_stand_in_run}
-use Rattle.world_runs.proofs.Tracing.{grants_none, one_fate}
+use Rattle.world_runs.specs.Histories.{BecomesBy, History, numbered_by}
+use Rattle.world_runs.specs.Traces.{AcceptedAreKnown, Answer, AreChosen, AreCopies, DeliveriesStand, DeliveriesStandInRuns, Event, GoesTo}
+use Rattle.world_runs.specs.Traces.{GrantsNoneAfterAFate, HasOneFate, LaterQueriesAreTold, LeadsAll, Tried, answers_in, events_of}
+use Rattle.world_runs.proofs.Copying.{becomes_of, copies_count}
+use Rattle.world_runs.proofs.Linking.{accepted_known, chosen_all, deliveries_stand_in, goes_on_by, grants_none_after, has_one_fate, later_queries_told}
+use Rattle.world_runs.proofs.Standing.{deliveries_stand_in_run}
+
+-- ---- steps with their answers, as events
+
+events_more : (steps : List Step) (answers : List Answer) (step : Step) (answer : Answer) → length answers ≡ length steps →
+    events_of (steps ++ step ∷ []) (answers ++ answer ∷ []) ≡ events_of steps answers ++ Tried step answer ∷ []
+events_more [] [] step answer count = refl
+events_more [] (first ∷ answers) step answer count = absurd (omega (arith, count))
+events_more (next ∷ steps) [] step answer count = absurd (omega (arith, count))
+events_more (next ∷ steps) (first ∷ answers) step answer count =
+    ap (λ (events : List Event). Tried next first ∷ events) (events_more steps answers step answer (omega (arith, count)))
+
+answers_are : (steps : List Step) (answers : List Answer) → length answers ≡ length steps → answers_in (events_of steps answers) ≡ answers
+answers_are [] [] count = refl
+answers_are [] (first ∷ answers) count = absurd (omega (arith, count))
+answers_are (next ∷ steps) [] count = absurd (omega (arith, count))
+answers_are (next ∷ steps) (first ∷ answers) count = ap (λ (later : List Answer). first ∷ later) (answers_are steps answers (omega (arith, count)))
 
 module _ (cluster : Cluster) (behind : List Packet) where
-  onward : (inputs : List NodeInput) (steps : List Step) (answers : List Answer) (mid last : List NodeInput) (step : Step) (answer : Answer) →
-      Reaches cluster behind inputs steps answers mid → Reaches cluster behind mid (step ∷ []) (answer ∷ []) last →
-      Reaches cluster behind inputs (steps ++ step ∷ []) (answers ++ answer ∷ []) last
-  onward inputs [] [] mid last step answer same one = subst (λ (i : List NodeInput). Reaches cluster behind i (step ∷ []) (answer ∷ []) last) same one
-  onward inputs [] (first ∷ answers) mid last step answer none one = absurd none
-  onward inputs (next ∷ steps) [] mid last step answer none one = absurd none
-  onward inputs (next ∷ steps) (Ok given ∷ answers) mid last step answer r one =
-      (r.0, r.1, r.2, r.3, onward (r.0 ∷ inputs) steps answers mid last step answer r.4 one)
-  onward inputs (next ∷ steps) (Err fault ∷ answers) mid last step answer r one = (r.0, onward inputs steps answers mid last step answer r.1 one)
-
-  one_step : (inputs : List NodeInput) (step : Step) (answer : Answer) (new : Scene) → Answers cluster behind inputs step answer new →
-      GoesTo cluster behind inputs (step ∷ []) (answer ∷ []) new
-  one_step inputs step (Ok given) new goes = record
-      { last = goes.next ∷ inputs; reaches = (goes.next, goes.allowed, goes.comes, goes.gives, refl); at = goes.at }
-  one_step inputs step (Err fault) new stays = record { last = inputs; reaches = (stays.refused, refl); at = stays.at }
-
-leads_more : (old mid new : Scene) (steps : List Step) (answers : List Answer) (step : Step) (answer : Answer) →
-    LeadsAll old steps answers mid → Leads mid step answer new →
-    LeadsAll old (steps ++ step ∷ []) (answers ++ answer ∷ []) new
-leads_more old mid new steps answers step answer all one = record {
-  each = λ cluster behind inputs now.
-      let so = all.each cluster behind inputs now in
-      let next = one_step cluster behind so.last step answer new (one.each cluster behind so.last so.at) in
-      record { last = next.last; reaches = onward cluster behind inputs steps answers so.last next.last step answer so.reaches next.reaches; at = next.at };
-}
+  goes_to : (inputs : List NodeInput) (old : Scene) (steps : List Step) (answers : List Answer) (new : Scene) → length answers ≡ length steps →
+      BecomesBy old (events_of steps answers) new → IsAt cluster behind inputs old → GoesTo cluster behind inputs steps answers new
+  goes_to inputs old [] [] new count same at = record { last = inputs; reaches = refl; at = subst (IsAt cluster behind inputs) (sym same) at }
+  goes_to inputs old [] (first ∷ answers) new count way at = absurd (omega (arith, count))
+  goes_to inputs old (step ∷ steps) [] new count way at = absurd (omega (arith, count))
+  goes_to inputs old (step ∷ steps) (Ok given ∷ answers) new count way at =
+      let goes = way.1.each cluster behind inputs at in
+      let on = goes_to (goes.next ∷ inputs) way.0 steps answers new (omega (arith, count)) way.2 goes.at in
+      record { last = on.last; reaches = (goes.next, goes.allowed, goes.comes, goes.gives, on.reaches); at = on.at }
+  goes_to inputs old (step ∷ steps) (Err fault ∷ answers) new count way at =
+      let stays = way.1.each cluster behind inputs at in
+      let on = goes_to inputs way.0 steps answers new (omega (arith, count)) way.2 stays.at in
+      record { last = on.last; reaches = (stays.refused, on.reaches); at = on.at }
 
 -- ---- so far
 
@@ -50,7 +54,7 @@ pub record IsUnderWay (old : Scene) (steps left : List Step) (answers : List Ans
   pub split : steps ≡ done ++ left
   pub count : length answers ≡ length done
   pub room_is : length steps ≤ room
-  pub leads : LeadsAll old done answers now
+  pub becomes : BecomesBy old (events_of done answers) now
 
 pub goes_on : (old mid new : Scene) (steps left rest : List Step) (answers more : List Answer) (step : Step) (answer : Answer) (room wider : ℕ) →
     IsUnderWay old steps left answers room mid → left ≡ step ∷ rest → Leads mid step answer new → more ≡ answers ++ answer ∷ [] → room ≤ wider →
@@ -61,8 +65,10 @@ goes_on old mid new steps left rest answers more step answer room wider way firs
   count = let longer = length-append answers (answer ∷ []) in let further = length-append way.done (step ∷ []) in let so_far = way.count in
       let all = ap length pushed in omega arith;
   room_is = let fits = way.room_is in omega arith;
-  leads = subst (λ (given : List Answer). LeadsAll old (way.done ++ step ∷ []) given new) (sym pushed)
-      (leads_more old mid new way.done answers step answer way.leads one);
+  becomes = subst (λ (events : List Event). BecomesBy old events new)
+      (sym (events_more way.done answers step answer way.count)
+      ∙ ap (events_of (way.done ++ step ∷ [])) (sym pushed))
+      (goes_on_by old mid new (events_of way.done answers) (Tried step answer ∷ []) way.becomes (new, one, refl));
 }
 
 -- there is room for one answer more
@@ -82,58 +88,71 @@ append_none (x ∷ xs) = ap (λ (ys : List Step). x ∷ ys) (append_none xs)
 
 -- ---- at the end
 
-pub all_led : (old now : Scene) (steps left : List Step) (answers : List Answer) (room : ℕ) → IsUnderWay old steps left answers room now →
-    left ≡ [] →
-    LeadsAll old steps answers now
-all_led old now steps left answers room way none =
-    subst (λ (ss : List Step). LeadsAll old ss answers now) (sym (way.split ∙ ap (λ (ss : List Step). way.done ++ ss) none ∙ append_none way.done)) way.leads
+-- all are done
+pub record AreDone (old : Scene) (steps : List Step) (answers : List Answer) (new : Scene) : Type 0 where
+  pub count : length answers ≡ length steps
+  pub becomes : BecomesBy old (events_of steps answers) new
 
 -- nothing is left if nothing leaves at the front
 none_left : (left rest : List Step) → left ≡ rest → rest ≡ drop 1 left → left ≡ []
 none_left [] rest same dropped = refl
 none_left (step ∷ left) rest same dropped = let long = ap length (same ∙ dropped) in absurd (omega (arith, long))
 
-pub led : (old now : Scene) (given steps left rest : List Step) (answers : List Answer) (room : ℕ) → steps ≡ given →
-    IsUnderWay old steps left answers room now → left ≡ rest → rest ≡ drop 1 left → LeadsAll old given answers now
-led old now given steps left rest answers room same way kept dropped =
-    subst (λ (ss : List Step). LeadsAll old ss answers now) same (all_led old now steps left answers room way (none_left left rest kept dropped))
+pub all_done : (old now : Scene) (given steps left rest : List Step) (answers : List Answer) (room : ℕ) → steps ≡ given →
+    IsUnderWay old steps left answers room now → left ≡ rest → rest ≡ drop 1 left → AreDone old given answers now
+all_done old now given steps left rest answers room same way kept dropped =
+    let none = none_left left rest kept dropped in
+    let done : way.done ≡ given = sym (way.split ∙ ap (λ (ss : List Step). way.done ++ ss) none ∙ append_none way.done) ∙ same in
+    record {
+      count = way.count ∙ ap length done;
+      becomes = subst (λ (ss : List Step). BecomesBy old (events_of ss answers) now) done way.becomes;
+    }
 
-pub has_one_fate : (old new : Scene) (steps : List Step) (answers : List Answer) → IsSomewhere old → LeadsAll old steps answers new → HasOneFate answers
-has_one_fate old new steps answers is all =
-    let so = all.each is.cluster is.behind is.inputs is.at in
-    one_fate is.cluster is.behind is.inputs steps answers so.last so.reaches so.at.may
+-- also those of which they are copies
+pub done_of : (old now : Scene) (given steps : List Step) (answers : List Answer) → AreCopies given steps → AreDone old steps answers now →
+    AreDone old given answers now
+done_of old now given steps answers are done =
+    record { count = done.count ∙ copies_count given steps are; becomes = becomes_of old given steps answers now are done.becomes }
 
-pub grants_none_after : (old new : Scene) (steps : List Step) (answers : List Answer) → IsSomewhere old → LeadsAll old steps answers new →
-    GrantsNoneAfterAFate answers
-grants_none_after old new steps answers is all =
-    let so = all.each is.cluster is.behind is.inputs is.at in
-    grants_none is.cluster is.behind is.inputs steps answers so.last so.reaches so.at.may
+pub leads_all : (old new : Scene) (steps : List Step) (answers : List Answer) → AreDone old steps answers new → LeadsAll old steps answers new
+leads_all old new steps answers all =
+    record { each = λ cluster behind inputs at. goes_to cluster behind inputs old steps answers new all.count all.becomes at }
 
-pub deliveries_stand_in : (old new : Scene) (steps : List Step) (answers : List Answer) → IsSomewhere old →
-    LeadsAll old steps answers new → old.fresh ≡ true → DeliveriesStand steps answers
-deliveries_stand_in old new steps answers is all fresh =
-    let so = all.each is.cluster is.behind is.inputs is.at in
-    deliveries_stand is.cluster is.behind steps answers so.last
-    (subst (λ (inputs : List NodeInput). Reaches is.cluster is.behind inputs steps answers so.last) (is.at.fresh fresh).0 so.reaches) so.at.may
-
-pub deliveries_stand_in_runs : (old new : Scene) (steps : List Step) (answers : List Answer) → LeadsAll old steps answers new →
+pub stand_in_runs : (old new : Scene) (steps : List Step) (answers : List Answer) → AreDone old steps answers new →
     DeliveriesStandInRuns old steps answers
-deliveries_stand_in_runs old new steps answers all cluster behind inputs now =
-    let so = all.each cluster behind inputs now in deliveries_stand_in_run cluster behind inputs steps answers so.last so.reaches so.at.may
+stand_in_runs old new steps answers all cluster behind inputs now =
+    let so = goes_to cluster behind inputs old steps answers new all.count all.becomes now in
+    deliveries_stand_in_run cluster behind inputs steps answers so.last so.reaches so.at.may
 
-pub later_queries_told : (old new : Scene) (steps : List Step) (answers : List Answer) → IsSomewhere old →
-    LeadsAll old steps answers new → LaterQueriesAreTold steps answers
-later_queries_told old new steps answers is all =
-    let so = all.each is.cluster is.behind is.inputs is.at in
-    later_queries_are_told is.cluster is.behind is.inputs steps answers so.last so.reaches so.at.may
+-- by steps alone the world goes on with its numbers
+all_numbered : (old new : Scene) (steps : List Step) (answers : List Answer) → length answers ≡ length steps →
+    (way : BecomesBy old (events_of steps answers) new) → numbered_by old (events_of steps answers) new way ≡ map packet_of new.packets
+all_numbered old new [] [] count way = refl
+all_numbered old new [] (first ∷ answers) count way = absurd (omega (arith, count))
+all_numbered old new (step ∷ steps) [] count way = absurd (omega (arith, count))
+all_numbered old new (step ∷ steps) (first ∷ answers) count way = all_numbered way.0 new steps answers (omega (arith, count)) way.2
 
-pub accepted_known : (old new : Scene) (steps : List Step) (answers : List Answer) → IsSomewhere old →
-    LeadsAll old steps answers new → AcceptedAreKnown steps answers
-accepted_known old new steps answers is all =
-    let so = all.each is.cluster is.behind is.inputs is.at in
-    accepted_are_known is.cluster is.behind is.inputs steps answers so.last so.reaches so.at.may
+module _ (old new : Scene) (steps : List Step) (answers : List Answer) (is : IsSomewhere old) (all : AreDone old steps answers new) where
+  abbrev history : History
+  history = record { first = old; stands = is; events = events_of steps answers; last = new; becomes = all.becomes }
 
-pub chosen_all : (old new : Scene) (steps : List Step) (answers : List Answer) → IsSomewhere old → LeadsAll old steps answers new → old.fresh ≡ true →
-    AreChosen (length new.members) (map packet_of new.packets) answers
-chosen_all old new steps answers is all fresh =
-    are_chosen is.cluster is.behind is.inputs steps answers new (is.at.fresh fresh).1 (all.each is.cluster is.behind is.inputs is.at)
+  pub one_fate_of : HasOneFate answers
+  one_fate_of = subst HasOneFate (answers_are steps answers all.count) (has_one_fate history)
+
+  pub no_grant_of : GrantsNoneAfterAFate answers
+  no_grant_of = subst GrantsNoneAfterAFate (answers_are steps answers all.count) (grants_none_after history)
+
+  pub stands_of : old.fresh ≡ true → DeliveriesStand (events_of steps answers)
+  stands_of = deliveries_stand_in history
+
+  pub later_of : LaterQueriesAreTold (events_of steps answers)
+  later_of = later_queries_told history
+
+  pub known_of : AcceptedAreKnown (events_of steps answers)
+  known_of = accepted_known history
+
+  pub chosen_of : old.fresh ≡ true → AreChosen (length new.members) (map packet_of new.packets) answers
+  chosen_of fresh =
+      subst (AreChosen (length new.members) (map packet_of new.packets)) (answers_are steps answers all.count)
+      (subst (λ (packets : List Packet). AreChosen (length new.members) packets (answers_in (events_of steps answers)))
+      (all_numbered old new steps answers all.count all.becomes) (chosen_all history fresh))

@@ -3,6 +3,10 @@ pub mod Tracing
 pub mod Coming
 pub mod Standing
 pub mod Asking
+pub mod Receiving
+pub mod Voting
 pub mod Choosing
 pub mod Stating
+pub mod Linking
+pub mod Copying
 pub mod Leading

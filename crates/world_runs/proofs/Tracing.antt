@@ -1,21 +1,18 @@
 -- What the steps of a world tell is what the model's cluster gives out, in the same order.
 use Rattle.std.proofs.Common.{◌≡◌, ℕ, List, ◌∷◌, ◌++◌, Ok, Err, sym, ap, subst, ◌∙◌, inl, inr}
-use Rattle.std.specs.Prelude.{zip}
 use Rattle.mc_model.specs.message.Decree.{Final}
 use Rattle.mc_model.specs.synod.Lists.{In}
-use Rattle.mc_model.specs.synod.Packet.{Packet}
 use Rattle.mc_model.specs.node.Outputs.{Outputs}
 use Rattle.mc_model.specs.cluster.Steps.{Cluster}
 use Rattle.node_model.specs.Outputs.{nothing}
 use Rattle.node_laws.specs.Clusters.{GrantsOut, MayHappen, NodeInput, StatesFinal, cluster_outputs, outputs_at}
 use Rattle.node_laws.proofs.NoGrant.{no_grant}
-use Rattle.node_laws.proofs.Orders.{in_mapped}
 use Rattle.node_laws.proofs.Stated.{one_final}
 use Rattle.world.specs.declared.given.Given.{Given}
 use Rattle.world.specs.declared.step.Step.{Step}
 use Rattle.world.specs.Runs.{IsGiven, given_out}
-use Rattle.world_runs.specs.Traces.{Answer, Event, GrantsNoneAfterAFate, HasOneFate, Reaches, told_in}
-use Rattle.world_runs.proofs.Events.{ReachesBy, event_of, events_cut, given_in, goes_on_by, outputs_since, reached_by, until}
+use Rattle.world_runs.specs.Traces.{Answer, Event, GrantsNoneAfterAFate, HaltedOver, HasOneFate, StartedOver, Tried, answers_in, told_by, told_in}
+use Rattle.world_runs.proofs.Events.{ReachesBy, events_cut, given_in, goes_on_by, outputs_since, tried_of, until}
 
 -- ---- an answer and what the model gives out
 
@@ -53,53 +50,51 @@ grants_nothing id grants = let none = grants.granted in cc
 
 -- ---- over a run
 
-module _ (cluster : Cluster) (behind : List Packet) (inputs : List NodeInput) where
+module _ (cluster : Cluster) (inputs : List NodeInput) where
   -- what is told is given out
   record IsStated (last : List NodeInput) (id : ℕ) (final : Final) : Type 0 where
     outputs : Outputs
     among : In outputs (cluster_outputs cluster last)
     states : StatesFinal outputs id final
 
-  stated : (events : List Event) (last : List NodeInput) → ReachesBy cluster behind inputs events last → (event : Event) → In event events →
-      (id : ℕ) (final : Final) → StatesFinal (told_in event.1) id final → IsStated last id final
-  stated events last r (step, Ok given) among id final says =
-      let it = given_in cluster behind inputs events last r step given among in
+  stated : (events : List Event) (last : List NodeInput) → ReachesBy cluster inputs events last → (event : Event) → In event events →
+      (id : ℕ) (final : Final) → StatesFinal (told_by event) id final → IsStated last id final
+  stated events last r (Tried step (Ok given)) among id final says =
+      let it = given_in cluster inputs events last r step given among in
       record { outputs = it.outputs; among = it.among; states = states_given given it.outputs it.is id final says }
-  stated events last r (step, Err fault) among id final says = absurd (states_nothing id final says)
+  stated events last r (Tried step (Err fault)) among id final says = absurd (states_nothing id final says)
+  stated events last r StartedOver among id final says = absurd (states_nothing id final says)
+  stated events last r (HaltedOver count fault) among id final says = absurd (states_nothing id final says)
 
-  pub one_fate : (steps : List Step) (answers : List Answer) (last : List NodeInput) → Reaches cluster behind inputs steps answers last →
-      MayHappen cluster last → HasOneFate answers
-  one_fate steps answers last r may one other id first second among also says tells =
-      let by = reached_by cluster behind inputs steps answers last r in
-      let event = event_of cluster behind inputs steps answers last r one among in
-      let another = event_of cluster behind inputs steps answers last r other also in
-      let here = stated (zip steps answers) last by (event.0, one) event.1 id first says in
-      let there = stated (zip steps answers) last by (another.0, other) another.1 id second tells in
+  pub one_fate : (events : List Event) (last : List NodeInput) → ReachesBy cluster inputs events last → MayHappen cluster last →
+      HasOneFate (answers_in events)
+  one_fate events last r may one other id first second among also says tells =
+      let event = tried_of events one among in
+      let another = tried_of events other also in
+      let here = stated events last r (Tried event.0 one) event.1 id first says in
+      let there = stated events last r (Tried another.0 other) another.1 id second tells in
       one_final cluster last may here.outputs there.outputs id first second here.among there.among here.states there.states
 
-  -- after one of the steps nothing is granted of a message of which a final state was told before it
-  not_after : (before : List Event) (granting : Event) (after : List Event) (last : List NodeInput) → ReachesBy cluster behind inputs
-      (before ++ granting ∷ after) last →
-      MayHappen cluster last → (telling : Event) (id : ℕ) (final : Final) → In telling before → StatesFinal (told_in telling.1) id final →
-      GrantsOut (told_in granting.1) id → ⊥
-  not_after before (step, Ok given) after last r may telling id final among says grants =
-      let it = until cluster behind inputs before (step, Ok given) after last r in
+  -- after one of the events nothing is granted of a message of which a final state was told before it
+  not_after : (before : List Event) (step : Step) (granting : Answer) (after : List Event) (last : List NodeInput) →
+      ReachesBy cluster inputs (before ++ Tried step granting ∷ after) last →
+      MayHappen cluster last → (telling : Event) (id : ℕ) (final : Final) → In telling before → StatesFinal (told_by telling) id final →
+      GrantsOut (told_in granting) id → ⊥
+  not_after before step (Ok given) after last r may telling id final among says grants =
+      let it = until cluster inputs before (Tried step (Ok given)) after last r in
       let next = it.goes_on.0 in
-      let way = goes_on_by cluster behind (next ∷ it.mid) after last it.goes_on.4 in
+      let way = goes_on_by cluster (next ∷ it.mid) after last it.goes_on.4 in
       let said = stated before it.mid it.reaches telling among id final says in
-      let since = outputs_since cluster behind way.newer (next ∷ it.mid) in
+      let since = outputs_since cluster way.newer (next ∷ it.mid) in
       no_grant cluster last may said.outputs (outputs_at cluster it.mid next) id final
       (record { newer = since.0; older = cluster_outputs cluster it.mid; split = ap (cluster_outputs cluster) way.split ∙ since.1; before = said.among })
       said.states (grants_given given (outputs_at cluster it.mid next) it.goes_on.3 id grants)
-  not_after before (step, Err fault) after last r may telling id final among says grants = grants_nothing id grants
+  not_after before step (Err fault) after last r may telling id final among says grants = grants_nothing id grants
 
-  pub grants_none : (steps : List Step) (answers : List Answer) (last : List NodeInput) → Reaches cluster behind inputs steps answers last →
-      MayHappen cluster last → GrantsNoneAfterAFate answers
-  grants_none steps answers last r may telling granting id final came says grants =
-      let so = subst (λ (given : List Answer). Reaches cluster behind inputs steps given last) came.split r in
-      let cut = events_cut cluster behind inputs steps came.older granting came.newer last so in
-      let by = subst (λ (events : List Event). ReachesBy cluster behind inputs events last) cut.split
-      (reached_by cluster behind inputs steps (came.older ++ granting ∷ came.newer) last so) in
-      let told = in_mapped (λ (event : Event). event.1) cut.before telling (subst (In telling) (sym cut.are) came.before) in
-      not_after cut.before (cut.step, granting) cut.after last by may told.from id final told.among
-      (subst (λ (answer : Answer). StatesFinal (told_in answer) id final) told.is says) grants
+  pub grants_none : (events : List Event) (last : List NodeInput) → ReachesBy cluster inputs events last → MayHappen cluster last →
+      GrantsNoneAfterAFate (answers_in events)
+  grants_none events last r may telling granting id final came says grants =
+      let cut = events_cut events came.older granting came.newer came.split in
+      let by = subst (λ (es : List Event). ReachesBy cluster inputs es last) cut.split r in
+      let told = tried_of cut.before telling (subst (In telling) (sym cut.are) came.before) in
+      not_after cut.before cut.step granting cut.after last by may (Tried told.0 telling) id final told.1 says grants

@@ -1,2 +1,3 @@
 pub mod Traces
+pub mod Histories
 pub mod Statements

@@ -1,5 +1,5 @@
 -- What a list of steps of a world gave, as a run of the model's cluster (own).
-use Rattle.std.specs.Prelude.{◌≡◌, ℕ, List, [], ◌∷◌, ◌++◌, length, map, zip, Some, None, Result, Ok, Err}
+use Rattle.std.specs.Prelude.{◌≡◌, ℕ, ◌+◌, ◌≤◌, List, [], ◌∷◌, ◌++◌, length, map, take, zip, Some, None, Result, Ok, Err}
 use Rattle.mc_model.specs.message.Decree.{Attempt, Decree, Delivered, Fate, Final}
 use Rattle.mc_model.specs.message.Chain.{final_in}
 use Rattle.mc_model.specs.synod.Lists.{In}
@@ -16,6 +16,7 @@ use Rattle.world.specs.declared.fault.WorldFault.{WorldFault}
 use Rattle.world.specs.declared.given.Given.{Given}
 use Rattle.world.specs.declared.step.Step.{Step}
 use Rattle.world.specs.declared.step.Step.TheVariants as steps
+use Rattle.world.specs.Copies.{IsCopy}
 use Rattle.world.specs.Runs.{Comes, IsAt, IsFault, IsGiven, given_out, node_at, refusal_of}
 use Rattle.world.specs.Scenes.{Scene}
 
@@ -72,23 +73,58 @@ GrantsNoneAfterAFate answers =
     (telling granting : Answer) (id : ℕ) (final : Final) → CameBefore telling granting answers →
     StatesFinal (told_in telling) id final → GrantsOut (told_in granting) id → ⊥
 
--- ---- what stands behind a delivery
+-- steps once more, each at its place
+abbrev pub AreCopies : List Step → List Step → Type 0
+AreCopies [] copies = copies ≡ []
+AreCopies (step ∷ steps) [] = ⊥
+AreCopies (step ∷ steps) (copy ∷ copies) = IsCopy step copy × AreCopies steps copies
 
--- a step and what it gave
-abbrev pub Event : Type 0
-Event = Step × Answer
+-- ---- what a world was asked
+
+-- A step, with what it gave or why it was refused; a start over the stores of all nodes; or one at which only so many nodes started anew, the first
+-- ones, and why the next one did not.
+pub data Event : Type 0 where
+  Tried : Step → Answer → Event
+  StartedOver : Event
+  HaltedOver : ℕ → WorldFault → Event
+
+abbrev pub event_of : Step × Answer → Event
+event_of tried = Tried tried.0 tried.1
+
+-- steps with their answers, the first of them first
+abbrev pub events_of : List Step → List Answer → List Event
+events_of steps answers = map event_of (zip steps answers)
 
 abbrev pub steps_in : List Event → List Step
-steps_in events = map (λ event. event.0) events
+steps_in [] = []
+steps_in (Tried step answer ∷ events) = step ∷ steps_in events
+steps_in (StartedOver ∷ events) = steps_in events
+steps_in (HaltedOver count fault ∷ events) = steps_in events
 
 abbrev pub answers_in : List Event → List Answer
-answers_in events = map (λ event. event.1) events
+answers_in [] = []
+answers_in (Tried step answer ∷ events) = answer ∷ answers_in events
+answers_in (StartedOver ∷ events) = answers_in events
+answers_in (HaltedOver count fault ∷ events) = answers_in events
 
--- a node does not start anew by these steps
+abbrev pub told_by : Event → Outputs
+told_by (Tried step answer) = told_in answer
+told_by StartedOver = nothing
+told_by (HaltedOver count fault) = nothing
+
+-- a node starts anew by an event
+abbrev pub BeginsAnew : ℕ → Event → Type 0
+BeginsAnew node (Tried step (Ok given)) = step ≡ steps.Restart node
+BeginsAnew node (Tried step (Err fault)) = ⊥
+BeginsAnew node StartedOver = Unit {0}
+BeginsAnew node (HaltedOver count fault) = node ≤ count
+
 abbrev pub LivesOn : ℕ → List Event → Type 0
-LivesOn node events = (given : Given) → In (steps.Restart node, Ok given) events → ⊥
+LivesOn node events = (event : Event) → In event events → BeginsAnew node event → ⊥
 
--- of these steps, the first of them first, one came, and later, in the same life of a node, another
+-- ---- what stands behind a delivery
+
+-- of these events, the first of them first, one came, and later, in the same life of a node, another
 pub record CameInOneLife (node : ℕ) (first second : Event) (events : List Event) : Type 0 where
   pub older : List Event
   pub middle : List Event
@@ -99,17 +135,15 @@ pub record CameInOneLife (node : ℕ) (first second : Event) (events : List Even
 -- the attempt in this slot was granted at a node
 pub record IsGranted (event : Event) (node : ℕ) (slot : Slot) : Type 0 where
   pub given : Given
-  pub asked : event.0 ≡ steps.Grant node slot.id
-  pub taken : event.1 ≡ Ok given
+  pub is : event ≡ Tried (steps.Grant node slot.id) (Ok given)
   pub granted : (given_out given).granted ≡ Some slot
 
 -- it was answered there by ESME_ROK, which was taken
 pub record IsAnswered (event : Event) (node : ℕ) (slot : Slot) : Type 0 where
   pub given : Given
-  pub answered : event.0 ≡ steps.Answered node slot outcomes.Delivered
-  pub taken : event.1 ≡ Ok given
+  pub is : event ≡ Tried (steps.Answered node slot outcomes.Delivered) (Ok given)
 
--- A chain ends in the fate DELIVERED behind an attempt of the same author. By these steps, the first of them first, that attempt was granted at its
+-- A chain ends in the fate DELIVERED behind an attempt of the same author. By these events, the first of them first, that attempt was granted at its
 -- author's node, and then, in the same life of the node, answered there by ESME_ROK.
 pub record StandsOnAnAttempt (id : ℕ) (chain : List Decree) (events : List Event) : Type 0 where
   pub fate : Decree
@@ -127,10 +161,10 @@ pub record StandsOnAnAttempt (id : ℕ) (chain : List Decree) (events : List Eve
   pub order : CameInOneLife attempt.author.node granting answering events
 
 -- Each DELIVERED that is told of a message stands on an attempt that was granted, and answered by ESME_ROK, before it was told.
-abbrev pub DeliveriesStand : List Step → List Answer → Type 0
-DeliveriesStand steps answers =
-    (older : List Event) (event : Event) (newer : List Event) (id : ℕ) → zip steps answers ≡ older ++ event ∷ newer →
-    (says : StatesFinal (told_in event.1) id Delivered) → StandsOnAnAttempt id says.chain older
+abbrev pub DeliveriesStand : List Event → Type 0
+DeliveriesStand events =
+    (older : List Event) (event : Event) (newer : List Event) (id : ℕ) → events ≡ older ++ event ∷ newer →
+    (says : StatesFinal (told_by event) id Delivered) → StandsOnAnAttempt id says.chain older
 
 -- As inputs of the run that led here, and goes on by these steps, its attempt was granted and answered by ESME_ROK.
 pub record StandsInTheRun (cluster : Cluster) (behind : List Packet) (inputs : List NodeInput) (events : List Event) (id : ℕ)
@@ -143,14 +177,21 @@ pub record StandsInTheRun (cluster : Cluster) (behind : List Packet) (inputs : L
 abbrev pub DeliveriesStandInRuns : Scene → List Step → List Answer → Type 0
 DeliveriesStandInRuns old steps answers =
     (cluster : Cluster) (behind : List Packet) (inputs : List NodeInput) → IsAt cluster behind inputs old →
-    (older : List Event) (event : Event) (newer : List Event) (id : ℕ) → zip steps answers ≡ older ++ event ∷ newer →
-    (says : StatesFinal (told_in event.1) id Delivered) → StandsInTheRun cluster behind inputs older id says.chain
+    (older : List Event) (event : Event) (newer : List Event) (id : ℕ) → events_of steps answers ≡ older ++ event ∷ newer →
+    (says : StatesFinal (told_by event) id Delivered) → StandsInTheRun cluster behind inputs older id says.chain
 
--- Of each final state that is told the chain was chosen: a majority of the nodes, which are so many, voted for it at one ballot, in these packets.
+-- how many packets steps sent that answered so
+abbrev pub sent_by : List Answer → ℕ
+sent_by [] = 0
+sent_by (Ok given ∷ answers) = given.packets + sent_by answers
+sent_by (Err fault ∷ answers) = sent_by answers
+
+-- Of each final state that is told the chain was chosen before (Paxos Made Simple, 2.3): a majority of the nodes, which are so many, voted for it at one
+-- ballot, and told so in those of these packets, the oldest first, that were sent by the steps before the one that told it.
 abbrev pub AreChosen : ℕ → List Packet → List Answer → Type 0
 AreChosen nodes packets answers =
-    (answer : Answer) (id : ℕ) (final : Final) → In answer answers → (says : StatesFinal (told_in answer) id final) →
-    WasVotedFor nodes packets id says.chain
+    (older : List Answer) (telling : Answer) (newer : List Answer) (id : ℕ) (final : Final) → answers ≡ older ++ telling ∷ newer →
+    (says : StatesFinal (told_in telling) id final) → WasVotedFor nodes (take (sent_by older) packets) id says.chain
 
 -- ---- what a later request is answered
 
@@ -159,15 +200,14 @@ pub record Waits (event : Event) (node ticket : ℕ) : Type 0 where
   pub account : List ℕ
   pub request : Request
   pub given : Given
-  pub asked : event.0 ≡ steps.Request node account request
-  pub taken : event.1 ≡ Ok given
+  pub is : event ≡ Tried (steps.Request node account request) (Ok given)
   pub under : given.ticket ≡ Some ticket
 
 -- a request that waits under this ticket is answered so, of this message
 abbrev pub IsRepliedTo : Event → ℕ → ℕ → Told → Type 0
-IsRepliedTo event ticket id answer = In (record { ticket = ticket; id = id; answer = answer }) (told_in event.1).replies
+IsRepliedTo event ticket id answer = In (record { ticket = ticket; id = id; answer = answer }) (told_by event).replies
 
--- After these steps a request came to a node, and waits there under this ticket; and later, in the same life of the node, it is answered so.
+-- After these events a request came to a node, and waits there under this ticket; and later, in the same life of the node, it is answered so.
 pub record IsAnsweredLater (events older : List Event) (id : ℕ) (answer : Told) : Type 0 where
   pub node : ℕ
   pub ticket : ℕ
@@ -175,20 +215,21 @@ pub record IsAnsweredLater (events older : List Event) (id : ℕ) (answer : Told
   pub waits : Waits asking node ticket
   pub middle : List Event
   pub lives : LivesOn node middle
-  pub replying : Event
-  pub node_is : node_at replying.0 ≡ node
-  pub replied : IsRepliedTo replying ticket id answer
+  pub step : Step
+  pub replying : Answer
+  pub node_is : node_at step ≡ node
+  pub replied : IsRepliedTo (Tried step replying) ticket id answer
   pub newer : List Event
-  pub split : events ≡ older ++ asking ∷ (middle ++ replying ∷ newer)
+  pub split : events ≡ older ++ asking ∷ (middle ++ Tried step replying ∷ newer)
 
 -- A query_sm that comes after a final state of its message was told, and is answered by ESME_ROK in the same life of its node, is told that state.
-abbrev pub LaterQueriesAreTold : List Step → List Answer → Type 0
-LaterQueriesAreTold steps answers =
-    (older : List Event) (telling : Event) (id : ℕ) (chain : List Decree) (final : Final) → In telling older → StatesFinal (told_in telling.1) id final →
-    IsAnsweredLater (zip steps answers) older id (Shown chain) → final_in chain ≡ Some final
+abbrev pub LaterQueriesAreTold : List Event → Type 0
+LaterQueriesAreTold events =
+    (older : List Event) (telling : Event) (id : ℕ) (chain : List Decree) (final : Final) → In telling older → StatesFinal (told_by telling) id final →
+    IsAnsweredLater events older id (Shown chain) → final_in chain ≡ Some final
 
 -- No request that comes after ESME_ROK to the submit_sm of its message is answered, in the same life of its node, that there is no such message.
-abbrev pub AcceptedAreKnown : List Step → List Answer → Type 0
-AcceptedAreKnown steps answers =
+abbrev pub AcceptedAreKnown : List Event → Type 0
+AcceptedAreKnown events =
     (older : List Event) (accepting : Event) (taken id : ℕ) → In accepting older → IsRepliedTo accepting taken id Accepted →
-    IsAnsweredLater (zip steps answers) older id Unknown → ⊥
+    IsAnsweredLater events older id Unknown → ⊥

@@ -5,11 +5,13 @@ ghost use Rattle.world_runs.specs.Statements.{statements_of};
 
 use crate::statement::{Statement, add_given};
 use std::alloc::AllocError;
-use world::{Given, WorldFault};
+use world::{Given, Step, WorldFault};
 
-/// What each of a list of steps gave, in their order: what went out, or why it was refused.
+/// A list of steps, and what each of them gave, in their order: what went out, or why it was refused.
 #[derive(Drop)]
 pub struct Trace {
+    pub steps: Vec<Step>,
+    /// The answer of each step stands at its place.
     pub answers: Vec<Result<Given, WorldFault>>,
 }
 

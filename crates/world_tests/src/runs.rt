@@ -1,6 +1,9 @@
 //! A list of steps.
 
-use crate::walks::{Answer, Comes, assert_answers, assert_stated};
+use crate::walks::{
+    Answer, Comes, assert_answers, assert_copied, assert_stated, assert_stated_again,
+    assert_told_by,
+};
 use fate_chain::Final;
 use world::WorldFault;
 
@@ -44,4 +47,36 @@ const STATED: &[(usize, Final)] = &[(11, Final::Deleted), (11, Final::Deleted)];
 #[test]
 fn a_deletion_is_stated_by_a_reply_and_by_a_receipt(rt: HostRuntime) {
     assert_stated(&rt, rt.alloc(), DELETION, STATED);
+}
+
+// No node knows the message any more: its own Tell says how far the chain has come, and the round of that slot is gone through once more.
+const QUERY: &[Comes] = &[
+    Comes::Delivers(1, 1),
+    Comes::Asks(1, "query"),
+    Comes::Delivers(1, 1),
+    Comes::Delivers(2, 1),
+    Comes::Delivers(3, 1),
+    Comes::Delivers(4, 1),
+    Comes::Delivers(5, 1),
+    Comes::Delivers(6, 1),
+];
+
+// By the reply, and by the receipt that is due once more.
+const STATED_AGAIN: &[(usize, Final)] = &[(7, Final::Deleted), (7, Final::Deleted)];
+
+#[test]
+fn a_deletion_is_told_over_a_start_over(rt: HostRuntime) {
+    assert_stated_again(&rt, rt.alloc(), DELETION, QUERY, STATED_AGAIN);
+}
+
+#[test]
+fn the_step_that_told_a_deletion_is_listed(rt: HostRuntime) {
+    assert_told_by(&rt, rt.alloc(), DELETION, Comes::Delivers(10, 1));
+}
+
+#[test]
+fn steps_are_copied(rt: HostRuntime) {
+    assert_copied(&rt, rt.alloc(), Comes::Delivers(7, 2));
+    assert_copied(&rt, rt.alloc(), Comes::Ticks(3, 1_706_659_200));
+    assert_copied(&rt, rt.alloc(), Comes::Restarts(1));
 }

@@ -14,7 +14,7 @@ use world::{Given, Step, World, WorldFault};
 use world_runs::{Trace, run};
 
 // What happens in a world, at a node.
-#[derive(Clone, Copy)]
+#[derive(Clone, Copy, Debug, PartialEq, Eq)]
 pub enum Comes {
     // A request, by its word.
     Asks(u8, &'static str),
@@ -235,4 +235,55 @@ pub fn assert_answers(rt: &impl Abort, alloc: Global, comes: &[Comes], wanted: &
 pub fn assert_stated(rt: &impl Abort, alloc: Global, comes: &[Comes], wanted: &[(usize, Final)]) {
     let stated = stated_in(rt, alloc, trace_of(rt, alloc, 1, comes));
     assert_same(rt, &stated.as_slice(), &wanted);
+}
+
+// That a world of one node, which takes one list of steps, starts over its store, and takes another one, states this by the other one.
+pub fn assert_stated_again(
+    rt: &impl Abort,
+    alloc: Global,
+    first: &[Comes],
+    second: &[Comes],
+    wanted: &[(usize, Final)],
+) {
+    let mut world = world(rt, alloc, 1);
+    drop(run(alloc, &mut world, steps_of(rt, alloc, first)).expect(rt, "memory"));
+    let over = world.start_over();
+    let trace = run(alloc, &mut world, steps_of(rt, alloc, second));
+    drop(world);
+    assert_same(rt, &over, &Ok(()));
+    let stated = stated_in(rt, alloc, trace.expect(rt, "memory"));
+    assert_same(rt, &stated.as_slice(), &wanted);
+}
+
+// What comes by a step; nothing if it is of a kind that no test looks at.
+fn comes_by(step: &Step) -> Option<Comes> {
+    match step {
+        Step::Deliver { number, node } => Some(Comes::Delivers(*number, node.number())),
+        Step::Tick { node, moment, up } if up.len() == 1 => {
+            Some(Comes::Ticks(node.number(), moment.seconds()))
+        }
+        Step::Restart { node } => Some(Comes::Restarts(node.number())),
+        _ => None,
+    }
+}
+
+// That the copy of a step is the step.
+pub fn assert_copied(rt: &impl Abort, alloc: Global, comes: Comes) {
+    let copy = step_of(rt, alloc, comes).copy();
+    assert_same(rt, &comes_by(&copy.expect(rt, "memory")), &Some(comes));
+}
+
+// That in a world of one node the last step that gave a receipt is listed beside it.
+pub fn assert_told_by(rt: &impl Abort, alloc: Global, comes: &[Comes], wanted: Comes) {
+    let trace = trace_of(rt, alloc, 1, comes);
+    let mut told = None;
+    for (step, answer) in trace.steps.iter().zip(&trace.answers) {
+        if let Ok(given) = answer
+            && !given.receipts.is_empty()
+        {
+            told = comes_by(step);
+        }
+    }
+    drop(trace);
+    assert_same(rt, &told, &Some(wanted));
 }
