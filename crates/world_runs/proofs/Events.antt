@@ -349,7 +349,8 @@ pub record IsCutBy (events : List Event) (older : List Answer) (answer : Answer)
   pub are : answers_in before ≡ older
 
 cut_more : (event : Event) (events : List Event) (rest older : List Answer) (answer : Answer) →
-    ((before : List Event) → answers_in before ≡ rest → answers_in (event ∷ before) ≡ older) → IsCutBy events rest answer → IsCutBy (event ∷ events) older answer
+    ((before : List Event) → answers_in before ≡ rest → answers_in (event ∷ before) ≡ older) →
+    IsCutBy events rest answer → IsCutBy (event ∷ events) older answer
 cut_more event events rest older answer are it =
     record { before = event ∷ it.before; step = it.step; after = it.after; split = λ i. event ∷ it.split i; are = are it.before it.are }
 

@@ -66,7 +66,8 @@ module _ (cluster : Cluster) where
         since = on.since;
         reaches = on.reaches;
         at = on.at;
-        sent = behind_then behind (map packet_of old.packets) (numbered_by way.0 events new way.2) then (kept_reached cluster on.last).packets at.packets on.sent;
+        sent = behind_then behind (map packet_of old.packets) (numbered_by way.0 events new way.2) then
+            (kept_reached cluster on.last).packets at.packets on.sent;
       }
   led_by behind inputs old (HaltedOver count fault ∷ events) new way at =
       let there = (way.1.0.each cluster behind inputs at).at in

@@ -82,7 +82,8 @@ module _ (cluster : Cluster) where
     lives_by inputs events middle one r lives StartedOver among starts =
         let it = passed cluster inputs events StartedOver (middle ++ inputs) r among in
         lives 0
-        (brought_since cluster inputs it.before it.until.mid (begin_anew cluster.nodes) it.after (middle ++ inputs) middle it.until.reaches it.until.goes_on refl
+        (brought_since cluster inputs it.before it.until.mid (begin_anew cluster.nodes) it.after (middle ++ inputs) middle
+        it.until.reaches it.until.goes_on refl
         (comes_to node (Restart 0)) (starts_each cluster.nodes node one.least one.most))
     lives_by inputs events middle one r lives (HaltedOver count fault) among starts =
         let it = passed cluster inputs events (HaltedOver count fault) (middle ++ inputs) r among in
