@@ -1,19 +1,21 @@
 -- A settle of a calm script: one reply goes out at most, then the receipts that are due, and the runner and the one node stay alike.
-use Rattle.std.proofs.Common.{◌≡◌, ℕ, suc, ◌≤◌, ◌<◌, Bool, true, List, [], ◌++◌, length, None, refl, sym, ◌∙◌, ap, subst, arith}
+use Rattle.std.proofs.Common.{◌≡◌, ℕ, suc, ◌≤◌, ◌<◌, Bool, true, List, [], ◌++◌, length, None, Some, refl, sym, ◌∙◌, ap, subst, arith}
 use Rattle.node_model.specs.Kept.{Kept}
 use Rattle.alone_laws.specs.Settling.{delivered}
 use Rattle.alone_laws.proofs.Leading.{settling}
 use Rattle.script_text.specs.Settings.{Settings}
 use Rattle.script_text.specs.Prints.{Print}
 use Rattle.script_text.specs.Receipts.{Mail, Posted, all_posted}
-use Rattle.script_text.specs.Runner.{Runner, Told, mail_of, most_deliveries, on_settle, told}
+use Rattle.script_text.specs.Runner.{Acted, Runner, Told, mail_of, told}
+use Rattle.script_text.specs.World.{most_deliveries}
 use Rattle.script_text.specs.OneNode.{OneNode, settled}
 use Rattle.script_text.specs.OneNode as one_node
 use Rattle.calm_laws.proofs.Connected.{AreConnected}
 use Rattle.calm_laws.proofs.Posting.{ArePosted, all_alike}
 use Rattle.calm_laws.proofs.Replying.{owed_told}
 use Rattle.calm_laws.proofs.Running.{AreDone, Runs}
-use Rattle.calm_laws.proofs.Settling.{Goes, handed, runner_at, settle_goes}
+use Rattle.calm_laws.proofs.Queue.{settles}
+use Rattle.calm_laws.proofs.Settling.{Goes, SettlesSo, handed, runner_at, settle_goes}
 use Rattle.calm_laws.proofs.Standing.{clock_is, rests}
 
 module _ (settings : Settings) (first left : ℕ) (quiet : Bool) (one : OneNode) (streams : List (ℕ × List ℕ)) (runner : Runner)
@@ -29,12 +31,16 @@ module _ (settings : Settings) (first left : ℕ) (quiet : Bool) (one : OneNode)
       let most = runs.agree.settles.few in
       omega (arith, most, small)
 
-  goes : Goes runner.node.setup runner.streams clock runs.agree.settles.deliveries (settling runner.node.kept runner.node.packets [] []) (mail_of runner)
-      (on_settle runner)
-  goes =
+  so : SettlesSo runner.node.setup runner.streams clock runs.agree.settles.deliveries (settling runner.node.kept runner.node.packets [] []) (mail_of runner)
+      (settles most_deliveries runner)
+  so =
       settle_goes runner.node.setup runner.streams clock runs.agree.settles.deliveries most_deliveries runner.node.kept runner.node.packets []
       runs.agree.replies [] (mail_of runner) few (clock_is settings first (suc left) one runs.holds runner.node runs.agree) runs.agree.settles.left
       runs.agree.settles.replies_are runs.agree.settles.ordered
+
+  abbrev goes : Goes runner.node.setup runner.streams clock runs.agree.settles.deliveries (settling runner.node.kept runner.node.packets [] []) (mail_of runner)
+      so.acted
+  goes = so.goes
 
   replies_are : goes.replies ≡ runs.agree.replies
   replies_are = sym goes.replies_are ∙ runs.agree.settles.replies_are
@@ -81,8 +87,8 @@ module _ (settings : Settings) (first left : ℕ) (quiet : Bool) (one : OneNode)
     waiting = posted.mailed.waiting;
   }
 
-  pub settle_leaves : AreDone settings first left true streams (on_settle runner) (settled one)
-  settle_leaves = (
+  leaves : AreDone settings first left true streams so.acted (settled one)
+  leaves = (
     subst (Runs settings first left true (settled one).next streams)
         (sym (goes.next ∙ ap (λ (p : Posted). runner_at runner.node.setup runner.streams clock now [] p.mail) handed_is)) ends,
     goes.prints
@@ -90,3 +96,7 @@ module _ (settings : Settings) (first left : ℕ) (quiet : Bool) (one : OneNode)
         ∙ ap (λ (prints : List Print). prints ++ (all_posted clock mail one.due).prints) owed.1
         ∙ ap (λ (prints : List Print). one.owed ++ prints) posted.prints,
   )
+
+  -- it settles, and is then as the one node is
+  pub settle_leaves : (acted : Acted) × (settles most_deliveries runner ≡ Some acted) × AreDone settings first left true streams acted (settled one)
+  settle_leaves = (so.acted, so.is, leaves)

@@ -1,3 +1,11 @@
+pub mod Sending
+pub mod Alone
+pub mod Queue
+pub mod Awaiting
+pub mod Beside
+pub mod Due
+pub mod Delivering
+pub mod Saying
 pub mod Entries
 pub mod Plain
 pub mod Windows

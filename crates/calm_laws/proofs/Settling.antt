@@ -1,5 +1,5 @@
--- What the settle of a script delivers and prints, by what the settle of a node by itself delivers.
-use Rattle.std.proofs.Common.{◌≡◌, ◌⊎◌, ℕ, zero, suc, ◌<◌, List, [], ◌∷◌, ◌++◌, inl, inr, refl, sym, ◌∙◌, ap, subst, append_assoc, arith}
+-- What a node by itself delivers and prints as it settles, by what the settle of the model's node delivers.
+use Rattle.std.proofs.Common.{◌≡◌, ◌⊎◌, ℕ, zero, suc, ◌<◌, List, [], ◌∷◌, ◌++◌, Option, Some, inl, inr, refl, sym, ◌∙◌, ap, subst, append_assoc, arith}
 use Rattle.std.proofs.lemmas.List.{append-nil}
 use Rattle.mc_model.specs.synod.Packet.{Packet}
 use Rattle.mc_model.specs.node.Input.{Delivery}
@@ -14,7 +14,8 @@ use Rattle.alone_laws.proofs.Unmoved.{delivery_unmoved}
 use Rattle.sessions.specs.Session.{Session}
 use Rattle.script_text.specs.Prints.{Print}
 use Rattle.script_text.specs.Receipts.{Mail, Posted, all_posted, then_posted}
-use Rattle.script_text.specs.Runner.{Acted, Runner, Told, followed_by, in_front, owner_of, replied, reply_prints, settles, told}
+use Rattle.script_text.specs.Runner.{Acted, Runner, Told, followed_by, in_front, owner_of, replied, reply_prints, rests, told}
+use Rattle.calm_laws.proofs.Queue.{and_settles, settles}
 use Rattle.calm_laws.proofs.Posting.{posted_behind}
 
 -- replies go out one after the other
@@ -124,6 +125,12 @@ module _ (setup : Setup) (streams : List (ℕ × List ℕ)) (now : ℕ) where
     pub next : acted.next ≡ runner_at (delivered setup deliveries s).kept [] (handed now mail replies receipts).mail
     pub prints : acted.prints ≡ (handed now mail replies receipts).prints
 
+  -- It settles, and goes so.
+  pub record SettlesSo (deliveries : ℕ) (s : Settling) (mail : Mail) (found : Option Acted) : Type 0 where
+    pub acted : Acted
+    pub is : found ≡ Some acted
+    pub goes : Goes deliveries s mail acted
+
   goes_nowhere : (s : Settling) (mail : Mail) → Goes zero s mail (record { next = runner_at s.kept [] mail; inputs = []; prints = [] })
   unfolding told all_posted
   goes_nowhere s mail = record {
@@ -139,20 +146,28 @@ module _ (setup : Setup) (streams : List (ℕ × List ℕ)) (now : ℕ) where
       deliveries < most → k.clock ≡ now → (delivered setup deliveries (settling k packets replies receipts)).packets ≡ [] →
       (delivered setup deliveries (settling k packets replies receipts)).replies ≡ all →
       IsOrderly setup (settling k packets replies receipts) all →
-      Goes deliveries (settling k packets replies receipts) mail (settles most (runner_at k packets mail))
+      SettlesSo deliveries (settling k packets replies receipts) mail (settles most (runner_at k packets mail))
   unfolding settles
   settle_goes deliveries zero k packets replies all receipts mail few clock left ends ordered = absurd (omega arith)
-  settle_goes zero (suc more) k [] replies all receipts mail few clock left ends ordered = goes_nowhere (settling k [] replies receipts) mail
+  settle_goes zero (suc more) k [] replies all receipts mail few clock left ends ordered = record {
+    acted = rests (runner_at k [] mail);
+    is = refl;
+    goes = goes_nowhere (settling k [] replies receipts) mail;
+  }
   settle_goes zero (suc more) k (packet ∷ others) replies all receipts mail few clock left ends ordered = absurd cc
   settle_goes (suc deliveries) (suc more) k [] replies all receipts mail few clock left ends ordered =
       let rest = settle_goes deliveries (suc more) k [] replies all receipts mail (omega arith) clock left ends (λ n. ordered (suc n)) in
       record {
-        replies = rest.replies;
-        receipts = rest.receipts;
-        replies_are = rest.replies_are;
-        receipts_are = rest.receipts_are;
-        next = rest.next;
-        prints = rest.prints;
+        acted = rest.acted;
+        is = rest.is;
+        goes = record {
+          replies = rest.goes.replies;
+          receipts = rest.goes.receipts;
+          replies_are = rest.goes.replies_are;
+          receipts_are = rest.goes.receipts_are;
+          next = rest.goes.next;
+          prints = rest.goes.prints;
+        };
       }
   settle_goes (suc deliveries) (suc more) k (packet ∷ others) replies all receipts mail few clock left ends ordered =
       let step : Stepped = stepped setup k (Delivery packet) in
@@ -160,24 +175,30 @@ module _ (setup : Setup) (streams : List (ℕ × List ℕ)) (now : ℕ) where
       let first : Posted = handed now mail step.outputs.replies step.outputs.receipts in
       let rest = settle_goes deliveries more step.kept (others ++ step.outputs.packets) (replies ++ step.outputs.replies) all
       (receipts ++ step.outputs.receipts) first.mail (omega arith) clock_then left ends (λ n. ordered (suc n)) in
-      let order : (step.outputs.receipts ≡ []) ⊎ (rest.replies ≡ []) = elim (ordered 1) [
+      let goes = rest.goes in
+      let order : (step.outputs.receipts ≡ []) ⊎ (goes.replies ≡ []) = elim (ordered 1) [
         | inl none ↦ inl (behind_empty receipts step.outputs.receipts none)
-        | inr told_all ↦ inr (none_behind (replies ++ step.outputs.replies) rest.replies (told_all ∙ sym ends ∙ rest.replies_are))
+        | inr told_all ↦ inr (none_behind (replies ++ step.outputs.replies) goes.replies (told_all ∙ sym ends ∙ goes.replies_are))
       ] in
-      let behind = handed_behind now mail step.outputs.replies rest.replies step.outputs.receipts rest.receipts order in
+      let behind = handed_behind now mail step.outputs.replies goes.replies step.outputs.receipts goes.receipts order in
+      let came = comes now mail step packet (others ++ step.outputs.packets) in
       let end = (delivered setup (suc deliveries) (settling k (packet ∷ others) replies receipts)).kept in
       subst
-      (λ (moment : ℕ). Goes (suc deliveries) (settling k (packet ∷ others) replies receipts) mail
-      (followed_by (delivers moment mail step packet (others ++ step.outputs.packets))
-      (settles more (delivers moment mail step packet (others ++ step.outputs.packets)).next)))
+      (λ (moment : ℕ). SettlesSo (suc deliveries) (settling k (packet ∷ others) replies receipts) mail
+      (and_settles (comes moment mail step packet (others ++ step.outputs.packets))
+      (settles more (comes moment mail step packet (others ++ step.outputs.packets)).next)))
       (sym clock_then)
       (record {
-        replies = step.outputs.replies ++ rest.replies;
-        receipts = step.outputs.receipts ++ rest.receipts;
-        replies_are = rest.replies_are ∙ append_assoc replies step.outputs.replies rest.replies;
-        receipts_are = rest.receipts_are ∙ append_assoc receipts step.outputs.receipts rest.receipts;
-        next = rest.next ∙ ap (λ (p : Posted). runner_at end [] p.mail) behind;
-        prints = ap (λ (prints : List Print). first.prints ++ prints) rest.prints ∙ ap (λ (p : Posted). p.prints) behind;
+        acted = followed_by came rest.acted;
+        is = ap (and_settles came) rest.is;
+        goes = record {
+          replies = step.outputs.replies ++ goes.replies;
+          receipts = step.outputs.receipts ++ goes.receipts;
+          replies_are = goes.replies_are ∙ append_assoc replies step.outputs.replies goes.replies;
+          receipts_are = goes.receipts_are ∙ append_assoc receipts step.outputs.receipts goes.receipts;
+          next = goes.next ∙ ap (λ (p : Posted). runner_at end [] p.mail) behind;
+          prints = ap (λ (prints : List Print). first.prints ++ prints) goes.prints ∙ ap (λ (p : Posted). p.prints) behind;
+        };
       })
     where
       behind_empty : {A : Type 0} (front others : List A) → front ++ others ≡ [] → others ≡ []
@@ -185,8 +206,8 @@ module _ (setup : Setup) (streams : List (ℕ × List ℕ)) (now : ℕ) where
       behind_empty (x ∷ front) others none = absurd cc
 
       -- what the delivery of a packet leaves and prints, at this moment
-      delivers : ℕ → Mail → Stepped → Packet → List Packet → Acted
-      delivers moment before step packet packets = record {
+      comes : ℕ → Mail → Stepped → Packet → List Packet → Acted
+      comes moment before step packet packets = record {
         next = runner_at step.kept packets (handed moment before step.outputs.replies step.outputs.receipts).mail;
         inputs = Delivery packet ∷ [];
         prints = (handed moment before step.outputs.replies step.outputs.receipts).prints;

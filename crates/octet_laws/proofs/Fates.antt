@@ -25,18 +25,18 @@ use Rattle.receipts.specs.Texts.{Report, receipt_text}
 use Rattle.sessions.specs.declared.requested.Requested.{Requested}
 use Rattle.script_lines.specs.Lines.{lines_of}
 use Rattle.script_text.specs.Laws.{StatesFate, pdu_in}
-use Rattle.script_text.specs.Prints.{AtOnce, Declined, Delivers, Gone, Late, Print, Reports, Ungranted, Unsettled, report_pdu}
+use Rattle.script_text.specs.Prints.{AtOnce, Declined, Delivers, Gone, Late, Print, Reports, Ungranted, report_pdu}
 use Rattle.script_text.specs.Pushes.{knows_optional, with_optional}
 use Rattle.script_text.specs.Responses.{final_date_of, reply_pdu}
 use Rattle.script_text.specs.Settings.{script_settings}
-use Rattle.script_world.specs.Prints.{At, WorldPrint}
-use Rattle.script_world.specs.Script.{Stage, prints_of, text_of}
-use Rattle.script_world.specs.World.{NodeInput as LineInput}
-use Rattle.fate_laws.proofs.Clear.{IsClear}
-use Rattle.fate_laws.proofs.Printing.{of_all}
-use Rattle.fate_laws.proofs.Submitted.{WasSubmitted}
-use Rattle.fate_laws.proofs.Telling.{refusal_delivers_none, refusal_tells_none}
-use Rattle.fate_laws.proofs.Tellings.{by_node}
+use Rattle.script_text.specs.Prints.{At, WorldPrint}
+use Rattle.script_text.specs.Script.{Stage, prints_of, text_of}
+use Rattle.script_text.specs.World.{NodeInput as LineInput}
+use Rattle.world_fates.proofs.node.Clear.{IsClear}
+use Rattle.world_fates.proofs.node.Once.{of_all}
+use Rattle.world_fates.proofs.node.Submitted.{WasSubmitted}
+use Rattle.world_fates.proofs.node.Telling.{refusal_delivers_none, refusal_tells_none}
+use Rattle.world_fates.proofs.node.Tellings.{by_node}
 use Rattle.world_fates.proofs.Fates.{one_fate}
 use Rattle.world_fates.proofs.Printing.{StageSo, first_so, good_lines}
 use Rattle.world_fates.proofs.Worlds.{told_by, told_by_all}
@@ -228,7 +228,6 @@ module _ (past : List NodeInput) (clear : (message : Submission) → WasSubmitte
         state_is = told.1;
       }))
   states (Gone session) pdu octets is made are tells = absurd cc
-  states Unsettled pdu octets is made are tells = absurd cc
   states (Declined number) pdu octets is made are tells = absurd cc
   states (Ungranted reason) pdu octets is made are tells = absurd cc
 

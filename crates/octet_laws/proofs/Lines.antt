@@ -11,8 +11,8 @@ use Rattle.pdu_codec.specs.Pdu.{octets_of}
 use Rattle.script_lines.specs.Lines.{IsOneLine, lines_of, onto_first}
 use Rattle.script_lines.proofs.LineLemmas.{lines_of-next}
 use Rattle.script_text.specs.Laws.{pdu_in}
-use Rattle.script_text.specs.Prints.{AtOnce, Declined, Delivers, Gone, Late, Print, Reports, Ungranted, Unsettled, gone_line, octets_line, report_pdu}
-use Rattle.script_world.specs.Prints.{At, Refuses, StopsSettling, WorldPrint, world_line, world_text}
+use Rattle.script_text.specs.Prints.{AtOnce, Declined, Delivers, Gone, Late, Print, Reports, Ungranted, gone_line, octets_line, report_pdu}
+use Rattle.script_text.specs.Prints.{At, Refuses, StopsSettling, WorldPrint, world_line, world_text}
 use Rattle.octet_laws.specs.Tellings.{IsPduLine}
 use Rattle.octet_laws.proofs.Words.{IsFrontRead, Lacks, both_lack, cons_first, decimal_lacks, decoded, hex_lacks_feed, split, tests_lack}
 
@@ -72,7 +72,6 @@ has_line (At node (Late session id pdu)) = octets_has node session (octets_of pd
 has_line (At node (Delivers session pdu)) = octets_has node session (octets_of pdu)
 has_line (At node (Reports session sequence optional report)) = octets_has node session (octets_of (report_pdu sequence optional report))
 has_line (At node (Gone session)) = gone_has node session
-has_line (At node Unsettled) = unsettled_has
 has_line (At node (Declined number)) = numbered_has (codes "refused ") (tests_lack 10 (codes "refused ") refl) number
 has_line (At node (Ungranted reason)) = numbered_has (codes "refused 3 ") (tests_lack 10 (codes "refused 3 ") refl) reason
 has_line (Refuses number) = numbered_has (codes "refused ") (tests_lack 10 (codes "refused ") refl) number
@@ -202,7 +201,6 @@ pdu_printed print line more octets is said = by_print print is
     by_print (At node (Reports session sequence optional report)) is =
         brings node session (Reports session sequence optional report) (report_pdu sequence optional report) refl is
     by_print (At node (Gone session)) is = absurd (let same = begins 103 _ is in omega (arith, same))
-    by_print (At node Unsettled) is = absurd (let same = begins 117 _ is in omega (arith, same))
     by_print (At node (Declined number)) is = absurd (let same = begins 114 _ is in omega (arith, same))
     by_print (At node (Ungranted reason)) is = absurd (let same = begins 114 _ is in omega (arith, same))
     by_print (Refuses number) is = absurd (let same = begins 114 _ is in omega (arith, same))

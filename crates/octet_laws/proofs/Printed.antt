@@ -11,15 +11,15 @@ use Rattle.pdu_bodies.specs.declared.pdu.Pdu.{Pdu}
 use Rattle.fate_chain.specs.States.{final_code}
 use Rattle.sessions.specs.Session.{Session}
 use Rattle.sessions.specs.declared.requested.Requested.{Requested}
-use Rattle.script_text.specs.Prints.{AtOnce, Declined, Delivers, Gone, Late, Print, Reports, Ungranted, Unsettled}
+use Rattle.script_text.specs.Prints.{AtOnce, Declined, Delivers, Gone, Late, Print, Reports, Ungranted}
 use Rattle.script_text.specs.Pushes.{delivery_on}
 use Rattle.script_text.specs.Responses.{reply_pdu}
 use Rattle.script_text.specs.Runner.{Owned, Told, in_front, owner_of, replied, reply_prints, told}
-use Rattle.fate_laws.proofs.Behind.{behind}
-use Rattle.fate_laws.proofs.StepsOut.{step_now}
-use Rattle.fate_laws.proofs.Submitted.{WasSubmitted, reported_submitted, submitted_later}
-use Rattle.fate_laws.proofs.Telling.{IsMute, IsNoDelivery, IsNoDeliverSm, TellsNone}
-use Rattle.fate_laws.proofs.Tellings.{IsTelling, NodePrint, TakesDeliveries, by_node, prints_at}
+use Rattle.world_fates.proofs.node.Behind.{behind}
+use Rattle.world_fates.proofs.node.StepsOut.{step_now}
+use Rattle.world_fates.proofs.node.Submitted.{WasSubmitted, reported_submitted, submitted_later}
+use Rattle.world_fates.proofs.node.Telling.{IsMute, IsNoDelivery, IsNoDeliverSm, TellsNone}
+use Rattle.world_fates.proofs.node.Tellings.{IsTelling, NodePrint, TakesDeliveries, by_node, prints_at}
 
 -- it answers a request that waited
 pub record IsReply (pdu : Pdu) : Type 0 where
@@ -42,7 +42,6 @@ IsMade past (Late session id pdu) = IsReply pdu
 IsMade past (Delivers session pdu) = IsAttempt past pdu
 IsMade past (Reports session sequence optional report) = WasSubmitted past report.taken
 IsMade past (Gone session) = Unit {0}
-IsMade past Unsettled = Unit {0}
 IsMade past (Declined number) = Unit {0}
 IsMade past (Ungranted reason) = Unit {0}
 
@@ -53,7 +52,6 @@ made_later inputs past (Delivers session pdu) made =
     record { session = made.session; taken = made.taken; submitted = submitted_later inputs past made.taken made.submitted; is = made.is }
 made_later inputs past (Reports session sequence optional report) made = submitted_later inputs past report.taken made
 made_later inputs past (Gone session) made = tt
-made_later inputs past Unsettled made = tt
 made_later inputs past (Declined number) made = tt
 made_later inputs past (Ungranted reason) made = tt
 
@@ -72,7 +70,6 @@ mute_made past (Reports session sequence optional report) mute other =
       state_is = refl;
     }))
 mute_made past (Gone session) mute other = tt
-mute_made past Unsettled mute other = tt
 mute_made past (Declined number) mute other = tt
 mute_made past (Ungranted reason) mute other = tt
 

@@ -2,7 +2,7 @@
 use Rattle.std.specs.Prelude.{ℕ, List, codes}
 use Rattle.mc_model.specs.synod.Lists.{In}
 use Rattle.script_lines.specs.Lines.{lines_of}
-use Rattle.script_world.specs.Script.{text_of}
+use Rattle.script_text.specs.Script.{text_of}
 use Rattle.world_fates.specs.Example.{cancelled_and_asked, its_message}
 use Rattle.octet_laws.specs.Tellings.{TellsFate}
 

@@ -24,9 +24,9 @@ use Rattle.world.specs.declared.fault.WorldFault.TheVariants as faults
 use Rattle.world.specs.declared.given.Given.{Given}
 use Rattle.world.specs.declared.step.Step.{Step}
 use Rattle.world.specs.declared.step.Step.TheVariants as steps
-use Rattle.script_text.specs.Node.{Node, awaiting, step_at, with_step}
-use Rattle.script_text.specs.Runner.{Acted, Runner, given_out, on_delivery, reports_by}
-use Rattle.script_world.specs.World.{Moved, World, comes, comes_if, crashed, crashes, crashes_if, if_up, is_down, is_up_at, marked, no_packet, packet_of, refuses, runner_at, shared, up_or_refuses}
+use Rattle.script_text.specs.Node.{step_at, with_step}
+use Rattle.script_text.specs.Runner.{Acted, Runner, given_out, on_delivery}
+use Rattle.script_text.specs.World.{Moved, World, comes, comes_if, crashed, crashes, crashes_if, if_up, is_down, is_up_at, marked, no_packet, packet_of, refuses, runner_at, shared, up_or_refuses}
 use Rattle.script_site.specs.Sites.{Acts, HasActed, IsAmong, IsRunning, tells}
 use Rattle.script_site.specs.declared.site.Site.{Site}
 use Rattle.script_site.proofs.Acting.{IsLike, has_acted}
@@ -199,19 +199,10 @@ module _ (old : Centre) (w : World) (was : IsWorld old w) (node place number : �
 -- ---- a packet comes
 
 -- the step of a packet, and what it gave out, are what the text of a script says of it
-delivery_like : (runner : Runner) (packet : Packet) → runner.node.packets ≡ [] →
+delivery_like : (runner : Runner) (packet : Packet) →
     let step = step_at runner.node (Delivery packet) in
-    IsLike (tells (record runner { node = with_step runner.node step }) step.outputs.replies step.outputs.receipts) (on_delivery runner packet [])
-delivery_like runner packet none =
-    let same : runner.node ≡ awaiting runner.node [] = λ i. record runner.node { packets = none i } in
-    let all : (node : Node) → runner.node ≡ node →
-    IsLike (tells (record runner { node = with_step runner.node (step_at runner.node (Delivery packet)) })
-    (step_at runner.node (Delivery packet)).outputs.replies (step_at runner.node (Delivery packet)).outputs.receipts)
-    (reports_by runner node (Delivery packet) (step_at node (Delivery packet))) =
-    λ node is. subst (λ (n : Node). IsLike (tells (record runner { node = with_step runner.node (step_at runner.node (Delivery packet)) })
-    (step_at runner.node (Delivery packet)).outputs.replies (step_at runner.node (Delivery packet)).outputs.receipts)
-    (reports_by runner n (Delivery packet) (step_at n (Delivery packet)))) is (record { next = refl; prints = refl }) in
-    all (awaiting runner.node []) same
+    IsLike (tells (record runner { node = with_step runner.node step }) step.outputs.replies step.outputs.receipts) (on_delivery runner packet)
+delivery_like runner packet = record { next = refl; prints = refl }
 
 -- What came to a node that is up is told there: it did what the text of a script says.
 module _ (old mid told : Centre) (node place number : ℕ) (given : Given) (before after : List ℕ) (here : node ≡ suc place)
@@ -226,7 +217,7 @@ module _ (old mid told : Centre) (node place number : ℕ) (given : Given) (befo
     pub come_so : HasCome w place number given Delivery mid.world
     pub left : Site
     pub has : HasSite mid place left told
-    pub did : HasActed (suc place) w (on_delivery come_so.runner come_so.packet []) (record { world = mid.world; site = left }) before after
+    pub did : HasActed (suc place) w (on_delivery come_so.runner come_so.packet) (record { world = mid.world; site = left }) before after
 
   pub told_so : (w : World) → IsWorld old w → IsTold w
   told_so w was =
@@ -250,14 +241,14 @@ module _ (old mid told : Centre) (node place number : ℕ) (given : Given) (befo
       let given_so : tells first (map reply_given given.replies.items) (map receipt_of given.receipts.items)
       ≡ tells first step.outputs.replies step.outputs.receipts =
       λ i. tells first (come_so.gives.others i).replies (come_so.gives.others i).receipts in
-      let like_both : IsLike (tells first (map reply_given given.replies.items) (map receipt_of given.receipts.items)) (on_delivery runner come_so.packet []) =
-      subst (λ (a : Acted). IsLike a (on_delivery runner come_so.packet [])) (sym given_so) (delivery_like runner come_so.packet beside.taken) in
+      let like_both : IsLike (tells first (map reply_given given.replies.items) (map receipt_of given.receipts.items)) (on_delivery runner come_so.packet) =
+      subst (λ (a : Acted). IsLike a (on_delivery runner come_so.packet)) (sym given_so) (delivery_like runner come_so.packet) in
       record {
         come_so = come_so;
         left = said.0;
         has = said.1;
         did = has_acted (suc place) w (tells first (map reply_given given.replies.items) (map receipt_of given.receipts.items))
-            (on_delivery runner come_so.packet []) (record { world = mid.world; site = said.0 }) before after like_both acts;
+            (on_delivery runner come_so.packet) (record { world = mid.world; site = said.0 }) before after like_both acts;
       }
 
   pub delivered_does_if : (r : Result (Unit {0}) AllocError) (new : Centre) → mid.arrivals ≡ old.arrivals
@@ -270,7 +261,7 @@ module _ (old mid told : Centre) (node place number : ℕ) (given : Given) (befo
       let come_so = told_w.come_so in
       let has = told_w.has in
       let did = told_w.did in
-      let acted = on_delivery come_so.runner come_so.packet [] in
+      let acted = on_delivery come_so.runner come_so.packet in
       let ran = did.running in
       let sites_now : new.sites.items ≡ slice_set old.sites.items place told_w.left =
       same_sites ∙ has.sites ∙ (λ i. slice_set (sites i) place told_w.left) in
@@ -282,7 +273,7 @@ module _ (old mid told : Centre) (node place number : ℕ) (given : Given) (befo
       ∙ ap (λ (earlier : Bool). (other == number && at == node) || earlier)
       (ap (λ (all : Came). came_in all other at) (has.arrivals ∙ arrivals) ∙ was.came other at)) did.text in
       subst (λ (found : Option Packet). IsMoved (comes_if w number node found) new before after) (sym come_so.sent)
-      (up_moved new w node place (λ runner. shared (marked w number node) node (on_delivery runner come_so.packet [])) come_so.runner before after here
+      (up_moved new w node place (λ runner. shared (marked w number node) node (on_delivery runner come_so.packet)) come_so.runner before after here
       come_so.there come_so.up
       (subst (λ (n : ℕ). IsMoved (shared (marked w number node) n acted) new before after) (sym here) moved))
 
@@ -306,11 +297,11 @@ pub delivered_ups : (old mid told : Centre) (node place number : ℕ) (given : G
 delivered_ups old mid told node place number given before after here leads up sites tells_so w was other =
     let told_w = told_so old mid told node place number given before after here leads up sites tells_so w was in
     let come_so = told_w.come_so in
-    let acted = on_delivery come_so.runner come_so.packet [] in
+    let acted = on_delivery come_so.runner come_so.packet in
     let there : runner_at w node ≡ Some come_so.runner = ap (λ (n : ℕ). slice_get w.runners (pred n)) here ∙ come_so.there in
     let comes_is : comes w number node ≡ shared (marked w number node) node acted =
     ap (comes_if w number node) come_so.sent
-    ∙ ap (up_or_refuses w (λ runner. shared (marked w number node) node (on_delivery runner come_so.packet []))) there
+    ∙ ap (up_or_refuses w (λ runner. shared (marked w number node) node (on_delivery runner come_so.packet))) there
     ∙ ap (λ (b : Bool). if b then shared (marked w number node) node acted else refuses w is_down) come_so.up in
     ap (λ (m : Moved). is_up_at (runner_at m.next other)) comes_is
     ∙ set_up w.runners (pred node) (pred other) come_so.runner (given_out acted.next) there
@@ -338,7 +329,7 @@ pub undelivered_does_if : (r : Result (Unit {0}) AllocError) (old new : Centre) 
 undelivered_does_if (Err error) old new node place number fault before after here leads sites arrivals told = tt
 undelivered_does_if (Ok done) old new node place number fault before after here leads sites arrivals told = λ w was.
     unsent_refused old new w was (same_place old w (steps.Deliver number node) fault new leads sites arrivals was) node place here number fault
-    (comes_if w number node) (λ packet runner. shared (marked w number node) node (on_delivery runner packet [])) before after refl (λ packet. refl)
+    (comes_if w number node) (λ packet runner. shared (marked w number node) node (on_delivery runner packet)) before after refl (λ packet. refl)
     (leads.each was.cluster [] was.inputs was.at).refused told
 
 pub uncrashed_does_if : (r : Result (Unit {0}) AllocError) (old new : Centre) (node place number : ℕ) (found : Found) (fault : WorldFault)
@@ -390,7 +381,7 @@ undelivered_ups_if (Ok done) old new node place number fault before after here l
         let refused = subst (λ (o : Option WorldFault). IsFault (or_else o (away was.cluster (kept_reached was.cluster was.inputs) node)) fault)
         (unsent_is (kept_reached was.cluster was.inputs) w.packets number (Some packet) was.stands.packets is)
         (leads.each was.cluster [] was.inputs was.at).refused in
-        refused_next w (λ runner. shared (marked w number node) node (on_delivery runner packet [])) other (runner_at w node)
+        refused_next w (λ runner. shared (marked w number node) node (on_delivery runner packet)) other (runner_at w node)
         (λ runner found up. absurd (not_refused old w was node place here runner fault before after
         (sym (ap (λ (n : ℕ). slice_get w.runners (pred n)) here) ∙ found) up refused told))
 

@@ -4,8 +4,8 @@ use Rattle.std.proofs.lemmas.Grind.{flat_map-append}
 use Rattle.std.proofs.lemmas.List.{append-nil, reverse-append}
 use Rattle.std.specs.Prelude.{reverse}
 use Rattle.std.specs.List.{range_with_len}
-use Rattle.script_world.specs.Prints.{WorldPrint, world_line, world_text}
-use Rattle.script_world.specs.World.{Moved, World, all_come, comes, comes_again, comes_to, is_up_at, node_numbers, replays, runner_at, stays, then_moved}
+use Rattle.script_text.specs.Prints.{WorldPrint, world_line, world_text}
+use Rattle.script_text.specs.World.{Moved, World, all_come, comes, comes_again, comes_to, is_up_at, node_numbers, replays, runner_at, stays, then_moved}
 use Rattle.script_runner.specs.Centres.{IsMoved, IsWorld}
 use Rattle.script_runner.specs.declared.centre.Centre.{Centre}
 

@@ -8,7 +8,7 @@ use Rattle.synod_acceptor.specs.Packets.{packet_of as packet_by}
 use Rattle.world.specs.Scenes.{is_up_in}
 use Rattle.synod_acceptor.specs.declared.packet.Packet.{Packet as Sent}
 use Rattle.script_text.specs.Runner.{Runner}
-use Rattle.script_world.specs.World.{World, due_at, is_up_at, lacks, node_numbers, packet_of, takes_part}
+use Rattle.script_text.specs.World.{World, due_at, is_up_at, lacks, node_numbers, packet_of, takes_part}
 use Rattle.script_runner.specs.Arrivals.{came_in}
 use Rattle.script_runner.specs.Centres.{IsWorld}
 use Rattle.script_runner.specs.declared.centre.Centre.{Centre}

@@ -17,7 +17,7 @@ use Rattle.world.specs.declared.step.Step.TheVariants as steps
 use Rattle.script_text.specs.Node.{step_at, with_step}
 use Rattle.script_text.specs.Prints.{declined_line, text_at}
 use Rattle.script_text.specs.Runner.{Acted, Runner, declined, gone_prints, last_incarnation, no_incarnation, on_restart, restarted}
-use Rattle.script_world.specs.World.{Moved, World, crashed, crashes, crashes_if, no_node, restarts, restarts_if, runner_at, shared}
+use Rattle.script_text.specs.World.{Moved, World, crashed, crashes, crashes_if, no_node, restarts, restarts_if, runner_at, shared}
 use Rattle.script_site.specs.Sites.{IsAmong}
 use Rattle.script_site.specs.declared.site.Site.{Site}
 use Rattle.script_site.proofs.Stepping.{goes}

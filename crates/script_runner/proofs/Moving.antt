@@ -16,9 +16,9 @@ use Rattle.world.specs.declared.given.Given.{Given}
 use Rattle.world.proofs.Leading.{stands_up}
 use Rattle.script_text.specs.Prints.{declined_line, text_at}
 use Rattle.script_text.specs.Runner.{Acted, Runner, given_out}
-use Rattle.script_world.proofs.Texts.{at_node}
-use Rattle.script_world.specs.Runs.{IsNodeOf}
-use Rattle.script_world.specs.World.{Moved, World, acts, if_up, is_down, is_up_at, no_node, refuses, runner_at, shared, up_or_refuses}
+use Rattle.script_text.proofs.Texts.{at_node}
+use Rattle.script_text.specs.Runs.{IsNodeOf}
+use Rattle.script_text.specs.World.{Moved, World, acts, if_up, is_down, is_up_at, no_node, refuses, runner_at, shared, up_or_refuses}
 use Rattle.script_site.specs.Sites.{Acts, IsAmong, IsRunning, Placed as Beside, tells}
 use Rattle.script_site.specs.declared.site.Site.{Site}
 use Rattle.script_runner.specs.Arrivals.{Came, came_in}

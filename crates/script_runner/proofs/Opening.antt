@@ -10,8 +10,8 @@ use Rattle.script_site.specs.declared.site.Site.{Site}
 use Rattle.script_text.specs.Node.{opened_by}
 use Rattle.script_text.specs.Runner.{Runner, runner_opened}
 use Rattle.script_text.specs.Settings.{Settings}
-use Rattle.script_world.specs.Runs.{IsNodeOf}
-use Rattle.script_world.specs.World.{opened, setup_of}
+use Rattle.script_text.specs.Runs.{IsNodeOf}
+use Rattle.script_text.specs.World.{opened, setup_of}
 use Rattle.script_runner.specs.Arrivals.{came_in}
 use Rattle.script_runner.specs.Centres.{AreEmpty, IsBeside, IsWorld}
 use Rattle.script_runner.specs.declared.centre.Centre.{Centre}

@@ -6,7 +6,7 @@ use Rattle.mc_model.specs.synod.Packet.{Packet}
 use Rattle.sim_net.specs.Network.{numbered}
 use Rattle.synod_acceptor.specs.declared.packet.Packet.{Packet as Sent}
 use Rattle.synod_acceptor.specs.Packets.{packet_of as packet_by}
-use Rattle.script_world.specs.World.{Moved, World, on_replay, packet_of, replays, stays}
+use Rattle.script_text.specs.World.{Moved, World, on_replay, packet_of, replays, stays}
 use Rattle.script_runner.specs.Centres.{Does, IsMoved, IsWorld}
 use Rattle.script_runner.specs.declared.centre.Centre.{Centre}
 use Rattle.script_runner.proofs.Following.{IsLeft, replays_nothing}

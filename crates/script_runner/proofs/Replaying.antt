@@ -8,8 +8,8 @@ use Rattle.std.proofs.lemmas.List.{append-nil}
 use Rattle.std.proofs.lemmas.Option.{slice_get_within}
 use Rattle.world.specs.Scenes.{is_up_in}
 use Rattle.script_text.specs.Runner.{Runner}
-use Rattle.script_world.specs.Prints.{world_text}
-use Rattle.script_world.specs.World.{Moved, World, comes, comes_again, comes_to, is_up_at, node_numbers, runner_at, stays, then_moved}
+use Rattle.script_text.specs.Prints.{world_text}
+use Rattle.script_text.specs.World.{Moved, World, comes, comes_again, comes_to, is_up_at, node_numbers, runner_at, stays, then_moved}
 use Rattle.script_runner.specs.Centres.{Does, IsMoved, IsWorld}
 use Rattle.script_runner.specs.declared.centre.Centre.{Centre}
 use Rattle.script_runner.proofs.Following.{IsLeft, again_moved, all_done, one_done, to_all_of, to_next}

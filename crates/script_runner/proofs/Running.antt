@@ -17,8 +17,8 @@ use Rattle.script_lines.specs.declared.buffer.Found.{Found}
 use Rattle.script_lines.specs.declared.buffer.Found.TheVariants as found
 use Rattle.std.proofs.lemmas.Grind.{flat_map-append}
 use Rattle.script_text.specs.Settings.{script_settings}
-use Rattle.script_world.specs.Prints.{world_line, world_text}
-use Rattle.script_world.specs.Script.{Stage, Stepped, after, step_of, prints_from, bad_from, text_of, bad_line}
+use Rattle.script_text.specs.Prints.{world_line, world_text}
+use Rattle.script_text.specs.Script.{Stage, Stepped, after, step_of, prints_from, bad_from, text_of, bad_line}
 use Rattle.script_lines.specs.Said.{Said, said_of}
 use Rattle.script_runner.specs.Outcome.{AreLines, StandsAt, IsRun, WritesLineAt, HasRead, IsInWork, IsWhole, IsDecided, StopsAt, StopsInLine}
 use Rattle.script_runner.specs.Outcome.{StopsWriting, WantsMemory, IsOutcome}

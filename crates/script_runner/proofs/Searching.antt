@@ -6,7 +6,7 @@ use Rattle.std.specs.List.{range_with_len}
 use Rattle.mc_model.specs.synod.Packet.{Packet}
 use Rattle.node_model.specs.Stepped.{sender_of}
 use Rattle.world.specs.Scenes.{is_up_in}
-use Rattle.script_world.specs.World.{World, due, due_among, due_at, due_first, lacks, node_numbers, packet_of, takes_part}
+use Rattle.script_text.specs.World.{World, due, due_among, due_at, due_first, lacks, node_numbers, packet_of, takes_part}
 use Rattle.script_runner.specs.Arrivals.{came_in}
 use Rattle.script_runner.specs.Centres.{IsWorld, NothingBefore}
 use Rattle.script_runner.specs.declared.centre.Centre.{Centre}

@@ -10,9 +10,9 @@ use Rattle.mc_model.specs.synod.Packet.{Packet}
 use Rattle.node_model.specs.Stepped.{sender_of}
 use Rattle.script_text.specs.Prints.{unsettled_line}
 use Rattle.script_text.specs.Runner.{Runner, on_delivery}
-use Rattle.script_world.specs.World.{Due as WorldDue, Moved, World, comes, comes_if, due, due_among, due_at, due_first, is_down, is_up_at}
-use Rattle.script_world.specs.World.{lacks, marked, node_numbers, on_settle, packet_of, refuses, runner_at, settles, shared, stays}
-use Rattle.script_world.specs.World.{takes_part, then_moved, unsettled, up_or_refuses}
+use Rattle.script_text.specs.World.{Due as WorldDue, Moved, World, comes, comes_if, due, due_among, due_at, due_first, is_down, is_up_at}
+use Rattle.script_text.specs.World.{lacks, marked, node_numbers, on_settle, packet_of, refuses, runner_at, settles, shared, stays}
+use Rattle.script_text.specs.World.{takes_part, then_moved, unsettled, up_or_refuses}
 use Rattle.script_runner.specs.Centres.{Does, IsMoved, IsWorld, KeepsUp, NothingBefore, due_of}
 use Rattle.script_runner.specs.declared.centre.Centre.{Centre}
 use Rattle.script_runner.specs.declared.centre.Due.{Due}
@@ -79,17 +79,17 @@ came_grows : (w : World) (number node : ℕ) → HasGrown w (comes w number node
 came_grows w number node = by_packet (packet_of w.packets number)
   where
     by_up : (packet : Packet) (runner : Runner) (up : Bool) →
-        HasGrown w (if up then shared (marked w number node) node (on_delivery runner packet []) else refuses w is_down).next
+        HasGrown w (if up then shared (marked w number node) node (on_delivery runner packet) else refuses w is_down).next
     by_up packet runner true = record {
       nodes = length-set w.runners (pred node) _;
       came = λ n m is. or_right (n == number && m == node) (w.came n m) is;
-      more = (on_delivery runner packet []).next.node.packets;
+      more = (on_delivery runner packet).next.node.packets;
       packets = refl;
     }
     by_up packet runner false = still w
 
     by_runner : (packet : Packet) (found : Option Runner) →
-        HasGrown w (up_or_refuses w (λ runner. shared (marked w number node) node (on_delivery runner packet [])) found).next
+        HasGrown w (up_or_refuses w (λ runner. shared (marked w number node) node (on_delivery runner packet)) found).next
     by_runner packet None = still w
     by_runner packet (Some runner) = by_up packet runner runner.node.kept.up
 

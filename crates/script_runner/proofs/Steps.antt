@@ -6,9 +6,9 @@ use Rattle.std.specs.Prelude.{IfOk, nat_le, if◌then◌else◌}
 use Rattle.std.specs.declared.alloc.AllocError.{AllocError}
 use Rattle.script_lines.specs.Said.{Said, Skipped, Nodes, Octets, Deliver, Crash, Tick, Grant, Settle, Restart, Replay, Spells, names_within, said_of}
 use Rattle.script_text.specs.Settings.{script_settings}
-use Rattle.script_world.specs.Script.{Stage, Stepped, moved_by, nodes_of, opened_by, step_by, step_of}
-use Rattle.script_world.specs.Prints.{WorldPrint, world_text}
-use Rattle.script_world.specs.World.{World}
+use Rattle.script_text.specs.Script.{Stage, Stepped, moved_by, nodes_of, opened_by, step_by, step_of}
+use Rattle.script_text.specs.Prints.{WorldPrint, world_text}
+use Rattle.script_text.specs.World.{World}
 use Rattle.script_runner.specs.Centres.{IsWorld}
 use Rattle.script_runner.specs.Outcome.{IsAct, IsStarted, IsStep, IsStepBy, NumberFits, StandsAt, said_among}
 use Rattle.script_runner.specs.declared.centre.Centre.{Centre}

@@ -6,7 +6,7 @@ use Rattle.std.specs.Prelude.{◌==◌, ◌||◌}
 use Rattle.std.specs.List.{range_with_len}
 use Rattle.mc_types.specs.Nodes.{has}
 use Rattle.script_lines.specs.Said.{is_listed, nodes_with}
-use Rattle.script_world.specs.World.{takes_part}
+use Rattle.script_text.specs.World.{takes_part}
 
 -- ---- the nodes that pass a test
 

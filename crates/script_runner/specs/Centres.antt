@@ -6,9 +6,9 @@ use Rattle.world.specs.Runs.{IsAt}
 use Rattle.world.specs.Scenes.{is_up_in}
 use Rattle.script_text.specs.Runner.{Runner}
 use Rattle.script_text.specs.Settings.{Settings}
-use Rattle.script_world.specs.Prints.{world_text}
-use Rattle.script_world.specs.Runs.{StandsFor}
-use Rattle.script_world.specs.World.{Due as WorldDue, Moved, World, comes, due, due_at, is_down, is_up_at, no_node, opened, packet_of, runner_at}
+use Rattle.script_text.specs.Prints.{world_text}
+use Rattle.script_text.specs.Runs.{StandsFor}
+use Rattle.script_text.specs.World.{Due as WorldDue, Moved, World, comes, due, due_at, is_down, is_up_at, no_node, opened, packet_of, runner_at}
 use Rattle.script_site.specs.Standing.{IsEmpty}
 use Rattle.script_site.specs.declared.site.Site.{Site}
 use Rattle.script_runner.specs.Arrivals.{came_in}

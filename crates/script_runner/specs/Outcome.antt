@@ -11,9 +11,9 @@ use Rattle.script_lines.specs.Said.{Said, Skipped, Nodes, Octets, Deliver, Crash
 use Rattle.script_lines.specs.declared.buffer.Found.{Found}
 use Rattle.script_lines.specs.declared.buffer.Found.TheVariants as found
 use Rattle.script_text.specs.Settings.{script_settings}
-use Rattle.script_world.specs.Prints.{world_text}
-use Rattle.script_world.specs.Script.{Stage, Stepped, step_by, step_of, text_of, bad_line}
-use Rattle.script_world.specs.World.{World}
+use Rattle.script_text.specs.Prints.{world_text}
+use Rattle.script_text.specs.Script.{Stage, Stepped, step_by, step_of, text_of, bad_line}
+use Rattle.script_text.specs.World.{World}
 use Rattle.script_runner.specs.Centres.{IsWorld}
 use Rattle.script_runner.specs.Faults.{fault_text}
 use Rattle.script_runner.specs.declared.centre.Centre.{Centre}

@@ -9,7 +9,7 @@ ghost use Rattle.script_runner.specs.Arrivals.{came_in};
 ghost use Rattle.script_runner.specs.Centres.{AreEmpty, Does, IsDue, IsLacking, IsPassed, IsPlaceUp, KeepsUp, StartsAs, declines};
 ghost use Rattle.script_runner.specs.Sites.{IsRefused, Leaves, Tells};
 ghost use Rattle.script_text.specs.Settings.{settings_of};
-ghost use Rattle.script_world.specs.World.{all_come, comes, comes_to, crashes, grants, hears, node_numbers, on_replay, on_settle, restarts, takes_part, ticks};
+ghost use Rattle.script_text.specs.World.{all_come, comes, comes_to, crashes, grants, hears, node_numbers, on_replay, on_settle, restarts, takes_part, ticks};
 ghost use Rattle.world.specs.Scenes.{is_up_in};
 
 use crate::arrivals::Arrivals;

@@ -3,7 +3,7 @@
 ghost use Rattle.std.specs.Prelude.{◌≡◌, IfOk, None};
 ghost use Rattle.script_lines.specs.Said.{said_by};
 ghost use Rattle.script_text.specs.Settings.{script_settings, settings_of};
-ghost use Rattle.script_world.specs.Script.{opened_by};
+ghost use Rattle.script_text.specs.Script.{opened_by};
 ghost use Rattle.script_runner.specs.Outcome.{IsAct, IsOutcome, IsStarted, IsStep, NumberFits, WritesLine};
 
 use crate::centre::Centre;

@@ -9,7 +9,7 @@ use Rattle.esme_service.specs.Service.{Service}
 use Rattle.script_text.specs.Prints.{Print, text_at}
 use Rattle.script_text.specs.Receipts.{Mail, Posted, all_posted}
 use Rattle.script_text.specs.Runner.{Acted, Runner, Told, followed_by, mail_of, posts, rests, told, with_posted}
-use Rattle.script_world.specs.World.{World}
+use Rattle.script_text.specs.World.{World}
 use Rattle.world.specs.Scenes.{clock_in}
 use Rattle.script_site.specs.Posting.{IsPosted, mail_in}
 use Rattle.script_site.specs.Sites.{Acts, HasActed, IsRunning, Placed, replies_to, tells}

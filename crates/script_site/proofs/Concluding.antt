@@ -17,7 +17,7 @@ use Rattle.world.specs.declared.given.Given.{Given}
 use Rattle.world.specs.declared.step.Step.TheVariants as steps
 use Rattle.script_text.specs.Attempts.{Went, all_given_up, concluded, delivered_so, given_up, rests_at, then_went, unanswered, went}
 use Rattle.script_text.specs.Node.{Node}
-use Rattle.script_world.specs.World.{World}
+use Rattle.script_text.specs.World.{World}
 use Rattle.script_site.specs.Sites.{Goes, IsGoing, Takes}
 use Rattle.script_site.proofs.Going.{behind_it}
 use Rattle.script_site.proofs.Refusing.{closed_so, open_so}

@@ -29,7 +29,7 @@ use Rattle.script_text.specs.Node.{Node, request_at, step_at}
 use Rattle.script_text.specs.Prints.{Print, gone_line, pdu_line, text_at}
 use Rattle.script_text.specs.Runner.{Runner, refusal_prints}
 use Rattle.script_text.specs.Settings.{Settings}
-use Rattle.script_world.specs.World.{World}
+use Rattle.script_text.specs.World.{World}
 use Rattle.script_site.specs.Asking.{HasAsked, IsAskedSo, refusal_of}
 use Rattle.script_site.specs.Heeding.{asked_by, asks_if, heeded}
 use Rattle.script_site.specs.Sites.{Acts, Goes, IsRunning, Placed, Takes}

@@ -20,7 +20,7 @@ use Rattle.world.specs.declared.fault.WorldFault.{WorldFault}
 use Rattle.world.specs.declared.fault.WorldFault.TheVariants as faults
 use Rattle.world.specs.declared.step.Step.TheVariants as steps
 use Rattle.script_text.specs.Node.{Node}
-use Rattle.script_world.specs.World.{World}
+use Rattle.script_text.specs.World.{World}
 use Rattle.script_site.specs.Sites.{IsGoing}
 
 module _ (cluster : Cluster) (now : KeptCluster) (home : ℕ) where

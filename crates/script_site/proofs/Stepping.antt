@@ -27,8 +27,8 @@ use Rattle.world.specs.declared.step.Step.TheVariants as steps
 use Rattle.world.proofs.Leading.{stands_up}
 use Rattle.script_text.specs.Node.{Node, request_at, step_at, tick_at, with_step}
 use Rattle.script_text.specs.Runner.{Runner}
-use Rattle.script_world.specs.Runs.{IsNodeOf}
-use Rattle.script_world.specs.World.{World}
+use Rattle.script_text.specs.Runs.{IsNodeOf}
+use Rattle.script_text.specs.World.{World}
 use Rattle.script_site.specs.Sites.{IsAmong, IsGoing, Takes}
 
 -- ---- what can be asked of a node that is up

@@ -17,7 +17,7 @@ use Rattle.script_text.specs.Settings.{Settings}
 use Rattle.script_text.specs.Prints.{line_at, text_at}
 use Rattle.script_text.specs.Pushes.{session_at}
 use Rattle.script_text.specs.Runner.{Acted, Runner, ends, followed_by, held_in, holds, on_cut, on_frame, on_frames, on_octets, opened_at, put_at, session_in}
-use Rattle.script_world.specs.World.{World}
+use Rattle.script_text.specs.World.{World}
 use Rattle.script_site.specs.Sites.{Acts, IsRunning, Placed}
 use Rattle.script_site.specs.Standing.{HasOpened}
 use Rattle.script_site.specs.declared.site.Site.{Site}

@@ -8,7 +8,7 @@ use Rattle.sessions.specs.declared.response.Response.TheVariants.{Refused}
 use Rattle.esme_service.specs.Sessions.{account_at}
 use Rattle.esme_service.specs.declared.heard.Asked.{Asked}
 use Rattle.script_text.specs.Runner.{Acted, Runner, refusal_prints}
-use Rattle.script_world.specs.World.{World}
+use Rattle.script_text.specs.World.{World}
 use Rattle.script_site.specs.Heeding.{asks_if}
 use Rattle.script_site.specs.Sites.{IsRunning, Placed}
 

@@ -10,7 +10,7 @@ use Rattle.delivery.specs.Deliveries.{EndsInAttempt}
 use Rattle.fate_chain.specs.declared.chain.Chain.{Chain}
 use Rattle.world.specs.Scenes.{Scene}
 use Rattle.script_text.specs.Node.{Node, step_at, with_step}
-use Rattle.script_world.specs.World.{World}
+use Rattle.script_text.specs.World.{World}
 use Rattle.script_site.specs.Sites.{IsGoing}
 use Rattle.script_site.specs.declared.steps.Granting.{Granting}
 use Rattle.script_site.specs.declared.steps.Granting.TheVariants as grantings

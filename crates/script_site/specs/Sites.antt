@@ -11,8 +11,8 @@ use Rattle.script_text.specs.Attempts.{Went}
 use Rattle.script_text.specs.Node.{Node}
 use Rattle.script_text.specs.Prints.{text_at}
 use Rattle.script_text.specs.Runner.{Acted, Runner, Told, followed_by, posts, told}
-use Rattle.script_world.specs.Runs.{IsNodeOf}
-use Rattle.script_world.specs.World.{World}
+use Rattle.script_text.specs.Runs.{IsNodeOf}
+use Rattle.script_text.specs.World.{World}
 use Rattle.script_site.specs.declared.site.Site.{Site}
 
 -- ---- a node that does something

@@ -6,7 +6,7 @@ use Rattle.std.specs.BTreeMap.{is_at}
 use Rattle.esme_service.specs.Sessions.{put_at, session_in}
 use Rattle.script_text.specs.Prints.{text_at}
 use Rattle.script_text.specs.Runner.{gives_up, gone_prints}
-use Rattle.script_world.specs.World.{World}
+use Rattle.script_text.specs.World.{World}
 use Rattle.script_text.specs.Runner.{Runner}
 use Rattle.script_site.specs.Sites.{IsRunning, Placed}
 use Rattle.script_site.specs.declared.site.Site.{Site}

@@ -29,7 +29,7 @@ use Rattle.node_model.specs.Attempts.{grant_refusal}
 use Rattle.node_model.specs.Granted.{is_open, known_slot}
 use Rattle.desk.specs.declared.request.Request.{Request}
 use Rattle.script_text.specs.Settings.{Settings}
-use Rattle.script_text.specs.Node.{Node, awaiting, request_at, step_at, tick_at, with_step}
+use Rattle.script_text.specs.Node.{Node, request_at, step_at, tick_at, with_step}
 use Rattle.script_text.specs.Pushes.{accounts_up, overdue_in, session_at, target_in}
 use Rattle.script_text.specs.Attempts.{Went, all_given_up, concluded, delivered_so, given_up, rests_at, submission_at, unanswered, went}
 use Rattle.script_text.specs.Runner.{Runner, Acted, Served, Came, answered_by, came_by, declined, ends, followed_by, gives_up}
@@ -212,11 +212,10 @@ module _ (Goes : Node → List Input → Node → Type 0) (going : IsGoing Goes)
       by_test true = going.once runner.node (StartsAnew 0)
       by_test false = going.nowhere runner.node
 
-  pub delivery_goes : (runner : Runner) (packet : Packet) (others : List Packet) →
-      Goes (awaiting runner.node others) (on_delivery runner packet others).inputs (on_delivery runner packet others).next.node
-  delivery_goes runner packet others =
-      let node = awaiting runner.node others in
-      let step = step_at node (Delivery packet) in
-      let first = answered_by runner node (Delivery packet) step in
+  pub delivery_goes : (runner : Runner) (packet : Packet) → ActedGoes runner (on_delivery runner packet)
+  delivery_goes runner packet =
+      let step = step_at runner.node (Delivery packet) in
+      let first = answered_by runner runner.node (Delivery packet) step in
       let last = posts first.next step.outputs.receipts in
-      going.further node first.next.node last.next.node first.inputs last.inputs (going.once node (Delivery packet)) (going.nowhere first.next.node)
+      going.further runner.node first.next.node last.next.node first.inputs last.inputs (going.once runner.node (Delivery packet))
+      (going.nowhere first.next.node)

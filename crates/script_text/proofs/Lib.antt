@@ -1,3 +1,5 @@
 pub mod Going
 pub mod Joining
 pub mod Example
+pub mod Texts
+pub mod ThreeNodes

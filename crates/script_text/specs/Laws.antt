@@ -1,11 +1,7 @@
 -- Laws of the texts of scripts.
-use Rattle.std.specs.Prelude.{◌≡◌, ◌≢◌, ◌⊎◌, ℕ, Bool, List, [], ◌∷◌, ◌++◌, Option, Some, None}
+use Rattle.std.specs.Prelude.{◌≡◌, ◌≢◌, ◌⊎◌, ℕ, Bool, List, Option, Some, None}
 use Rattle.std.specs.Fmt.{decimal}
-use Rattle.mc_model.specs.synod.Lists.{In}
-use Rattle.mc_model.specs.node.Input.{Input}
-use Rattle.mc_model.specs.node.Setup.{Setup}
-use Rattle.node_model.specs.Kept.{Kept}
-use Rattle.node_model.specs.Stepped.{stepped}
+use Rattle.node_laws.specs.Clusters.{NodeInput}
 use Rattle.pdu_tables.specs.StateCodes.{state_code}
 use Rattle.pdu_tables.specs.StatusCodes.{status_code}
 use Rattle.pdu_tables.specs.declared.state.State.TheVariants as states
@@ -16,10 +12,8 @@ use Rattle.pdu_bodies.specs.declared.pdu.QueryAnswer.{QueryAnswer}
 use Rattle.delivery.specs.States.{final_code}
 use Rattle.receipts.specs.Texts.{Report}
 use Rattle.script_text.specs.Settings.{Settings}
-use Rattle.script_text.specs.Node.{Node}
-use Rattle.script_text.specs.Prints.{Print, AtOnce, Late, Delivers, Reports, Gone, Unsettled, Declined, Ungranted, report_pdu}
-use Rattle.script_text.specs.Runner.{Runner}
-use Rattle.script_text.specs.Script.{Stage, Joins, bad_from, bad_line, prints_from, prints_of, text_of}
+use Rattle.script_text.specs.Prints.{Print, WorldPrint, AtOnce, Late, Delivers, Reports, Gone, Declined, Ungranted, report_pdu}
+use Rattle.script_text.specs.Script.{Stage, Joins, bad_from, bad_line, prints_from, text_of}
 use Rattle.script_text.specs.OneNode.{one_node_text}
 use Rattle.script_text.specs.Calm.{IsCalm}
 use Rattle.script_text.specs.Example.{first_script, first_text, second_script, second_text}
@@ -29,8 +23,8 @@ use Rattle.script_text.specs.Example.{first_script, first_text, second_script, s
 -- Lines that join print what the lines are computed to print, and none of them is bad.
 abbrev pub JoinedLinesArePrinted : Type 0
 JoinedLinesArePrinted =
-    (settings : Settings) (first : Stage) (lines : List (List ℕ)) (inputs : List Input) (prints : List Print) (last : Stage) (number : ℕ)
-    → Joins settings first lines inputs prints last
+    (settings : Settings) (first : Stage) (lines : List (List ℕ)) (came : List NodeInput) (prints : List WorldPrint) (last : Stage) (number : ℕ)
+    → Joins settings first lines came prints last
     → (prints ≡ prints_from settings first lines) × (bad_from settings first number lines ≡ None)
 
 -- Lines join if none of them is bad.
@@ -38,23 +32,7 @@ abbrev pub GoodLinesJoin : Type 0
 GoodLinesJoin =
     (settings : Settings) (first : Stage) (lines : List (List ℕ)) (number : ℕ)
     → bad_from settings first number lines ≡ None
-    → (inputs : List Input) × (last : Stage) × Joins settings first lines inputs (prints_from settings first lines) last
-
--- what a node keeps after inputs, the oldest first
-unfoldable pub kept_by : Setup → Kept → List Input → Kept
-kept_by setup k [] = k
-kept_by setup k (input ∷ inputs) = kept_by setup (stepped setup k input).kept inputs
-
-pub record GoesBy (first : Node) (inputs : List Input) (last : Node) : Type 0 where
-  pub setup : last.setup ≡ first.setup
-  pub kept : last.kept ≡ kept_by first.setup first.kept inputs
-
--- What the node keeps after lines is what it kept before them, after what came to it.
-abbrev pub NodeGoesByItsInputs : Type 0
-NodeGoesByItsInputs =
-    (settings : Settings) (first last : Runner) (lines : List (List ℕ)) (inputs : List Input) (prints : List Print)
-    → Joins settings (Some first) lines inputs prints (Some last)
-    → GoesBy first.node inputs last.node
+    → (came : List NodeInput) × (last : Stage) × Joins settings first lines came (prints_from settings first lines) last
 
 -- ---- calm scripts
 
@@ -70,7 +48,6 @@ pdu_in (Late session id pdu) = Some pdu
 pdu_in (Delivers session pdu) = Some pdu
 pdu_in (Reports session sequence optional report) = Some (report_pdu sequence optional report)
 pdu_in (Gone session) = None
-pdu_in Unsettled = None
 pdu_in (Declined number) = None
 pdu_in (Ungranted reason) = None
 
@@ -109,26 +86,6 @@ abbrev pub StatesFate : Print → List ℕ → ℕ → Type 0
 StatesFate print message_id state =
     (TellsState print message_id state × (state ≢ state_code states.Enroute))
     ⊎ ((TellsDeletion print message_id × (state ≡ state_code states.Deleted)) ⊎ TellsReceipt print message_id state)
-
--- Two final states that a script prints for one message are equal.
-abbrev pub OneFateIsPrinted : Type 0
-OneFateIsPrinted =
-    (script : List ℕ) (first second : Print) (message_id : List ℕ) (one other : ℕ)
-    → In first (prints_of script)
-    → In second (prints_of script)
-    → StatesFate first message_id one
-    → StatesFate second message_id other
-    → one ≡ other
-
--- After a cancel_sm that is answered ESME_ROK no query_sm of the message that is answered ESME_ROK tells another state than DELETED.
-abbrev pub DeletedStaysDeleted : Type 0
-DeletedStaysDeleted =
-    (script : List ℕ) (before later : List Print) (cancel query : Print) (message_id : List ℕ) (state : ℕ)
-    → prints_of script ≡ before ++ cancel ∷ later
-    → In query later
-    → TellsDeletion cancel message_id
-    → TellsState query message_id state
-    → state ≡ state_code states.Deleted
 
 -- ---- examples
 

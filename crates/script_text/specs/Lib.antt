@@ -6,9 +6,12 @@ pub mod Attempts
 pub mod Prints
 pub mod Receipts
 pub mod Runner
+pub mod World
+pub mod Runs
 pub mod Script
 pub mod Events
 pub mod OneNode
 pub mod Calm
 pub mod Example
+pub mod ThreeNodes
 pub mod Laws

@@ -1,4 +1,4 @@
--- The node of a script: what it keeps by the node's model, and the packets that it sent to itself and that are still to come.
+-- A node of a script: what it keeps by the node's model, and the packets that it sent and that were not given out.
 use Rattle.std.specs.Prelude.{ℕ, List, [], ◌++◌}
 use Rattle.mc_model.specs.synod.Packet.{Packet}
 use Rattle.mc_model.specs.node.Input.{Input, Tick}
@@ -16,16 +16,9 @@ pub record Node : Type 0 where
   -- the oldest first
   pub packets : List Packet
 
--- Node 1 of one: for how many seconds a message is kept that asks for no time, and the serial of its first message.
-abbrev pub alone : ℕ → ℕ → Setup
-alone validity serial = record { node = 1; nodes = 1; first_serial = serial; default_validity = validity }
-
 -- a node opens with a new store
 abbrev pub opened_by : Setup → Node
 opened_by setup = record { setup = setup; kept = opened_new setup; packets = [] }
-
-abbrev pub opened : ℕ → ℕ → Node
-opened validity serial = opened_by (alone validity serial)
 
 -- ---- a step
 

@@ -32,7 +32,7 @@ use Rattle.desk.specs.declared.request.Request.{Request as Asked}
 use Rattle.script_text.specs.Settings.{Settings, script_settings}
 use Rattle.script_text.specs.Attempts.{unanswered}
 use Rattle.script_text.specs.Responses.{refusal_pdu, reply_pdu}
-use Rattle.script_text.specs.Prints.{Print, AtOnce, Late, Delivers, Ungranted, text_of_prints}
+use Rattle.script_text.specs.Prints.{Print, AtOnce, Late, Delivers, Ungranted, text_at}
 use Rattle.script_text.specs.Pushes.{accounts_up, delivery_on, target_in, with_push}
 use Rattle.delivery.specs.Targets.{is_up}
 use Rattle.script_text.specs.Receipts.{Mail, Posted, all_posted, posted_for_all, posted_for_any}
@@ -196,4 +196,4 @@ prints_if (Some play) = (played play).prints
 
 -- the one-node text of a script
 abbrev pub one_node_text : List ℕ → List ℕ
-one_node_text script = text_of_prints (prints_if (play_of script))
+one_node_text script = text_at 1 (prints_if (play_of script))

@@ -20,8 +20,6 @@ pub data Print : Type 0 where
   Reports : ℕ → ℕ → Bool → Report → Print
   -- this session is gone
   Gone : ℕ → Print
-  -- a settle has delivered as many packets as it may
-  Unsettled : Print
   -- what the line asks for is refused, with this number
   Declined : ℕ → Print
   -- an attempt that was asked for is not granted, for the reason of this number
@@ -56,7 +54,6 @@ line_at node (Late session id pdu) = pdu_line node session pdu
 line_at node (Delivers session pdu) = pdu_line node session pdu
 line_at node (Reports session sequence optional report) = pdu_line node session (report_pdu sequence optional report)
 line_at node (Gone session) = gone_line node session
-line_at node Unsettled = unsettled_line
 line_at node (Declined number) = declined_line number
 line_at node (Ungranted reason) = ungranted_line reason
 
@@ -64,6 +61,21 @@ line_at node (Ungranted reason) = ungranted_line reason
 abbrev pub text_at : ℕ → List Print → List ℕ
 text_at node prints = flat_map (line_at node) prints
 
--- and that of the node of a script that has one alone
-abbrev pub text_of_prints : List Print → List ℕ
-text_of_prints prints = text_at 1 prints
+-- ---- of all nodes
+
+pub data WorldPrint : Type 0 where
+  -- a node prints this
+  At : ℕ → Print → WorldPrint
+  -- what the line asks for is refused, with this number
+  Refuses : ℕ → WorldPrint
+  -- a settle has delivered as many packets as it may
+  StopsSettling : WorldPrint
+
+abbrev pub world_line : WorldPrint → List ℕ
+world_line (At node print) = line_at node print
+world_line (Refuses number) = declined_line number
+world_line StopsSettling = unsettled_line
+
+-- the text of what is printed
+abbrev pub world_text : List WorldPrint → List ℕ
+world_text prints = flat_map world_line prints

@@ -40,7 +40,7 @@ use Rattle.script_text.specs.Responses.{refused_with, reply_pdu}
 use Rattle.script_text.specs.Pushes.{accounts_up, delivery_on, overdue_in, session_at, target_in, timely_in, with_push}
 use Rattle.script_text.specs.Attempts.{Went, all_given_up, concluded, delivered_so, submission_at, unanswered}
 use Rattle.script_text.specs.Receipts.{Mail, Posted, all_posted, posted_for_all, posted_for_any}
-use Rattle.script_text.specs.Prints.{Print, AtOnce, Late, Delivers, Gone, Unsettled, Declined, Ungranted}
+use Rattle.script_text.specs.Prints.{Print, AtOnce, Late, Delivers, Gone, Declined, Ungranted}
 pub use Rattle.esme_service.specs.Hearing.{request_of, Came, came_by, nothing_came}
 pub use Rattle.esme_service.specs.Replies.{Owned, found_at, owner_of, replied_at, replied}
 pub use Rattle.esme_service.specs.Sessions.{session_or_opened, session_in, put_at, in_window}
@@ -357,36 +357,13 @@ declined runner number = record { next = runner; inputs = []; prints = Declined 
 abbrev pub on_restart : Runner → Acted
 on_restart runner = if nat_lt runner.node.kept.incarnation last_incarnation then restarted runner else declined runner no_incarnation
 
--- ---- settling
+-- ---- a packet comes
 
 -- a step of the node: its replies go out, and then its receipts
 abbrev pub reports_by : Runner → Node → Input → Stepped → Acted
 reports_by runner node input step =
     followed_by (answered_by runner node input step) (posts (answered_by runner node input step).next step.outputs.receipts)
 
--- a packet comes to the node, and these are still to come
-abbrev pub on_delivery : Runner → Packet → List Packet → Acted
-on_delivery runner packet others =
-    reports_by runner (awaiting runner.node others) (Delivery packet) (step_at (awaiting runner.node others) (Delivery packet))
-
--- how many packets a settle delivers at most (own)
-abbrev pub most_deliveries : ℕ
-most_deliveries = 100000
-
-abbrev pub unsettled : Runner → Acted
-unsettled runner = record { next = runner; inputs = []; prints = Unsettled ∷ [] }
-
-abbrev pub first_or : {A : Type 0} → A → (Packet → List Packet → A) → List Packet → A
-first_or none some [] = none
-first_or none some (packet ∷ others) = some packet others
-
--- The packets come one by one, in the order of sending, also those that are sent meanwhile; so many come at most.
-unfoldable pub settles : ℕ → Runner → Acted
-settles zero runner = unsettled runner
-settles (suc more) runner =
-    first_or (rests runner)
-    (λ packet others. followed_by (on_delivery runner packet others) (settles more (on_delivery runner packet others).next))
-    runner.node.packets
-
-abbrev pub on_settle : Runner → Acted
-on_settle runner = settles most_deliveries runner
+-- a packet comes to the node
+abbrev pub on_delivery : Runner → Packet → Acted
+on_delivery runner packet = reports_by runner runner.node (Delivery packet) (step_at runner.node (Delivery packet))

@@ -1,77 +1,68 @@
--- The text of a script.
-use Rattle.std.specs.Prelude.{◌≡◌, ℕ, suc, List, [], ◌∷◌, ◌++◌, Option, Some, None}
+-- The text of a script (own).
+use Rattle.std.specs.Prelude.{◌≡◌, ℕ, suc, List, [], ◌∷◌, ◌++◌, length, Option, Some, None}
 use Rattle.script_lines.specs.Lines.{lines_of}
 use Rattle.script_lines.specs.Said.{Said, Skipped, Nodes, Octets, Deliver, Crash, Tick, Grant, Settle, Restart, Replay, said_within}
 use Rattle.script_text.specs.Settings.{Settings, script_settings}
-use Rattle.mc_model.specs.node.Input.{Input}
-use Rattle.script_text.specs.Node as node
-use Rattle.script_text.specs.Prints.{Print, text_of_prints}
-use Rattle.script_text.specs.Runner.{Runner, Acted, on_grant, on_octets, on_restart, on_settle, on_tick, runner_opened}
+use Rattle.script_text.specs.Prints.{WorldPrint, world_text}
+use Rattle.script_text.specs.World.{World, Moved, NodeInput, comes, crashes, grants, hears, on_replay, on_settle, opened, restarts, ticks}
 
--- what is there before the first line that says something: no session is connected
-abbrev pub opened : Settings → ℕ → Runner
-opened settings serial = runner_opened (node.opened settings.validity serial)
-
--- what is there before a line, and after it: nothing yet, or a runner
+-- what is there before a line, and after it: nothing yet, or a world
 abbrev pub Stage : Type 0
-Stage = Option Runner
+Stage = Option World
 
--- the stage after a line, what came to the node, and what the line printed
+-- the stage after a line, what came to nodes, and what the line printed
 pub record Stepped : Type 0 where
   pub stage : Stage
-  pub inputs : List Input
-  pub prints : List Print
+  pub inputs : List NodeInput
+  pub prints : List WorldPrint
 
-abbrev pub stepped : Acted → Option Stepped
-stepped acted = Some (record { stage = Some acted.next; inputs = acted.inputs; prints = acted.prints })
+abbrev pub stepped : Moved → Option Stepped
+stepped moved = Some (record { stage = Some moved.next; inputs = moved.inputs; prints = moved.prints })
 
 abbrev pub silent : Stage → Option Stepped
 silent stage = Some (record { stage = stage; inputs = []; prints = [] })
 
--- A script is over so many nodes (own).
-abbrev pub script_nodes : ℕ
-script_nodes = 1
+-- what a line does to the world that is there
+abbrev pub moved_by : Settings → World → Said → Option Stepped
+moved_by settings world Skipped = silent (Some world)
+moved_by settings world (Nodes count serial) = None
+moved_by settings world (Octets node session octets) = stepped (hears settings world node session octets)
+moved_by settings world (Deliver number node) = stepped (comes world number node)
+moved_by settings world (Crash node number after) = stepped (crashes world node number after)
+moved_by settings world (Tick node moment) = stepped (ticks world node moment)
+moved_by settings world (Grant node id) = stepped (grants world node id)
+moved_by settings world (Settle nodes) = stepped (on_settle world nodes)
+moved_by settings world (Restart node) = stepped (restarts world node)
+moved_by settings world (Replay count) = stepped (on_replay world count)
 
--- What a line does that names no other node; none if it is bad. The first line that says something opens the runner, and no other does.
--- Packets come at a settle alone: a line that delivers one, stops the node at one, or replays them, is bad.
+-- The first line that says something opens the world, and no other does.
+abbrev pub opened_by : Settings → Said → Option Stepped
+opened_by settings Skipped = silent None
+opened_by settings (Nodes count serial) = silent (Some (opened settings count serial))
+opened_by settings other = None
+
+-- what a line does; none if it is bad
 abbrev pub step_by : Settings → Stage → Option Said → Option Stepped
 step_by settings stage None = None
-step_by settings stage (Some Skipped) = silent stage
-step_by settings None (Some (Nodes count serial)) = silent (Some (opened settings serial))
-step_by settings None (Some (Octets node session octets)) = None
-step_by settings None (Some (Deliver number node)) = None
-step_by settings None (Some (Crash node number after)) = None
-step_by settings None (Some (Tick node moment)) = None
-step_by settings None (Some (Grant node id)) = None
-step_by settings None (Some (Settle nodes)) = None
-step_by settings None (Some (Restart node)) = None
-step_by settings None (Some (Replay count)) = None
-step_by settings (Some runner) (Some (Nodes count serial)) = None
-step_by settings (Some runner) (Some (Octets node session octets)) = stepped (on_octets settings runner session octets)
-step_by settings (Some runner) (Some (Deliver number node)) = None
-step_by settings (Some runner) (Some (Crash node number after)) = None
-step_by settings (Some runner) (Some (Tick node moment)) = stepped (on_tick runner moment)
-step_by settings (Some runner) (Some (Grant node id)) = stepped (on_grant runner id)
-step_by settings (Some runner) (Some (Settle nodes)) = stepped (on_settle runner)
-step_by settings (Some runner) (Some (Restart node)) = stepped (on_restart runner)
-step_by settings (Some runner) (Some (Replay count)) = None
+step_by settings None (Some said) = opened_by settings said
+step_by settings (Some world) (Some said) = moved_by settings world said
 
--- what a line does: one that names another node is bad
+-- A line may name the nodes that there are; the first that says something, nine.
+abbrev pub nodes_of : Stage → ℕ
+nodes_of None = 9
+nodes_of (Some world) = length world.runners
+
 unfoldable pub step_of : Settings → Stage → List ℕ → Option Stepped
-step_of settings stage line = step_by settings stage (said_within script_nodes line)
+step_of settings stage line = step_by settings stage (said_within (nodes_of stage) line)
 
 -- ---- a script, as lines that join
 
--- A line leads from one stage to another: this comes to the node, and this is printed.
-abbrev pub LineStep : Settings → Stage → List ℕ → Stepped → Type 0
-LineStep settings stage line done = step_of settings stage line ≡ Some done
-
--- Lines lead from one stage to another, each from where the one before it led.
-unfoldable pub Joins : Settings → Stage → List (List ℕ) → List Input → List Print → Stage → Type 0
+-- Lines lead from one stage to another, each from where the one before it led: this comes to nodes, and this is printed.
+unfoldable pub Joins : Settings → Stage → List (List ℕ) → List NodeInput → List WorldPrint → Stage → Type 0
 Joins settings stage [] inputs prints last = (inputs ≡ []) × (prints ≡ []) × (last ≡ stage)
 Joins settings stage (line ∷ lines) inputs prints last =
-    (done : Stepped) × (later : List Input) × (others : List Print)
-    × LineStep settings stage line done
+    (done : Stepped) × (later : List NodeInput) × (others : List WorldPrint)
+    × (step_of settings stage line ≡ Some done)
     × (inputs ≡ done.inputs ++ later)
     × (prints ≡ done.prints ++ others)
     × Joins settings done.stage lines later others last
@@ -84,7 +75,7 @@ after bad good None = bad
 after bad good (Some done) = good done
 
 -- what the lines before the first bad one print
-unfoldable pub prints_from : Settings → Stage → List (List ℕ) → List Print
+unfoldable pub prints_from : Settings → Stage → List (List ℕ) → List WorldPrint
 prints_from settings stage [] = []
 prints_from settings stage (line ∷ lines) =
     after [] (λ done. done.prints ++ prints_from settings done.stage lines) (step_of settings stage line)
@@ -96,12 +87,12 @@ bad_from settings stage number (line ∷ lines) =
     after (Some number) (λ done. bad_from settings done.stage (suc number) lines) (step_of settings stage line)
 
 -- what a script prints
-abbrev pub prints_of : List ℕ → List Print
+abbrev pub prints_of : List ℕ → List WorldPrint
 prints_of script = prints_from script_settings None (lines_of script)
 
 -- its text
 abbrev pub text_of : List ℕ → List ℕ
-text_of script = text_of_prints (prints_of script)
+text_of script = world_text (prints_of script)
 
 -- its first bad line, counted from 1
 abbrev pub bad_line : List ℕ → Option ℕ

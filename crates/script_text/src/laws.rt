@@ -4,16 +4,20 @@ ghost use Rattle.script_text.specs.Laws.{
   FirstScriptIsCalm,
   GoodLinesJoin,
   JoinedLinesArePrinted,
-  NodeGoesByItsInputs,
   SecondScriptIsCalm,
 };
+ghost use Rattle.script_text.specs.ThreeNodes.{ThreeNodesPrint};
 
-/// A script is its lines, joined: lines that join print what they are computed to print, and none of them is bad; lines of which
-/// none is bad join; and what the node keeps after them is what it kept before them, after what came to it.
+/// A script is its lines, joined: lines that join print what they are computed to print, and none of them is bad; and lines of which none
+/// is bad join.
 pub fn lines_join()
     ensures printed { JoinedLinesArePrinted }
     ensures joined { GoodLinesJoin }
-    ensures nodes { NodeGoesByItsInputs }
+{}
+
+/// The definitions compute: a message that is taken at one node of three is told by another; a node that is down refuses.
+pub fn three_nodes_print()
+    ensures { ThreeNodesPrint }
 {}
 
 /// There are calm scripts: one in which an ESME binds, submits a message and queries it is calm, and its one-node text is the three

@@ -3,4 +3,4 @@
 
 mod laws;
 
-pub use laws::{first_script_is_calm, lines_join, second_script_is_calm};
+pub use laws::{first_script_is_calm, lines_join, second_script_is_calm, three_nodes_print};

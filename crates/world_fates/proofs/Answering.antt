@@ -10,9 +10,9 @@ use Rattle.script_lines.specs.Said.{Said, Skipped, Nodes, Octets, Deliver, Crash
 use Rattle.script_text.specs.Prints.{Gone}
 use Rattle.script_text.specs.Settings.{Settings}
 use Rattle.sessions.specs.Session.{Session}
-use Rattle.script_world.specs.Prints.{At, WorldPrint}
-use Rattle.script_world.specs.Script.{Joins, Stage, Stepped, step_by, step_of}
-use Rattle.script_world.specs.World.{NodeInput, World, opened}
+use Rattle.script_text.specs.Prints.{At, WorldPrint}
+use Rattle.script_text.specs.Script.{Joins, Stage, Stepped, step_by, step_of}
+use Rattle.script_text.specs.World.{NodeInput, World, opened}
 use Rattle.world_fates.specs.Deliveries.{GoesOut, IsAnswered, IsSaid, WentOut, comes}
 use Rattle.world_fates.proofs.Entries.{AreApart}
 use Rattle.world_fates.proofs.Windows.{WaitsOn}

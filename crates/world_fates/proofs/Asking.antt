@@ -29,9 +29,9 @@ use Rattle.script_text.specs.Runner.{in_front}
 use Rattle.script_text.specs.Runner.{owner_of}
 use Rattle.script_text.specs.Runner.{replied, replied_at, reply_prints}
 use Rattle.script_text.specs.Runner.{session_in, session_or_opened, told}
-use Rattle.fate_laws.proofs.Behind.{behind}
-use Rattle.fate_laws.proofs.Posting.{left_in}
-use Rattle.fate_laws.proofs.Telling.{report_tells_no_state}
+use Rattle.world_fates.proofs.node.Behind.{behind}
+use Rattle.world_fates.proofs.node.Posting.{left_in}
+use Rattle.world_fates.proofs.node.Telling.{report_tells_no_state}
 use Rattle.world_fates.proofs.Entries.{found_entry, set_in}
 
 -- ---- requests that wait on sessions

@@ -16,11 +16,11 @@ use Rattle.fate_chain.specs.States.{state_of}
 use Rattle.script_text.specs.Laws.{StatesFate}
 use Rattle.script_text.specs.Prints.{Print}
 use Rattle.script_text.specs.Settings.{Settings}
-use Rattle.script_world.specs.Prints.{At, WorldPrint}
-use Rattle.script_world.specs.Script.{Joins, Stage, Stepped, step_by, step_of}
-use Rattle.script_world.specs.World.{NodeInput as LineInput, World}
+use Rattle.script_text.specs.Prints.{At, WorldPrint}
+use Rattle.script_text.specs.Script.{Joins, Stage, Stepped, step_by, step_of}
+use Rattle.script_text.specs.World.{NodeInput as LineInput, World}
 use Rattle.script_lines.specs.Said.{Said, Skipped, Nodes, Octets, Deliver, Crash, Tick, Grant, Settle, Restart, Replay, said_within}
-use Rattle.fate_laws.proofs.Behind.{behind}
+use Rattle.world_fates.proofs.node.Behind.{behind}
 use Rattle.world_fates.specs.Deliveries.{IsDelivered, IsSaid, StandsOnAnAnswer, WasAnswered, comes}
 use Rattle.world_fates.proofs.Worlds.{inputs_of, to_cluster}
 use Rattle.world_fates.proofs.Printing.{StageSo, first_so}

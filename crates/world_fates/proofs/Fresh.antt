@@ -22,14 +22,14 @@ use Rattle.script_text.specs.Prints.{Late, Print}
 use Rattle.script_text.specs.Responses.{reply_pdu}
 use Rattle.script_text.specs.Runner.{Runner}
 use Rattle.script_text.specs.Settings.{Settings}
-use Rattle.script_world.specs.Prints.{At, WorldPrint}
-use Rattle.script_world.specs.Script.{Joins, Stage}
-use Rattle.script_world.specs.World.{NodeInput as LineInput, World, runner_at}
-use Rattle.fate_laws.proofs.Behind.{input_to}
-use Rattle.fate_laws.proofs.Printing.{of_all}
-use Rattle.fate_laws.proofs.StepsOut.{step_now}
-use Rattle.fate_laws.proofs.Telling.{reply_is_told}
-use Rattle.fate_laws.proofs.Tellings.{by_node}
+use Rattle.script_text.specs.Prints.{At, WorldPrint}
+use Rattle.script_text.specs.Script.{Joins, Stage}
+use Rattle.script_text.specs.World.{NodeInput as LineInput, World, runner_at}
+use Rattle.world_fates.proofs.node.Behind.{input_to}
+use Rattle.world_fates.proofs.node.Once.{of_all}
+use Rattle.world_fates.proofs.node.StepsOut.{step_now}
+use Rattle.world_fates.proofs.node.Telling.{reply_is_told}
+use Rattle.world_fates.proofs.node.Tellings.{by_node}
 use Rattle.world_fates.specs.Questions.{AnswersWhatWaited}
 use Rattle.world_fates.proofs.Worlds.{WorldStands, one_of_many, told_by, told_by_all}
 use Rattle.world_fates.proofs.Printing.{JoinsSo, WorldSo, first_so, joined_so}

@@ -20,15 +20,15 @@ use Rattle.script_text.specs.Responses.{reply_pdu}
 use Rattle.script_text.specs.Runner.{Owned, Told, in_front, owner_of, replied, reply_prints, told}
 use Rattle.script_text.specs.Settings.{Settings}
 use Rattle.script_text.specs.Laws.{StatesFate}
-use Rattle.script_world.specs.Prints.{At, WorldPrint}
-use Rattle.script_world.specs.World.{NodeInput as LineInput, World}
-use Rattle.fate_laws.proofs.Reports.{IsReportOf}
-use Rattle.fate_laws.proofs.Printing.{of_all}
-use Rattle.fate_laws.proofs.Telling.{IsMute, IsTold, Shows, delivery_is_mute, reply_is_told, report_tells_no_deletion, report_tells_no_state}
-use Rattle.fate_laws.proofs.Behind.{behind, given_later}
-use Rattle.fate_laws.proofs.ReceiptsOut.{IsReceiptOut}
-use Rattle.fate_laws.proofs.StepsOut.{removal_ends, step_now}
-use Rattle.fate_laws.proofs.Tellings.{IsTelling, NodePrint, TakesDeliveries, by_node, prints_at}
+use Rattle.script_text.specs.Prints.{At, WorldPrint}
+use Rattle.script_text.specs.World.{NodeInput as LineInput, World}
+use Rattle.world_fates.proofs.node.Reports.{IsReportOf}
+use Rattle.world_fates.proofs.node.Once.{of_all}
+use Rattle.world_fates.proofs.node.Telling.{IsMute, IsTold, Shows, delivery_is_mute, reply_is_told, report_tells_no_deletion, report_tells_no_state}
+use Rattle.world_fates.proofs.node.Behind.{behind, given_later}
+use Rattle.world_fates.proofs.node.ReceiptsOut.{IsReceiptOut}
+use Rattle.world_fates.proofs.node.StepsOut.{removal_ends, step_now}
+use Rattle.world_fates.proofs.node.Tellings.{IsTelling, NodePrint, TakesDeliveries, by_node, prints_at}
 use Rattle.world_fates.proofs.Worlds.{told_by, told_by_all}
 use Rattle.world_fates.proofs.Printing.{WorldSo}
 

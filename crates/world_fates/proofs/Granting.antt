@@ -26,13 +26,13 @@ use Rattle.script_text.specs.Laws.{StatesFate}
 use Rattle.script_text.specs.Prints.{Delivers, Print, Ungranted}
 use Rattle.script_text.specs.Runner.{Runner, granted_unless, on_grant}
 use Rattle.script_text.specs.Settings.{Settings}
-use Rattle.script_world.specs.Prints.{At, Refuses, WorldPrint}
-use Rattle.script_world.specs.Script.{Joins, Stage, Stepped, nodes_of, step_by, step_of, stepped}
-use Rattle.script_world.specs.World.{Moved, NodeInput as LineInput, World, grants, is_down, is_up, refuses, runner_at, shared, up_or_refuses, no_node}
-use Rattle.fate_laws.proofs.Behind.{behind, happened_before, input_to}
-use Rattle.fate_laws.proofs.Reports.{named_small}
-use Rattle.fate_laws.proofs.Standing.{IsAt, grant_steps}
-use Rattle.fate_laws.proofs.StepsOut.{step_now}
+use Rattle.script_text.specs.Prints.{At, Refuses, WorldPrint}
+use Rattle.script_text.specs.Script.{Joins, Stage, Stepped, nodes_of, step_by, step_of, stepped}
+use Rattle.script_text.specs.World.{Moved, NodeInput as LineInput, World, grants, is_down, is_up, refuses, runner_at, shared, up_or_refuses, no_node}
+use Rattle.world_fates.proofs.node.Behind.{behind, happened_before, input_to}
+use Rattle.world_fates.proofs.node.Reports.{named_small}
+use Rattle.world_fates.proofs.node.Standing.{IsAt, grant_steps}
+use Rattle.world_fates.proofs.node.StepsOut.{step_now}
 use Rattle.world_fates.specs.Laws.{GrantsNothing}
 use Rattle.world_fates.proofs.Worlds.{WorldStands, inputs_of, member_of, one_of_many, to_cluster}
 use Rattle.world_fates.proofs.Printing.{JoinsSo, StageSo, first_so, joined_so}

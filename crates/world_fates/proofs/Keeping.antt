@@ -41,7 +41,7 @@ use Rattle.desk.specs.Admissions.{admitted}
 use Rattle.desk.specs.Arrivals.{door_at, judged_as, next_id}
 use Rattle.desk.specs.declared.request.Request.{Request}
 use Rattle.script_text.specs.Attempts.{Went, all_given_up, concluded, delivered_so, given_up, rests_at, submission_at, unanswered, went}
-use Rattle.script_text.specs.Node.{Node, awaiting, request_at, step_at, tick_at}
+use Rattle.script_text.specs.Node.{Node, request_at, step_at, tick_at}
 use Rattle.script_text.specs.Prints.{AtOnce, Delivers, Gone, Print, Ungranted}
 use Rattle.script_text.specs.Pushes.{accounts_up, delivery_on, overdue_in, pushed_on, session_at, target_in, timely_in, with_push}
 use Rattle.script_text.specs.Receipts.{Mail, Posted, all_posted, goes_out, goes_out_up_to, is_for, posted, posted_for, posted_for_all}
@@ -316,11 +316,9 @@ reports_keep Answers runner node input step apart never =
     keeps_then Answers runner.sessions one (posts one.next step.outputs.receipts) here
     (posts_keep Answers one.next _ (all_posted_posts one.next.node.kept.clock (mail_of one.next) step.outputs.receipts here.apart))
 
-pub delivery_keeps : (runner : Runner) (packet : Packet) (others : List Packet) → AreApart runner.sessions →
-    Keeps Nothing runner.sessions (on_delivery runner packet others)
-delivery_keeps runner packet others apart =
-    reports_keep Nothing runner (awaiting runner.node others) (Comes packet) (step_at (awaiting runner.node others) (Comes packet)) apart
-    (λ slot outcome is. cc)
+pub delivery_keeps : (runner : Runner) (packet : Packet) → AreApart runner.sessions → Keeps Nothing runner.sessions (on_delivery runner packet)
+delivery_keeps runner packet apart =
+    reports_keep Nothing runner runner.node (Comes packet) (step_at runner.node (Comes packet)) apart (λ slot outcome is. cc)
 
 -- ---- what is given up
 

@@ -46,7 +46,7 @@ use Rattle.desk.specs.Admissions.{admitted}
 use Rattle.desk.specs.Arrivals.{door_at, judged_as, next_id}
 use Rattle.desk.specs.declared.request.Request.{Request}
 use Rattle.script_text.specs.Attempts.{Went, all_given_up, concluded, delivered_so, given_up, rests_at, submission_at, unanswered, went}
-use Rattle.script_text.specs.Node.{Node, awaiting, step_at, tick_at, with_step}
+use Rattle.script_text.specs.Node.{Node, step_at, tick_at, with_step}
 use Rattle.script_text.specs.Prints.{AtOnce, Declined, Delivers, Gone, Late, Print, Ungranted}
 use Rattle.script_text.specs.Pushes.{accounts_up, delivery_on, overdue_in, session_at, target_in, timely_in}
 use Rattle.script_text.specs.Receipts.{Posted}
@@ -57,9 +57,9 @@ use Rattle.script_text.specs.Runner.{nothing_came, on_delivery, on_done, on_fram
 use Rattle.script_text.specs.Runner.{on_rest, on_restart, on_tick, opened_at, posts, posts_for, posts_for_all, pushes, put_at, refusal_prints}
 use Rattle.script_text.specs.Runner.{reports_by, restarted, sent, sent_to, served_at, serves, session_in, ticked, unasked, with_posted}
 use Rattle.script_text.specs.Settings.{Settings}
-use Rattle.fate_laws.proofs.Behind.{behind, behind_both, came_to, happened_before, input_to}
-use Rattle.fate_laws.proofs.StepsOut.{step_now}
-use Rattle.fate_laws.proofs.Telling.{IsMute, declined_is_mute, delivery_is_mute, gone_is_mute, refusal_is_mute, response_is_mute, ungranted_is_mute}
+use Rattle.world_fates.proofs.node.Behind.{behind, behind_both, came_to, happened_before, input_to}
+use Rattle.world_fates.proofs.node.StepsOut.{step_now}
+use Rattle.world_fates.proofs.node.Telling.{IsMute, declined_is_mute, delivery_is_mute, gone_is_mute, refusal_is_mute, response_is_mute, ungranted_is_mute}
 use Rattle.world_fates.proofs.Entries.{inserted_in, removed_in}
 use Rattle.world_fates.proofs.Windows.{ComesOf, fault_so, pdu_so, wrong_length_so}
 use Rattle.world_fates.proofs.Asking.{AllAsked, AsksOn, IsAside, Posts, all_posted_posts, in_session, posted_for_all_posts, posted_for_any_posts}
@@ -293,11 +293,9 @@ module _ (cluster : Cluster) (m : ℕ) (first : List NodeInput) where
         (posts_well (input_to m input ∷ past) one.next _ (then_serves past one here)
         (all_posted_posts one.next.node.kept.clock (mail_of one.next) (step_at node input).outputs.receipts))
 
-    pub delivery_well : (past : List NodeInput) (runner : Runner) (packet : Packet) (others : List Packet) → ServesWell past runner →
-        MayHappen cluster (input_to m (Comes packet) ∷ past) → ActsWell past (on_delivery runner packet others)
-    delivery_well past runner packet others s may =
-        reports_well past runner (awaiting runner.node others) (Comes packet)
-        (record { front = s.node.front; front_is = s.node.front_is; setup = s.node.setup; kept = s.node.kept }) s.came (λ lost is. cc) may
+    pub delivery_well : (past : List NodeInput) (runner : Runner) (packet : Packet) → ServesWell past runner →
+        MayHappen cluster (input_to m (Comes packet) ∷ past) → ActsWell past (on_delivery runner packet)
+    delivery_well past runner packet s may = reports_well past runner runner.node (Comes packet) s.node s.came (λ lost is. cc) may
 
     -- ---- a moment
 

@@ -15,16 +15,17 @@ use Rattle.script_lines.specs.Said.{Said, Skipped, Nodes, Octets, Deliver, Crash
 use Rattle.script_lines.proofs.SaidLemmas.{spells_within}
 use Rattle.sessions.specs.declared.request.OpenRequest.{OpenRequest}
 use Rattle.script_text.specs.Prints.{Print}
-use Rattle.script_text.specs.Runner.{Acted, Runner, given_out, most_deliveries, on_delivery, on_grant, on_octets, on_restart, on_tick}
+use Rattle.script_text.specs.Runner.{Acted, Runner, given_out, on_delivery, on_grant, on_octets, on_restart, on_tick}
 use Rattle.script_text.specs.Settings.{Settings}
-use Rattle.script_world.specs.Prints.{At, Refuses, StopsSettling, WorldPrint}
-use Rattle.script_world.specs.Script.{Joins, Stage, Stepped, moved_by, step_by, step_of, stepped}
-use Rattle.script_world.specs.World.{Due, Moved, NodeInput as LineInput, World, acts, all_come, comes, comes_again, comes_if, comes_to as come_to, no_node}
-use Rattle.script_world.specs.World.{crashed, crashes, crashes_if, due, grants, hears, if_due, if_up, is_down, is_up, is_up_at, marked, no_packet}
-use Rattle.script_world.specs.World.{node_numbers, on_replay, on_settle, packet_of, refuses, replays, restarts, restarts_if, runner_at, settles, shared}
-use Rattle.script_world.specs.World.{stays, then_moved, ticks, unsettled, up_or_refuses}
-use Rattle.fate_laws.proofs.Behind.{behind, behind_both, came_to, happened_before, input_to}
-use Rattle.fate_laws.proofs.StepsOut.{step_now}
+use Rattle.script_text.specs.Prints.{At, Refuses, StopsSettling, WorldPrint}
+use Rattle.script_text.specs.Script.{Joins, Stage, Stepped, moved_by, step_by, step_of, stepped}
+use Rattle.script_text.specs.World.{most_deliveries}
+use Rattle.script_text.specs.World.{Due, Moved, NodeInput as LineInput, World, acts, all_come, comes, comes_again, comes_if, comes_to as come_to, no_node}
+use Rattle.script_text.specs.World.{crashed, crashes, crashes_if, due, grants, hears, if_due, if_up, is_down, is_up, is_up_at, marked, no_packet}
+use Rattle.script_text.specs.World.{node_numbers, on_replay, on_settle, packet_of, refuses, replays, restarts, restarts_if, runner_at, settles, shared}
+use Rattle.script_text.specs.World.{stays, then_moved, ticks, unsettled, up_or_refuses}
+use Rattle.world_fates.proofs.node.Behind.{behind, behind_both, came_to, happened_before, input_to}
+use Rattle.world_fates.proofs.node.StepsOut.{step_now}
 use Rattle.world_fates.proofs.Places.{row_least, set_cases}
 use Rattle.world_fates.proofs.Worlds.{due_least, inputs_of, kept_apart, to_cluster}
 use Rattle.world_fates.proofs.Lines.{one_node, printed_at}
@@ -220,17 +221,17 @@ module _ (cluster : Cluster) (m : ℕ) (least_m : 1 ≤ m) (first : List NodeInp
       MovesWell past (comes world number node)
   comes_well past world well number node least may = by_packet (packet_of world.packets number) may
     where
-      delivery_may : (runner : Runner) (packet : Packet) → MayHappen cluster (came_to m (on_delivery runner packet []).inputs past) →
+      delivery_may : (runner : Runner) (packet : Packet) → MayHappen cluster (came_to m (on_delivery runner packet).inputs past) →
           MayHappen cluster (input_to m (Delivery packet) ∷ past)
       delivery_may runner packet may = may
 
       by_packet : (found : Option Packet) → May past (comes_if world number node found) → MovesWell past (comes_if world number node found)
       by_packet None may = refuses_well past world no_packet well
       by_packet (Some packet) may =
-          if_up_well past world well node least (λ runner. shared (marked world number node) node (on_delivery runner packet []))
-          (λ runner is happens. shared_well past (marked world number node) well node least (on_delivery runner packet [])
-          (λ same. delivery_well cluster m first Before Says says past runner packet [] (the_runner past world well node least runner is same)
-          (delivery_may runner packet (shared_may past (marked world number node) well node least (on_delivery runner packet []) same happens)))) may
+          if_up_well past world well node least (λ runner. shared (marked world number node) node (on_delivery runner packet))
+          (λ runner is happens. shared_well past (marked world number node) well node least (on_delivery runner packet)
+          (λ same. delivery_well cluster m first Before Says says past runner packet (the_runner past world well node least runner is same)
+          (delivery_may runner packet (shared_may past (marked world number node) well node least (on_delivery runner packet) same happens)))) may
 
   comes_again_well : (past : List NodeInput) (world : World) → WorldWell past world → (number node : ℕ) → 1 ≤ node →
       May past (comes_again world number node) → MovesWell past (comes_again world number node)

@@ -1,3 +1,4 @@
+pub mod node
 pub mod Places
 pub mod Worlds
 pub mod Printing

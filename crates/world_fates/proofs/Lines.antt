@@ -16,15 +16,16 @@ use Rattle.script_lines.specs.Said.{Said, Skipped, Nodes, Octets, Deliver, Crash
 use Rattle.script_lines.proofs.SaidLemmas.{spells_within}
 use Rattle.script_text.specs.Node.{opened_by}
 use Rattle.script_text.specs.Prints.{Delivers, Gone, Print}
-use Rattle.script_text.specs.Runner.{Acted, Runner, given_out, held_in, most_deliveries, on_delivery, on_grant, on_octets, on_restart, on_tick, runner_opened}
+use Rattle.script_text.specs.Runner.{Acted, Runner, given_out, held_in, on_delivery, on_grant, on_octets, on_restart, on_tick, runner_opened}
 use Rattle.script_text.specs.Settings.{Settings}
-use Rattle.script_world.specs.Prints.{At, Refuses, StopsSettling}
-use Rattle.script_world.specs.Script.{Stepped, moved_by, step_by, step_of, stepped}
-use Rattle.script_world.specs.World.{Due, Moved, NodeInput, World, acts, all_come, comes as packet_comes, comes_again, comes_if, comes_to, no_node}
-use Rattle.script_world.specs.World.{crashed, crashes, crashes_if, due, grants, hears, if_due, if_up}
-use Rattle.script_world.specs.World.{is_down, is_up, is_up_at, marked, no_packet, node_numbers, on_replay, on_settle, opened, packet_of, refuses}
-use Rattle.script_world.specs.World.{replays, restarts, restarts_if, runner_at, setup_of, settles, shared, stays, then_moved, ticks, unsettled}
-use Rattle.script_world.specs.World.{up_or_refuses}
+use Rattle.script_text.specs.Prints.{At, Refuses, StopsSettling}
+use Rattle.script_text.specs.Script.{Stepped, moved_by, step_by, step_of, stepped}
+use Rattle.script_text.specs.World.{most_deliveries}
+use Rattle.script_text.specs.World.{Due, Moved, NodeInput, World, acts, all_come, comes as packet_comes, comes_again, comes_if, comes_to, no_node}
+use Rattle.script_text.specs.World.{crashed, crashes, crashes_if, due, grants, hears, if_due, if_up}
+use Rattle.script_text.specs.World.{is_down, is_up, is_up_at, marked, no_packet, node_numbers, on_replay, on_settle, opened, packet_of, refuses}
+use Rattle.script_text.specs.World.{replays, restarts, restarts_if, runner_at, setup_of, settles, shared, stays, then_moved, ticks, unsettled}
+use Rattle.script_text.specs.World.{up_or_refuses}
 use Rattle.world_fates.specs.Deliveries.{GoesOut, comes}
 use Rattle.world_fates.proofs.Places.{row_least, set_cases}
 use Rattle.world_fates.proofs.Worlds.{due_least}
@@ -230,13 +231,13 @@ comes_move : (world : World) (number node : ℕ) → 1 ≤ node → AreSound wor
 comes_move world number node least sound = by_packet (packet_of world.packets number)
   where
     up : Packet → Runner → Moved
-    up packet runner = shared (marked world number node) node (on_delivery runner packet [])
+    up packet runner = shared (marked world number node) node (on_delivery runner packet)
 
     there : (packet : Packet) (runner : Runner) → runner_at world node ≡ Some runner → MovesOn NothingAt world (up packet runner)
     there packet runner is =
         let it = nothing_moves (marked world number node) node (up packet runner)
-        (shared_moves (marked world number node) node least sound runner is (λ other. Nothing) (on_delivery runner packet [])
-        (delivery_keeps runner packet [] (sound node least runner is))) in
+        (shared_moves (marked world number node) node least sound runner is (λ other. Nothing) (on_delivery runner packet)
+        (delivery_keeps runner packet (sound node least runner is))) in
         record {
           sound = it.sound;
           waited = λ other first session slot sequence waits.

@@ -11,14 +11,14 @@ use Rattle.script_lines.specs.Said.{Said, Skipped, Nodes, Octets, Deliver, Crash
 use Rattle.script_lines.proofs.SaidLemmas.{spells_within}
 use Rattle.script_text.specs.Runner.{Runner, runner_opened}
 use Rattle.script_text.specs.Settings.{Settings}
-use Rattle.script_world.specs.Prints.{WorldPrint}
-use Rattle.script_world.specs.Script.{Joins, Stage, Stepped, after, moved_by, prints_from, step_by, step_of, stepped}
+use Rattle.script_text.specs.Prints.{WorldPrint}
+use Rattle.script_text.specs.Script.{Joins, Stage, Stepped, after, moved_by, prints_from, step_by, step_of, stepped}
 use Rattle.script_text.specs.Node.{opened_by}
-use Rattle.script_world.specs.World.{Moved, NodeInput as LineInput, World, comes, crashes, grants, hears, on_replay, on_settle, opened}
-use Rattle.script_world.specs.World.{restarts, setup_of, ticks}
-use Rattle.fate_laws.proofs.Behind.{behind}
-use Rattle.fate_laws.proofs.Standing.{opened_fit}
-use Rattle.fate_laws.proofs.Tellings.{FactOfPrints, IsTelling, NodePrint, TakesDeliveries}
+use Rattle.script_text.specs.World.{Moved, NodeInput as LineInput, World, comes, crashes, grants, hears, on_replay, on_settle, opened}
+use Rattle.script_text.specs.World.{restarts, setup_of, ticks}
+use Rattle.world_fates.proofs.node.Behind.{behind}
+use Rattle.world_fates.proofs.node.Standing.{opened_fit}
+use Rattle.world_fates.proofs.node.Tellings.{FactOfPrints, IsTelling, NodePrint, TakesDeliveries}
 use Rattle.world_fates.specs.Runs.{cluster_of}
 use Rattle.world_fates.proofs.Places.{row_at}
 use Rattle.world_fates.proofs.Worlds.{IsRunner, MovesSo, WorldStands, behind_lines, comes_so, crashes_so, grants_so, hears_so, inputs_of}

@@ -17,14 +17,14 @@ use Rattle.script_text.specs.Node.{Node}
 use Rattle.script_text.specs.Prints.{Print}
 use Rattle.script_text.specs.Runner.{Runner}
 use Rattle.script_text.specs.Settings.{Settings}
-use Rattle.script_world.specs.Prints.{At, WorldPrint}
-use Rattle.script_world.specs.Script.{Joins, Stage}
-use Rattle.script_world.specs.World.{NodeInput as LineInput, World, runner_at}
-use Rattle.fate_laws.proofs.Behind.{after_holds, world_after}
-use Rattle.fate_laws.proofs.Decided.{IsDecided, chosen_decides}
-use Rattle.fate_laws.proofs.InOrder.{Tell, TellFrom, TellsOnlyAt, nothing_from, tell_takes, tell_telling}
-use Rattle.fate_laws.proofs.Printing.{of_all}
-use Rattle.fate_laws.proofs.Tellings.{by_node}
+use Rattle.script_text.specs.Prints.{At, WorldPrint}
+use Rattle.script_text.specs.Script.{Joins, Stage}
+use Rattle.script_text.specs.World.{NodeInput as LineInput, World, runner_at}
+use Rattle.world_fates.proofs.node.Behind.{after_holds, world_after}
+use Rattle.world_fates.proofs.node.Decided.{IsDecided, chosen_decides}
+use Rattle.world_fates.proofs.node.InOrder.{Tell, TellFrom, TellsOnlyAt, nothing_from, tell_takes, tell_telling}
+use Rattle.world_fates.proofs.node.Once.{of_all}
+use Rattle.world_fates.proofs.node.Tellings.{by_node}
 use Rattle.world_fates.specs.Laws.{NothingWaitsFor}
 use Rattle.world_fates.proofs.Worlds.{IsRunner, WorldStands, member_of, one_of_many, told_by, told_by_all}
 use Rattle.world_fates.proofs.Printing.{JoinsSo, WorldSo, first_so, joined_so}

@@ -18,19 +18,20 @@ use Rattle.node_laws.specs.Clusters.{MayHappen, NodeInput, kept_reached}
 use Rattle.script_lines.specs.Said.{Said, Skipped, Nodes, Octets, Deliver, Crash as Crashes, Tick, Grant, Settle, Restart, Replay, said_within}
 use Rattle.script_lines.proofs.SaidLemmas.{spells_within}
 use Rattle.script_text.specs.Node.{Node, awaiting, opened_by, step_at, with_step}
-use Rattle.script_text.specs.Runner.{Acted, Runner, given_out, most_deliveries, on_delivery, on_grant, on_octets, on_restart, on_tick, runner_opened}
+use Rattle.script_text.specs.Runner.{Acted, Runner, given_out, on_delivery, on_grant, on_octets, on_restart, on_tick, runner_opened}
 use Rattle.script_text.specs.Settings.{Settings}
 use Rattle.script_text.proofs.Going.{IsGoing, delivery_goes, grant_goes, octets_go, restart_goes, tick_goes}
-use Rattle.script_world.specs.Prints.{WorldPrint}
-use Rattle.script_world.specs.Runs.{IsNodeOf, StandsFor}
-use Rattle.script_world.specs.Script.{Joins, Stage, Stepped, moved_by, step_by, step_of, stepped}
-use Rattle.script_world.specs.World.{Due, Moved, NodeInput as LineInput, World, acts, all_come, comes, comes_again, comes_if, comes_to}
-use Rattle.script_world.specs.World.{crashed, crashes, crashes_if, due, grants, hears, if_due, if_up}
-use Rattle.script_world.specs.World.{is_down, is_up, is_up_at, marked, node_numbers, on_replay, on_settle, opened, packet_of, refuses}
-use Rattle.script_world.specs.World.{replays, restarts, restarts_if, runner_at, setup_of, settles, shared, stays, then_moved, ticks, up_or_refuses}
-use Rattle.fate_laws.proofs.Behind.{behind, came_to}
-use Rattle.fate_laws.proofs.Serving.{came_then}
-use Rattle.fate_laws.proofs.Tellings.{FactOfPrints, IsTelling}
+use Rattle.script_text.specs.Prints.{WorldPrint}
+use Rattle.script_text.specs.Runs.{IsNodeOf, StandsFor}
+use Rattle.script_text.specs.Script.{Joins, Stage, Stepped, moved_by, step_by, step_of, stepped}
+use Rattle.script_text.specs.World.{most_deliveries}
+use Rattle.script_text.specs.World.{Due, Moved, NodeInput as LineInput, World, acts, all_come, comes, comes_again, comes_if, comes_to}
+use Rattle.script_text.specs.World.{crashed, crashes, crashes_if, due, grants, hears, if_due, if_up}
+use Rattle.script_text.specs.World.{is_down, is_up, is_up_at, marked, node_numbers, on_replay, on_settle, opened, packet_of, refuses}
+use Rattle.script_text.specs.World.{replays, restarts, restarts_if, runner_at, setup_of, settles, shared, stays, then_moved, ticks, up_or_refuses}
+use Rattle.world_fates.proofs.node.Behind.{behind, came_to}
+use Rattle.world_fates.proofs.node.Serving.{came_then}
+use Rattle.world_fates.proofs.node.Tellings.{FactOfPrints, IsTelling}
 use Rattle.world_fates.specs.Runs.{IsRun, cluster_of, newest_first}
 use Rattle.world_fates.proofs.Places.{row_at, row_least, set_cases}
 use Rattle.world_fates.proofs.Printing.{joined_so, opened_stands}
@@ -186,13 +187,12 @@ module _ (cluster : Cluster) where
   comes_to_node world number node least = by_packet (packet_of world.packets number)
     where
       up : Packet → Runner → Moved
-      up packet runner = shared (marked world number node) node (on_delivery runner packet [])
+      up packet runner = shared (marked world number node) node (on_delivery runner packet)
 
       there : (packet : Packet) (runner : Runner) → runner_at world node ≡ Some runner → MovesTo world (up packet runner)
       there packet runner is past still =
           let now = marked world number node in
-          shared_from now node least runner is (awaiting runner.node []) (on_delivery runner packet []) (held_none now node least runner is)
-          (delivery_goes (Sends node) (sends node) runner packet []) past
+          shared_to now node least runner is (on_delivery runner packet) (delivery_goes (Sends node) (sends node) runner packet) past
           (record {
             stands = record { count = still.stands.count; each = still.stands.each; packets = still.stands.packets };
             none = still.none;

@@ -9,7 +9,7 @@ use Rattle.mc_model.specs.synod.Lists.{In}
 use Rattle.mc_model.specs.synod.Packet.{Packet}
 use Rattle.mc_model.specs.node.Input.{Input}
 use Rattle.mc_model.specs.cluster.Steps.{Cluster, setup_of}
-use Rattle.mc_parts.proofs.Membership.{at_place, in_either, of_only}
+use Rattle.mc_parts.proofs.Membership.{at_place, in_either}
 use Rattle.mc_laws.proofs.Growth.{changed_cases}
 use Rattle.node_model.specs.Kept.{Kept}
 use Rattle.node_model.specs.Stepped.{sender_of}
@@ -17,20 +17,21 @@ use Rattle.node_laws.specs.Clusters.{NodeInput, kept_reached, step_at}
 use Rattle.node_laws.specs.Runs.{IsOneOf}
 use Rattle.script_text.specs.Node.{Node, awaiting}
 use Rattle.script_text.specs.Prints.{Print}
-use Rattle.script_text.specs.Runner.{Acted, Runner, given_out, most_deliveries, on_delivery, on_grant, on_octets, on_restart, on_tick}
+use Rattle.script_text.specs.Runner.{Acted, Runner, given_out, on_delivery, on_grant, on_octets, on_restart, on_tick}
 use Rattle.script_text.specs.Settings.{Settings}
-use Rattle.script_world.specs.Prints.{At, Refuses, StopsSettling, WorldPrint}
-use Rattle.script_world.specs.World.{Due, Moved, NodeInput as LineInput, World, acts, all_come, comes, comes_again, comes_if, comes_to, no_node}
-use Rattle.script_world.specs.World.{crashed, crashes, crashes_if, due, due_among, due_at, due_first, grants, hears, if_due, if_up}
-use Rattle.script_world.specs.World.{is_down, is_up, is_up_at, lacks, marked, no_packet, node_numbers, on_replay, on_settle, packet_of}
-use Rattle.script_world.specs.World.{refuses, replays, restarts, restarts_if, runner_at, settles, shared, stays, takes_part, then_moved}
-use Rattle.script_world.specs.World.{ticks, unsettled, up_or_refuses}
-use Rattle.fate_laws.proofs.Posting.{found_in}
-use Rattle.fate_laws.proofs.Behind.{behind, behind_then, came_to, input_to, sent_later}
-use Rattle.fate_laws.proofs.ReceiptsOut.{AreReceiptsOut, receipts_out_later}
-use Rattle.fate_laws.proofs.Standing.{IsAt, IsFit, Member, WereSent, crash_steps}
-use Rattle.fate_laws.proofs.Tellings.{FactOfPrints, IsTelling, NodePrint, TakesDeliveries, by_node, prints_at}
-use Rattle.fate_laws.proofs.Acting.{ActsSo, IsServing, delivery_acts, gone_are_mute, grant_acts, mute_acts, octets_act, restart_acts, tick_acts}
+use Rattle.script_text.specs.Prints.{At, Refuses, StopsSettling, WorldPrint}
+use Rattle.script_text.specs.World.{most_deliveries}
+use Rattle.script_text.specs.World.{Due, Moved, NodeInput as LineInput, World, acts, all_come, comes, comes_again, comes_if, comes_to, no_node}
+use Rattle.script_text.specs.World.{crashed, crashes, crashes_if, due, due_among, due_at, due_first, grants, hears, if_due, if_up}
+use Rattle.script_text.specs.World.{is_down, is_up, is_up_at, lacks, marked, no_packet, node_numbers, on_replay, on_settle, packet_of}
+use Rattle.script_text.specs.World.{refuses, replays, restarts, restarts_if, runner_at, settles, shared, stays, takes_part, then_moved}
+use Rattle.script_text.specs.World.{ticks, unsettled, up_or_refuses}
+use Rattle.world_fates.proofs.node.Posting.{found_in}
+use Rattle.world_fates.proofs.node.Behind.{behind, behind_then, came_to, input_to, sent_later}
+use Rattle.world_fates.proofs.node.ReceiptsOut.{AreReceiptsOut, receipts_out_later}
+use Rattle.world_fates.proofs.node.Standing.{IsAt, IsFit, Member, WereSent, crash_steps}
+use Rattle.world_fates.proofs.node.Tellings.{FactOfPrints, IsTelling, NodePrint, TakesDeliveries, by_node, prints_at}
+use Rattle.world_fates.proofs.node.Acting.{ActsSo, IsServing, delivery_acts, gone_are_mute, grant_acts, mute_acts, octets_act, restart_acts, tick_acts}
 use Rattle.world_fates.proofs.Places.{row_least, set_cases}
 
 -- ---- a crash of a node
@@ -322,11 +323,10 @@ module _ (cluster : Cluster) (Tells : FactOfPrints) (telling : IsTelling cluster
         by_packet : (found : Option Packet) → packet_of world.packets number ≡ found → MovesSo cluster Tells past (comes_if world number node found)
         by_packet None is = refuses_so past world no_packet stands
         by_packet (Some packet) is =
-            if_up_so node least (λ runner. shared (marked world number node) node (on_delivery runner packet []))
+            if_up_so node least (λ runner. shared (marked world number node) node (on_delivery runner packet))
             (λ one_of runner serving.
-            shared_so past (marked world number node) (marked_stands number node) node one_of true (on_delivery runner packet [])
-            (delivery_acts (member_of cluster node one_of) Tells telling past runner packet [] serving
-            (λ other among. of_only (λ (p : Packet). In p (kept_reached cluster past).packets) packet other (packet_sent number packet is) among)))
+            shared_so past (marked world number node) (marked_stands number node) node one_of true (on_delivery runner packet)
+            (delivery_acts (member_of cluster node one_of) Tells telling past runner packet serving (packet_sent number packet is)))
 
     pub crashes_so : (node number : ℕ) (after : Bool) → 1 ≤ node → MovesSo cluster Tells past (crashes world node number after)
     crashes_so node number after least = by_packet (packet_of world.packets number) refl

@@ -19,9 +19,9 @@ use Rattle.script_text.specs.Laws.{StatesFate}
 use Rattle.script_text.specs.Prints.{Delivers, Gone, Print}
 use Rattle.script_text.specs.Runner.{Runner, held_in}
 use Rattle.script_text.specs.Settings.{Settings}
-use Rattle.script_world.specs.Prints.{At, WorldPrint}
-use Rattle.script_world.specs.Script.{Joins, Stage, Stepped, step_of}
-use Rattle.script_world.specs.World.{NodeInput, World, runner_at}
+use Rattle.script_text.specs.Prints.{At, WorldPrint}
+use Rattle.script_text.specs.Script.{Joins, Stage, Stepped, step_of}
+use Rattle.script_text.specs.World.{NodeInput, World, runner_at}
 
 -- ---- by what came to nodes
 

@@ -1,4 +1,4 @@
-use Rattle.script_text.proofs.Joining.{goes, joined, printed}
+use Rattle.script_text.proofs.Joining.{joined, printed}
 use Rattle.script_text.proofs.laws.lines_join.Goals as goal
 
 pub returns-clause-printed : goal.returns-clause-printed
@@ -6,6 +6,3 @@ returns-clause-printed c = printed
 
 pub returns-clause-joined : goal.returns-clause-joined
 returns-clause-joined c = joined
-
-pub returns-clause-nodes : goal.returns-clause-nodes
-returns-clause-nodes c = goes

@@ -1,7 +1,7 @@
 use Rattle.std.proofs.Common.{◌-◌, arith}
 use Rattle.std.specs.Prelude.{reverse}
 use Rattle.std.specs.List.{range_with_len}
-use Rattle.script_world.specs.World.{all_come, comes_to, node_numbers}
+use Rattle.script_text.specs.World.{all_come, comes_to, node_numbers}
 use Rattle.script_runner.proofs.Following.{all_done, all_left, come_all, come_next, one_done}
 use Rattle.script_runner.proofs.centre.Centre.all_come.Goals as goal
 

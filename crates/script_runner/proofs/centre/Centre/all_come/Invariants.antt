@@ -1,6 +1,6 @@
 use Rattle.std.specs.Prelude.{reverse}
 use Rattle.std.specs.List.{range_with_len}
-use Rattle.script_world.specs.World.{World, all_come}
+use Rattle.script_text.specs.World.{World, all_come}
 use Rattle.script_runner.specs.Centres.{IsWorld}
 use Rattle.script_runner.proofs.Following.{IsLeft}
 use Rattle.script_runner.proofs.centre.Centre.all_come.Given as goal

@@ -1,7 +1,7 @@
 use Rattle.std.proofs.Common.{◌<◌, false, sym, arith}
 use Rattle.mc_types.specs.Nodes.{has}
 use Rattle.script_lines.specs.Said.{nodes_with}
-use Rattle.script_world.specs.World.{lacks}
+use Rattle.script_text.specs.World.{lacks}
 use Rattle.script_runner.proofs.Lacking.{lacks_so, one_further}
 use Rattle.script_runner.proofs.Searching.{none_below}
 use Rattle.script_runner.proofs.centre.Centre.first_open.Goals as goal

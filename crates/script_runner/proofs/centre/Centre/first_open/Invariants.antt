@@ -1,7 +1,7 @@
 use Rattle.std.proofs.Common.{◌≡◌, ◌+◌, ◌<◌, ◌≤◌, ℕ, false}
 use Rattle.mc_types.specs.Nodes.{has}
 use Rattle.script_lines.specs.Said.{nodes_with}
-use Rattle.script_world.specs.World.{World, lacks}
+use Rattle.script_text.specs.World.{World, lacks}
 use Rattle.script_runner.specs.Centres.{IsWorld}
 use Rattle.script_runner.proofs.centre.Centre.first_open.Given as goal
 

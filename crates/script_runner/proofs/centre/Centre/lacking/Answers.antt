@@ -3,7 +3,7 @@ use Rattle.mc_types.specs.Nodes.{has}
 use Rattle.script_lines.specs.Said.{nodes_with}
 use Rattle.sim_net.specs.Network.{numbered}
 use Rattle.synod_acceptor.specs.declared.packet.Packet.{Packet as Sent}
-use Rattle.script_world.specs.World.{lacks, takes_part}
+use Rattle.script_text.specs.World.{lacks, takes_part}
 use Rattle.script_runner.proofs.Lacking.{first_lacks, lacks_so, none_lacks, not_due, one_further}
 use Rattle.script_runner.proofs.centre.Centre.lacking.Goals as goal
 

@@ -1,7 +1,7 @@
 use Rattle.std.proofs.Common.{◌+◌, ◌-◌, length, ap, arith}
 use Rattle.std.specs.Prelude.{reverse}
 use Rattle.std.specs.List.{range_with_len}
-use Rattle.script_world.specs.World.{all_come, on_replay, replays}
+use Rattle.script_text.specs.World.{all_come, on_replay, replays}
 use Rattle.script_runner.proofs.Following.{all_done, one_done, replay_next, replayed_all}
 use Rattle.script_runner.proofs.Repeating.{begins, none_again}
 use Rattle.script_runner.proofs.centre.Centre.replay.Goals as goal

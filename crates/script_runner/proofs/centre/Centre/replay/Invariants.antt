@@ -1,5 +1,5 @@
 use Rattle.std.proofs.Common.{◌-◌, length}
-use Rattle.script_world.specs.World.{World, on_replay, replays}
+use Rattle.script_text.specs.World.{World, on_replay, replays}
 use Rattle.script_runner.specs.Centres.{IsWorld}
 use Rattle.script_runner.proofs.Following.{IsLeft}
 use Rattle.script_runner.proofs.centre.Centre.replay.Given as goal

@@ -1,7 +1,7 @@
 use Rattle.std.proofs.Common.{◌+◌, ◌-◌, arith}
 use Rattle.mc_types.specs.Nodes.{has}
 use Rattle.script_lines.specs.Said.{nodes_with}
-use Rattle.script_world.specs.World.{on_settle}
+use Rattle.script_text.specs.World.{on_settle}
 use Rattle.script_runner.proofs.Settling.{begins, nothing_left, one_came, stopped_if}
 use Rattle.script_runner.proofs.centre.Centre.settle.Goals as goal
 

@@ -1,7 +1,7 @@
 use Rattle.std.proofs.Common.{◌-◌}
 use Rattle.mc_types.specs.Nodes.{has}
 use Rattle.script_lines.specs.Said.{nodes_with}
-use Rattle.script_world.specs.World.{World, on_settle}
+use Rattle.script_text.specs.World.{World, on_settle}
 use Rattle.script_runner.specs.Centres.{IsWorld}
 use Rattle.script_runner.proofs.Settling.{IsUnderWay}
 use Rattle.script_runner.proofs.centre.Centre.settle.Given as goal
