@@ -169,13 +169,13 @@ module _ (settings : Settings) (first : ℕ) (lines : List (List ℕ)) (behind :
   settle_calm nodes text it tail tail_is runs calm small =
       let next = (settled one).next in
       let grown = events_grow settings next tail in
-      let (acted, settles_to, leaves, prints) = settle_leaves settings first (length tail) quiet one streams runner (omega (arith, grown, small)) runs in
+      let (acted, settles_to, done) = settle_leaves settings first (length tail) quiet one streams runner (omega (arith, grown, small)) runs in
       let gone : Went settings first one streams acted tail (Settles ∷ tail) = record {
         next = next;
         quiet = true;
-        runs = leaves;
+        runs = done.0;
         ends = refl;
-        prints = ap (λ (printed : List Print). printed ++ (happen settings next tail).prints) (sym prints);
+        prints = ap (λ (printed : List Print). printed ++ (happen settings next tail).prints) (sym done.1);
         calm = (and_parts true (are_calm settings next true tail) calm).1;
       } in
       went_calm streams acted (on_settle world nodes) tail (Settles ∷ tail) gone
