@@ -14,12 +14,11 @@ use Rattle.pdu_frames.specs.Frames.{Cut, begins_wrong, cut}
 use Rattle.script_lines.specs.Lines.{lines_of}
 use Rattle.script_lines.specs.Said.{Said, Skipped, Nodes, Octets, Deliver, Crash, Tick, Grant, Settle, Restart, Replay, said_within}
 use Rattle.script_text.specs.Settings.{Settings, script_settings}
-use Rattle.script_text.specs.Node.{opened_by}
 use Rattle.script_text.specs.Prints.{At, Print, WorldPrint, text_at, world_text}
 use Rattle.script_text.specs.Pushes.{accounts_up}
 use Rattle.delivery.specs.Targets.{is_up}
 use Rattle.script_text.specs.Runner.{Acted, Runner, held_in, on_grant, on_octets, on_tick, runner_opened}
-use Rattle.script_text.specs.World.{Moved, World, acts, most_deliveries, on_settle, opened, setup_of}
+use Rattle.script_text.specs.World.{Moved, World, acts, most_deliveries, node_opened, on_settle, opened}
 use Rattle.script_text.specs.Events.{Event, Heard, Comes, Ticks, Grants, Settles, Play, and_then, events_from, heard_by, play_from, play_of_lines}
 use Rattle.script_text.specs.OneNode.{OneNode, granted_unless, happen, happens, one_node, one_node_text, played, prints_if, settled, ticks}
 use Rattle.script_text.specs.Calm.{IsCalm, are_calm, may_happen, pushed_in, tick_stir}
@@ -241,7 +240,7 @@ StagePrints play stage number lines = PlayPrints play (prints_from script_settin
 
 -- the runner of the node 1 of one
 abbrev first_runner : ℕ → Runner
-first_runner serial = runner_opened (opened_by (setup_of script_settings 1 serial 1))
+first_runner serial = runner_opened (node_opened script_settings 1 serial 1)
 
 none_below : (place : ℕ) → false ≡ nat_lt place 0
 none_below place = grind arith

@@ -31,6 +31,10 @@ pub record NodeInput : Type 0 where
 abbrev pub comes_to : ℕ → Input → NodeInput
 comes_to node input = record { node = node; input = input }
 
+-- so many nodes, whose first messages have this serial, and are valid for so many seconds if they do not say
+abbrev pub cluster_with : ℕ → ℕ → ℕ → Cluster
+cluster_with nodes serial validity = record { nodes = nodes; serials = λ node. serial; validities = λ node. validity }
+
 -- all nodes open with new stores
 abbrev pub kept_start : Cluster → KeptCluster
 kept_start cluster = record { kept = λ node. opened_new (setup_of cluster node); packets = [] }

@@ -1,21 +1,19 @@
 -- The nodes of the centre open, each over a new store, and no session is connected.
 use Rattle.std.proofs.Common.{◌≡◌, ℕ, zero, suc, ◌+◌, ◌≤◌, List, [], ◌∷◌, ◌++◌, length, map, Some, refl, sym, ap, subst, ◌∙◌, inl, inr, arith, length-append}
 use Rattle.std.specs.Prelude.{false, slice_get}
-use Rattle.std.specs.List.{range_with_len}
-use Rattle.std.proofs.lemmas.List.FromFn.{length-map-range_with_len}
 use Rattle.sim_net.proofs.Growing.{get_push}
-use Rattle.world.specs.Runs.{IsAt, cluster_with}
+use Rattle.node_laws.specs.Clusters.{cluster_with}
+use Rattle.world.specs.Runs.{IsAt}
 use Rattle.script_site.specs.Standing.{IsEmpty}
 use Rattle.script_site.specs.declared.site.Site.{Site}
-use Rattle.script_text.specs.Node.{opened_by}
-use Rattle.script_text.specs.Runner.{Runner, runner_opened}
+use Rattle.script_text.specs.Runner.{Runner}
 use Rattle.script_text.specs.Settings.{Settings}
 use Rattle.script_text.specs.Runs.{IsNodeOf}
-use Rattle.script_text.specs.World.{opened, setup_of}
+use Rattle.script_text.specs.World.{opened}
+use Rattle.script_text.proofs.Opening.{opened_count, opened_there}
 use Rattle.script_runner.specs.Arrivals.{came_in}
 use Rattle.script_runner.specs.Centres.{AreEmpty, IsBeside, IsWorld}
 use Rattle.script_runner.specs.declared.centre.Centre.{Centre}
-use Rattle.script_runner.proofs.Moving.{some_same}
 
 pub none_empty : (sites : List Site) → sites ≡ [] → AreEmpty 0 sites
 none_empty sites none = record {
@@ -40,23 +38,11 @@ one_empty count sites after site are is same =
       ];
     })
 
-at_place : (f : ℕ → Runner) (start count place : ℕ) (runner : Runner) →
-    slice_get (map f (range_with_len start count)) place ≡ Some runner → runner ≡ f (start + place)
-at_place f start zero zero runner found = absurd cc
-at_place f start zero (suc place) runner found = absurd cc
-at_place f start (suc count) zero runner found = let here : start ≡ start + 0 = omega arith in sym (some_same found) ∙ ap f here
-at_place f start (suc count) (suc place) runner found =
-    let later : (start + 1) + place ≡ start + suc place = omega arith in
-    at_place f (start + 1) count place runner found ∙ ap f later
-
 pub starts_as : (settings : Settings) (nodes serial : ℕ) (centre : Centre) → nodes ≤ 9 → AreEmpty nodes centre.sites.items
     → IsAt (cluster_with nodes serial settings.validity) [] [] centre.world
     → ((number node : ℕ) → came_in centre.arrivals number node ≡ false) → IsWorld centre (opened settings nodes serial)
 starts_as settings nodes serial centre few are at nobody =
-    let opens : ℕ → Runner = λ node. runner_opened (opened_by (setup_of settings nodes serial node)) in
-    let count = length-map-range_with_len opens 1 nodes in
-    let runner_is : (place : ℕ) (runner : Runner) → slice_get (map opens (range_with_len 1 nodes)) place ≡ Some runner → runner ≡ opens (suc place) =
-    λ place runner there. at_place opens 1 nodes place runner there ∙ ap opens (let same : 1 + place ≡ suc place = omega arith in same) in
+    let count = opened_count settings nodes serial in
     record {
       cluster = cluster_with nodes serial settings.validity;
       inputs = [];
@@ -64,7 +50,8 @@ starts_as settings nodes serial centre few are at nobody =
       stands = record {
         count = count;
         each = λ place runner there.
-            subst (λ (r : Runner). IsNodeOf (cluster_with nodes serial settings.validity) [] (suc place) r.node) (sym (runner_is place runner there))
+            subst (λ (r : Runner). IsNodeOf (cluster_with nodes serial settings.validity) [] (suc place) r.node)
+            (opened_there settings nodes serial place runner there)
             (record { setup = refl; kept = refl });
         packets = refl;
       };
@@ -72,7 +59,7 @@ starts_as settings nodes serial centre few are at nobody =
       few = subst (λ (n : ℕ). n ≤ 9) (sym count) few;
       each = λ place site runner found there.
           let empty = are.each place site found in
-          subst (λ (r : Runner). IsBeside site (suc place) r) (sym (runner_is place runner there)) (record {
+          subst (λ (r : Runner). IsBeside site (suc place) r) (opened_there settings nodes serial place runner there) (record {
             node_is = empty.node_is;
             sessions = empty.sessions;
             streams = empty.streams;

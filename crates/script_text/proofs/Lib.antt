@@ -3,3 +3,4 @@ pub mod Joining
 pub mod Example
 pub mod Texts
 pub mod ThreeNodes
+pub mod Opening

@@ -4,12 +4,12 @@ use Rattle.std.specs.Prelude.{reverse, slice_get, slice_set, Option, Some, None,
 use Rattle.std.specs.List.{range_with_len}
 use Rattle.mc_model.specs.synod.Packet.{Packet}
 use Rattle.mc_model.specs.node.Input.{Crash}
-use Rattle.mc_model.specs.node.Setup.{Setup}
+use Rattle.mc_model.specs.cluster.Steps.{setup_of}
 use Rattle.node_model.specs.Stepped.{sender_of}
-pub use Rattle.node_laws.specs.Clusters.{NodeInput}
+pub use Rattle.node_laws.specs.Clusters.{NodeInput, cluster_with}
 use Rattle.script_lines.specs.Said.{is_listed}
 use Rattle.script_text.specs.Settings.{Settings}
-use Rattle.script_text.specs.Node.{opened_by, step_at, with_step}
+use Rattle.script_text.specs.Node.{Node, opened_by, step_at, with_step}
 use Rattle.script_text.specs.Runner.{Runner, Acted, given_out, gone_prints, on_delivery, on_grant, on_octets, on_restart}
 use Rattle.script_text.specs.Runner.{on_tick, runner_opened}
 use Rattle.script_text.specs.Prints.{WorldPrint, At, Refuses, StopsSettling}
@@ -30,13 +30,13 @@ pub record Moved : Type 0 where
 -- ---- the start
 
 -- The node of a number among so many.
-abbrev pub setup_of : Settings → ℕ → ℕ → ℕ → Setup
-setup_of settings count serial node = record { node = node; nodes = count; first_serial = serial; default_validity = settings.validity }
+abbrev pub node_opened : Settings → ℕ → ℕ → ℕ → Node
+node_opened settings count serial node = opened_by (setup_of (cluster_with count serial settings.validity) node)
 
 -- so many nodes open with new stores, and no session is connected
 abbrev pub opened : Settings → ℕ → ℕ → World
 opened settings count serial = record {
-  runners = map (λ node. runner_opened (opened_by (setup_of settings count serial node))) (range_with_len 1 count);
+  runners = map (λ node. runner_opened (node_opened settings count serial node)) (range_with_len 1 count);
   packets = [];
   came = λ number node. false;
 }

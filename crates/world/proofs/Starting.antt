@@ -17,7 +17,8 @@ use Rattle.node_core.specs.Nodes.{HasOpened}
 use Rattle.sim_net.proofs.Growing.{get_push}
 use Rattle.sim_net.specs.Network.{numbered}
 use Rattle.world.specs.Members.{AreOpened, IsOpened}
-use Rattle.world.specs.Runs.{IsAt, IsMember, IsSomewhere, StandsAs, cluster_with}
+use Rattle.node_laws.specs.Clusters.{cluster_with}
+use Rattle.world.specs.Runs.{IsAt, IsMember, IsSomewhere, StandsAs}
 use Rattle.world.specs.Scenes.{Placed, Scene}
 
 pub is_opened : (setup : Setup) (entries : List (Slot × SlotRecord)) (started : ℕ) (m : Placed) (life : Life) → entries ≡ [] → started ≡ 0 → m.up ≡ true →

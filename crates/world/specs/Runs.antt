@@ -164,10 +164,6 @@ pub record IsAt (cluster : Cluster) (behind : List Packet) (inputs : List NodeIn
   pub packets : (kept_reached cluster inputs).packets ≡ reverse (map packet_of w.packets) ++ behind
   pub fresh : w.fresh ≡ true → (inputs ≡ []) × (behind ≡ [])
 
--- a cluster of so many nodes with the same serial of their first messages and the same validity
-abbrev pub cluster_with : ℕ → ℕ → ℕ → Cluster
-cluster_with nodes serial validity = record { nodes = nodes; serials = λ node. serial; validities = λ node. validity }
-
 -- why no world starts with so many nodes and this serial (own)
 abbrev pub start_refusal : ℕ → ℕ → Option StartFault
 start_refusal nodes serial =

@@ -14,7 +14,7 @@ use Rattle.node_laws.proofs.Orders.{in_mapped}
 use Rattle.pdu_frames.specs.Frames.{cut}
 use Rattle.script_lines.specs.Said.{Said, Skipped, Nodes, Octets, Deliver, Crash, Tick, Grant, Settle, Restart, Replay, said_within}
 use Rattle.script_lines.proofs.SaidLemmas.{spells_within}
-use Rattle.script_text.specs.Node.{opened_by}
+use Rattle.script_text.proofs.Opening.{opened_there}
 use Rattle.script_text.specs.Prints.{Delivers, Gone, Print}
 use Rattle.script_text.specs.Runner.{Acted, Runner, given_out, held_in, on_delivery, on_grant, on_octets, on_restart, on_tick, runner_opened}
 use Rattle.script_text.specs.Settings.{Settings}
@@ -24,7 +24,7 @@ use Rattle.script_text.specs.World.{most_deliveries}
 use Rattle.script_text.specs.World.{Due, Moved, NodeInput, World, acts, all_come, comes as packet_comes, comes_again, comes_if, comes_to, no_node}
 use Rattle.script_text.specs.World.{crashed, crashes, crashes_if, due, grants, hears, if_due, if_up}
 use Rattle.script_text.specs.World.{is_down, is_up, is_up_at, marked, no_packet, node_numbers, on_replay, on_settle, opened, packet_of, refuses}
-use Rattle.script_text.specs.World.{replays, restarts, restarts_if, runner_at, setup_of, settles, shared, stays, then_moved, ticks, unsettled}
+use Rattle.script_text.specs.World.{replays, restarts, restarts_if, runner_at, settles, shared, stays, then_moved, ticks, unsettled}
 use Rattle.script_text.specs.World.{up_or_refuses}
 use Rattle.world_fates.specs.Deliveries.{GoesOut, comes}
 use Rattle.world_fates.proofs.Places.{row_least, set_cases}
@@ -471,15 +471,4 @@ module _ (settings : Settings) (world : World) (sound : AreSound world) (line : 
 
 pub opened_apart : (settings : Settings) (count serial node : ℕ) (runner : Runner) → runner_at (opened settings count serial) node ≡ Some runner →
     runner.sessions ≡ []
-opened_apart settings count serial node runner is =
-    by_number (slice_get (range_with_len 1 count) (pred node)) (sym (slice_get-map new (range_with_len 1 count) (pred node)) ∙ is)
-  where
-    new : ℕ → Runner
-    new number = runner_opened (opened_by (setup_of settings count serial number))
-
-    same : (number : ℕ) → Some (new number) ≡ Some runner → new number ≡ runner
-    same number is = cc
-
-    by_number : (found : Option ℕ) → option_map new found ≡ Some runner → runner.sessions ≡ []
-    by_number None is = absurd cc
-    by_number (Some number) is = ap (λ (r : Runner). r.sessions) (sym (same number is))
+opened_apart settings count serial node runner is = ap (λ (r : Runner). r.sessions) (sym (opened_there settings count serial (pred node) runner is))

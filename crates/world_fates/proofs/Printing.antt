@@ -13,14 +13,13 @@ use Rattle.script_text.specs.Runner.{Runner, runner_opened}
 use Rattle.script_text.specs.Settings.{Settings}
 use Rattle.script_text.specs.Prints.{WorldPrint}
 use Rattle.script_text.specs.Script.{Joins, Stage, Stepped, after, moved_by, prints_from, step_by, step_of, stepped}
-use Rattle.script_text.specs.Node.{opened_by}
 use Rattle.script_text.specs.World.{Moved, NodeInput as LineInput, World, comes, crashes, grants, hears, on_replay, on_settle, opened}
-use Rattle.script_text.specs.World.{restarts, setup_of, ticks}
+use Rattle.script_text.specs.World.{node_opened, restarts, ticks}
 use Rattle.world_fates.proofs.node.Behind.{behind}
 use Rattle.world_fates.proofs.node.Standing.{opened_fit}
 use Rattle.world_fates.proofs.node.Tellings.{FactOfPrints, IsTelling, NodePrint, TakesDeliveries}
-use Rattle.world_fates.specs.Runs.{cluster_of}
-use Rattle.world_fates.proofs.Places.{row_at}
+use Rattle.node_laws.specs.Clusters.{cluster_with}
+use Rattle.script_text.proofs.Opening.{opened_count, opened_there}
 use Rattle.world_fates.proofs.Worlds.{IsRunner, MovesSo, WorldStands, behind_lines, comes_so, crashes_so, grants_so, hears_so, inputs_of}
 use Rattle.world_fates.proofs.Worlds.{member_of, replay_so, restarts_so, settle_so, ticks_so, told_by, told_by_both}
 
@@ -134,37 +133,26 @@ module _ (settings : Settings) (cluster : Cluster) (Tells : FactOfPrints) (telli
 -- ---- a world that opens
 
 pub opened_stands : (settings : Settings) (count serial : ℕ) → count ≤ 9 → 1 ≤ serial →
-    WorldStands (cluster_of settings count serial) [] (opened settings count serial)
+    WorldStands (cluster_with count serial settings.validity) [] (opened settings count serial)
 opened_stands settings count serial few least = record {
-  fit = opened_fit (cluster_of settings count serial) (λ node. least);
+  fit = opened_fit (cluster_with count serial settings.validity) (λ node. least);
   few = few;
-  count = length-map-range_with_len new 1 count;
+  count = opened_count settings count serial;
   each = λ number one_of runner is.
-      by_number number one_of runner (slice_get (range_with_len 1 count) (pred number)) refl
-      (sym (slice_get-map new (range_with_len 1 count) (pred number)) ∙ is);
+      let least = one_of.least in
+      let same : suc (pred number) ≡ number = omega (arith, least) in
+      let new : ℕ → Runner = λ node. runner_opened (node_opened settings count serial node) in
+      subst (IsRunner (member_of (cluster_with count serial settings.validity) number one_of) [])
+      (ap new (sym same) ∙ opened_there settings count serial (pred number) runner is) (new_stands number one_of);
   sent = λ packet among. absurd among;
 }
   where
-    new : ℕ → Runner
-    new node = runner_opened (opened_by (setup_of settings count serial node))
-
-    new_stands : (number : ℕ) (one_of : IsOneOf (cluster_setup (cluster_of settings count serial) number)) →
-        IsRunner (member_of (cluster_of settings count serial) number one_of) [] (new number)
+    new_stands : (number : ℕ) (one_of : IsOneOf (cluster_setup (cluster_with count serial settings.validity) number)) →
+        IsRunner (member_of (cluster_with count serial settings.validity) number one_of) [] (runner_opened (node_opened settings count serial number))
     new_stands number one_of = record {
       at = record { is = refl; sent = λ packet among. absurd among; up_is = refl };
       waiting = λ receipt among. absurd among;
     }
-
-    by_number : (number : ℕ) (one_of : IsOneOf (cluster_setup (cluster_of settings count serial) number)) (runner : Runner) (found : Option ℕ) →
-        slice_get (range_with_len 1 count) (pred number) ≡ found → option_map new found ≡ Some runner →
-        IsRunner (member_of (cluster_of settings count serial) number one_of) [] runner
-    by_number number one_of runner None at is = absurd cc
-    by_number number one_of runner (Some node) at is =
-        let least = one_of.least in
-        let row = row_at 1 count (pred number) node at in
-        let same : node ≡ number = omega (arith, row, least) in
-        let here : new node ≡ runner = cc in
-        subst (IsRunner (member_of (cluster_of settings count serial) number one_of) []) (ap new (sym same) ∙ here) (new_stands number one_of)
 
 module _ (settings : Settings) (Tells : Cluster → FactOfPrints)
     (telling : (cluster : Cluster) → IsTelling cluster (Tells cluster)) (takes : (cluster : Cluster) → TakesDeliveries (Tells cluster)) where
@@ -209,7 +197,7 @@ module _ (settings : Settings) (Tells : Cluster → FactOfPrints)
       by_said (Some (Nodes count serial)) says is later =
           let on = leads_on (Some (opened settings count serial)) is in
           let wording = (spells_within 9 line (Nodes count serial) says).wording in
-          let cluster = cluster_of settings count serial in
+          let cluster = cluster_with count serial settings.validity in
           let rest = joined_so settings cluster (Tells cluster) (telling cluster) (takes cluster) lines [] (opened settings count serial)
           (opened_stands settings count serial wording.0.most wording.1) joins.1 joins.2 stage on.2 in
           subst (λ (s : Stage). StageSo s inputs prints) (sym rest.stage_is)

@@ -14,12 +14,13 @@ use Rattle.mc_model.specs.cluster.Steps.{Cluster, setup_of as cluster_setup}
 use Rattle.mc_laws.proofs.Growth.{changed_here}
 use Rattle.node_model.specs.Outputs.{Stepped as NodeStep}
 use Rattle.node_model.specs.Stepped.{stepped as node_stepped}
-use Rattle.node_laws.specs.Clusters.{MayHappen, NodeInput, kept_reached}
+use Rattle.node_laws.specs.Clusters.{MayHappen, NodeInput, cluster_with, kept_reached}
 use Rattle.script_lines.specs.Said.{Said, Skipped, Nodes, Octets, Deliver, Crash as Crashes, Tick, Grant, Settle, Restart, Replay, said_within}
 use Rattle.script_lines.proofs.SaidLemmas.{spells_within}
 use Rattle.script_text.specs.Node.{Node, awaiting, opened_by, step_at, with_step}
 use Rattle.script_text.specs.Runner.{Acted, Runner, given_out, on_delivery, on_grant, on_octets, on_restart, on_tick, runner_opened}
 use Rattle.script_text.specs.Settings.{Settings}
+use Rattle.script_text.proofs.Opening.{opened_count, opened_there}
 use Rattle.script_text.proofs.Going.{IsGoing, delivery_goes, grant_goes, octets_go, restart_goes, tick_goes}
 use Rattle.script_text.specs.Prints.{WorldPrint}
 use Rattle.script_text.specs.Runs.{IsNodeOf, StandsFor}
@@ -28,12 +29,12 @@ use Rattle.script_text.specs.World.{most_deliveries}
 use Rattle.script_text.specs.World.{Due, Moved, NodeInput as LineInput, World, acts, all_come, comes, comes_again, comes_if, comes_to}
 use Rattle.script_text.specs.World.{crashed, crashes, crashes_if, due, grants, hears, if_due, if_up}
 use Rattle.script_text.specs.World.{is_down, is_up, is_up_at, marked, node_numbers, on_replay, on_settle, opened, packet_of, refuses}
-use Rattle.script_text.specs.World.{replays, restarts, restarts_if, runner_at, setup_of, settles, shared, stays, then_moved, ticks, up_or_refuses}
+use Rattle.script_text.specs.World.{replays, restarts, restarts_if, runner_at, settles, shared, stays, then_moved, ticks, up_or_refuses}
 use Rattle.world_fates.proofs.node.Behind.{behind, came_to}
 use Rattle.world_fates.proofs.node.Serving.{came_then}
 use Rattle.world_fates.proofs.node.Tellings.{FactOfPrints, IsTelling}
-use Rattle.world_fates.specs.Runs.{IsRun, cluster_of, newest_first}
-use Rattle.world_fates.proofs.Places.{row_at, row_least, set_cases}
+use Rattle.world_fates.specs.Runs.{IsRun}
+use Rattle.world_fates.proofs.Places.{row_least, set_cases}
 use Rattle.world_fates.proofs.Printing.{joined_so, opened_stands}
 use Rattle.world_fates.proofs.Worlds.{behind_lines, due_least, inputs_of, kept_apart, of_one_node}
 
@@ -327,32 +328,17 @@ module _ (cluster : Cluster) where
 
 -- ---- a world that opens
 
-opened_still : (settings : Settings) (count serial : ℕ) → StandsStill (cluster_of settings count serial) [] (opened settings count serial)
+opened_still : (settings : Settings) (count serial : ℕ) → StandsStill (cluster_with count serial settings.validity) [] (opened settings count serial)
 opened_still settings count serial = record {
   stands = record {
-    count = length-map-range_with_len new 1 count;
+    count = opened_count settings count serial;
     each = λ place runner is.
-        subst (λ (r : Runner). IsNodeOf (cluster_of settings count serial) [] (suc place) r.node) (new_at place runner is)
-        (record { setup = refl; kept = refl });
+        subst (λ (r : Runner). IsNodeOf (cluster_with count serial settings.validity) [] (suc place) r.node)
+        (opened_there settings count serial place runner is) (record { setup = refl; kept = refl });
     packets = refl;
   };
-  none = λ place runner is. ap (λ (r : Runner). r.node.packets) (sym (new_at place runner is));
+  none = λ place runner is. ap (λ (r : Runner). r.node.packets) (sym (opened_there settings count serial place runner is));
 }
-  where
-    new : ℕ → Runner
-    new node = runner_opened (opened_by (setup_of settings count serial node))
-
-    new_at : (place : ℕ) (runner : Runner) → slice_get (opened settings count serial).runners place ≡ Some runner → new (suc place) ≡ runner
-    new_at place runner is =
-        by_number (slice_get (range_with_len 1 count) place) refl (sym (slice_get-map new (range_with_len 1 count) place) ∙ is)
-      where
-        by_number : (found : Option ℕ) → slice_get (range_with_len 1 count) place ≡ found → option_map new found ≡ Some runner → new (suc place) ≡ runner
-        by_number None at is = absurd cc
-        by_number (Some number) at is =
-            let row = row_at 1 count place number at in
-            let same : suc place ≡ number = omega (arith, row) in
-            let here : new number ≡ runner = cc in
-            ap new same ∙ here
 
 -- ---- what lines brought to nodes may happen
 
@@ -374,8 +360,8 @@ behind_is (next ∷ inputs) past =
     ∙ sym (append_assoc (reverse inputs) (next ∷ []) past)
     ∙ ap (λ (front : List NodeInput). front ++ past) (sym (reverse_onto inputs next []))
 
-newest_is : (inputs : List LineInput) → behind (inputs_of inputs) [] ≡ newest_first inputs
-newest_is inputs = behind_is (inputs_of inputs) [] ∙ append-nil (reverse (inputs_of inputs))
+newest_is : (inputs : List LineInput) → behind (inputs_of inputs) [] ≡ reverse inputs
+newest_is inputs = behind_is (inputs_of inputs) [] ∙ append-nil (reverse (inputs_of inputs)) ∙ ap reverse (map-id inputs)
 
 pub script_run : (settings : Settings) (lines : List (List ℕ)) (came : List LineInput) (prints : List WorldPrint) (world : World) →
     Joins settings None lines came prints (Some world) → IsRun settings lines came world
@@ -416,14 +402,14 @@ script_run settings (line ∷ lines) came prints world joins =
         })
     by_said (Some (Nodes count serial)) says is later =
         let first = opened settings count serial in
-        let cluster = cluster_of settings count serial in
+        let cluster = cluster_with count serial settings.validity in
         let on = leads_on (Some first) is in
         let wording = (spells_within 9 line (Nodes count serial) says).wording in
         let rest = joined_so settings cluster nothing_told (tells_nothing cluster) (λ last past node number session taken prints submitted told. tt) lines []
         first
         (opened_stands settings count serial wording.0.most wording.1) joins.1 joins.2 (Some world) on.1 in
         let still = lines_to cluster settings lines first joins.1 joins.2 world on.1 [] (opened_still settings count serial) in
-        let now : behind (inputs_of joins.1) [] ≡ newest_first came = newest_is joins.1 ∙ ap newest_first (sym on.0) in
+        let now : behind (inputs_of joins.1) [] ≡ reverse came = newest_is joins.1 ∙ ap reverse (sym on.0) in
         record {
           count = count;
           serial = serial;
