@@ -21,7 +21,7 @@ use Rattle.script_text.specs.Runner.{Owned, Told, in_front, owner_of, replied, r
 use Rattle.script_text.specs.Settings.{Settings}
 use Rattle.script_text.specs.Laws.{StatesFate}
 use Rattle.script_text.specs.Prints.{At, WorldPrint}
-use Rattle.script_text.specs.World.{NodeInput as LineInput, World}
+use Rattle.script_text.specs.World.{World}
 use Rattle.world_fates.proofs.node.Reports.{IsReportOf}
 use Rattle.world_fates.proofs.node.Once.{of_all}
 use Rattle.world_fates.proofs.node.Telling.{IsMute, IsTold, Shows, delivery_is_mute, reply_is_told, report_tells_no_deletion, report_tells_no_state}
@@ -231,7 +231,7 @@ module _ (cluster : Cluster) where
   }
 
 -- what lines print that lead to a world was given out then
-pub given_then_so : (settings : Settings) (inputs : List LineInput) (world : World) (prints : List WorldPrint)
+pub given_then_so : (settings : Settings) (inputs : List NodeInput) (world : World) (prints : List WorldPrint)
     (so : WorldSo settings GivenFrom given_telling given_takes inputs world prints)
     (node : ℕ) (print : Print) → In (At node print) prints → TellsGiven so.cluster so.past print
 given_then_so settings inputs world prints so node print among =

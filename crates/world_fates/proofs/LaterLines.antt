@@ -20,35 +20,27 @@ use Rattle.script_text.specs.Settings.{Settings}
 use Rattle.script_text.specs.Prints.{At, Refuses, StopsSettling, WorldPrint}
 use Rattle.script_text.specs.Script.{Joins, Stage, Stepped, moved_by, step_by, step_of, stepped}
 use Rattle.script_text.specs.World.{most_deliveries}
-use Rattle.script_text.specs.World.{Due, Moved, NodeInput as LineInput, World, acts, all_come, comes, comes_again, comes_if, comes_to as come_to, no_node}
+use Rattle.script_text.specs.World.{Due, Moved, World, acts, all_come, comes, comes_again, comes_if, comes_to as come_to, no_node}
 use Rattle.script_text.specs.World.{crashed, crashes, crashes_if, due, grants, hears, if_due, if_up, is_down, is_up, is_up_at, marked, no_packet}
 use Rattle.script_text.specs.World.{node_numbers, on_replay, on_settle, packet_of, refuses, replays, restarts, restarts_if, runner_at, settles, shared}
 use Rattle.script_text.specs.World.{stays, then_moved, ticks, unsettled, up_or_refuses}
 use Rattle.world_fates.proofs.node.Behind.{behind, behind_both, came_to, happened_before, input_to}
 use Rattle.world_fates.proofs.node.StepsOut.{step_now}
 use Rattle.world_fates.proofs.Places.{row_least, set_cases}
-use Rattle.world_fates.proofs.Worlds.{due_least, inputs_of, kept_apart, to_cluster}
+use Rattle.world_fates.proofs.Worlds.{due_least, kept_apart}
 use Rattle.world_fates.proofs.Lines.{one_node, printed_at}
 use Rattle.world_fates.proofs.Later.{ActsWell, CameSince, IsFine, ServesWell, delivery_well, ended_well, grant_well, octets_well, restart_well, since_later}
 use Rattle.world_fates.proofs.Later.{tick_well}
 use Rattle.world_fates.proofs.Asking.{AsksOn}
 
-of_one : (node : ℕ) (inputs : List Input) → inputs_of (map (λ (input : Input). record { node = node; input = input }) inputs) ≡ map (input_to node) inputs
-of_one node [] = refl
-of_one node (input ∷ inputs) = ap (λ (others : List NodeInput). input_to node input ∷ others) (of_one node inputs)
-
-lines_then : (one other : List LineInput) (past : List NodeInput) → behind (inputs_of (one ++ other)) past ≡ behind (inputs_of other) (behind (inputs_of one) past)
-lines_then one other past =
-    ap (λ (inputs : List NodeInput). behind inputs past) (map-append to_cluster one other) ∙ behind_both (inputs_of one) (inputs_of other) past
-
-lines_front : (cluster : Cluster) (one other : List LineInput) (past : List NodeInput) → MayHappen cluster (behind (inputs_of (one ++ other)) past) →
-    MayHappen cluster (behind (inputs_of one) past)
+lines_front : (cluster : Cluster) (one other : List NodeInput) (past : List NodeInput) → MayHappen cluster (behind (one ++ other) past) →
+    MayHappen cluster (behind one past)
 lines_front cluster one other past may =
-    happened_before cluster (inputs_of other) (behind (inputs_of one) past) (subst (MayHappen cluster) (lines_then one other past) may)
+    happened_before cluster other (behind one past) (subst (MayHappen cluster) (behind_both one other past) may)
 
-lines_back : (cluster : Cluster) (one other : List LineInput) (past : List NodeInput) → MayHappen cluster (behind (inputs_of (one ++ other)) past) →
-    MayHappen cluster (behind (inputs_of other) (behind (inputs_of one) past))
-lines_back cluster one other past may = subst (MayHappen cluster) (lines_then one other past) may
+lines_back : (cluster : Cluster) (one other : List NodeInput) (past : List NodeInput) → MayHappen cluster (behind (one ++ other) past) →
+    MayHappen cluster (behind other (behind one past))
+lines_back cluster one other past may = subst (MayHappen cluster) (behind_both one other past) may
 
 -- inputs behind others that are behind the first ones
 record IsBehind (first past : List NodeInput) : Type 0 where
@@ -76,11 +68,11 @@ module _ (cluster : Cluster) (m : ℕ) (least_m : 1 ≤ m) (first : List NodeInp
   WorldWell past world = (runner : Runner) → runner_at world m ≡ Some runner → Serves past runner
 
   record MovesWell (past : List NodeInput) (moved : Moved) : Type 0 where
-    well : WorldWell (behind (inputs_of moved.inputs) past) moved.next
+    well : WorldWell (behind moved.inputs past) moved.next
     fine : (print : Print) → In (At m print) moved.prints → Fine print
 
   abbrev May : List NodeInput → Moved → Type 0
-  May past moved = MayHappen cluster (behind (inputs_of moved.inputs) past)
+  May past moved = MayHappen cluster (behind moved.inputs past)
 
   stays_well : (past : List NodeInput) (world : World) → WorldWell past world → MovesWell past (stays world)
   stays_well past world well = record { well = well; fine = λ print among. absurd among }
@@ -99,10 +91,10 @@ module _ (cluster : Cluster) (m : ℕ) (least_m : 1 ≤ m) (first : List NodeInp
       none print (inl same) = cc
       none print (inr nothing) = nothing
 
-  then_well : (past : List NodeInput) (one other : Moved) → MovesWell past one → MovesWell (behind (inputs_of one.inputs) past) other →
+  then_well : (past : List NodeInput) (one other : Moved) → MovesWell past one → MovesWell (behind one.inputs past) other →
       MovesWell past (then_moved one other)
   then_well past one other here there = record {
-    well = λ runner is. subst (λ (now : List NodeInput). Serves now runner) (sym (lines_then one.inputs other.inputs past)) (there.well runner is);
+    well = λ runner is. subst (λ (now : List NodeInput). Serves now runner) (sym (behind_both one.inputs other.inputs past)) (there.well runner is);
     fine = λ print among. elim (in_either (At m print) one.prints other.prints among) [ inl a ↦ here.fine print a | inr b ↦ there.fine print b ];
   }
 
@@ -138,8 +130,7 @@ module _ (cluster : Cluster) (m : ℕ) (least_m : 1 ≤ m) (first : List NodeInp
     shared_well : (acted : Acted) → (node ≡ m → Acts past acted) → MovesWell past (shared world node acted)
     shared_well acted acts = record {
       well = λ runner is.
-          subst (λ (inputs : List NodeInput). Serves (behind inputs past) runner) (sym (of_one node acted.inputs))
-          (elim (set_cases world.runners (pred node) (given_out acted.next) (pred m) runner is) [
+          elim (set_cases world.runners (pred node) (given_out acted.next) (pred m) runner is) [
             | inl here ↦
                 let same = one_node node m least least_m here.0 in
                 let it = acts (sym same) in
@@ -149,7 +140,7 @@ module _ (cluster : Cluster) (m : ℕ) (least_m : 1 ≤ m) (first : List NodeInp
                   came = it.came;
                 }))
             | inr apart ↦ apart_well acted.inputs runner (λ same. apart.1 (ap pred same)) (well runner apart.0)
-          ]);
+          ];
       fine = λ print among.
           let it = printed_at node m acted.prints print among in
           (acts (sym it.0)).fine print it.1;
@@ -159,7 +150,7 @@ module _ (cluster : Cluster) (m : ℕ) (least_m : 1 ≤ m) (first : List NodeInp
     shared_may : (acted : Acted) → node ≡ m → May past (shared world node acted) → MayHappen cluster (came_to m acted.inputs past)
     shared_may acted same may =
         subst (λ (n : ℕ). MayHappen cluster (came_to n acted.inputs past)) same
-        (subst (λ (inputs : List NodeInput). MayHappen cluster (behind inputs past)) (of_one node acted.inputs) may)
+        may
 
     if_up_well : (up : Runner → Moved) → ((runner : Runner) → runner_at world node ≡ Some runner → May past (up runner) → MovesWell past (up runner)) →
         May past (if_up world node up) → MovesWell past (if_up world node up)
@@ -260,7 +251,7 @@ module _ (cluster : Cluster) (m : ℕ) (least_m : 1 ≤ m) (first : List NodeInp
           let other = settles more nodes one.next in
           let here = comes_well past world well next.number next.node (due_least world nodes (range_with_len 1 (length world.packets)) next is)
           (lines_front cluster one.inputs other.inputs past may) in
-          then_well past one other here (others (behind (inputs_of one.inputs) past) one.next here.well (lines_back cluster one.inputs other.inputs past may))
+          then_well past one other here (others (behind one.inputs past) one.next here.well (lines_back cluster one.inputs other.inputs past may))
 
   come_to_well : (number : ℕ) (nodes : List ℕ) → ((node : ℕ) → In node nodes → 1 ≤ node) → (past : List NodeInput) (world : World) → WorldWell past world →
       May past (come_to number nodes world) → MovesWell past (come_to number nodes world)
@@ -271,7 +262,7 @@ module _ (cluster : Cluster) (m : ℕ) (least_m : 1 ≤ m) (first : List NodeInp
       let other = come_to number nodes one.next in
       let here = comes_again_well past world well number node (least node (inl refl)) (lines_front cluster one.inputs other.inputs past may) in
       then_well past one other here
-      (come_to_well number nodes (λ n among. least n (inr among)) (behind (inputs_of one.inputs) past) one.next here.well
+      (come_to_well number nodes (λ n among. least n (inr among)) (behind one.inputs past) one.next here.well
       (lines_back cluster one.inputs other.inputs past may))
 
   all_come_well : (numbers : List ℕ) (past : List NodeInput) (world : World) → WorldWell past world → May past (all_come numbers world) →
@@ -284,7 +275,7 @@ module _ (cluster : Cluster) (m : ℕ) (least_m : 1 ≤ m) (first : List NodeInp
       let here = come_to_well number (node_numbers world) (λ node among. row_least 1 (length world.runners) node among) past world well
       (lines_front cluster one.inputs other.inputs past may) in
       then_well past one other here
-      (all_come_well numbers (behind (inputs_of one.inputs) past) one.next here.well (lines_back cluster one.inputs other.inputs past may))
+      (all_come_well numbers (behind one.inputs past) one.next here.well (lines_back cluster one.inputs other.inputs past may))
 
   replays_well : (more count : ℕ) (past : List NodeInput) (world : World) → WorldWell past world → May past (replays more count world) →
       MovesWell past (replays more count world)
@@ -295,7 +286,7 @@ module _ (cluster : Cluster) (m : ℕ) (least_m : 1 ≤ m) (first : List NodeInp
       let other = replays more count one.next in
       let here = all_come_well (reverse (range_with_len 1 count)) past world well (lines_front cluster one.inputs other.inputs past may) in
       then_well past one other here
-      (replays_well more count (behind (inputs_of one.inputs) past) one.next here.well (lines_back cluster one.inputs other.inputs past may))
+      (replays_well more count (behind one.inputs past) one.next here.well (lines_back cluster one.inputs other.inputs past may))
 
   -- ---- lines
 
@@ -303,12 +294,12 @@ module _ (cluster : Cluster) (m : ℕ) (least_m : 1 ≤ m) (first : List NodeInp
   record LineWell (past : List NodeInput) (done : Stepped) : Type 0 where
     next : World
     stage_is : done.stage ≡ Some next
-    well : WorldWell (behind (inputs_of done.inputs) past) next
+    well : WorldWell (behind done.inputs past) next
     fine : (print : Print) → In (At m print) done.prints → Fine print
 
   module _ (settings : Settings) (past : List NodeInput) (world : World) (well : WorldWell past world) (line : List ℕ) where
     abbrev MayDo : Stepped → Type 0
-    MayDo done = MayHappen cluster (behind (inputs_of done.inputs) past)
+    MayDo done = MayHappen cluster (behind done.inputs past)
 
     does_well : (moved : Moved) (done : Stepped) → stepped moved ≡ Some done → (May past moved → MovesWell past moved) → MayDo done → LineWell past done
     does_well moved done is moves may =
@@ -356,19 +347,19 @@ module _ (cluster : Cluster) (m : ℕ) (least_m : 1 ≤ m) (first : List NodeInp
         by_said (Some said) says is = said_well said done says is
 
   -- what these lines print at the node is fine
-  pub lines_fine : (settings : Settings) (lines : List (List ℕ)) (past : List NodeInput) (world : World) → WorldWell past world → (inputs : List LineInput)
+  pub lines_fine : (settings : Settings) (lines : List (List ℕ)) (past : List NodeInput) (world : World) → WorldWell past world → (inputs : List NodeInput)
       (prints : List WorldPrint) (stage : Stage) → Joins settings (Some world) lines inputs prints stage →
-      MayHappen cluster (behind (inputs_of inputs) past) → (print : Print) → In (At m print) prints → Fine print
+      MayHappen cluster (behind inputs past) → (print : Print) → In (At m print) prints → Fine print
   unfolding Joins
   lines_fine settings [] past world well inputs prints stage joins may print among = absurd (subst (In (At m print)) joins.1 among)
   lines_fine settings (line ∷ lines) past world well inputs prints stage joins may print among =
       let done = joins.0 in
-      let happens = subst (λ (came : List LineInput). MayHappen cluster (behind (inputs_of came) past)) joins.4 may in
+      let happens = subst (λ (came : List NodeInput). MayHappen cluster (behind came past)) joins.4 may in
       let one = line_well settings past world well line done joins.3 (lines_front cluster done.inputs joins.1 past happens) in
       elim (in_either (At m print) done.prints joins.2 (subst (In (At m print)) joins.5 among)) [
         | inl here ↦ one.fine print here
         | inr there ↦
-            lines_fine settings lines (behind (inputs_of done.inputs) past) one.next one.well joins.1 joins.2 stage
+            lines_fine settings lines (behind done.inputs past) one.next one.well joins.1 joins.2 stage
             (subst (λ (middle : Stage). Joins settings middle lines joins.1 joins.2 stage) one.stage_is joins.6)
             (lines_back cluster done.inputs joins.1 past happens) print there
       ]

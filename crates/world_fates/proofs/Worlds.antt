@@ -21,7 +21,7 @@ use Rattle.script_text.specs.Runner.{Acted, Runner, given_out, on_delivery, on_g
 use Rattle.script_text.specs.Settings.{Settings}
 use Rattle.script_text.specs.Prints.{At, Refuses, StopsSettling, WorldPrint}
 use Rattle.script_text.specs.World.{most_deliveries}
-use Rattle.script_text.specs.World.{Due, Moved, NodeInput as LineInput, World, acts, all_come, comes, comes_again, comes_if, comes_to, no_node}
+use Rattle.script_text.specs.World.{Due, Moved, World, acts, all_come, comes, comes_again, comes_if, comes_to, no_node}
 use Rattle.script_text.specs.World.{crashed, crashes, crashes_if, due, due_among, due_at, due_first, grants, hears, if_due, if_up}
 use Rattle.script_text.specs.World.{is_down, is_up, is_up_at, lacks, marked, no_packet, node_numbers, on_replay, on_settle, packet_of}
 use Rattle.script_text.specs.World.{refuses, replays, restarts, restarts_if, runner_at, settles, shared, stays, takes_part, then_moved}
@@ -61,13 +61,6 @@ pub record WorldStands (cluster : Cluster) (past : List NodeInput) (world : Worl
       IsRunner (member_of cluster number one_of) past runner
   pub sent : WereSent cluster past world.packets
 
--- what came to nodes by lines
-abbrev pub to_cluster : LineInput → NodeInput
-to_cluster next = input_to next.node next.input
-
-abbrev pub inputs_of : List LineInput → List NodeInput
-inputs_of inputs = map to_cluster inputs
-
 -- what is printed at nodes: no other print tells of a fate
 abbrev pub told_by : List WorldPrint → List NodePrint
 told_by [] = []
@@ -95,22 +88,9 @@ told_by_node node (print ∷ prints) = ap (λ (told : List NodePrint). by_node n
 -- the world stands where what came to nodes leads, and what is printed was given out
 pub record MovesSo (cluster : Cluster) (Tells : FactOfPrints) (past : List NodeInput) (moved : Moved) : Type 0 where
   pub later : List NodeInput
-  pub later_is : later ≡ behind (inputs_of moved.inputs) past
+  pub later_is : later ≡ behind moved.inputs past
   pub stands : WorldStands cluster later moved.next
   pub tell : (last : List NodeInput) (prints : List NodePrint) → Tells last later prints → Tells last past (told_by moved.prints ++ prints)
-
-pub behind_lines : (first others : List LineInput) (past middle later : List NodeInput) → middle ≡ behind (inputs_of first) past →
-    later ≡ behind (inputs_of others) middle → later ≡ behind (inputs_of (first ++ others)) past
-behind_lines first others past middle later first_is others_are =
-    behind_then (inputs_of first) (inputs_of others) past middle later first_is others_are
-    ∙ ap (λ (inputs : List NodeInput). behind inputs past) (sym (map-append to_cluster first others))
-
-abbrev pub at_line : ℕ → Input → LineInput
-at_line node input = record { node = node; input = input }
-
-pub of_one_node : (node : ℕ) (inputs : List Input) → inputs_of (map (at_line node) inputs) ≡ map (input_to node) inputs
-of_one_node node [] = refl
-of_one_node node (input ∷ inputs) = ap (λ (others : List NodeInput). input_to node input ∷ others) (of_one_node node inputs)
 
 -- the other nodes stand still
 pub kept_apart : (cluster : Cluster) (inputs : List Input) (past : List NodeInput) (node other : ℕ) → (other ≡ node → ⊥) →
@@ -169,7 +149,7 @@ module _ (cluster : Cluster) (Tells : FactOfPrints) (telling : IsTelling cluster
       MovesSo cluster Tells past (then_moved first other)
   then_so past first other moves others = record {
     later = others.later;
-    later_is = behind_lines first.inputs other.inputs past moves.later others.later moves.later_is others.later_is;
+    later_is = behind_then first.inputs other.inputs past moves.later others.later moves.later_is others.later_is;
     stands = others.stands;
     tell = λ last prints tells.
         subst (Tells last past)
@@ -233,7 +213,7 @@ module _ (cluster : Cluster) (Tells : FactOfPrints) (telling : IsTelling cluster
     pub shared_so : MovesSo cluster Tells past (shared world number acted)
     shared_so = record {
       later = later;
-      later_is = so.leads.later_is ∙ ap (λ (inputs : List NodeInput). behind inputs past) (sym (of_one_node number acted.inputs));
+      later_is = so.leads.later_is;
       stands = record {
         fit = so.leads.fit;
         few = stands.few;
