@@ -4,7 +4,7 @@ and NAME.stderr; and after them the examples of `tools/examples.py`: the first s
 
     python3 tools/rows.py --write            # writes the tests' crates/script_tests/src/rows.rt
     python3 tools/rows.py --check            # says if that file is not what the folder says
-    python3 tools/rows.py --run PROGRAM      # runs a built program, as crates/centre/out/centre, on each script
+    python3 tools/rows.py --run PROGRAM      # runs a built program, as crates/centre/out/centre, on each script, also without its last line feed
 
 A script of more than 8,000 octets is left out of the file, and is run by `--run` alone.
 """
@@ -52,10 +52,11 @@ def rust():
 def run(program):
     wrong = 0
     for name, script, output, status, told in rows():
-        ran = subprocess.run([program, "script"], input=script, capture_output=True, text=True)
-        if (ran.stdout, ran.returncode, ran.stderr.strip()) != (output, status, told.strip()):
-            wrong += 1
-            print(f"{name}: status {ran.returncode}, {ran.stderr.strip()!r}\n{ran.stdout}")
+        for text in {script, script.removesuffix("\n")}:
+            ran = subprocess.run([program, "script"], input=text, capture_output=True, text=True)
+            if (ran.stdout, ran.returncode, ran.stderr.strip()) != (output, status, told.strip()):
+                wrong += 1
+                print(f"{name}: status {ran.returncode}, {ran.stderr.strip()!r}\n{ran.stdout}")
     print(f"{len(list(rows()))} scripts, {wrong} wrong")
     return wrong == 0
 
