@@ -12,8 +12,9 @@ use Rattle.sessions.specs.declared.pushed.Delivery.{Delivery}
 use Rattle.sessions.specs.declared.pushed.Delivery.TheVariants.{Attempt, Receipt}
 use Rattle.sessions.specs.declared.pushed.Pushed.{Pushed}
 use Rattle.sessions.proofs.Firsts.{stays}
+use Rattle.script_text.specs.Left.{rests}
 use Rattle.script_text.specs.Settings.{Settings}
-use Rattle.script_text.specs.Attempts.{Went, delivered_so, rests_at}
+use Rattle.script_text.specs.Attempts.{Went, delivered_so}
 use Rattle.script_text.specs.Runner.{Served, gone_on, on_done, on_reaction, session_in}
 use Rattle.script_text.specs.Runner as runner
 use Rattle.script_text.specs.OneNode.{Happened, OneNode, answered, prints_now, reacted, with_session}
@@ -92,7 +93,7 @@ module _ (settings : Settings) (first left number : ℕ) (one : OneNode) (k : Ke
         (left_waits one.node.table one.sessions now quiet.fit.waiting number next but test it was_found was_left)
 
     -- the node goes on so
-    went_so : (went : Went) (last : OneNode) → last.sessions ≡ now → last.waiting ≡ one.waiting → Agree settings first left last None went.node →
+    went_so : (went : Went) (last : OneNode) → last.sessions ≡ now → last.waiting ≡ one.waiting → Agree settings first left last None went.next →
         LeftAlike (gone_on next went []) (prints_now last [])
     went_so went last same waiting agree = record {
       holds = None;
@@ -116,8 +117,8 @@ module _ (settings : Settings) (first left number : ℕ) (one : OneNode) (k : Ke
         let off = others_are_off one.node.table one.sessions now quiet.fit.waiting number next but test it was_found was_left slot delivery in
         went_so (delivered_so (node_of settings first k) (Attempt slot) (Some outcome)) (answered then (Attempt slot) (Some outcome)) refl refl
         (outcome_comes settings first left then k fit_then room_left quiet.resting quiet.owed quiet.due slot outcome waited.0 off)
-    delivered (Attempt slot) None delivery = went_so (rests_at (node_of settings first k)) then refl refl agree_then
-    delivered (Receipt id) outcome delivery = went_so (rests_at (node_of settings first k)) then refl refl agree_then
+    delivered (Attempt slot) None delivery = went_so (rests (node_of settings first k)) then refl refl agree_then
+    delivered (Receipt id) outcome delivery = went_so (rests (node_of settings first k)) then refl refl agree_then
 
   by_found : (found : Option Pushed) → find test pushed ≡ found →
       LeftAlike (on_reaction settings number (node_of settings first k) came next (answers_to found))

@@ -29,12 +29,13 @@ use Rattle.sessions.specs.declared.reaction.Reaction.{Reaction}
 use Rattle.sessions.specs.declared.reaction.Reaction.TheVariants as reactions
 use Rattle.sessions.specs.declared.requested.Requested.{Requested}
 use Rattle.desk.specs.declared.request.Request.{Request}
+use Rattle.script_text.specs.Left.{followed_by, rests}
 use Rattle.script_text.specs.Settings.{Settings}
 use Rattle.script_text.specs.Node.{Node, awaiting, request_at, step_at, tick_at, with_step}
 use Rattle.script_text.specs.Prints.{Print}
 use Rattle.script_text.specs.Pushes.{accounts_up, overdue_in, session_at, target_in}
-use Rattle.script_text.specs.Attempts.{Went, all_given_up, concluded, delivered_so, given_up, rests_at, submission_at, then_went, unanswered, went}
-use Rattle.script_text.specs.Runner.{Runner, Acted, Served, Came, answered_by, came_by, declined, ends, fails_by, followed_by, given_out, gives_up}
+use Rattle.script_text.specs.Attempts.{Went, all_given_up, concluded, delivered_so, given_up, submission_at, unanswered, went}
+use Rattle.script_text.specs.Runner.{Runner, Acted, Served, Came, answered_by, came_by, declined, ends, fails_by, given_out, gives_up}
 use Rattle.script_text.specs.Runner.{gives_up_by, gone_on, granted, granted_unless, held_in, holds, last_incarnation, makes_room}
 use Rattle.script_text.specs.Runner.{no_incarnation, nothing_came, on_delivery, on_done, on_frame, on_frames, on_grant, on_input}
 use Rattle.script_text.specs.Runner.{on_octets, on_reaction, on_read, on_request, on_rest, on_restart, on_tick, opened_at, posts}
@@ -53,10 +54,10 @@ module _ (waiting : List Packet) where
   runner_behind runner = record runner { node = node_behind runner.node }
 
   abbrev went_behind : Went → Went
-  went_behind went = record went { node = node_behind went.node }
+  went_behind went = record went { node = node_behind went.next }
 
   abbrev served_behind : Served → Served
-  served_behind served = record served { node = node_behind served.node }
+  served_behind served = record served { node = node_behind served.next.node }
 
   abbrev pub acted_behind : Acted → Acted
   acted_behind acted = record acted { next = runner_behind acted.next }
@@ -88,7 +89,7 @@ module _ (waiting : List Packet) where
     alone = step_alone node alone input plain;
   }
 
-  rests_alike : (node : Node) → IsAlone node → WentAlike (rests_at (node_behind node)) (rests_at node)
+  rests_alike : (node : Node) → IsAlone node → WentAlike (rests (node_behind node)) (rests node)
   rests_alike node alone = record { is = refl; alone = alone }
 
   concluded_alike : (node : Node) → IsAlone node → (slot : Slot) (outcome : Outcome) →
@@ -96,8 +97,8 @@ module _ (waiting : List Packet) where
   concluded_alike node alone slot outcome = by_test (is_open node.kept slot)
     where
       by_test : (open_there : Bool) → WentAlike
-          (cond {A = Went} open_there (went (node_behind node) (Response slot outcome)) (rests_at (node_behind node)))
-          (cond {A = Went} open_there (went node (Response slot outcome)) (rests_at node))
+          (cond {A = Went} open_there (went (node_behind node) (Response slot outcome)) (rests (node_behind node)))
+          (cond {A = Went} open_there (went node (Response slot outcome)) (rests node))
       by_test true = goes_alike node alone (Response slot outcome) tt
       by_test false = rests_alike node alone
 
@@ -115,7 +116,7 @@ module _ (waiting : List Packet) where
       let done = given_up node first in
       let later = all_alike done.node one.alone others in
       record {
-        is = ap (λ (w : Went). then_went w (all_given_up w.node others)) one.is ∙ ap (λ (w : Went). then_went done w) later.is;
+        is = ap (λ (w : Went). followed_by w (all_given_up w.node others)) one.is ∙ ap (λ (w : Went). followed_by done w) later.is;
         alone = later.alone;
       }
 

@@ -3,10 +3,11 @@ use Rattle.std.specs.Prelude.{nat_lt, if◌then◌else◌}
 use Rattle.std.proofs.Common.{◌≡◌, ℕ, suc, Bool, List, [], ◌∷◌, ◌++◌, length, map, refl, sym, ap, subst, ◌∙◌}
 use Rattle.std.proofs.lemmas.List.{append_assoc, append-nil, map-append}
 use Rattle.mc_model.specs.synod.Packet.{Packet}
+use Rattle.script_text.specs.Left.{followed_by}
 use Rattle.script_text.specs.Node.{awaiting}
 use Rattle.script_text.specs.Prints.{At, Print, WorldPrint}
-use Rattle.script_text.specs.Runner.{Acted, Runner, followed_by, given_out, on_restart}
-use Rattle.script_text.specs.World.{World, Moved, acts, is_down, refuses, restarts, shared, then_moved}
+use Rattle.script_text.specs.Runner.{Acted, Runner, given_out, on_restart}
+use Rattle.script_text.specs.World.{World, Moved, acts, is_down, refuses, restarts, shared}
 use Rattle.script_text.specs.World as many
 use Rattle.calm_laws.proofs.Alone.{IsAlone, none_alone, others_alone}
 use Rattle.calm_laws.proofs.Awaiting.{ActedAlike, acted_behind, restart_alike, runner_behind}
@@ -34,7 +35,7 @@ pub record GoesBeside (acted : Acted) (moved : Moved) : Type 0 where
   pub prints : moved.prints ≡ map (At 1) acted.prints
 
 pub then_beside : (first last : Acted) (one other : Moved) → GoesBeside first one → GoesBeside last other →
-    GoesBeside (followed_by first last) (then_moved one other)
+    GoesBeside (followed_by first last) (followed_by one other)
 then_beside first last one other goes later = record {
   beside = later.beside;
   prints = (λ i. goes.prints i ++ later.prints i) ∙ sym (map-append (At 1) first.prints last.prints);

@@ -9,9 +9,10 @@ use Rattle.node_model.proofs.Places.{elsewhere, here}
 use Rattle.pdu_codec.specs.Pdu.{read_pdu}
 use Rattle.pdu_frames.specs.Frames.{AreFrames, Cut, IsFrame, begins_wrong, cut}
 use Rattle.pdu_frames.proofs.Streams.{streams_cut}
+use Rattle.script_text.specs.Left.{followed_by}
 use Rattle.script_text.specs.Settings.{Settings}
 use Rattle.script_text.specs.Prints.{Print}
-use Rattle.script_text.specs.Runner.{Acted, Runner, followed_by, held_in, on_cut, on_frame, on_frames, on_octets, opened_at, or_nothing, session_in}
+use Rattle.script_text.specs.Runner.{Acted, Runner, held_in, on_cut, on_frame, on_frames, on_octets, opened_at, or_nothing, session_in}
 use Rattle.script_text.specs.Events.{Event, Comes}
 use Rattle.script_text.specs.OneNode.{OneNode, account_at, happen, happens}
 use Rattle.script_text.specs.Calm.{are_calm, event_stir, may_happen, quiet_after, quiet_by, read_stir}

@@ -16,11 +16,11 @@ reacted_by settings one number came done = reacted settings one number came done
 pub record Came (settings : Settings) (first left number : ℕ) (quiet : Bool) (before : OneNode) (owned : Option Owned) (served : Served) (happened : Happened)
     (account : Option (List ℕ)) : Type 0 where
   pub holds : Option Owned
-  pub agree : Agree settings first left happened.next holds served.node
-  pub session : served.session ≡ holding (session_in happened.next.sessions number) (requests_at holds number)
-  pub bound : served.session.account ≡ account
+  pub agree : Agree settings first left happened.next holds served.next.node
+  pub session : served.next.session ≡ holding (session_in happened.next.sessions number) (requests_at holds number)
+  pub bound : served.next.session.account ≡ account
   pub prints : served.prints ≡ happened.prints
   pub others : (other : ℕ) → (number ≡ other → ⊥) → session_in happened.next.sessions other ≡ session_in before.sessions other
   pub requests : (other : ℕ) → (number ≡ other → ⊥) → requests_at holds other ≡ requests_at owned other
   pub waiting : happened.next.waiting ≡ before.waiting
-  pub still : IsQuiet quiet holds served.node
+  pub still : IsQuiet quiet holds served.next.node

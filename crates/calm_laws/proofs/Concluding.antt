@@ -15,8 +15,9 @@ use Rattle.alone_laws.specs.Resting.{IsAtRest, IsResting}
 use Rattle.alone_laws.specs.Settling.{SettlesOn}
 use Rattle.alone_laws.specs.Tables.{Entry, TableNode, chain_at, decree_by, entry_at, extended}
 use Rattle.alone_laws.proofs.Granting.{response_settles}
+use Rattle.script_text.specs.Left.{rests}
 use Rattle.script_text.specs.Settings.{Settings}
-use Rattle.script_text.specs.Attempts.{concluded, rests_at, went}
+use Rattle.script_text.specs.Attempts.{concluded, went}
 use Rattle.script_text.specs.OneNode.{OneNode, concludes}
 use Rattle.calm_laws.proofs.Standing.{Agree, IsFit, node_of, stepped_on}
 use Rattle.calm_laws.proofs.Windows.{AreOff, IsNewest, IsUnderway, waiting_with}
@@ -73,7 +74,7 @@ module _ (settings : Settings) (first left : ℕ) (one : OneNode) (k : Kept) (fi
   outcome_comes =
       subst
       (λ (b : Bool). Agree settings first left (concludes one slot.id outcome) None
-      (cond b (went (node_of settings first k) (Response slot outcome)) (rests_at (node_of settings first k))).node)
+      (cond b (went (node_of settings first k) (Response slot outcome)) (rests (node_of settings first k))).node)
       (sym open_now)
       (stepped_on settings first left (concludes one slot.id outcome) k (stepped setup k (Response slot outcome)) (receipts_on t slot.id outcome) fit_then
       room settles owed (ap (λ (receipts : List Receipt). receipts ++ receipts_on t slot.id outcome) due))

@@ -3,8 +3,9 @@ use Rattle.std.specs.Prelude.{◌==◌, ◌&&◌, ◌||◌}
 use Rattle.std.proofs.Common.{◌≡◌, ℕ, zero, suc, Bool, true, List, [], ◌∷◌, ◌++◌, length, Option, Some, None, refl, sym, ap, subst, ◌∙◌, inl, inr, arith}
 use Rattle.std.proofs.lemmas.List.{append_assoc, length-append}
 use Rattle.mc_model.specs.synod.Packet.{Packet}
-use Rattle.script_text.specs.Runner.{Acted, Runner, followed_by, given_out, on_delivery, rests}
-use Rattle.script_text.specs.World.{World, Moved, Due, comes, comes_if, due, if_due, marked, shared, stays, takes_part, then_moved}
+use Rattle.script_text.specs.Left.{followed_by, rests}
+use Rattle.script_text.specs.Runner.{Acted, Runner, given_out, on_delivery}
+use Rattle.script_text.specs.World.{World, Moved, Due, comes, comes_if, due, if_due, marked, shared, takes_part}
 use Rattle.script_text.specs.World as many
 use Rattle.calm_laws.proofs.Queue.{and_settles, delivers, first_or, settles}
 use Rattle.calm_laws.proofs.Alone.{IsAlone}
@@ -65,33 +66,33 @@ module _ (nodes : List ℕ) (takes : takes_part nodes 1 ≡ true) where
       at waiting = world_of runner beside.past waiting beside.came
 
       next : World → Due → Moved
-      next w it = then_moved (comes w it.number it.node) (many.settles more nodes (comes w it.number it.node).next)
+      next w it = followed_by (comes w it.number it.node) (many.settles more nodes (comes w it.number it.node).next)
 
       own : (packet : Packet) (others : List Packet) → runner.node.packets ≡ packet ∷ others → AreSentBy 1 (packet ∷ others)
       own packet others is = subst (AreSentBy 1) is beside.alone.own
 
       -- the first packet, and then the others
       then_settles : (first : Acted) (moved : Moved) (rest : Option Acted) (later : Moved) → GoesBeside first moved →
-          ((acted : Acted) → rest ≡ Some acted → GoesBeside acted later) → SettlesBeside (and_settles first rest) (then_moved moved later)
+          ((acted : Acted) → rest ≡ Some acted → GoesBeside acted later) → SettlesBeside (and_settles first rest) (followed_by moved later)
       then_settles first moved None later goes settles_later acted is = absurd cc
       then_settles first moved (Some last) later goes settles_later acted is =
           let same : followed_by first last ≡ acted = cc in
-          subst (λ (a : Acted). GoesBeside a (then_moved moved later)) same (then_beside first last moved later goes (settles_later last refl))
+          subst (λ (a : Acted). GoesBeside a (followed_by moved later)) same (then_beside first last moved later goes (settles_later last refl))
 
       by_waiting : ((after : Runner) (then : World) → IsBeside after then → SettlesBeside (settles more after) (many.settles more nodes then)) →
           (waiting : List Packet) → runner.node.packets ≡ waiting →
           SettlesBeside
           (first_or (Some (rests runner)) (λ packet rest. and_settles (delivers runner packet rest) (settles more (delivers runner packet rest).next)) waiting)
-          (if_due (stays (at runner.node.packets)) (next (at runner.node.packets)) (due (at runner.node.packets) nodes))
+          (if_due (rests (at runner.node.packets)) (next (at runner.node.packets)) (due (at runner.node.packets) nodes))
       by_waiting later [] is =
           let nothing : due (at runner.node.packets) nodes ≡ None =
           ap (λ (w : List Packet). due (at w) nodes) is
           ∙ due_is runner beside.past [] beside.came beside.have_come beside.alone nodes takes (λ packet others none. absurd cc) in
-          subst (λ (found : Option Due). SettlesBeside (Some (rests runner)) (if_due (stays (at runner.node.packets)) (next (at runner.node.packets)) found))
+          subst (λ (found : Option Due). SettlesBeside (Some (rests runner)) (if_due (rests (at runner.node.packets)) (next (at runner.node.packets)) found))
           (sym nothing)
           (λ acted rests_so.
           let same : rests runner ≡ acted = cc in
-          subst (λ (a : Acted). GoesBeside a (stays (at runner.node.packets))) same
+          subst (λ (a : Acted). GoesBeside a (rests (at runner.node.packets))) same
           (record {
             beside = record { past = beside.past; came = beside.came; is = refl; have_come = beside.have_come; alone = beside.alone };
             prints = refl;
@@ -107,8 +108,8 @@ module _ (nodes : List ℕ) (takes : takes_part nodes 1 ≡ true) where
           let goes : SettlesBeside (and_settles first (settles more first.next)) (next (at (packet ∷ others)) (record { number = number; node = 1 })) =
           then_settles first (comes (at (packet ∷ others)) number 1) (settles more first.next) _ comes_first
           (later first.next (comes (at (packet ∷ others)) number 1).next comes_first.beside) in
-          subst (λ (w : List Packet). SettlesBeside (and_settles first (settles more first.next)) (if_due (stays (at w)) (next (at w)) (due (at w) nodes)))
+          subst (λ (w : List Packet). SettlesBeside (and_settles first (settles more first.next)) (if_due (rests (at w)) (next (at w)) (due (at w) nodes)))
           (sym is)
           (subst (λ (d : Option Due). SettlesBeside (and_settles first (settles more first.next))
-          (if_due (stays (at (packet ∷ others))) (next (at (packet ∷ others))) d))
+          (if_due (rests (at (packet ∷ others))) (next (at (packet ∷ others))) d))
           (sym found) goes)

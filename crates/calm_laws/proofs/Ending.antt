@@ -68,7 +68,7 @@ module _ (settings : Settings) (first left : ℕ) (quiet : Bool) (one : OneNode)
       (record { connected = owed.0; fit = runs.agree.fit; waiting = runs.waiting })
 
   abbrev ended : Runner
-  ended = runner_at runner.node.setup runner.streams clock now [] (all_posted clock mail one.due).mail
+  ended = runner_at runner.node.setup runner.streams clock now [] (all_posted clock mail one.due).next
 
   ends : Runs settings first left true (settled one).next streams ended
   ends = record {
@@ -90,7 +90,7 @@ module _ (settings : Settings) (first left : ℕ) (quiet : Bool) (one : OneNode)
   leaves : AreDone settings first left true streams so.acted (settled one)
   leaves = (
     subst (Runs settings first left true (settled one).next streams)
-        (sym (goes.next ∙ ap (λ (p : Posted). runner_at runner.node.setup runner.streams clock now [] p.mail) handed_is)) ends,
+        (sym (goes.next ∙ ap (λ (p : Posted). runner_at runner.node.setup runner.streams clock now [] p.next) handed_is)) ends,
     goes.prints
         ∙ ap (λ (p : Posted). p.prints) handed_is
         ∙ ap (λ (prints : List Print). prints ++ (all_posted clock mail one.due).prints) owed.1

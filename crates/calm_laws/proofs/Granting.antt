@@ -25,12 +25,13 @@ use Rattle.alone_laws.proofs.Frames.{entry_here}
 use Rattle.alone_laws.proofs.Granting.{grant_refused, grant_settles}
 use Rattle.sessions.specs.Session.{Session}
 use Rattle.sessions.specs.declared.pushed.Delivery.TheVariants as deliveries
+use Rattle.script_text.specs.Left.{followed_by}
 use Rattle.script_text.specs.Settings.{Settings}
 use Rattle.script_text.specs.Attempts.{concluded, submission_at, taken_on, unanswered}
 use Rattle.script_text.specs.Node.{Node, with_step}
 use Rattle.script_text.specs.Prints.{Delivers}
 use Rattle.script_text.specs.Pushes.{delivery_on, target_in, with_push}
-use Rattle.script_text.specs.Runner.{Acted, Owned, Runner, fails_by, followed_by, held_in, on_grant, pushes, sent_to, session_in, session_or_opened}
+use Rattle.script_text.specs.Runner.{Acted, Owned, Runner, fails_by, held_in, on_grant, pushes, sent_to, session_in, session_or_opened}
 use Rattle.script_text.specs.Runner as runners
 use Rattle.script_text.specs.OneNode.{Happened, OneNode, concludes, prints_now, sent_over}
 use Rattle.script_text.specs.OneNode as one_node

@@ -46,8 +46,8 @@ Prints settings one events prints bad = (prints ≡ map (At 1) (happen settings 
 -- the same of a line, by what it does, and the lines behind it
 abbrev LinePrints : Settings → OneNode → List Event → List (List ℕ) → ℕ → Option Stepped → Type 0
 LinePrints settings one events lines number step =
-    Prints settings one events (after [] (λ (done : Stepped). done.prints ++ prints_from settings done.stage lines) step)
-    (after (Some number) (λ (done : Stepped). bad_from settings done.stage (suc number) lines) step)
+    Prints settings one events (after [] (λ (done : Stepped). done.prints ++ prints_from settings done.next lines) step)
+    (after (Some number) (λ (done : Stepped). bad_from settings done.next (suc number) lines) step)
 
 -- few messages are there in the end
 abbrev IsSmall : Settings → OneNode → List Event → Type 0
@@ -296,8 +296,8 @@ module _ (lines : List (List ℕ)) (play : Play) (number : ℕ) (calm : IsCalmPl
   -- what a first line leaves
   abbrev FirstPrints : Option Said → Type 0
   FirstPrints said =
-      PlayPrints play (after [] (λ (done : Stepped). done.prints ++ prints_from script_settings done.stage lines) (step_by script_settings None said))
-      (after (Some number) (λ (done : Stepped). bad_from script_settings done.stage (suc number) lines) (step_by script_settings None said))
+      PlayPrints play (after [] (λ (done : Stepped). done.prints ++ prints_from script_settings done.next lines) (step_by script_settings None said))
+      (after (Some number) (λ (done : Stepped). bad_from script_settings done.next (suc number) lines) (step_by script_settings None said))
 
   -- the first line says this, or the lines behind it are those of the script
   first_said : (text : List ℕ) (said : Said) → Says 1 text said →

@@ -14,10 +14,11 @@ use Rattle.sessions.specs.Windows.{without_first}
 use Rattle.sessions.specs.declared.pushed.Delivery.{Delivery}
 use Rattle.sessions.specs.declared.pushed.Delivery.TheVariants as deliveries
 use Rattle.sessions.specs.declared.request.OpenRequest.{OpenRequest}
+use Rattle.script_text.specs.Left.{followed_by, rests}
 use Rattle.script_text.specs.Prints.{Print}
 use Rattle.script_text.specs.Pushes.{pushed_on, session_at, target_in, with_push}
 use Rattle.script_text.specs.Receipts.{Mail, Posted, all_posted, goes_out, goes_out_up_to, is_for, posted, posted_for, posted_for_all}
-use Rattle.script_text.specs.Receipts.{posted_for_any, posted_to, reported_by, reports_on, stays, submitter_of, then_posted, waits_for}
+use Rattle.script_text.specs.Receipts.{posted_for_any, posted_to, reported_by, reports_on, submitter_of, waits_for}
 use Rattle.script_text.specs.Receipts.{with_both}
 use Rattle.script_text.specs.Runner.{Owned}
 use Rattle.calm_laws.proofs.Connected.{AreConnected}
@@ -26,7 +27,7 @@ use Rattle.calm_laws.proofs.Plain.{holding}
 use Rattle.calm_laws.proofs.Pushing.{IsTarget, note_fit, push_connected, target_alike, target_found}
 use Rattle.calm_laws.proofs.Standing.{AreFit, requests_at}
 
--- ---- a session that is pushed to stays connected, and no other comes
+-- ---- a session that is pushed to rests connected, and no other comes
 
 push_stays : (connected : List (ℕ × Session)) (number now : ℕ) (delivery : Delivery) (other : ℕ) →
     is_none (session_at (with_push connected number now delivery) other) ≡ is_none (session_at connected other)
@@ -63,23 +64,23 @@ module _ (now : ℕ) (node : TableNode) (holds : Option Owned) where
 
   -- and they are so still
   pub record ArePosted (before : Mail) (theirs ours : Posted) : Type 0 where
-    pub mailed : AreMailed theirs.mail ours.mail
+    pub mailed : AreMailed theirs.next ours.next
     pub prints : ours.prints ≡ theirs.prints
-    pub stay : (number : ℕ) → is_none (session_at ours.mail.sessions number) ≡ is_none (session_at before.sessions number)
+    pub stay : (number : ℕ) → is_none (session_at ours.next.sessions number) ≡ is_none (session_at before.sessions number)
 
   abbrev pub PostsAlike : (Mail → Posted) → Type 0
   PostsAlike post = (theirs ours : Mail) → AreMailed theirs ours → ArePosted ours (post theirs) (post ours)
 
-  stays_alike : PostsAlike stays
+  stays_alike : PostsAlike rests
   stays_alike theirs ours mailed = record { mailed = mailed; prints = refl; stay = λ number. refl }
 
-  pub then_alike : (first last : Mail → Posted) → PostsAlike first → PostsAlike last → PostsAlike (λ mail. then_posted (first mail) (last (first mail).mail))
+  pub then_alike : (first last : Mail → Posted) → PostsAlike first → PostsAlike last → PostsAlike (λ mail. followed_by (first mail) (last (first mail).next))
   then_alike first last one other theirs ours mailed =
       let before = one theirs ours mailed in
-      let behind = other (first theirs).mail (first ours).mail before.mailed in
+      let behind = other (first theirs).next (first ours).next before.mailed in
       record {
         mailed = behind.mailed;
-        prints = ap (λ (prints : List Print). prints ++ (last (first ours).mail).prints) before.prints
+        prints = ap (λ (prints : List Print). prints ++ (last (first ours).next).prints) before.prints
             ∙ ap (λ (prints : List Print). (first theirs).prints ++ prints) behind.prints;
         stay = λ number. behind.stay number ∙ before.stay number;
       }
@@ -118,9 +119,9 @@ module _ (now : ℕ) (node : TableNode) (holds : Option Owned) where
 
     abbrev sends_first : ℕ → Mail → Option Receipt → Option ℕ → Posted
     sends_first more before waits target =
-        with_both (stays before)
+        with_both (rests before)
         (λ receipt number.
-        then_posted (goes_out now account before receipt number) (goes_out_up_to more now account (goes_out now account before receipt number).mail))
+        followed_by (goes_out now account before receipt number) (goes_out_up_to more now account (goes_out now account before receipt number).next))
         waits target
 
     -- so many go out at most
@@ -137,7 +138,7 @@ module _ (now : ℕ) (node : TableNode) (holds : Option Owned) where
         (sym (target_alike theirs holds ours were account))
         (by_both (up_to_alike more) (find (is_for account) waiting) (target_in theirs account) refl)
       where
-        resting : ArePosted (mail ours waiting) (stays (mail theirs waiting)) (stays (mail ours waiting))
+        resting : ArePosted (mail ours waiting) (rests (mail theirs waiting)) (rests (mail ours waiting))
         resting = stays_alike (mail theirs waiting) (mail ours waiting) (record { connected = were; fit = fit; waiting = refl })
 
         by_both :
@@ -150,14 +151,14 @@ module _ (now : ℕ) (node : TableNode) (holds : Option Owned) where
         by_both others (Some receipt) (Some number) is =
             let it = target_found theirs holds ours were account number is in
             let first = out_alike theirs ours waiting receipt number were fit it in
-            let later = others (goes_out now account (mail theirs waiting) receipt number).mail.sessions
-            (goes_out now account (mail ours waiting) receipt number).mail.sessions (without_first (is_for account) waiting) first.mailed.connected
+            let later = others (goes_out now account (mail theirs waiting) receipt number).next.sessions
+            (goes_out now account (mail ours waiting) receipt number).next.sessions (without_first (is_for account) waiting) first.mailed.connected
             first.mailed.fit in
             record {
               mailed = later.mailed;
               prints =
                   ap (λ (prints : List Print). prints
-                  ++ (goes_out_up_to more now account (goes_out now account (mail ours waiting) receipt number).mail).prints) first.prints
+                  ++ (goes_out_up_to more now account (goes_out now account (mail ours waiting) receipt number).next).prints) first.prints
                   ∙ ap (λ (prints : List Print). (goes_out now account (mail theirs waiting) receipt number).prints ++ prints) later.prints;
               stay = λ other. later.stay other ∙ first.stay other;
             }
@@ -201,12 +202,12 @@ module _ (now : ℕ) (node : TableNode) (holds : Option Owned) where
 
 -- receipts go out one after the other
 pub posted_behind : (now : ℕ) (before : Mail) (receipts others : List Receipt) →
-    all_posted now before (receipts ++ others) ≡ then_posted (all_posted now before receipts) (all_posted now (all_posted now before receipts).mail others)
+    all_posted now before (receipts ++ others) ≡ followed_by (all_posted now before receipts) (all_posted now (all_posted now before receipts).next others)
 unfolding all_posted
 posted_behind now before [] others = refl
 posted_behind now before (receipt ∷ receipts) others =
     let first = posted now before receipt in
-    let middle = all_posted now first.mail receipts in
-    let last = all_posted now middle.mail others in
-    ap (then_posted first) (posted_behind now first.mail receipts others)
-    ∙ (λ i. record { mail = last.mail; prints = sym (append_assoc first.prints middle.prints last.prints) i })
+    let middle = all_posted now first.next receipts in
+    let last = all_posted now middle.next others in
+    ap (followed_by first) (posted_behind now first.next receipts others)
+    ∙ (λ i. record { mail = last.next; prints = sym (append_assoc first.prints middle.prints last.prints) i })

@@ -2,8 +2,9 @@
 use Rattle.std.specs.Prelude.{ℕ, zero, suc, List, [], ◌∷◌, Option, Some, None, option_map}
 use Rattle.mc_model.specs.synod.Packet.{Packet}
 use Rattle.mc_model.specs.node.Input.{Delivery}
+use Rattle.script_text.specs.Left.{followed_by, rests}
 use Rattle.script_text.specs.Node.{awaiting, step_at}
-use Rattle.script_text.specs.Runner.{Acted, Runner, followed_by, reports_by, rests}
+use Rattle.script_text.specs.Runner.{Acted, Runner, reports_by}
 
 -- a packet comes to the node, and these are still to come
 abbrev pub delivers : Runner → Packet → List Packet → Acted

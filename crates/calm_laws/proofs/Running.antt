@@ -55,8 +55,8 @@ posts_leave settings first left quiet one streams runner post runs alike =
         record {
           holds = runs.holds;
           agree =
-              refit settings first left one runs.holds runner.node (post one.node.clock (one_node.mail_of one)).mail.sessions
-              (post one.node.clock (one_node.mail_of one)).mail.waiting runs.agree posted.mailed.fit;
+              refit settings first left one runs.holds runner.node (post one.node.clock (one_node.mail_of one)).next.sessions
+              (post one.node.clock (one_node.mail_of one)).next.waiting runs.agree posted.mailed.fit;
           still = runs.still;
           held = runs.held;
           sessions = posted.mailed.connected;

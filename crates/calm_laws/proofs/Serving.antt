@@ -8,11 +8,12 @@ use Rattle.node_model.proofs.Places.{here}
 use Rattle.sessions.specs.Session.{Session}
 use Rattle.sessions.specs.States.{is_gone}
 use Rattle.sessions.specs.declared.request.OpenRequest.{OpenRequest}
+use Rattle.script_text.specs.Left.{followed_by}
 use Rattle.script_text.specs.Settings.{Settings}
 use Rattle.script_text.specs.Prints.{Print}
 use Rattle.script_text.specs.Pushes.{session_at}
 use Rattle.script_text.specs.Receipts.{posted_for_any}
-use Rattle.script_text.specs.Runner.{Acted, Owned, Runner, Served, followed_by, held_in, put_at, serves, served_at, session_in}
+use Rattle.script_text.specs.Runner.{Acted, Owned, Runner, Served, held_in, put_at, serves, served_at, session_in}
 use Rattle.script_text.specs.Runner as runners
 use Rattle.script_text.specs.OneNode.{Happened, OneNode, and_posted}
 use Rattle.calm_laws.proofs.Came.{Came}
@@ -41,12 +42,12 @@ module _ (settings : Settings) (first left number : ℕ) (quiet : Bool) (one : O
     (waits : runner.waiting ≡ one.waiting) (served : Served) (happened : Happened) (account : Option (List ℕ))
     (came : Came settings first left number quiet one owned served happened account) where
   abbrev put : Runner
-  put = record runner { node = served.node; sessions = put_at runner.sessions number served.session }
+  put = record runner { node = served.next.node; sessions = put_at runner.sessions number served.next.session }
 
   abbrev put_so : Acted
   put_so = record { next = put; inputs = served.inputs; prints = served.prints }
 
-  stays : is_gone served.session.state ≡ false
+  stays : is_gone served.next.session.state ≡ false
   stays =
       ap (λ (s : Session). is_gone s.state) came.session
       ∙ plain_stays (session_in happened.next.sessions number) (came.agree.fit.plain number)
@@ -56,8 +57,8 @@ module _ (settings : Settings) (first left number : ℕ) (quiet : Bool) (one : O
       ap
       (λ (gone : Bool). record {
         next =
-            cond gone (record runner { node = served.node; sessions = remove_entry (is_at (nat_cmp number)) runner.sessions })
-            (record runner { node = served.node; sessions = put_at runner.sessions number served.session });
+            cond gone (record runner { node = served.next.node; sessions = remove_entry (is_at (nat_cmp number)) runner.sessions })
+            (record runner { node = served.next.node; sessions = put_at runner.sessions number served.next.session });
         inputs = served.inputs;
         prints = served.prints;
       })
@@ -76,7 +77,7 @@ module _ (settings : Settings) (first left number : ℕ) (quiet : Bool) (one : O
     still = came.still;
     held = held;
     sessions =
-        one_served one.sessions happened.next.sessions owned came.holds runner.sessions number served.session came.session as_before were;
+        one_served one.sessions happened.next.sessions owned came.holds runner.sessions number served.next.session came.session as_before were;
     waiting = waits ∙ sym came.waiting;
   }
 
@@ -90,14 +91,14 @@ module _ (settings : Settings) (first left number : ℕ) (quiet : Bool) (one : O
 
   put_connected : is_none (session_at put.sessions number) ≡ false
   put_connected =
-      ap (λ (found : Option Session). is_none found) (here number served.session (remove_entry (is_at (nat_cmp number)) runner.sessions))
+      ap (λ (found : Option Session). is_none found) (here number served.next.session (remove_entry (is_at (nat_cmp number)) runner.sessions))
 
   abbrev Serves : Acted → Type 0
   Serves acted = AreServed settings first left number quiet streams acted (and_posted happened account)
 
   pub serve_leaves : Serves (serves runner number served)
   serve_leaves =
-      subst (λ (acted : Acted). Serves (followed_by acted (runners.posts_for acted.next served.session.account))) (sym put_is)
+      subst (λ (acted : Acted). Serves (followed_by acted (runners.posts_for acted.next served.next.session.account))) (sym put_is)
       (subst (λ (of : Option (List ℕ)). Serves (followed_by put_so (posts of))) (sym came.bound) (record {
         done = (
           posted.done.0,

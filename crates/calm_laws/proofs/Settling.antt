@@ -12,9 +12,10 @@ use Rattle.alone_laws.specs.Settling.{IsOrderly, Settling, delivered}
 use Rattle.alone_laws.proofs.Leading.{settling}
 use Rattle.alone_laws.proofs.Unmoved.{delivery_unmoved}
 use Rattle.sessions.specs.Session.{Session}
+use Rattle.script_text.specs.Left.{followed_by, in_front, rests}
 use Rattle.script_text.specs.Prints.{Print}
-use Rattle.script_text.specs.Receipts.{Mail, Posted, all_posted, then_posted}
-use Rattle.script_text.specs.Runner.{Acted, Runner, Told, followed_by, in_front, owner_of, replied, reply_prints, rests, told}
+use Rattle.script_text.specs.Receipts.{Mail, Posted, all_posted}
+use Rattle.script_text.specs.Runner.{Acted, Runner, Told, owner_of, replied, reply_prints, told}
 use Rattle.calm_laws.proofs.Queue.{and_settles, settles}
 use Rattle.calm_laws.proofs.Posting.{posted_behind}
 
@@ -39,25 +40,25 @@ after_told mail replies = record { sessions = (told mail.sessions replies).sessi
 -- replies go out, and then receipts
 abbrev pub handed : ℕ → Mail → List Reply → List Receipt → Posted
 handed now mail replies receipts = record {
-  mail = (all_posted now (after_told mail replies) receipts).mail;
+  mail = (all_posted now (after_told mail replies) receipts).next;
   prints = (told mail.sessions replies).prints ++ (all_posted now (after_told mail replies) receipts).prints;
 }
 
 -- if no reply comes behind a receipt, all replies may go out first
 handed_behind : (now : ℕ) (mail : Mail) (replies others : List Reply) (receipts later : List Receipt) → (receipts ≡ []) ⊎ (others ≡ []) →
-    then_posted (handed now mail replies receipts) (handed now (handed now mail replies receipts).mail others later)
+    followed_by (handed now mail replies receipts) (handed now (handed now mail replies receipts).next others later)
     ≡ handed now mail (replies ++ others) (receipts ++ later)
 unfolding told all_posted
 handed_behind now mail replies others receipts later (inl none) =
     subst
-    (λ (rs : List Receipt). then_posted (handed now mail replies rs) (handed now (handed now mail replies rs).mail others later)
+    (λ (rs : List Receipt). followed_by (handed now mail replies rs) (handed now (handed now mail replies rs).next others later)
     ≡ handed now mail (replies ++ others) (rs ++ later))
     (sym none)
     (reordered ∙ ap with_told (sym (told_behind mail.sessions replies others)))
   where
     with_told : Told → Posted
     with_told t = record {
-      mail = (all_posted now (record { sessions = t.sessions; waiting = mail.waiting }) later).mail;
+      mail = (all_posted now (record { sessions = t.sessions; waiting = mail.waiting }) later).next;
       prints = t.prints ++ (all_posted now (record { sessions = t.sessions; waiting = mail.waiting }) later).prints;
     }
 
@@ -67,17 +68,17 @@ handed_behind now mail replies others receipts later (inl none) =
     last : Posted
     last = all_posted now (after_told (after_told mail replies) others) later
 
-    reordered : then_posted (handed now mail replies []) (handed now (handed now mail replies []).mail others later)
+    reordered : followed_by (handed now mail replies []) (handed now (handed now mail replies []).next others later)
         ≡ with_told (in_front first.prints (told first.sessions others))
     reordered = λ i. record {
-      mail = last.mail;
+      mail = last.next;
       prints =
           (ap (λ (prints : List Print). prints ++ ((told first.sessions others).prints ++ last.prints)) (append-nil first.prints)
           ∙ sym (append_assoc first.prints (told first.sessions others).prints last.prints)) i;
     }
 handed_behind now mail replies others receipts later (inr none) =
     subst
-    (λ (rs : List Reply). then_posted (handed now mail replies receipts) (handed now (handed now mail replies receipts).mail rs later)
+    (λ (rs : List Reply). followed_by (handed now mail replies receipts) (handed now (handed now mail replies receipts).next rs later)
     ≡ handed now mail (replies ++ rs) (receipts ++ later))
     (sym none)
     (reordered ∙ ap (λ (rs : List Reply). handed now mail rs (receipts ++ later)) (sym (append-nil replies)))
@@ -86,18 +87,18 @@ handed_behind now mail replies others receipts later (inr none) =
     first = told mail.sessions replies
 
     with_posts : Posted → Posted
-    with_posts posts = record { mail = posts.mail; prints = first.prints ++ posts.prints }
+    with_posts posts = record { mail = posts.next; prints = first.prints ++ posts.prints }
 
     middle : Posted
     middle = all_posted now (after_told mail replies) receipts
 
     last : Posted
-    last = all_posted now middle.mail later
+    last = all_posted now middle.next later
 
-    reordered : then_posted (handed now mail replies receipts) (handed now (handed now mail replies receipts).mail [] later)
+    reordered : followed_by (handed now mail replies receipts) (handed now (handed now mail replies receipts).next [] later)
         ≡ handed now mail replies (receipts ++ later)
     reordered =
-        (λ i. record { mail = last.mail; prints = append_assoc first.prints middle.prints last.prints i })
+        (λ i. record { mail = last.next; prints = append_assoc first.prints middle.prints last.prints i })
         ∙ ap with_posts (sym (posted_behind now (after_told mail replies) receipts later))
 
 -- nothing stands behind a list that is the whole
@@ -122,7 +123,7 @@ module _ (setup : Setup) (streams : List (ℕ × List ℕ)) (now : ℕ) where
     pub receipts : List Receipt
     pub replies_are : (delivered setup deliveries s).replies ≡ s.replies ++ replies
     pub receipts_are : (delivered setup deliveries s).receipts ≡ s.receipts ++ receipts
-    pub next : acted.next ≡ runner_at (delivered setup deliveries s).kept [] (handed now mail replies receipts).mail
+    pub next : acted.next ≡ runner_at (delivered setup deliveries s).kept [] (handed now mail replies receipts).next
     pub prints : acted.prints ≡ (handed now mail replies receipts).prints
 
   -- It settles, and goes so.
@@ -174,7 +175,7 @@ module _ (setup : Setup) (streams : List (ℕ × List ℕ)) (now : ℕ) where
       let clock_then : step.kept.clock ≡ now = delivery_unmoved setup k packet ∙ clock in
       let first : Posted = handed now mail step.outputs.replies step.outputs.receipts in
       let rest = settle_goes deliveries more step.kept (others ++ step.outputs.packets) (replies ++ step.outputs.replies) all
-      (receipts ++ step.outputs.receipts) first.mail (omega arith) clock_then left ends (λ n. ordered (suc n)) in
+      (receipts ++ step.outputs.receipts) first.next (omega arith) clock_then left ends (λ n. ordered (suc n)) in
       let goes = rest.goes in
       let order : (step.outputs.receipts ≡ []) ⊎ (goes.replies ≡ []) = elim (ordered 1) [
         | inl none ↦ inl (behind_empty receipts step.outputs.receipts none)
@@ -196,7 +197,7 @@ module _ (setup : Setup) (streams : List (ℕ × List ℕ)) (now : ℕ) where
           receipts = step.outputs.receipts ++ goes.receipts;
           replies_are = goes.replies_are ∙ append_assoc replies step.outputs.replies goes.replies;
           receipts_are = goes.receipts_are ∙ append_assoc receipts step.outputs.receipts goes.receipts;
-          next = goes.next ∙ ap (λ (p : Posted). runner_at end [] p.mail) behind;
+          next = goes.next ∙ ap (λ (p : Posted). runner_at end [] p.next) behind;
           prints = ap (λ (prints : List Print). first.prints ++ prints) goes.prints ∙ ap (λ (p : Posted). p.prints) behind;
         };
       })
@@ -208,7 +209,7 @@ module _ (setup : Setup) (streams : List (ℕ × List ℕ)) (now : ℕ) where
       -- what the delivery of a packet leaves and prints, at this moment
       comes : ℕ → Mail → Stepped → Packet → List Packet → Acted
       comes moment before step packet packets = record {
-        next = runner_at step.kept packets (handed moment before step.outputs.replies step.outputs.receipts).mail;
+        next = runner_at step.kept packets (handed moment before step.outputs.replies step.outputs.receipts).next;
         inputs = Delivery packet ∷ [];
         prints = (handed moment before step.outputs.replies step.outputs.receipts).prints;
       }

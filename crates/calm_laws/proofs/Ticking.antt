@@ -18,14 +18,15 @@ use Rattle.sessions.specs.Session.{Session}
 use Rattle.sessions.specs.Steps.{on_tick as timely}
 use Rattle.sessions.specs.Windows.{is_overdue}
 use Rattle.sessions.specs.declared.pushed.Pushed.{Pushed}
+use Rattle.script_text.specs.Left.{followed_by, rests}
 use Rattle.script_text.specs.Settings.{Settings}
 use Rattle.script_text.specs.Attempts.{all_given_up}
 use Rattle.script_text.specs.Node.{Node, tick_at, with_step}
 use Rattle.script_text.specs.Pushes.{accounts_up, overdue_in, timely_in}
 use Rattle.delivery.specs.Targets.{is_up}
 use Rattle.script_text.specs.Receipts.{posted_for_all}
-use Rattle.script_text.specs.Runner.{Acted, Owned, Runner, Told, answered, followed_by, gives_up, gives_up_by, mail_of, makes_room}
-use Rattle.script_text.specs.Runner.{on_tick, posts_for_all, rests, session_in, session_or_opened, told, with_posted}
+use Rattle.script_text.specs.Runner.{Acted, Owned, Runner, Told, answered, gives_up, gives_up_by, mail_of, makes_room}
+use Rattle.script_text.specs.Runner.{on_tick, posts_for_all, session_in, session_or_opened, told, with_posted}
 use Rattle.script_text.specs.OneNode.{OneNode, ticks}
 use Rattle.script_text.specs.Calm.{may_happen, pushed_in, tick_stir}
 use Rattle.calm_laws.proofs.Connected.{AreConnected, EntryIs}

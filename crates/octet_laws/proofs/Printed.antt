@@ -11,10 +11,11 @@ use Rattle.pdu_bodies.specs.declared.pdu.Pdu.{Pdu}
 use Rattle.fate_chain.specs.States.{final_code}
 use Rattle.sessions.specs.Session.{Session}
 use Rattle.sessions.specs.declared.requested.Requested.{Requested}
+use Rattle.script_text.specs.Left.{in_front}
 use Rattle.script_text.specs.Prints.{AtOnce, Declined, Delivers, Gone, Late, Print, Reports, Ungranted}
 use Rattle.script_text.specs.Pushes.{delivery_on}
 use Rattle.script_text.specs.Responses.{reply_pdu}
-use Rattle.script_text.specs.Runner.{Owned, Told, in_front, owner_of, replied, reply_prints, told}
+use Rattle.script_text.specs.Runner.{Owned, Told, owner_of, replied, reply_prints, told}
 use Rattle.world_fates.proofs.node.Behind.{behind}
 use Rattle.world_fates.proofs.node.StepsOut.{step_now}
 use Rattle.world_fates.proofs.node.Submitted.{WasSubmitted, reported_submitted, submitted_later}

@@ -4,8 +4,9 @@ use Rattle.std.proofs.lemmas.Grind.{flat_map-append}
 use Rattle.std.proofs.lemmas.List.{append-nil, reverse-append}
 use Rattle.std.specs.Prelude.{reverse}
 use Rattle.std.specs.List.{range_with_len}
+use Rattle.script_text.specs.Left.{followed_by, rests}
 use Rattle.script_text.specs.Prints.{WorldPrint, world_line, world_text}
-use Rattle.script_text.specs.World.{Moved, World, all_come, comes, comes_again, comes_to, is_up_at, node_numbers, replays, runner_at, stays, then_moved}
+use Rattle.script_text.specs.World.{Moved, World, all_come, comes, comes_again, comes_to, is_up_at, node_numbers, replays, runner_at}
 use Rattle.script_runner.specs.Centres.{IsMoved, IsWorld}
 use Rattle.script_runner.specs.declared.centre.Centre.{Centre}
 
@@ -22,7 +23,7 @@ all_left line old w before is = record { world = w; is = is; next = refl; writte
 -- One thing was done.
 unfoldable pub one_done : (all : Moved) (rest others first : World → Moved) (now new : Centre) (before text after : List ℕ)
     (left : IsLeft all rest now before text) →
-    rest left.world ≡ then_moved (first left.world) (others (first left.world).next) → IsMoved (first left.world) new text after →
+    rest left.world ≡ followed_by (first left.world) (others (first left.world).next) → IsMoved (first left.world) new text after →
     IsLeft all others new before after
 one_done all rest others first now new before text after left is moved = record {
   world = (first left.world).next;
@@ -40,7 +41,7 @@ one_done all rest others first now new before text after left is moved = record 
 
 -- Nothing is left.
 pub all_done : (all : Moved) (rest : World → Moved) (now : Centre) (before text : List ℕ) (left : IsLeft all rest now before text) →
-    rest left.world ≡ stays left.world →
+    rest left.world ≡ rests left.world →
     IsMoved all now before text
 all_done all rest now before text left is = record {
   next = subst (IsWorld now) (ap (λ (m : Moved). m.next) (sym is) ∙ left.next) left.is;
@@ -59,31 +60,31 @@ last_done all last rest now new before text after left is moved = record {
 -- ---- a packet comes to all nodes again
 
 to_first : (number node : ℕ) (nodes : List ℕ) (w : World) →
-    comes_to number (node ∷ nodes) w ≡ then_moved (comes_again w number node) (comes_to number nodes (comes_again w number node).next)
+    comes_to number (node ∷ nodes) w ≡ followed_by (comes_again w number node) (comes_to number nodes (comes_again w number node).next)
 unfolding comes_to
 to_first number node nodes w = refl
 
-to_none : (number : ℕ) (w : World) → comes_to number [] w ≡ stays w
+to_none : (number : ℕ) (w : World) → comes_to number [] w ≡ rests w
 unfolding comes_to
 to_none number w = refl
 
-pub to_all_of : (number start left : ℕ) (w : World) → left ≡ 0 → comes_to number (range_with_len start left) w ≡ stays w
+pub to_all_of : (number start left : ℕ) (w : World) → left ≡ 0 → comes_to number (range_with_len start left) w ≡ rests w
 to_all_of number start left w none = ap (λ (n : ℕ). comes_to number (range_with_len start n) w) none ∙ to_none number w
 
 pub to_next : (number start left more : ℕ) (w : World) → left ≡ suc more →
-    comes_to number (range_with_len start left) w ≡ then_moved (comes_again w number start)
+    comes_to number (range_with_len start left) w ≡ followed_by (comes_again w number start)
     (comes_to number (range_with_len (start + 1) more) (comes_again w number start).next)
 to_next number start left more w is = ap (λ (n : ℕ). comes_to number (range_with_len start n) w) is ∙ to_first number start (range_with_len (start + 1) more) w
 
 again_if : (up : Bool) (w : World) (moved : Moved) (new : Centre) (before after : List ℕ) → (up ≡ true → IsMoved moved new before after) →
-    (up ≡ false → IsMoved (stays w) new before after) →
-    IsMoved (cond up moved (stays w)) new before after
+    (up ≡ false → IsMoved (rests w) new before after) →
+    IsMoved (cond up moved (rests w)) new before after
 again_if true w moved new before after if_so if_not = if_so refl
 again_if false w moved new before after if_so if_not = if_not refl
 
 pub again_moved : (w : World) (number node : ℕ) (new : Centre) (before after : List ℕ) →
     (is_up_at (runner_at w node) ≡ true → IsMoved (comes w number node) new before after) →
-    (is_up_at (runner_at w node) ≡ false → IsMoved (stays w) new before after) → IsMoved (comes_again w number node) new before after
+    (is_up_at (runner_at w node) ≡ false → IsMoved (rests w) new before after) → IsMoved (comes_again w number node) new before after
 again_moved w number node new before after if_so if_not = again_if (is_up_at (runner_at w node)) w (comes w number node) new before after if_so if_not
 
 -- ---- packets come again, from the highest number down
@@ -100,37 +101,37 @@ downward count =
     ap reverse (range_more 1 count) ∙ reverse-append (range_with_len 1 count) ((1 + count) ∷ []) ∙ ap (λ (n : ℕ). n ∷ reverse (range_with_len 1 count)) same
 
 come_first : (number : ℕ) (numbers : List ℕ) (w : World) →
-    all_come (number ∷ numbers) w ≡ then_moved (comes_to number (node_numbers w) w) (all_come numbers (comes_to number (node_numbers w) w).next)
+    all_come (number ∷ numbers) w ≡ followed_by (comes_to number (node_numbers w) w) (all_come numbers (comes_to number (node_numbers w) w).next)
 unfolding all_come
 come_first number numbers w = refl
 
-come_none : (w : World) → all_come [] w ≡ stays w
+come_none : (w : World) → all_come [] w ≡ rests w
 unfolding all_come
 come_none w = refl
 
 pub come_next : (left more : ℕ) (w : World) → left ≡ suc more →
-    all_come (reverse (range_with_len 1 left)) w ≡ then_moved (comes_to left (node_numbers w) w)
+    all_come (reverse (range_with_len 1 left)) w ≡ followed_by (comes_to left (node_numbers w) w)
     (all_come (reverse (range_with_len 1 more)) (comes_to left (node_numbers w) w).next)
 come_next left more w is =
     rw is (ap (λ (ns : List ℕ). all_come ns w) (downward more) ∙ come_first (suc more) (reverse (range_with_len 1 more)) w)
 
-pub come_all : (left : ℕ) (w : World) → left ≡ 0 → all_come (reverse (range_with_len 1 left)) w ≡ stays w
+pub come_all : (left : ℕ) (w : World) → left ≡ 0 → all_come (reverse (range_with_len 1 left)) w ≡ rests w
 come_all left w none = ap (λ (n : ℕ). all_come (reverse (range_with_len 1 n)) w) none ∙ come_none w
 
 -- ---- so many times
 
 pub replay_next : (left more count : ℕ) (w : World) → left ≡ suc more →
-    replays left count w ≡ then_moved (all_come (reverse (range_with_len 1 count)) w) (replays more count (all_come (reverse (range_with_len 1 count)) w).next)
+    replays left count w ≡ followed_by (all_come (reverse (range_with_len 1 count)) w) (replays more count (all_come (reverse (range_with_len 1 count)) w).next)
 unfolding replays
 replay_next left more count w is = rw is refl
 
-pub replayed_all : (left count : ℕ) (w : World) → left ≡ 0 → replays left count w ≡ stays w
+pub replayed_all : (left count : ℕ) (w : World) → left ≡ 0 → replays left count w ≡ rests w
 unfolding replays
 replayed_all left count w none = rw none refl
 
-pub replays_nothing : (times : ℕ) (w : World) → replays times 0 w ≡ stays w
+pub replays_nothing : (times : ℕ) (w : World) → replays times 0 w ≡ rests w
 replays_nothing zero w = replayed_all zero 0 w refl
 replays_nothing (suc more) w =
     replay_next (suc more) more 0 w refl
-    ∙ ap (λ (m : Moved). then_moved m (replays more 0 m.next)) (come_none w)
-    ∙ ap (then_moved (stays w)) (replays_nothing more w)
+    ∙ ap (λ (m : Moved). followed_by m (replays more 0 m.next)) (come_none w)
+    ∙ ap (followed_by (rests w)) (replays_nothing more w)

@@ -6,7 +6,8 @@ use Rattle.mc_model.specs.synod.Packet.{Packet}
 use Rattle.sim_net.specs.Network.{numbered}
 use Rattle.synod_acceptor.specs.declared.packet.Packet.{Packet as Sent}
 use Rattle.synod_acceptor.specs.Packets.{packet_of as packet_by}
-use Rattle.script_text.specs.World.{Moved, World, on_replay, packet_of, replays, stays}
+use Rattle.script_text.specs.Left.{rests}
+use Rattle.script_text.specs.World.{Moved, World, on_replay, packet_of, replays}
 use Rattle.script_runner.specs.Centres.{Does, IsMoved, IsWorld}
 use Rattle.script_runner.specs.declared.centre.Centre.{Centre}
 use Rattle.script_runner.proofs.Following.{IsLeft, replays_nothing}
@@ -50,5 +51,5 @@ begins old w times left before same is =
 -- none was sent
 pub none_again : (old : Centre) (times : ℕ) (before : List ℕ) → length old.world.packets ≡ 0 → Does (λ w. on_replay w times) old old before before
 none_again old times before none w is =
-    let nothing : on_replay w times ≡ stays w = ap (λ (n : ℕ). replays times n w) (sym (sent_count old w is) ∙ none) ∙ replays_nothing times w in
+    let nothing : on_replay w times ≡ rests w = ap (λ (n : ℕ). replays times n w) (sym (sent_count old w is) ∙ none) ∙ replays_nothing times w in
     subst (λ (m : Moved). IsMoved m old before before) (sym nothing) (record { next = is; text = sym (append-nil before) })

@@ -7,9 +7,10 @@ use Rattle.std.proofs.lemmas.Bool.{true≢false}
 use Rattle.std.proofs.lemmas.List.{append-nil}
 use Rattle.std.proofs.lemmas.Option.{slice_get_within}
 use Rattle.world.specs.Scenes.{is_up_in}
+use Rattle.script_text.specs.Left.{followed_by, rests}
 use Rattle.script_text.specs.Runner.{Runner}
 use Rattle.script_text.specs.Prints.{world_text}
-use Rattle.script_text.specs.World.{Moved, World, comes, comes_again, comes_to, is_up_at, node_numbers, runner_at, stays, then_moved}
+use Rattle.script_text.specs.World.{Moved, World, comes, comes_again, comes_to, is_up_at, node_numbers, runner_at}
 use Rattle.script_runner.specs.Centres.{Does, IsMoved, IsWorld}
 use Rattle.script_runner.specs.declared.centre.Centre.{Centre}
 use Rattle.script_runner.proofs.Following.{IsLeft, again_moved, all_done, one_done, to_all_of, to_next}
@@ -41,19 +42,19 @@ begins number old before w is =
 again_count : (w : World) (number node : ℕ) → length (comes_again w number node).next.runners ≡ length w.runners
 again_count w number node = by_test (is_up_at (runner_at w node))
   where
-    by_test : (b : Bool) → length (if b then comes w number node else stays w).next.runners ≡ length w.runners
+    by_test : (b : Bool) → length (if b then comes w number node else rests w).next.runners ≡ length w.runners
     by_test true = nodes_stay w number node
     by_test false = refl
 
 one_further : (number place : ℕ) (w : World) → place < length w.runners
-    → from number place w ≡ then_moved (comes_again w number (1 + place)) (from number (place + 1) (comes_again w number (1 + place)).next)
+    → from number place w ≡ followed_by (comes_again w number (1 + place)) (from number (place + 1) (comes_again w number (1 + place)).next)
 one_further number place w within =
     let count = length w.runners in
     let rest : count - place ≡ suc (count - (place + 1)) = omega (arith, within) in
     let start : (1 + place) + 1 ≡ 1 + (place + 1) = omega arith in
     let again = comes_again w number (1 + place) in
     to_next number (1 + place) (count - place) (count - (place + 1)) w rest
-    ∙ (λ i. then_moved again (comes_to number (range_with_len (start i) (sym (again_count w number (1 + place)) i - (place + 1))) again.next))
+    ∙ (λ i. followed_by again (comes_to number (range_with_len (start i) (sym (again_count w number (1 + place)) i - (place + 1))) again.next))
 
 none_further : (number place : ℕ) (w : World) → length w.runners ≤ place → from number place w ≡ from number (place + 1) w
 none_further number place w past =

@@ -109,7 +109,7 @@ bad_found : (done held : List ℕ) (stage : Stage) (number : ℕ) (p : LeadsTo d
 unfolding bad_from
 bad_found done held stage number p more b =
     ap bad_line (append_assoc done held more) ∙ p.bad_on (held ++ more) ∙ ap (bad_from script_settings stage (suc number)) b.first
-    ∙ ap (after (Some (suc number)) (λ stepped. bad_from script_settings stepped.stage (suc (suc number)) b.lines)) b.bad
+    ∙ ap (after (Some (suc number)) (λ stepped. bad_from script_settings stepped.next (suc (suc number)) b.lines)) b.bad
 
 text_found : (done held : List ℕ) (stage : Stage) (number : ℕ) (p : LeadsTo done stage number) (more : List ℕ)
     → BadFirst held stage more → text_of ((done ++ held) ++ more) ≡ text_of done
@@ -117,7 +117,7 @@ unfolding prints_from
 text_found done held stage number p more b =
     ap text_of (append_assoc done held more) ∙ p.text_on (held ++ more)
     ∙ ap (λ lines. text_of done ++ text_from stage lines) b.first
-    ∙ ap (λ next. text_of done ++ world_text (after [] (λ stepped. stepped.prints ++ prints_from script_settings stepped.stage b.lines) next)) b.bad
+    ∙ ap (λ next. text_of done ++ world_text (after [] (λ stepped. stepped.prints ++ prints_from script_settings stepped.next b.lines) next)) b.bad
     ∙ append-nil (text_of done)
 
 decided_by : (done held : List ℕ) (stage : Stage) (number : ℕ) (p : LeadsTo done stage number)
@@ -171,17 +171,17 @@ last_first laws held stage count last bad = record {
 -- ---- a good line
 
 text_of_first : (stage : Stage) (line : List ℕ) (lines : List (List ℕ)) (done : Stepped) → step_of script_settings stage line ≡ Some done →
-    text_from stage (line ∷ lines) ≡ world_text done.prints ++ text_from done.stage lines
+    text_from stage (line ∷ lines) ≡ world_text done.prints ++ text_from done.next lines
 unfolding prints_from
 text_of_first stage line lines done e =
-    ap (λ next. world_text (after [] (λ d. d.prints ++ prints_from script_settings d.stage lines) next)) e
-    ∙ flat_map-append world_line done.prints (prints_from script_settings done.stage lines)
+    ap (λ next. world_text (after [] (λ d. d.prints ++ prints_from script_settings d.next lines) next)) e
+    ∙ flat_map-append world_line done.prints (prints_from script_settings done.next lines)
 
 bad_of_first : (stage : Stage) (number : ℕ) (line : List ℕ) (lines : List (List ℕ)) (done : Stepped) →
     step_of script_settings stage line ≡ Some done →
-    bad_from script_settings stage number (line ∷ lines) ≡ bad_from script_settings done.stage (suc number) lines
+    bad_from script_settings stage number (line ∷ lines) ≡ bad_from script_settings done.next (suc number) lines
 unfolding bad_from
-bad_of_first stage number line lines done e = ap (after (Some number) (λ d. bad_from script_settings d.stage (suc number) lines)) e
+bad_of_first stage number line lines done e = ap (after (Some number) (λ d. bad_from script_settings d.next (suc number) lines)) e
 
 text_of_nothing : (stage : Stage) → text_from stage [] ≡ []
 unfolding prints_from
@@ -202,15 +202,15 @@ ends_well laws done line stage number count stepped p last step =
     let lines = last_lines laws count line last in
     record {
       good = p.bad_on line ∙ ap (bad_from script_settings stage (suc number)) lines ∙ bad_of_first stage (suc number) line [] stepped step
-          ∙ bad_of_nothing stepped.stage (suc (suc number));
+          ∙ bad_of_nothing stepped.next (suc (suc number));
       text = p.text_on line ∙ ap (λ ls. text_of done ++ text_from stage ls) lines
-          ∙ ap (λ t. text_of done ++ t) (text_of_first stage line [] stepped step ∙ ap (λ t. world_text stepped.prints ++ t) (text_of_nothing stepped.stage)
+          ∙ ap (λ t. text_of done ++ t) (text_of_first stage line [] stepped step ∙ ap (λ t. world_text stepped.prints ++ t) (text_of_nothing stepped.next)
           ∙ append-nil (world_text stepped.prints));
     }
 
 -- one more line and its line feed is done
 pub record GoesOnWell (done line : List ℕ) (stepped : Stepped) (number : ℕ) : Type 0 where
-  pub leads : LeadsTo (done ++ (line ++ 10 ∷ [])) stepped.stage (number + 1)
+  pub leads : LeadsTo (done ++ (line ++ 10 ∷ [])) stepped.next (number + 1)
   pub text : text_of (done ++ (line ++ 10 ∷ [])) ≡ text_of done ++ world_text stepped.prints
 
 goes_on_well : LinesAreRead → (done line : List ℕ) (stage : Stage) (number : ℕ) (stepped : Stepped) → LeadsTo done stage number → IsOneLine line
@@ -221,22 +221,22 @@ goes_on_well laws done line stage number stepped p one step =
     let told = world_text stepped.prints in
     let next : (more : List ℕ) → lines_of (whole ++ more) ≡ line ∷ lines_of more = λ more. ap lines_of (append_assoc line (10 ∷ []) more) ∙ laws.next line
     more one in
-    let text_next : (more : List ℕ) → text_of (now ++ more) ≡ (text_of done ++ told) ++ text_from stepped.stage (lines_of more) =
+    let text_next : (more : List ℕ) → text_of (now ++ more) ≡ (text_of done ++ told) ++ text_from stepped.next (lines_of more) =
     λ more. ap text_of (append_assoc done whole more) ∙ p.text_on (whole ++ more)
     ∙ ap (λ ls. text_of done ++ text_from stage ls) (next more)
     ∙ ap (λ t. text_of done ++ t) (text_of_first stage line (lines_of more) stepped step)
-    ∙ sym (append_assoc (text_of done) told (text_from stepped.stage (lines_of more))) in
-    let bad_next : (more : List ℕ) → bad_line (now ++ more) ≡ bad_from script_settings stepped.stage (suc (suc number)) (lines_of more) =
+    ∙ sym (append_assoc (text_of done) told (text_from stepped.next (lines_of more))) in
+    let bad_next : (more : List ℕ) → bad_line (now ++ more) ≡ bad_from script_settings stepped.next (suc (suc number)) (lines_of more) =
     λ more. ap bad_line (append_assoc done whole more) ∙ p.bad_on (whole ++ more)
     ∙ ap (bad_from script_settings stage (suc number)) (next more) ∙ bad_of_first stage (suc number) line (lines_of more) stepped step in
     let text_now : text_of now ≡ text_of done ++ told =
-    ap text_of (sym (append-nil now)) ∙ text_next [] ∙ ap (λ t. (text_of done ++ told) ++ t) (text_of_nothing stepped.stage)
+    ap text_of (sym (append-nil now)) ∙ text_next [] ∙ ap (λ t. (text_of done ++ told) ++ t) (text_of_nothing stepped.next)
     ∙ append-nil (text_of done ++ told) in
-    let last_stage = stepped.stage in
+    let last_stage = stepped.next in
     record {
       leads = record {
         lines = inr (done ++ line, sym (append_assoc done line (10 ∷ [])));
-        good = ap bad_line (sym (append-nil now)) ∙ bad_next [] ∙ bad_of_nothing stepped.stage (suc (suc number));
+        good = ap bad_line (sym (append-nil now)) ∙ bad_next [] ∙ bad_of_nothing stepped.next (suc (suc number));
         text_on = λ more. text_next more ∙ ap (λ t. t ++ text_from last_stage (lines_of more)) (sym text_now);
         bad_on = λ more. bad_next more ∙ ap (λ n. bad_from script_settings last_stage n (lines_of more)) (omega arith);
       };
@@ -586,7 +586,7 @@ module _ {R W : Type 0} (remaining : R → Option (List ℕ)) (contents : W → 
         good = well.leads.good;
         needed = inl (needed_behind old now p.done held rest count begins dropped p.read.needed);
       } in
-      let next_stage = w.done.stage in
+      let next_stage = w.done.next in
       let progress : Progress old now before out rest next_stage (number + 1) = record {
         done = done;
         read = read;
@@ -597,4 +597,4 @@ module _ {R W : Type 0} (remaining : R → Option (List ℕ)) (contents : W → 
         fits = omega (arith, p.fits, shorter);
         few = omega (arith, p.few, shorter);
       } in
-      record { stage = next_stage; stands = w.stands; progress = progress; goes_on = goes_on_on old mid now going on }
+      record { next = next_stage; stands = w.stands; progress = progress; goes_on = goes_on_on old mid now going on }

@@ -8,11 +8,12 @@ use Rattle.std.proofs.lemmas.List.{append-nil, length-set}
 use Rattle.std.proofs.lemmas.Bool.{or_right}
 use Rattle.mc_model.specs.synod.Packet.{Packet}
 use Rattle.node_model.specs.Stepped.{sender_of}
+use Rattle.script_text.specs.Left.{followed_by, rests}
 use Rattle.script_text.specs.Prints.{unsettled_line}
 use Rattle.script_text.specs.Runner.{Runner, on_delivery}
 use Rattle.script_text.specs.World.{Due as WorldDue, Moved, World, comes, comes_if, due, due_among, due_at, due_first, is_down, is_up_at}
-use Rattle.script_text.specs.World.{lacks, marked, node_numbers, on_settle, packet_of, refuses, runner_at, settles, shared, stays}
-use Rattle.script_text.specs.World.{takes_part, then_moved, unsettled, up_or_refuses}
+use Rattle.script_text.specs.World.{lacks, marked, node_numbers, on_settle, packet_of, refuses, runner_at, settles, shared}
+use Rattle.script_text.specs.World.{takes_part, unsettled, up_or_refuses}
 use Rattle.script_runner.specs.Centres.{Does, IsMoved, IsWorld, KeepsUp, NothingBefore, due_of}
 use Rattle.script_runner.specs.declared.centre.Centre.{Centre}
 use Rattle.script_runner.specs.declared.centre.Due.{Due}
@@ -158,11 +159,11 @@ pub record IsUnderWay (all : Moved) (most : ℕ) (nodes : List ℕ) (number : �
   pub below : NothingBefore left.world nodes number
 
 settle_next : (most more : ℕ) (nodes : List ℕ) (w : World) (next : WorldDue) → most ≡ suc more → due w nodes ≡ Some next →
-    settles most nodes w ≡ then_moved (comes w next.number next.node) (settles more nodes (comes w next.number next.node).next)
+    settles most nodes w ≡ followed_by (comes w next.number next.node) (settles more nodes (comes w next.number next.node).next)
 unfolding settles
 settle_next most more nodes w next is found = rw (is, found) refl
 
-settle_ends : (most more : ℕ) (nodes : List ℕ) (w : World) → most ≡ suc more → due w nodes ≡ None → settles most nodes w ≡ stays w
+settle_ends : (most more : ℕ) (nodes : List ℕ) (w : World) → most ≡ suc more → due w nodes ≡ None → settles most nodes w ≡ rests w
 unfolding settles
 settle_ends most more nodes w is none = rw (is, none) refl
 

@@ -47,12 +47,12 @@ StandsAt (Some centre) (Some w) = IsWorld centre w
 -- The centre is started by a line that says so, or the line is bad.
 abbrev pub IsStarted : Option Stepped → Bool → Option Centre → Type 0
 IsStarted None good new = good ≡ false
-IsStarted (Some done) good new = (good ≡ true) × StandsAt new done.stage × (done.prints ≡ [])
+IsStarted (Some done) good new = (good ≡ true) × StandsAt new done.next × (done.prints ≡ [])
 
 -- A line was good, led to this stage and added its text; or it was bad.
 abbrev pub IsStepBy : Option Stepped → Bool → Option Centre → List ℕ → List ℕ → Type 0
 IsStepBy None good new before after = good ≡ false
-IsStepBy (Some done) good new before after = (good ≡ true) × StandsAt new done.stage × (after ≡ before ++ world_text done.prints)
+IsStepBy (Some done) good new before after = (good ≡ true) × StandsAt new done.next × (after ≡ before ++ world_text done.prints)
 
 abbrev pub IsStep : Option Centre → List ℕ → Bool → Option Centre → List ℕ → List ℕ → Type 0
 IsStep old line good new before after = (stage : Stage) → StandsAt old stage → IsStepBy (step_of script_settings stage line) good new before after
@@ -77,7 +77,7 @@ module _ {W : Type 0} (contents : W → Option (List ℕ)) where
   pub record IsRun (old : Stage) (line : List ℕ) (new : Option Centre) (before after : Writes W) : Type 0 where
     pub done : Stepped
     pub step : step_of script_settings old line ≡ Some done
-    pub stands : StandsAt new done.stage
+    pub stands : StandsAt new done.next
     pub text : Sends contents before after (world_text done.prints)
 
   -- A line is good, and so many octets of its text went out, not all.

@@ -6,9 +6,10 @@ use Rattle.std.specs.declared.alloc.AllocError.{AllocError}
 use Rattle.mc_model.specs.node.Outputs.{Receipt, Reply}
 use Rattle.sessions.specs.Session.{Session}
 use Rattle.esme_service.specs.Service.{Service}
+use Rattle.script_text.specs.Left.{followed_by, rests}
 use Rattle.script_text.specs.Prints.{Print, text_at}
 use Rattle.script_text.specs.Receipts.{Mail, Posted, all_posted}
-use Rattle.script_text.specs.Runner.{Acted, Runner, Told, followed_by, mail_of, posts, rests, told, with_posted}
+use Rattle.script_text.specs.Runner.{Acted, Runner, Told, mail_of, posts, told, with_posted}
 use Rattle.script_text.specs.World.{World}
 use Rattle.world.specs.Scenes.{clock_in}
 use Rattle.script_site.specs.Posting.{IsPosted, mail_in}
@@ -99,9 +100,9 @@ pub posted_acts : (r : Result (Unit {0}) AllocError) (at : Placed) (service : Se
 posted_acts (Err fault) at service posted goes before after same is = tt
 posted_acts (Ok done) at service posted goes before after same is = λ w runner running.
     let posted_is = same w runner running in
-    let mail : mail_in service ≡ (goes runner).mail = is.mail ∙ ap (λ (p : Posted). p.mail) posted_is in
+    let mail : mail_in service ≡ (goes runner).next = is.mail ∙ ap (λ (p : Posted). p.next) posted_is in
     record {
-      running = served at.site.node at (record at.site { service = service }) w runner (goes runner).mail.sessions (goes runner).mail.waiting running refl refl
+      running = served at.site.node at (record at.site { service = service }) w runner (goes runner).next.sessions (goes runner).next.waiting running refl refl
           (ap (λ (m : Mail). m.sessions) mail) (ap (λ (m : Mail). m.waiting) mail);
       text = is.text ∙ ap (λ (p : Posted). before ++ text_at at.site.node p.prints) posted_is;
     }
@@ -116,7 +117,7 @@ replies_act at service replies before after went waiting w runner running =
     let same = ap (λ (sessions : List (ℕ × Session)). told sessions replies) running.sessions in
     record {
       running = served at.site.node at (record at.site { service = service }) w runner (told runner.sessions replies).sessions runner.waiting running refl refl
-          (went.sessions ∙ ap (λ (t : Told). t.sessions) same) (waiting ∙ running.waiting);
+          (went.sessions ∙ ap (λ (t : Told). t.next) same) (waiting ∙ running.waiting);
       text = went.text ∙ ap (λ (t : Told). before ++ text_at at.site.node t.prints) same;
     }
 

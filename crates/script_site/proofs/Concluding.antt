@@ -15,7 +15,8 @@ use Rattle.world.specs.Scenes.{Scene}
 use Rattle.world.specs.declared.fault.WorldFault.TheVariants as faults
 use Rattle.world.specs.declared.given.Given.{Given}
 use Rattle.world.specs.declared.step.Step.TheVariants as steps
-use Rattle.script_text.specs.Attempts.{Went, all_given_up, concluded, delivered_so, given_up, rests_at, then_went, unanswered, went}
+use Rattle.script_text.specs.Left.{followed_by, rests}
+use Rattle.script_text.specs.Attempts.{Went, all_given_up, concluded, delivered_so, given_up, unanswered, went}
 use Rattle.script_text.specs.Node.{Node}
 use Rattle.script_text.specs.World.{World}
 use Rattle.script_site.specs.Sites.{Goes, IsGoing, Takes}
@@ -25,8 +26,8 @@ use Rattle.script_site.proofs.Stepping.{answer_goes, stays}
 
 module _ (home : ℕ) (slot : Slot) (outcome : Outcome) (old new : Scene) where
   by_open : (w : World) (node : Node) (is_so : Bool) → is_open node.kept slot ≡ is_so
-      → IsGoing home new w (if◌then◌else◌ {A = Went} is_so (went node (Response slot (outcome_kept outcome))) (rests_at node)).node → IsGoing home new w (concluded node slot (outcome_kept outcome)).node
-  by_open w node is_so is going = subst (λ (b : Bool). IsGoing home new w (if b then went node (Response slot (outcome_kept outcome)) else rests_at node).node) (sym is) going
+      → IsGoing home new w (if◌then◌else◌ {A = Went} is_so (went node (Response slot (outcome_kept outcome))) (rests node)).node → IsGoing home new w (concluded node slot (outcome_kept outcome)).node
+  by_open w node is_so is going = subst (λ (b : Bool). IsGoing home new w (if b then went node (Response slot (outcome_kept outcome)) else rests node).node) (sym is) going
 
   -- it was open
   pub concluded_so : (given : Given) → Takes old (steps.Answered home slot outcome) given new → Goes home (λ n. concluded n slot (outcome_kept outcome)) old new
@@ -60,7 +61,7 @@ pub all_left : (home : ℕ) (start : Scene) (all rest : List Pushed) → rest �
 all_left home start all rest same = record { each = λ w node going. (node, going, ap (λ (ps : List Pushed). (all_given_up node ps).node) same) }
 
 first_so : (node : Node) (pushed : Pushed) (others : List Pushed)
-    → all_given_up node (pushed ∷ others) ≡ then_went (given_up node pushed) (all_given_up (given_up node pushed).node others)
+    → all_given_up node (pushed ∷ others) ≡ followed_by (given_up node pushed) (all_given_up (given_up node pushed).node others)
 unfolding all_given_up
 first_so node pushed others = refl
 
@@ -73,7 +74,7 @@ one_left home start all now place pushed new left within is goes = record {
       let rest = behind_it all place pushed within is in (
         (given_up here.0 pushed).node,
         goes w here.0 here.1,
-        ap (λ (went : Went). went.node) (sym (first_so here.0 pushed (drop (place + 1) all)))
+        ap (λ (went : Went). went.next) (sym (first_so here.0 pushed (drop (place + 1) all)))
             ∙ ap (λ (ps : List Pushed). (all_given_up here.0 ps).node) (sym rest) ∙ here.2,
       );
 }

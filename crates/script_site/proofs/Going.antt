@@ -14,10 +14,11 @@ use Rattle.esme_service.specs.Service.{SendsNextReceipt, SendsReceipt, Service, 
 use Rattle.esme_service.specs.declared.pushed_on.PushedOn.{PushedOn}
 use Rattle.esme_service.specs.declared.sending.Sending.{Sending}
 use Rattle.esme_service.specs.declared.sending.Sending.TheVariants as sendings
+use Rattle.script_text.specs.Left.{followed_by, rests}
 use Rattle.script_text.specs.Prints.{text_at}
 use Rattle.script_text.specs.Pushes.{knows_optional, target_in}
 use Rattle.script_text.specs.Receipts.{Mail, Posted, all_posted, goes_out, goes_out_up_to, is_for, posted, posted_for, posted_for_all}
-use Rattle.script_text.specs.Receipts.{reported_by, reports_on, stays, then_posted, with_both}
+use Rattle.script_text.specs.Receipts.{reported_by, reports_on, with_both}
 use Rattle.node_model.specs.Reported.{receipt_of}
 use Rattle.script_site.specs.Posting.{IsPosted, mail_in}
 use Rattle.script_site.specs.Written.{IsWritten, line_of}
@@ -25,7 +26,7 @@ use Rattle.script_site.proofs.Replies.{in_turn}
 
 -- What was written, and what is still to go out, is all that was to go out; and it leaves the same.
 pub record IsLeft (node : ℕ) (all rest : Posted) (before text : List ℕ) : Type 0 where
-  pub mail : rest.mail ≡ all.mail
+  pub mail : rest.next ≡ all.next
   pub written : text ++ text_at node rest.prints ≡ before ++ text_at node all.prints
 
 -- ---- for one account
@@ -52,11 +53,11 @@ fewer_wait before account now (sendings.Reply owner reply) after sends = absurd 
 -- ---- for one account after the other
 
 all_first : (now : ℕ) (m : Mail) (accounts others : List (List ℕ)) (account : List ℕ) → accounts ≡ account ∷ others
-    → posted_for_all now m accounts ≡ then_posted (posted_for now m account) (posted_for_all now (posted_for now m account).mail others)
+    → posted_for_all now m accounts ≡ followed_by (posted_for now m account) (posted_for_all now (posted_for now m account).next others)
 unfolding posted_for_all
 all_first now m accounts others account are = rw are refl
 
-none_for_all : (now : ℕ) (m : Mail) (accounts : List (List ℕ)) → accounts ≡ [] → posted_for_all now m accounts ≡ stays m
+none_for_all : (now : ℕ) (m : Mail) (accounts : List (List ℕ)) → accounts ≡ [] → posted_for_all now m accounts ≡ rests m
 unfolding posted_for_all
 none_for_all now m accounts none = rw none refl
 
@@ -67,11 +68,11 @@ behind_it xs place x below is = drop-cons xs place x below ∙ ap (λ y. y ∷ d
 -- ---- new ones
 
 posts_first : (now : ℕ) (m : Mail) (receipts others : List Receipt) (receipt : Receipt) → receipts ≡ receipt ∷ others
-    → all_posted now m receipts ≡ then_posted (posted now m receipt) (all_posted now (posted now m receipt).mail others)
+    → all_posted now m receipts ≡ followed_by (posted now m receipt) (all_posted now (posted now m receipt).next others)
 unfolding all_posted
 posts_first now m receipts others receipt are = rw are refl
 
-none_due : (now : ℕ) (m : Mail) (receipts : List Receipt) → receipts ≡ [] → all_posted now m receipts ≡ stays m
+none_due : (now : ℕ) (m : Mail) (receipts : List Receipt) → receipts ≡ [] → all_posted now m receipts ≡ rests m
 unfolding all_posted
 none_due now m receipts none = rw none refl
 
@@ -80,31 +81,31 @@ module _ (node : ℕ) where
   all_left all before = record { mail = refl; written = refl }
 
   -- This went out first, and the rest is left.
-  first_out : (all first later rest : Posted) (before text after : List ℕ) → IsLeft node all first before text → first ≡ then_posted later rest
+  first_out : (all first later rest : Posted) (before text after : List ℕ) → IsLeft node all first before text → first ≡ followed_by later rest
       → after ≡ text ++ text_at node later.prints → IsLeft node all rest before after
   first_out all first later rest before text after so is wrote = record {
-    mail = ap (λ (p : Posted). p.mail) (sym is) ∙ so.mail;
+    mail = ap (λ (p : Posted). p.next) (sym is) ∙ so.mail;
     written = ap (λ (t : List ℕ). t ++ text_at node rest.prints) wrote ∙ in_turn node text later.prints rest.prints
         ∙ ap (λ (p : Posted). text ++ text_at node p.prints) (sym is) ∙ so.written;
   }
 
   -- Nothing is left.
-  all_out : (all rest : Posted) (left : Service) (before text : List ℕ) → IsLeft node all rest before text → rest ≡ stays (mail_in left)
+  all_out : (all rest : Posted) (left : Service) (before text : List ℕ) → IsLeft node all rest before text → rest ≡ rests (mail_in left)
       → IsPosted node all left before text
   all_out all rest left before text so is = record {
-    mail = ap (λ (p : Posted). p.mail) (sym is) ∙ so.mail;
+    mail = ap (λ (p : Posted). p.next) (sym is) ∙ so.mail;
     text = sym (append-nil text) ∙ ap (λ (p : Posted). text ++ text_at node p.prints) (sym is) ∙ so.written;
   }
 
   module _ (now : ℕ) (account : List ℕ) where
     posts_one : (m : Mail) (receipt : Receipt) (number : ℕ) → find (is_for account) m.waiting ≡ Some receipt → target_in m.sessions account ≡ Some number
-        → posted_for now m account ≡ then_posted (goes_out now account m receipt number) (posted_for now (goes_out now account m receipt number).mail account)
+        → posted_for now m account ≡ followed_by (goes_out now account m receipt number) (posted_for now (goes_out now account m receipt number).next account)
     unfolding goes_out_up_to
     posts_one m receipt number found over =
         ap (λ (n : ℕ). goes_out_up_to n now account m) (one_fewer (is_for account) m.waiting receipt found)
-        ∙ (λ i. with_both (stays m)
-        (λ r n. then_posted (goes_out now account m r n)
-        (goes_out_up_to (length (without_first (is_for account) m.waiting)) now account (goes_out now account m r n).mail))
+        ∙ (λ i. with_both (rests m)
+        (λ r n. followed_by (goes_out now account m r n)
+        (goes_out_up_to (length (without_first (is_for account) m.waiting)) now account (goes_out now account m r n).next))
         (found i) (over i))
 
     both_none : {A B C : Type 0} (none : C) (each : A → B → C) (first : Option A) (last : Option B) → is_none_of first last
@@ -115,11 +116,11 @@ module _ (node : ℕ) where
     both_none none each (Some a) (Some b) is = absurd is
 
     none_goes : (most : ℕ) (m : Mail) → is_none_of (find (is_for account) m.waiting) (target_in m.sessions account)
-        → goes_out_up_to most now account m ≡ stays m
+        → goes_out_up_to most now account m ≡ rests m
     unfolding goes_out_up_to
     none_goes zero m none = refl
     none_goes (suc more) m none =
-        both_none (stays m) (λ r n. then_posted (goes_out now account m r n) (goes_out_up_to more now account (goes_out now account m r n).mail))
+        both_none (rests m) (λ r n. followed_by (goes_out now account m r n) (goes_out_up_to more now account (goes_out now account m r n).next))
         (find (is_for account) m.waiting) (target_in m.sessions account) none
 
     -- none goes out any more
@@ -144,7 +145,7 @@ module _ (node : ℕ) where
         let out = sends.out in
         let there = mail_in before_it in
         let goes = goes_out now account there (receipt_of chain) pushed.number in
-        let mails : goes.mail ≡ mail_in left = λ i. record { sessions = sym out.left i; waiting = sym sends.rest i } in
+        let mails : goes.next ≡ mail_in left = λ i. record { sessions = sym out.left i; waiting = sym sends.rest i } in
         let report = reported_by (receipt_of chain) in
         let octets = wrote.are
         ∙ (λ i. option_map (report_octets (out.sequence i) (out.optional i)) report) in
@@ -152,7 +153,7 @@ module _ (node : ℕ) where
         ∙ ap (λ (s : Option Session). text_at node (reports_on pushed.number s report)) (sym out.stands) in
         let one = posts_one there (receipt_of chain) pushed.number (sym sends.first) out.takes in
         first_out all (posted_for now there account) goes (posted_for now (mail_in left) account) before text after so
-        (one ∙ ap (λ (m : Mail). then_posted goes (posted_for now m account)) mails)
+        (one ∙ ap (λ (m : Mail). followed_by goes (posted_for now m account)) mails)
         (wrote.text ∙ ap (λ (t : List ℕ). text ++ t) line)
 
     -- One more goes out.
@@ -172,7 +173,7 @@ module _ (node : ℕ) where
   one_served all now service left accounts others account before text after so are done =
       let one = posted_for now (mail_in service) account in
       first_out all (posted_for_all now (mail_in service) accounts) one (posted_for_all now (mail_in left) others) before text after so
-      (all_first now (mail_in service) accounts others account are ∙ ap (λ (m : Mail). then_posted one (posted_for_all now m others)) (sym done.mail)) done.text
+      (all_first now (mail_in service) accounts others account are ∙ ap (λ (m : Mail). followed_by one (posted_for_all now m others)) (sym done.mail)) done.text
 
   pub all_served : (all : Posted) (now : ℕ) (service : Service) (accounts : List (List ℕ)) (before text : List ℕ)
       → IsLeft node all (posted_for_all now (mail_in service) accounts) before text → accounts ≡ [] → IsPosted node all service before text
@@ -189,7 +190,7 @@ module _ (node : ℕ) where
       first_out all (all_posted now (mail_in service) (map receipt_of chains)) one
       (all_posted now (mail_in left) (map receipt_of others)) before text after so
       (posts_first now (mail_in service) (map receipt_of chains) (map receipt_of others) (receipt_of chain) (ap (map receipt_of) are)
-      ∙ ap (λ (m : Mail). then_posted one (all_posted now m (map receipt_of others))) (sym done.mail)) done.text
+      ∙ ap (λ (m : Mail). followed_by one (all_posted now m (map receipt_of others))) (sym done.mail)) done.text
 
   pub all_due : (all : Posted) (now : ℕ) (service : Service) (chains : List Chain) (before text : List ℕ)
       → IsLeft node all (all_posted now (mail_in service) (map receipt_of chains)) before text → chains ≡ [] → IsPosted node all service before text

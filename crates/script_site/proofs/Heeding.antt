@@ -11,10 +11,11 @@ use Rattle.esme_service.specs.Service.{Service}
 use Rattle.esme_service.specs.Sessions.{account_at}
 use Rattle.esme_service.specs.declared.heard.Heard.{Heard}
 use Rattle.world.specs.Scenes.{clock_in}
+use Rattle.script_text.specs.Left.{rests}
 use Rattle.script_text.specs.Settings.{Settings}
 use Rattle.script_text.specs.Pushes.{session_at}
-use Rattle.script_text.specs.Receipts.{Mail, goes_out_up_to, posted_for, posted_for_any, stays}
-use Rattle.script_text.specs.Runner.{Acted, Runner, ends, mail_of, on_frame, posts_for, rests, with_posted}
+use Rattle.script_text.specs.Receipts.{Mail, goes_out_up_to, posted_for, posted_for_any}
+use Rattle.script_text.specs.Runner.{Acted, Runner, ends, mail_of, on_frame, posts_for, with_posted}
 use Rattle.script_site.specs.Heeding.{heeded, then_posts}
 use Rattle.script_site.specs.Posting.{IsPosted, mail_in}
 use Rattle.script_site.specs.Sites.{Acts, HasActed, Placed}
@@ -95,7 +96,7 @@ none_there (receipt ∷ waiting) none = absurd (by_test (suc (length waiting) ==
     by_test true is some = let same : suc (length waiting) ≡ 0 = eqb-true _ _ is in omega (arith, same)
     by_test false is some = cc
 
-none_posted : (now : ℕ) (mail : Mail) (account : Option (List ℕ)) → mail.waiting ≡ [] → posted_for_any now mail account ≡ stays mail
+none_posted : (now : ℕ) (mail : Mail) (account : Option (List ℕ)) → mail.waiting ≡ [] → posted_for_any now mail account ≡ rests mail
 unfolding goes_out_up_to
 none_posted now mail None none = refl
 none_posted now mail (Some account) none = ap (λ (waiting : List Receipt). goes_out_up_to (length waiting) now account mail) none

@@ -8,8 +8,9 @@ use Rattle.mc_model.specs.node.Outputs.{Reply as Given}
 use Rattle.requests.specs.Replying.{reply_given}
 use Rattle.requests.specs.declared.answer.Reply.{Reply as Sent}
 use Rattle.sessions.specs.Session.{Session}
+use Rattle.script_text.specs.Left.{in_front}
 use Rattle.script_text.specs.Prints.{Print, line_at, text_at}
-use Rattle.script_text.specs.Runner.{Owned, Told, in_front, owner_of, replied, reply_prints, told}
+use Rattle.script_text.specs.Runner.{Owned, Told, owner_of, replied, reply_prints, told}
 use Rattle.esme_service.specs.Told.{reply_to}
 use Rattle.esme_service.specs.declared.sending.Sending.{Sending}
 use Rattle.esme_service.specs.declared.sending.Sending.TheVariants.{Reply}
@@ -54,7 +55,7 @@ module _ (node : ℕ) where
       rw (took, wrote)
       (let next : AreLeft node all (told (replied connected reply.ticket (owner_of connected reply.ticket)) (map reply_given others)) before
       (text ++ text_at node prints) = record {
-        sessions = ap (λ (t : Told). t.sessions) (sym first) ∙ so.sessions;
+        sessions = ap (λ (t : Told). t.next) (sym first) ∙ so.sessions;
         written = in_turn text prints _ ∙ ap (λ (t : Told). text ++ text_at node t.prints) (sym first) ∙ so.written;
       } in next)
 
@@ -88,6 +89,6 @@ module _ (node : ℕ) where
   all_told all connected waiting before text so none =
       let nothing = told_nothing connected (map reply_given waiting) (ap (map reply_given) none) in
       record {
-        sessions = ap (λ (t : Told). t.sessions) (sym nothing) ∙ so.sessions;
+        sessions = ap (λ (t : Told). t.next) (sym nothing) ∙ so.sessions;
         text = sym (append-nil text) ∙ ap (λ (t : Told). text ++ text_at node t.prints) (sym nothing) ∙ so.written;
       }

@@ -27,12 +27,13 @@ use Rattle.esme_service.specs.declared.heard.Heard.{Heard}
 use Rattle.esme_service.proofs.Entries.{set_put}
 use Rattle.esme_service.proofs.Frames.{left_open}
 use Rattle.node_model.proofs.Places.{here}
+use Rattle.script_text.specs.Left.{followed_by, rests}
 use Rattle.script_text.specs.Settings.{Settings}
 use Rattle.script_text.specs.Node.{Node, request_at, step_at, with_step}
-use Rattle.script_text.specs.Attempts.{Went, delivered_so, rests_at}
+use Rattle.script_text.specs.Attempts.{Went, delivered_so}
 use Rattle.script_text.specs.Prints.{Print}
 use Rattle.script_text.specs.Pushes.{session_at}
-use Rattle.script_text.specs.Runner.{Acted, Came, Runner, Served, came_by, ends, followed_by, gone_on, nothing_came, on_done, on_frame, on_reaction}
+use Rattle.script_text.specs.Runner.{Acted, Came, Runner, Served, came_by, ends, gone_on, nothing_came, on_done, on_frame, on_reaction}
 use Rattle.script_text.specs.Runner.{on_read, on_request, posts_for, refusal_prints, served_at, serves, unasked, with_session}
 use Rattle.script_site.specs.Heeding.{asked_by as node_asked, asks_if, by_went, heeded, then_posts}
 
@@ -57,7 +58,7 @@ unasked_by : (number : ℕ) (node : Node) (session : Session) (requested : Reque
 unasked_by number node session requested sequence None = refl
 unasked_by number node session requested sequence (Some account) = refl
 
-unanswered_by : (node : Node) (delivery : Delivery) → delivered_so node delivery None ≡ rests_at node
+unanswered_by : (node : Node) (delivery : Delivery) → delivered_so node delivery None ≡ rests node
 unanswered_by node (deliveries.Attempt slot) = refl
 unanswered_by node (deliveries.Receipt id) = refl
 
@@ -136,7 +137,7 @@ module _ (settings : Settings) (number : ℕ) (old : Runner) (session : Session)
   gone_on_so : (went : Went) (prints : List Print) → served_at old number (gone_on session went prints) ≡ by_went (kept old number session) went prints
   gone_on_so went prints =
       ap (λ (runner : Runner). record { next = runner; inputs = went.inputs; prints = prints })
-      (with_kept (record old { node = went.node }) number session)
+      (with_kept (record old { node = went.next }) number session)
 
   unasked_so : (prints : List Print)
       → served_at old number (unasked old.node session prints) ≡ record { next = kept old number session; inputs = []; prints = prints }
@@ -151,7 +152,7 @@ module _ (settings : Settings) (number : ℕ) (old : Runner) (session : Session)
   fault_so (Leave outgoing abandoned) = gone_on_so _ _
   fault_so (Ask requested) = ap (served_at old number) (unasked_by number old.node session requested 0 session.account) ∙ unasked_so []
   fault_so (Answered pushed) =
-      ap (λ (went : Went). served_at old number (gone_on session went [])) (unanswered_by old.node pushed.delivery) ∙ gone_on_so (rests_at old.node) []
+      ap (λ (went : Went). served_at old number (gone_on session went [])) (unanswered_by old.node pushed.delivery) ∙ gone_on_so (rests old.node) []
 
   -- and a PDU
   pub pdu_so : (pdu : Pdu) (reaction : Reaction) → ((requested : Requested) → reaction ≡ Ask requested → is_gone session.state ≡ false)
@@ -216,11 +217,11 @@ account_so sessions number served session like goes = by_gone (is_gone served.st
         ap (λ (left : List (ℕ × Session)). account_at left number) removed ∙ ap account_of goes_so.1 ∙ sym (like.account ∙ goes_so.0)
 
 serves_so : (old : Runner) (number : ℕ) (served : Served) (acted : Acted) → served_at old number served ≡ acted
-    → account_at (kept_at old.sessions number served.session) number ≡ served.session.account → serves old number served ≡ then_posts number acted
+    → account_at (kept_at old.sessions number served.next.session) number ≡ served.next.session.account → serves old number served ≡ then_posts number acted
 serves_so old number served acted is account =
     let there = served_at old number served in
-    let of : account_at there.next.sessions number ≡ served.session.account =
-    ap (λ (runner : Runner). account_at runner.sessions number) (with_kept (record old { node = served.node }) number served.session) ∙ account in
+    let of : account_at there.next.sessions number ≡ served.next.session.account =
+    ap (λ (runner : Runner). account_at runner.sessions number) (with_kept (record old { node = served.next.node }) number served.next.session) ∙ account in
     ap (λ (name : Option (List ℕ)). followed_by there (posts_for there.next name)) (sym of)
     ∙ ap (then_posts number) is
 
@@ -235,7 +236,7 @@ module _ (settings : Settings) (number : ℕ) (old : Runner) (session : Session)
   fault_served done goes =
       let served = on_done settings number old.node nothing_came done in
       serves_so old number served _ (fault_so settings number old done.next done.reaction)
-      (account_so old.sessions number served.session done.next (left_like settings number old.node nothing_came done.next done.reaction) goes)
+      (account_so old.sessions number served.next.session done.next (left_like settings number old.node nothing_came done.next done.reaction) goes)
 
   read_served : (octets : List ℕ) (read : Result Pdu PduFault)
       → GoesIf (kept_at old.sessions number (done_by settings session octets read).next) number (Some (done_by settings session octets read).next)
@@ -248,7 +249,7 @@ module _ (settings : Settings) (number : ℕ) (old : Runner) (session : Session)
       let served = on_done settings number old.node came done in
       serves_so old number served _
       (pdu_so settings number old done.next pdu done.reaction (λ requested asks. left_open settings.accounts session pdu requested asks))
-      (account_so old.sessions number served.session done.next (left_like settings number old.node came done.next done.reaction) goes)
+      (account_so old.sessions number served.next.session done.next (left_like settings number old.node came done.next done.reaction) goes)
   read_served octets (Err fault) goes =
       fault_served (on_fault session fault (requested_by (command_of (word_at 4 octets))) (word_at 12 octets)) goes
 

@@ -13,10 +13,11 @@ use Rattle.sessions.specs.Session.{Session}
 use Rattle.pdu_frames.specs.Frames.{IsFrame, IsPart, HasWrongLength, cut, is_pdu_length}
 use Rattle.pdu_frames.proofs.Fronts.{wrong_begins, part_begins, within_limits, length_of_front}
 use Rattle.pdu_frames.proofs.Streams.{frames_one, streams_cut}
+use Rattle.script_text.specs.Left.{followed_by}
 use Rattle.script_text.specs.Settings.{Settings}
 use Rattle.script_text.specs.Prints.{line_at, text_at}
 use Rattle.script_text.specs.Pushes.{session_at}
-use Rattle.script_text.specs.Runner.{Acted, Runner, ends, followed_by, held_in, holds, on_cut, on_frame, on_frames, on_octets, opened_at, put_at, session_in}
+use Rattle.script_text.specs.Runner.{Acted, Runner, ends, held_in, holds, on_cut, on_frame, on_frames, on_octets, opened_at, put_at, session_in}
 use Rattle.script_text.specs.World.{World}
 use Rattle.script_site.specs.Sites.{Acts, IsRunning, Placed}
 use Rattle.script_site.specs.Standing.{HasOpened}

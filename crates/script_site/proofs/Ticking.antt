@@ -43,7 +43,7 @@ ticked_acts at new middle moment up given before text are takes went waiting w r
       running = record {
         home_is = refl;
         going = went_on.0;
-        sessions = went.sessions ∙ ap (λ (t : Told). t.sessions) same;
+        sessions = went.sessions ∙ ap (λ (t : Told). t.next) same;
         streams = running.streams;
         waiting = waiting ∙ running.waiting;
       };

@@ -9,15 +9,16 @@ use Rattle.esme_service.specs.Sessions.{account_at, waits_at}
 use Rattle.esme_service.specs.declared.heard.Asked.{Asked}
 use Rattle.esme_service.specs.declared.heard.Heard.{Heard}
 use Rattle.esme_service.specs.declared.heard.Heard.TheVariants as heards
+use Rattle.script_text.specs.Left.{followed_by, rests}
 use Rattle.script_text.specs.Settings.{Settings}
 use Rattle.script_text.specs.Attempts.{Went, all_given_up, delivered_so}
 use Rattle.script_text.specs.Node.{request_at, step_at, with_step}
 use Rattle.script_text.specs.Prints.{Print, AtOnce, Gone}
-use Rattle.script_text.specs.Runner.{Acted, Runner, followed_by, posts_for, refusal_prints, rests}
+use Rattle.script_text.specs.Runner.{Acted, Runner, posts_for, refusal_prints}
 
 -- the node went on by what came of attempts, and this is printed
 abbrev pub by_went : Runner → Went → List Print → Acted
-by_went runner went prints = record { next = record runner { node = went.node }; inputs = went.inputs; prints = prints }
+by_went runner went prints = record { next = record runner { node = went.next }; inputs = went.inputs; prints = prints }
 
 -- the node takes the step of a request: it waits on its session, or is refused there
 abbrev pub asked_by : ℕ → Runner → Asked → Input → Stepped → Acted

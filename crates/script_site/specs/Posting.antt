@@ -9,5 +9,5 @@ mail_in service = record { sessions = service.sessions; waiting = service.waitin
 
 -- Receipts went out at a node: they left this service, and added the text of what was printed.
 pub record IsPosted (node : ℕ) (posted : Posted) (left : Service) (before after : List ℕ) : Type 0 where
-  pub mail : mail_in left ≡ posted.mail
+  pub mail : mail_in left ≡ posted.next
   pub text : after ≡ before ++ text_at node posted.prints

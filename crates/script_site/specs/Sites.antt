@@ -7,10 +7,11 @@ use Rattle.world.specs.Runs.{IsAt, Leads, leaves_up, node_at}
 use Rattle.world.specs.Scenes.{Scene, is_up_in}
 use Rattle.world.specs.declared.given.Given.{Given}
 use Rattle.world.specs.declared.step.Step.{Step}
+use Rattle.script_text.specs.Left.{followed_by}
 use Rattle.script_text.specs.Attempts.{Went}
 use Rattle.script_text.specs.Node.{Node}
 use Rattle.script_text.specs.Prints.{text_at}
-use Rattle.script_text.specs.Runner.{Acted, Runner, Told, followed_by, posts, told}
+use Rattle.script_text.specs.Runner.{Acted, Runner, Told, posts, told}
 use Rattle.script_text.specs.Runs.{IsNodeOf}
 use Rattle.script_text.specs.World.{World}
 use Rattle.script_site.specs.declared.site.Site.{Site}
@@ -69,7 +70,7 @@ Acts home act old new before after = (w : World) (runner : Runner) → IsRunning
 -- ---- what a step gave out
 
 abbrev pub replies_to : Runner → Told → Acted
-replies_to runner told = record { next = record runner { sessions = told.sessions }; inputs = []; prints = told.prints }
+replies_to runner told = record { next = record runner { sessions = told.next }; inputs = []; prints = told.prints }
 
 -- its replies go out, and then its receipts
 abbrev pub tells : Runner → List Reply → List Receipt → Acted

@@ -28,11 +28,12 @@ use Rattle.mc_model.specs.node.Outcome.{Outcome}
 use Rattle.node_model.specs.Attempts.{grant_refusal}
 use Rattle.node_model.specs.Granted.{is_open, known_slot}
 use Rattle.desk.specs.declared.request.Request.{Request}
+use Rattle.script_text.specs.Left.{followed_by, rests}
 use Rattle.script_text.specs.Settings.{Settings}
 use Rattle.script_text.specs.Node.{Node, request_at, step_at, tick_at, with_step}
 use Rattle.script_text.specs.Pushes.{accounts_up, overdue_in, session_at, target_in}
-use Rattle.script_text.specs.Attempts.{Went, all_given_up, concluded, delivered_so, given_up, rests_at, submission_at, unanswered, went}
-use Rattle.script_text.specs.Runner.{Runner, Acted, Served, Came, answered_by, came_by, declined, ends, followed_by, gives_up}
+use Rattle.script_text.specs.Attempts.{Went, all_given_up, concluded, delivered_so, given_up, submission_at, unanswered, went}
+use Rattle.script_text.specs.Runner.{Runner, Acted, Served, Came, answered_by, came_by, declined, ends, gives_up}
 use Rattle.script_text.specs.Runner.{granted, granted_unless, held_in, holds, last_incarnation, makes_room}
 use Rattle.script_text.specs.Runner.{no_incarnation, nothing_came, on_delivery, on_done, on_frame, on_frames, on_grant, on_octets}
 use Rattle.script_text.specs.Runner.{on_reaction, on_read, on_request, on_rest, on_restart, on_tick, opened_at, posts}
@@ -49,12 +50,12 @@ module _ (Goes : Node → List Input → Node → Type 0) (going : IsGoing Goes)
   -- ---- by what came of attempts
 
   abbrev WentGoes : Node → Went → Type 0
-  WentGoes node went = Goes node went.inputs went.node
+  WentGoes node went = Goes node went.inputs went.next
 
   concluded_goes : (node : Node) (slot : Slot) (outcome : Outcome) → WentGoes node (concluded node slot outcome)
   concluded_goes node slot outcome = by_test (is_open node.kept slot)
     where
-      by_test : (open_there : Bool) → WentGoes node (cond {A = Went} open_there (went node (Response slot outcome)) (rests_at node))
+      by_test : (open_there : Bool) → WentGoes node (cond {A = Went} open_there (went node (Response slot outcome)) (rests node))
       by_test true = going.once node (Response slot outcome)
       by_test false = going.nowhere node
 
@@ -68,13 +69,13 @@ module _ (Goes : Node → List Input → Node → Type 0) (going : IsGoing Goes)
   all_go node [] = going.nowhere node
   all_go node (first ∷ others) =
       let one = given_up node first in
-      let last = all_given_up one.node others in
-      going.further node one.node last.node one.inputs last.inputs (delivered_goes node first.delivery (Some unanswered)) (all_go one.node others)
+      let last = all_given_up one.next others in
+      going.further node one.next last.next one.inputs last.inputs (delivered_goes node first.delivery (Some unanswered)) (all_go one.next others)
 
   -- ---- by what comes on a session
 
   abbrev ServedGoes : Node → Served → Type 0
-  ServedGoes node served = Goes node served.inputs served.node
+  ServedGoes node served = Goes node served.inputs served.next.node
 
   request_goes : (number : ℕ) (node : Node) (session : Session) (requested : Requested) (sequence : ℕ) (account : Option (List ℕ))
       (request : Option Request) →
@@ -119,8 +120,8 @@ module _ (Goes : Node → List Input → Node → Type 0) (going : IsGoing Goes)
   serves_goes : (runner : Runner) (number : ℕ) (served : Served) → ServedGoes runner.node served → ActedGoes runner (serves runner number served)
   serves_goes runner number served goes =
       let first = served_at runner number served in
-      then_goes runner first (posts_for first.next served.session.account)
-      (subst (λ (n : Node). Goes runner.node served.inputs n) (sym (served_node runner number served.node served.session)) goes)
+      then_goes runner first (posts_for first.next served.next.session.account)
+      (subst (λ (n : Node). Goes runner.node served.inputs n) (sym (served_node runner number served.next.node served.next.session)) goes)
       (going.nowhere first.next.node)
 
   frame_goes : (settings : Settings) (number : ℕ) (runner : Runner) (octets : List ℕ) → ActedGoes runner (on_frame settings number runner octets)

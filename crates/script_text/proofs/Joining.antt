@@ -12,10 +12,10 @@ unfolding Joins prints_from bad_from
 printed settings first [] came prints last number joins = (joins.1, refl)
 printed settings first (line ∷ lines) came prints last number joins =
     let (done, later, others, is, did, said, rest) = joins in
-    let behind = printed settings done.stage lines later others last (suc number) rest in (
+    let behind = printed settings done.next lines later others last (suc number) rest in (
       said ∙ ap (λ (more : List WorldPrint). done.prints ++ more) behind.0 ∙ sym
-          (ap (after [] (λ (d : Stepped). d.prints ++ prints_from settings d.stage lines)) is),
-      ap (after (Some number) (λ (d : Stepped). bad_from settings d.stage (suc number) lines)) is ∙ behind.1,
+          (ap (after [] (λ (d : Stepped). d.prints ++ prints_from settings d.next lines)) is),
+      ap (after (Some number) (λ (d : Stepped). bad_from settings d.next (suc number) lines)) is ∙ behind.1,
     )
 
 pub joined : (settings : Settings) (first : Stage) (lines : List (List ℕ)) (number : ℕ) → bad_from settings first number lines ≡ None →
@@ -27,10 +27,10 @@ joined settings first (line ∷ lines) number good = at_step (λ stage. joined s
     at_step : ((stage : Stage) → bad_from settings stage (suc number) lines ≡ None → (came : List NodeInput) ×
         (last : Stage) × Joins settings stage lines came (prints_from settings stage lines) last) →
         (step : Option Stepped) → step_of settings first line ≡ step →
-        after (Some number) (λ (d : Stepped). bad_from settings d.stage (suc number) lines) step ≡ None →
+        after (Some number) (λ (d : Stepped). bad_from settings d.next (suc number) lines) step ≡ None →
         (came : List NodeInput) × (last : Stage) × Joins settings first (line ∷ lines) came
-        (after [] (λ (d : Stepped). d.prints ++ prints_from settings d.stage lines) step) last
+        (after [] (λ (d : Stepped). d.prints ++ prints_from settings d.next lines) step) last
     at_step behind None is good = absurd cc
     at_step behind (Some done) is good =
-        let (later, last, rest) = behind done.stage good in
-        (done.inputs ++ later, last, (done, later, prints_from settings done.stage lines, is, refl, refl, rest))
+        let (later, last, rest) = behind done.next good in
+        (done.inputs ++ later, last, (done, later, prints_from settings done.next lines, is, refl, refl, rest))

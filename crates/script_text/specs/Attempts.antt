@@ -1,5 +1,5 @@
 -- What came of attempts, at the node of a script (own).
-use Rattle.std.specs.Prelude.{ℕ, List, [], ◌∷◌, ◌++◌, Option, Some, None, if◌then◌else◌}
+use Rattle.std.specs.Prelude.{ℕ, List, [], ◌∷◌, Option, Some, None, if◌then◌else◌}
 use Rattle.mc_model.specs.message.Chain.{taken_in}
 use Rattle.mc_model.specs.message.Decree.{Decree}
 use Rattle.mc_model.specs.message.Submission.{Submission}
@@ -11,22 +11,20 @@ use Rattle.node_model.specs.Kept.{message_at}
 use Rattle.sessions.specs.declared.pushed.Delivery.{Delivery}
 use Rattle.sessions.specs.declared.pushed.Delivery.TheVariants as deliveries
 use Rattle.sessions.specs.declared.pushed.Pushed.{Pushed}
+use Rattle.script_text.specs.Left.{Left, followed_by, rests}
 use Rattle.script_text.specs.Node.{Node, step_at, with_step}
+use Rattle.script_text.specs.Prints.{Print}
 
--- the node after what came to it
-pub record Went : Type 0 where
-  pub node : Node
-  pub inputs : List Input
-
-abbrev pub rests_at : Node → Went
-rests_at node = record { node = node; inputs = [] }
+-- what came to a node, at which nothing is printed
+abbrev pub Went : Type 0
+Went = Left Node Input Print
 
 abbrev pub went : Node → Input → Went
-went node input = record { node = with_step node (step_at node input); inputs = input ∷ [] }
+went node input = record { next = with_step node (step_at node input); inputs = input ∷ []; prints = [] }
 
 -- an attempt that is open has this outcome; of one that is closed nothing comes any more
 abbrev pub concluded : Node → Slot → Outcome → Went
-concluded node slot outcome = if is_open node.kept slot then went node (Response slot outcome) else rests_at node
+concluded node slot outcome = if is_open node.kept slot then went node (Response slot outcome) else rests node
 
 -- nobody answered it
 abbrev pub unanswered : Outcome
@@ -35,19 +33,16 @@ unanswered = Unanswered no_answer_error
 -- what was pushed has this outcome, if it has one
 abbrev pub delivered_so : Node → Delivery → Option Outcome → Went
 delivered_so node (deliveries.Attempt slot) (Some outcome) = concluded node slot outcome
-delivered_so node (deliveries.Attempt slot) None = rests_at node
-delivered_so node (deliveries.Receipt id) outcome = rests_at node
+delivered_so node (deliveries.Attempt slot) None = rests node
+delivered_so node (deliveries.Receipt id) outcome = rests node
 
 abbrev pub given_up : Node → Pushed → Went
 given_up node pushed = delivered_so node pushed.delivery (Some unanswered)
 
-abbrev pub then_went : Went → Went → Went
-then_went first last = record { node = last.node; inputs = first.inputs ++ last.inputs }
-
 -- these pushed requests are given up, one after the other
 unfoldable pub all_given_up : Node → List Pushed → Went
-all_given_up node [] = rests_at node
-all_given_up node (pushed ∷ others) = then_went (given_up node pushed) (all_given_up (given_up node pushed).node others)
+all_given_up node [] = rests node
+all_given_up node (pushed ∷ others) = followed_by (given_up node pushed) (all_given_up (given_up node pushed).next others)
 
 -- ---- an attempt that is granted
 

@@ -1,6 +1,7 @@
 pub use Rattle.esme_service.specs.Pushes
 pub use Rattle.esme_service.specs.Responses
 pub mod Settings
+pub mod Left
 pub mod Node
 pub mod Attempts
 pub mod Prints

@@ -7,6 +7,7 @@ use Rattle.mc_model.specs.message.Ids.{id_of}
 use Rattle.mc_model.specs.message.Submission.{Submission}
 use Rattle.mc_model.specs.node.Actor.{Request}
 use Rattle.mc_model.specs.node.Grant.{GrantRefusal, refusal_number}
+use Rattle.mc_model.specs.node.Input.{Input}
 use Rattle.mc_model.specs.node.Outcome.{Outcome}
 use Rattle.mc_model.specs.node.Outputs.{Receipt, Reply}
 use Rattle.alone_laws.specs.Attempts.{concluded_at, granted_at, newest_slot, receipts_on, refusal_at}
@@ -30,6 +31,7 @@ use Rattle.desk.specs.Admissions.{admitted}
 use Rattle.desk.specs.declared.door.Door.{Door}
 use Rattle.desk.specs.declared.request.Request.{Request as Asked}
 use Rattle.script_text.specs.Settings.{Settings, script_settings}
+use Rattle.script_text.specs.Left.{Left, followed_by, in_front, rests}
 use Rattle.script_text.specs.Attempts.{unanswered}
 use Rattle.script_text.specs.Responses.{refusal_pdu, reply_pdu}
 use Rattle.script_text.specs.Prints.{Print, AtOnce, Late, Delivers, Ungranted, text_at}
@@ -49,12 +51,11 @@ pub record OneNode : Type 0 where
   pub due : List Receipt
 
 -- what happens leaves this, and prints this
-pub record Happened : Type 0 where
-  pub next : OneNode
-  pub prints : List Print
+abbrev pub Happened : Type 0
+Happened = Left OneNode Input Print
 
 abbrev pub prints_now : OneNode → List Print → Happened
-prints_now one prints = record { next = one; prints = prints }
+prints_now one prints = record { next = one; inputs = []; prints = prints }
 
 -- ---- receipts
 
@@ -62,10 +63,7 @@ abbrev pub mail_of : OneNode → Mail
 mail_of one = record { sessions = one.sessions; waiting = one.waiting }
 
 abbrev pub with_posted : OneNode → Posted → Happened
-with_posted one posted = prints_now (record one { sessions = posted.mail.sessions; waiting = posted.mail.waiting }) posted.prints
-
-abbrev pub behind : List Print → Happened → Happened
-behind prints happened = record { next = happened.next; prints = prints ++ happened.prints }
+with_posted one posted = prints_now (record one { sessions = posted.next.sessions; waiting = posted.next.waiting }) posted.prints
 
 -- what waits for an account goes out
 abbrev pub posts_for : OneNode → Option (List ℕ) → Happened
@@ -145,7 +143,7 @@ reacted settings one number came next other = prints_now one []
 
 -- and then what waits for the account of the session goes out
 abbrev pub and_posted : Happened → Option (List ℕ) → Happened
-and_posted happened account = behind happened.prints (posts_for happened.next account)
+and_posted happened account = in_front happened.prints (posts_for happened.next account)
 
 abbrev pub done_by : Settings → OneNode → ℕ → Came → Done → Happened
 done_by settings one number came done = and_posted (reacted settings one number came done.next done.reaction) done.next.account
@@ -167,7 +165,7 @@ ticks one t =
 
 -- what was owed is printed, and the receipts that are due go out
 abbrev pub settled : OneNode → Happened
-settled one = behind one.owed (with_posted (record one { owed = []; due = [] }) (all_posted one.node.clock (mail_of one) one.due))
+settled one = in_front one.owed (with_posted (record one { owed = []; due = [] }) (all_posted one.node.clock (mail_of one) one.due))
 
 unfoldable pub happens : Settings → OneNode → Event → Happened
 happens settings one (Comes number octets) = came settings one number octets (read_pdu octets)
@@ -178,10 +176,7 @@ happens settings one Settles = settled one
 -- what events print, one after the other, and what they leave
 unfoldable pub happen : Settings → OneNode → List Event → Happened
 happen settings one [] = prints_now one []
-happen settings one (event ∷ events) = record {
-  next = (happen settings (happens settings one event).next events).next;
-  prints = (happens settings one event).prints ++ (happen settings (happens settings one event).next events).prints;
-}
+happen settings one (event ∷ events) = followed_by (happens settings one event) (happen settings (happens settings one event).next events)
 
 abbrev pub one_node : ℕ → OneNode
 one_node serial = record { node = new_table serial; sessions = []; waiting = []; owed = []; due = [] }

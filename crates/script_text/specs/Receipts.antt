@@ -1,11 +1,13 @@
 -- Receipts go out, one after another (own).
-use Rattle.std.specs.Prelude.{ℕ, zero, suc, List, [], ◌∷◌, ◌++◌, find, length, Option, Some, None}
+use Rattle.std.specs.Prelude.{ℕ, zero, suc, List, [], ◌∷◌, find, length, Option, Some, None}
+use Rattle.mc_model.specs.node.Input.{Input}
 use Rattle.mc_model.specs.node.Outputs.{Receipt}
 use Rattle.receipts.specs.Texts.{Report}
 use Rattle.sessions.specs.Session.{Session}
 use Rattle.sessions.specs.Windows.{without_first}
 use Rattle.sessions.specs.declared.pushed.Delivery.TheVariants as deliveries
 use Rattle.script_text.specs.Pushes.{knows_optional, session_at, target_in, with_push}
+use Rattle.script_text.specs.Left.{Left, followed_by, rests}
 use Rattle.script_text.specs.Prints.{Print, Reports}
 pub use Rattle.esme_service.specs.Reports.{began_at, report_if, reported_as, reported_on, reported_by, submitter_of, is_for, most_waiting, waits_for}
 
@@ -14,16 +16,9 @@ pub record Mail : Type 0 where
   pub sessions : List (ℕ × Session)
   pub waiting : List Receipt
 
--- what is left of them, and what was printed
-pub record Posted : Type 0 where
-  pub mail : Mail
-  pub prints : List Print
-
-abbrev pub stays : Mail → Posted
-stays mail = record { mail = mail; prints = [] }
-
-abbrev pub then_posted : Posted → Posted → Posted
-then_posted first last = record { mail = last.mail; prints = first.prints ++ last.prints }
+-- what is left of them, and what was printed: nothing comes to the node
+abbrev pub Posted : Type 0
+Posted = Left Mail Input Print
 
 -- ---- they go out
 
@@ -35,10 +30,11 @@ reports_on number session report = []
 -- one that waits for an account goes out at a moment, over the session of this number
 abbrev pub goes_out : ℕ → List ℕ → Mail → Receipt → ℕ → Posted
 goes_out now account mail receipt number = record {
-  mail = record {
+  next = record {
     sessions = with_push mail.sessions number now (deliveries.Receipt receipt.id);
     waiting = without_first (is_for account) mail.waiting;
   };
+  inputs = [];
   prints = reports_on number (session_at mail.sessions number) (reported_by receipt);
 }
 
@@ -48,10 +44,10 @@ with_both none both a b = none
 
 -- so many go out at most, the oldest first, as long as one waits for the account and a session takes it
 unfoldable pub goes_out_up_to : ℕ → ℕ → List ℕ → Mail → Posted
-goes_out_up_to zero now account mail = stays mail
+goes_out_up_to zero now account mail = rests mail
 goes_out_up_to (suc more) now account mail =
-    with_both (stays mail)
-    (λ receipt number. then_posted (goes_out now account mail receipt number) (goes_out_up_to more now account (goes_out now account mail receipt number).mail))
+    with_both (rests mail)
+    (λ receipt number. followed_by (goes_out now account mail receipt number) (goes_out_up_to more now account (goes_out now account mail receipt number).next))
     (find (is_for account) mail.waiting) (target_in mail.sessions account)
 
 -- what waits for an account goes out, as far as its sessions take it
@@ -59,19 +55,19 @@ abbrev pub posted_for : ℕ → Mail → List ℕ → Posted
 posted_for now mail account = goes_out_up_to (length mail.waiting) now account mail
 
 abbrev pub posted_for_any : ℕ → Mail → Option (List ℕ) → Posted
-posted_for_any now mail None = stays mail
+posted_for_any now mail None = rests mail
 posted_for_any now mail (Some account) = posted_for now mail account
 
 -- for one account after the other
 unfoldable pub posted_for_all : ℕ → Mail → List (List ℕ) → Posted
-posted_for_all now mail [] = stays mail
-posted_for_all now mail (account ∷ others) = then_posted (posted_for now mail account) (posted_for_all now (posted_for now mail account).mail others)
+posted_for_all now mail [] = rests mail
+posted_for_all now mail (account ∷ others) = followed_by (posted_for now mail account) (posted_for_all now (posted_for now mail account).next others)
 
 -- ---- new ones
 
 -- a receipt is due: it waits for its account, and goes out if it can
 abbrev pub posted_to : ℕ → Mail → Receipt → Option (List ℕ) → Posted
-posted_to now mail receipt None = stays mail
+posted_to now mail receipt None = rests mail
 posted_to now mail receipt (Some account) = posted_for now (record mail { waiting = waits_for account mail.waiting receipt }) account
 
 abbrev pub posted : ℕ → Mail → Receipt → Posted
@@ -79,5 +75,5 @@ posted now mail receipt = posted_to now mail receipt (submitter_of receipt)
 
 -- one after the other
 unfoldable pub all_posted : ℕ → Mail → List Receipt → Posted
-all_posted now mail [] = stays mail
-all_posted now mail (receipt ∷ others) = then_posted (posted now mail receipt) (all_posted now (posted now mail receipt).mail others)
+all_posted now mail [] = rests mail
+all_posted now mail (receipt ∷ others) = followed_by (posted now mail receipt) (all_posted now (posted now mail receipt).next others)

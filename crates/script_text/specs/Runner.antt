@@ -35,6 +35,7 @@ use Rattle.sessions.specs.declared.requested.Requested.{Requested}
 use Rattle.desk.specs.declared.request.Request.{Request}
 use Rattle.desk.specs.declared.request.Request.TheVariants.{Submit, Ask as AskOf, Cancel}
 use Rattle.script_text.specs.Settings.{Settings}
+use Rattle.script_text.specs.Left.{Left, followed_by, in_front, rests}
 use Rattle.script_text.specs.Node.{Node, awaiting, request_at, step_at, tick_at, with_step}
 use Rattle.script_text.specs.Responses.{refused_with, reply_pdu}
 use Rattle.script_text.specs.Pushes.{accounts_up, delivery_on, overdue_in, session_at, target_in, timely_in, with_push}
@@ -63,20 +64,22 @@ runner_opened node = record { node = node; sessions = []; streams = []; waiting 
 
 -- ---- a PDU on a session
 
--- What serving a session leaves: the node, the session, what came to the node, and what was printed, the oldest first.
-pub record Served : Type 0 where
+-- a node, and a session that is served at it
+pub record Serving : Type 0 where
   pub node : Node
   pub session : Session
-  pub inputs : List Input
-  pub prints : List Print
+
+-- what serving a session leaves
+abbrev pub Served : Type 0
+Served = Left Serving Input Print
 
 -- the node is not asked, and this is printed
 abbrev pub unasked : Node → Session → List Print → Served
-unasked node session prints = record { node = node; session = session; inputs = []; prints = prints }
+unasked node session prints = record { next = record { node = node; session = session }; inputs = []; prints = prints }
 
 -- the node went on by what came of attempts, and this is printed
 abbrev pub gone_on : Session → Went → List Print → Served
-gone_on session went prints = record { node = went.node; session = session; inputs = went.inputs; prints = prints }
+gone_on session went prints = record { next = record { node = went.next; session = session }; inputs = went.inputs; prints = prints }
 
 -- the command_status of a request that does not wait goes out
 abbrev pub refusal_prints : ℕ → Requested → ℕ → Option ℕ → List Print
@@ -85,8 +88,7 @@ refusal_prints number requested sequence (Some status) = AtOnce number (refused_
 
 abbrev pub begun_by : ℕ → Node → Session → Requested → ℕ → Input → Stepped → Served
 begun_by number node session requested sequence input step = record {
-  node = with_step node step;
-  session = in_window session requested sequence step.outputs.ticket;
+  next = record { node = with_step node step; session = in_window session requested sequence step.outputs.ticket };
   inputs = input ∷ [];
   prints = refusal_prints number requested sequence step.outputs.refused;
 }
@@ -131,19 +133,9 @@ on_read settings number node session octets (Err fault) =
 
 -- ---- what a line does
 
--- what a line leaves: the runner, what came to the node, and what was printed
-pub record Acted : Type 0 where
-  pub next : Runner
-  pub inputs : List Input
-  pub prints : List Print
-
--- nothing is done
-abbrev pub rests : Runner → Acted
-rests runner = record { next = runner; inputs = []; prints = [] }
-
--- what was done first, and then this
-abbrev pub followed_by : Acted → Acted → Acted
-followed_by first last = record { next = last.next; inputs = first.inputs ++ last.inputs; prints = first.prints ++ last.prints }
+-- what a runner did
+abbrev pub Acted : Type 0
+Acted = Left Runner Input Print
 
 -- ---- receipts
 
@@ -152,7 +144,7 @@ mail_of runner = record { sessions = runner.sessions; waiting = runner.waiting }
 
 abbrev pub with_posted : Runner → Posted → Acted
 with_posted runner posted = record {
-  next = record runner { sessions = posted.mail.sessions; waiting = posted.mail.waiting };
+  next = record runner { sessions = posted.next.sessions; waiting = posted.next.waiting };
   inputs = [];
   prints = posted.prints;
 }
@@ -187,7 +179,7 @@ with_session runner number session =
 
 abbrev pub served_at : Runner → ℕ → Served → Acted
 served_at runner number served = record {
-  next = with_session (record runner { node = served.node }) number served.session;
+  next = with_session (record runner { node = served.next.node }) number served.next.session;
   inputs = served.inputs;
   prints = served.prints;
 }
@@ -195,7 +187,7 @@ served_at runner number served = record {
 -- A session was served, and what waits for its account goes out.
 abbrev pub serves : Runner → ℕ → Served → Acted
 serves runner number served =
-    followed_by (served_at runner number served) (posts_for (served_at runner number served).next served.session.account)
+    followed_by (served_at runner number served) (posts_for (served_at runner number served).next served.next.session.account)
 
 -- the octets of one frame come on a session
 unfoldable pub on_frame : Settings → ℕ → Runner → List ℕ → Acted
@@ -241,23 +233,19 @@ abbrev pub reply_prints : Reply → Option Owned → List Print
 reply_prints reply None = []
 reply_prints reply (Some owned) = Late owned.number reply.id (reply_pdu owned.request.requested owned.request.sequence reply.id reply.answer) ∷ []
 
--- the sessions after replies, and what is printed
-pub record Told : Type 0 where
-  pub sessions : List (ℕ × Session)
-  pub prints : List Print
-
-abbrev pub in_front : List Print → Told → Told
-in_front first told = record { sessions = told.sessions; prints = first ++ told.prints }
+-- the sessions after replies, and what is printed: nothing comes to the node
+abbrev pub Told : Type 0
+Told = Left (List (ℕ × Session)) Input Print
 
 -- reply after reply goes out on the session that holds its ticket; one whose session is gone is dropped
 unfoldable pub told : List (ℕ × Session) → List Reply → Told
-told connected [] = record { sessions = connected; prints = [] }
+told connected [] = rests connected
 told connected (reply ∷ replies) =
     in_front (reply_prints reply (owner_of connected reply.ticket)) (told (replied connected reply.ticket (owner_of connected reply.ticket)) replies)
 
 abbrev pub answered : Runner → Node → Input → Told → Acted
 answered runner node input told = record {
-  next = record runner { node = node; sessions = told.sessions };
+  next = record runner { node = node; sessions = told.next };
   inputs = input ∷ [];
   prints = told.prints;
 }
@@ -278,7 +266,7 @@ ticked runner moment = ticks_by runner (tick_at moment (accounts_up runner.sessi
 -- what waits too long on its session is given up
 abbrev pub gives_up_by : Runner → ℕ → Went → Acted
 gives_up_by runner now went = record {
-  next = record runner { node = went.node; sessions = timely_in runner.sessions now };
+  next = record runner { node = went.next; sessions = timely_in runner.sessions now };
   inputs = went.inputs;
   prints = [];
 }
@@ -307,7 +295,7 @@ pushes runner slot taken number (Some session) = record {
 
 -- nobody is there whom it could go to
 abbrev pub fails_by : Runner → Went → Acted
-fails_by runner went = record { next = record runner { node = went.node }; inputs = went.inputs; prints = [] }
+fails_by runner went = record { next = record runner { node = went.next }; inputs = went.inputs; prints = [] }
 
 abbrev pub sent_to : Runner → Slot → Submission → Option ℕ → Acted
 sent_to runner slot taken None = fails_by runner (concluded runner.node slot unanswered)

@@ -3,6 +3,7 @@ use Rattle.std.specs.Prelude.{◌≡◌, ℕ, suc, List, [], ◌∷◌, ◌++◌
 use Rattle.script_lines.specs.Lines.{lines_of}
 use Rattle.script_lines.specs.Said.{Said, Skipped, Nodes, Octets, Deliver, Crash, Tick, Grant, Settle, Restart, Replay, said_within}
 use Rattle.script_text.specs.Settings.{Settings, script_settings}
+use Rattle.script_text.specs.Left.{Left, rests}
 use Rattle.script_text.specs.Prints.{WorldPrint, world_text}
 use Rattle.script_text.specs.World.{World, Moved, NodeInput, comes, crashes, grants, hears, on_replay, on_settle, opened, restarts, ticks}
 
@@ -11,16 +12,14 @@ abbrev pub Stage : Type 0
 Stage = Option World
 
 -- the stage after a line, what came to nodes, and what the line printed
-pub record Stepped : Type 0 where
-  pub stage : Stage
-  pub inputs : List NodeInput
-  pub prints : List WorldPrint
+abbrev pub Stepped : Type 0
+Stepped = Left Stage NodeInput WorldPrint
 
 abbrev pub stepped : Moved → Option Stepped
-stepped moved = Some (record { stage = Some moved.next; inputs = moved.inputs; prints = moved.prints })
+stepped moved = Some (record { next = Some moved.next; inputs = moved.inputs; prints = moved.prints })
 
 abbrev pub silent : Stage → Option Stepped
-silent stage = Some (record { stage = stage; inputs = []; prints = [] })
+silent stage = Some (rests stage)
 
 -- what a line does to the world that is there
 abbrev pub moved_by : Settings → World → Said → Option Stepped
@@ -65,7 +64,7 @@ Joins settings stage (line ∷ lines) inputs prints last =
     × (step_of settings stage line ≡ Some done)
     × (inputs ≡ done.inputs ++ later)
     × (prints ≡ done.prints ++ others)
-    × Joins settings done.stage lines later others last
+    × Joins settings done.next lines later others last
 
 -- ---- computed
 
@@ -78,13 +77,13 @@ after bad good (Some done) = good done
 unfoldable pub prints_from : Settings → Stage → List (List ℕ) → List WorldPrint
 prints_from settings stage [] = []
 prints_from settings stage (line ∷ lines) =
-    after [] (λ done. done.prints ++ prints_from settings done.stage lines) (step_of settings stage line)
+    after [] (λ done. done.prints ++ prints_from settings done.next lines) (step_of settings stage line)
 
 -- the number of the first bad line, if the first of these has this number
 unfoldable pub bad_from : Settings → Stage → ℕ → List (List ℕ) → Option ℕ
 bad_from settings stage number [] = None
 bad_from settings stage number (line ∷ lines) =
-    after (Some number) (λ done. bad_from settings done.stage (suc number) lines) (step_of settings stage line)
+    after (Some number) (λ done. bad_from settings done.next (suc number) lines) (step_of settings stage line)
 
 -- what a script prints
 abbrev pub prints_of : List ℕ → List WorldPrint

@@ -9,6 +9,7 @@ use Rattle.node_model.specs.Stepped.{sender_of}
 pub use Rattle.node_laws.specs.Clusters.{NodeInput, cluster_with}
 use Rattle.script_lines.specs.Said.{is_listed}
 use Rattle.script_text.specs.Settings.{Settings}
+use Rattle.script_text.specs.Left.{Left, followed_by, rests}
 use Rattle.script_text.specs.Node.{Node, opened_by, step_at, with_step}
 use Rattle.script_text.specs.Runner.{Runner, Acted, given_out, gone_prints, on_delivery, on_grant, on_octets, on_restart}
 use Rattle.script_text.specs.Runner.{on_tick, runner_opened}
@@ -21,11 +22,9 @@ pub record World : Type 0 where
   pub packets : List Packet
   pub came : ℕ → ℕ → Bool
 
--- what a line leaves: the world, what came to nodes, and what was printed
-pub record Moved : Type 0 where
-  pub next : World
-  pub inputs : List NodeInput
-  pub prints : List WorldPrint
+-- what a line does to a world
+abbrev pub Moved : Type 0
+Moved = Left World NodeInput WorldPrint
 
 -- ---- the start
 
@@ -42,14 +41,6 @@ opened settings count serial = record {
 }
 
 -- ---- a node of many
-
--- nothing is done
-abbrev pub stays : World → Moved
-stays world = record { next = world; inputs = []; prints = [] }
-
--- what was done first, and then this
-abbrev pub then_moved : Moved → Moved → Moved
-then_moved first last = record { next = last.next; inputs = first.inputs ++ last.inputs; prints = first.prints ++ last.prints }
 
 -- what a node did: what it sent comes behind all packets
 abbrev pub shared : World → ℕ → Acted → Moved
@@ -197,32 +188,32 @@ if_due none some (Some next) = some next
 unfoldable pub settles : ℕ → List ℕ → World → Moved
 settles zero nodes world = unsettled world
 settles (suc more) nodes world =
-    if_due (stays world)
-    (λ next. then_moved (comes world next.number next.node) (settles more nodes (comes world next.number next.node).next))
+    if_due (rests world)
+    (λ next. followed_by (comes world next.number next.node) (settles more nodes (comes world next.number next.node).next))
     (due world nodes)
 
 -- ---- a replay
 
 -- the packet of a number comes to a node, unless the node is down
 abbrev pub comes_again : World → ℕ → ℕ → Moved
-comes_again world number node = if is_up_at (runner_at world node) then comes world number node else stays world
+comes_again world number node = if is_up_at (runner_at world node) then comes world number node else rests world
 
 -- to these nodes
 unfoldable pub comes_to : ℕ → List ℕ → World → Moved
-comes_to number [] world = stays world
-comes_to number (node ∷ nodes) world = then_moved (comes_again world number node) (comes_to number nodes (comes_again world number node).next)
+comes_to number [] world = rests world
+comes_to number (node ∷ nodes) world = followed_by (comes_again world number node) (comes_to number nodes (comes_again world number node).next)
 
 -- the packets of these numbers come to all nodes
 unfoldable pub all_come : List ℕ → World → Moved
-all_come [] world = stays world
+all_come [] world = rests world
 all_come (number ∷ numbers) world =
-    then_moved (comes_to number (node_numbers world) world) (all_come numbers (comes_to number (node_numbers world) world).next)
+    followed_by (comes_to number (node_numbers world) world) (all_come numbers (comes_to number (node_numbers world) world).next)
 
 -- so many packets come again, from the highest number down, so many times
 unfoldable pub replays : ℕ → ℕ → World → Moved
-replays zero count world = stays world
+replays zero count world = rests world
 replays (suc more) count world =
-    then_moved (all_come (reverse (range_with_len 1 count)) world) (replays more count (all_come (reverse (range_with_len 1 count)) world).next)
+    followed_by (all_come (reverse (range_with_len 1 count)) world) (replays more count (all_come (reverse (range_with_len 1 count)) world).next)
 
 -- ---- lines
 

@@ -15,10 +15,11 @@ use Rattle.pdu_tables.specs.StatusCodes.{status_code}
 use Rattle.pdu_tables.specs.declared.status.Status.TheVariants as statuses
 use Rattle.sessions.specs.Session.{Session}
 use Rattle.sessions.specs.declared.requested.Requested.{Requested}
+use Rattle.script_text.specs.Left.{in_front}
 use Rattle.script_text.specs.Prints.{Delivers, Late, Print, Reports}
 use Rattle.script_text.specs.Pushes.{delivery_on}
 use Rattle.script_text.specs.Responses.{reply_pdu}
-use Rattle.script_text.specs.Runner.{Owned, Told, in_front, owner_of, replied, reply_prints, told}
+use Rattle.script_text.specs.Runner.{Owned, Told, owner_of, replied, reply_prints, told}
 use Rattle.script_text.specs.Settings.{Settings}
 use Rattle.script_text.specs.Prints.{At, WorldPrint}
 use Rattle.script_text.specs.Script.{Joins, Stage}

@@ -22,7 +22,7 @@ use Rattle.world_fates.proofs.Lines.{AreSound, IsHeard, WaitsAt, line_leads, ope
 
 pub joins_more : (settings : Settings) (first middle : Stage) (lines : List (List ℕ)) (came : List NodeInput) (prints : List WorldPrint) (line : List ℕ)
     (done : Stepped) → Joins settings first lines came prints middle → step_of settings middle line ≡ Some done →
-    Joins settings first (lines ++ line ∷ []) (came ++ done.inputs) (prints ++ done.prints) done.stage
+    Joins settings first (lines ++ line ∷ []) (came ++ done.inputs) (prints ++ done.prints) done.next
 unfolding Joins
 joins_more settings first middle [] came prints line done joins does = (
   done,
@@ -40,7 +40,7 @@ joins_more settings first middle (next ∷ lines) came prints line done joins do
   joins.3,
   ap (λ (inputs : List NodeInput). inputs ++ done.inputs) joins.4 ∙ append_assoc joins.0.inputs joins.1 done.inputs,
   ap (λ (printed : List WorldPrint). printed ++ done.prints) joins.5 ∙ append_assoc joins.0.prints joins.2 done.prints,
-  joins_more settings joins.0.stage middle lines joins.1 joins.2 line done joins.6 does,
+  joins_more settings joins.0.next middle lines joins.1 joins.2 line done joins.6 does,
 )
 
 -- ---- what waits went out
@@ -62,7 +62,7 @@ module _ (settings : Settings) (before : List (List ℕ)) (came : List NodeInput
   lines = before ++ line ∷ []
 
   -- it went out before, and its session stays
-  went_still : (next : World) → done.stage ≡ Some next → (node session sequence : ℕ) (slot : Slot) →
+  went_still : (next : World) → done.next ≡ Some next → (node session sequence : ℕ) (slot : Slot) →
       WentOut settings before world node session sequence slot → (In (At node (Gone session)) done.prints → ⊥) →
       WentOut settings lines next node session sequence slot
   went_still next stage node session sequence slot went ungone = record {
@@ -78,9 +78,9 @@ module _ (settings : Settings) (before : List (List ℕ)) (came : List NodeInput
       came = went.stays.came ++ done.inputs;
       prints = went.stays.prints ++ done.prints;
       joins = subst
-          (λ (s : Stage). Joins settings went.done.stage (went.later ++ line ∷ []) (went.stays.came ++ done.inputs) (went.stays.prints ++ done.prints) s)
+          (λ (s : Stage). Joins settings went.done.next (went.later ++ line ∷ []) (went.stays.came ++ done.inputs) (went.stays.prints ++ done.prints) s)
           stage
-          (joins_more settings went.done.stage (Some world) went.later went.stays.came went.stays.prints line done went.stays.joins does);
+          (joins_more settings went.done.next (Some world) went.later went.stays.came went.stays.prints line done went.stays.joins does);
       stays = λ among. elim (in_either (At node (Gone session)) went.stays.prints done.prints among) [
         | inl here ↦ went.stays.stays here
         | inr there ↦ ungone there
@@ -89,7 +89,7 @@ module _ (settings : Settings) (before : List (List ℕ)) (came : List NodeInput
   }
 
   -- it goes out by this line
-  went_now : (next : World) → done.stage ≡ Some next → (node session sequence : ℕ) (slot : Slot) →
+  went_now : (next : World) → done.next ≡ Some next → (node session sequence : ℕ) (slot : Slot) →
       GoesOut world line done node session sequence slot → WentOut settings lines next node session sequence slot
   unfolding Joins
   went_now next stage node session sequence slot goes = record {
@@ -104,7 +104,7 @@ module _ (settings : Settings) (before : List (List ℕ)) (came : List NodeInput
     stays = record { came = []; prints = []; joins = (refl, refl, sym stage); stays = λ among. among };
   }
 
-  one_more : AllWentOut settings before world → GoesWell settings lines done.stage
+  one_more : AllWentOut settings before world → GoesWell settings lines done.next
   one_more all =
       let leads = line_leads settings world all.sound line done does in
       subst (GoesWell settings lines) (sym leads.stage_is)
@@ -141,18 +141,18 @@ lines_well settings before came prints middle joins well [] coming others last l
 lines_well settings before came prints middle joins well (line ∷ lines) coming others last later =
     let done = later.0 in
     subst (λ (all : List (List ℕ)). GoesWell settings all last) (append_assoc before (line ∷ []) lines)
-    (lines_well settings (before ++ line ∷ []) (came ++ done.inputs) (prints ++ done.prints) done.stage
+    (lines_well settings (before ++ line ∷ []) (came ++ done.inputs) (prints ++ done.prints) done.next
     (joins_more settings None middle before came prints line done joins later.3) (next middle joins well later.3) lines later.1 later.2 last later.6)
   where
-    by_said : (said : Option Said) → (done : Stepped) → step_by settings None said ≡ Some done → GoesWell settings (before ++ line ∷ []) done.stage
+    by_said : (said : Option Said) → (done : Stepped) → step_by settings None said ≡ Some done → GoesWell settings (before ++ line ∷ []) done.next
     by_said None done is = absurd cc
     by_said (Some Skipped) done is =
-        subst (λ (d : Stepped). GoesWell settings (before ++ line ∷ []) d.stage) (same _ done is) tt
+        subst (λ (d : Stepped). GoesWell settings (before ++ line ∷ []) d.next) (same _ done is) tt
       where
         same : (one other : Stepped) → Some one ≡ Some other → one ≡ other
         same one other is = cc
     by_said (Some (Nodes count serial)) done is =
-        subst (λ (d : Stepped). GoesWell settings (before ++ line ∷ []) d.stage) (same _ done is)
+        subst (λ (d : Stepped). GoesWell settings (before ++ line ∷ []) d.next) (same _ done is)
         (opened_well settings (before ++ line ∷ []) count serial)
       where
         same : (one other : Stepped) → Some one ≡ Some other → one ≡ other
@@ -167,7 +167,7 @@ lines_well settings before came prints middle joins well (line ∷ lines) coming
     by_said (Some (Replay count)) done is = absurd cc
 
     next : (stage : Stage) → Joins settings None before came prints stage → GoesWell settings before stage → step_of settings stage line ≡ Some later.0 →
-        GoesWell settings (before ++ line ∷ []) later.0.stage
+        GoesWell settings (before ++ line ∷ []) later.0.next
     next None joins well does = by_said (said_within 9 line) later.0 does
     next (Some world) joins well does = one_more settings before came prints world joins line later.0 does well
 

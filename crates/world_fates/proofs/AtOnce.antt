@@ -37,10 +37,11 @@ use Rattle.desk.specs.Admissions.{about, admitted, asks_about}
 use Rattle.desk.specs.Arrivals.{door_at, judged_as, next_id}
 use Rattle.desk.specs.declared.request.Request.{Request}
 use Rattle.desk.specs.declared.request.Request.TheVariants.{Ask, Cancel as Cancels}
+use Rattle.script_text.specs.Left.{followed_by, rests}
 use Rattle.script_text.specs.Node.{Node, step_at}
 use Rattle.script_text.specs.Prints.{AtOnce, Print}
 use Rattle.script_text.specs.Pushes.{session_at, target_in}
-use Rattle.script_text.specs.Receipts.{Mail, goes_out, goes_out_up_to, is_for, posted_for_any, reports_on, stays, then_posted, with_both}
+use Rattle.script_text.specs.Receipts.{Mail, goes_out, goes_out_up_to, is_for, posted_for_any, reports_on, with_both}
 use Rattle.script_text.specs.Runner.{Runner, came_by, mail_of, on_done, on_frame, on_reaction, on_read, on_request, refusal_prints, served_at, session_in}
 use Rattle.script_text.specs.Settings.{Settings}
 use Rattle.world_fates.specs.Refusals.{NamesMessage}
@@ -83,12 +84,12 @@ up_to_late (suc more) now account mail =
     at_both (find (is_for account) mail.waiting) (target_in mail.sessions account) (up_to_late more now account)
   where
     at_both : (found : Option Receipt) (target : Option ℕ) → ((next : Mail) → IsLate (goes_out_up_to more now account next).prints) →
-        IsLate (with_both (stays mail)
-        (λ receipt number. then_posted (goes_out now account mail receipt number)
-        (goes_out_up_to more now account (goes_out now account mail receipt number).mail)) found target).prints
+        IsLate (with_both (rests mail)
+        (λ receipt number. followed_by (goes_out now account mail receipt number)
+        (goes_out_up_to more now account (goes_out now account mail receipt number).next)) found target).prints
     at_both (Some receipt) (Some number) behind =
         let one = goes_out now account mail receipt number in
-        then_late one.prints (goes_out_up_to more now account one.mail).prints (reports_late number (session_at mail.sessions number) _) (behind one.mail)
+        then_late one.prints (goes_out_up_to more now account one.next).prints (reports_late number (session_at mail.sessions number) _) (behind one.next)
     at_both None target behind = λ session pdu among. among
     at_both (Some receipt) None behind = λ session pdu among. among
 
@@ -231,9 +232,9 @@ ids_known settings number session runner frame asked id pdu reads names is_id am
     let held = session_in runner.sessions number in
     let served = on_read settings number runner.node held frame (read_pdu frame) in
     let next = (served_at runner number served).next in
-    elim (in_either (AtOnce session pdu) served.prints (posted_for_any next.node.kept.clock (mail_of next) served.session.account).prints among) [
+    elim (in_either (AtOnce session pdu) served.prints (posted_for_any next.node.kept.clock (mail_of next) served.next.session.account).prints among) [
       | inl here ↦
           subst (λ (read : Result Pdu PduFault). IsKnown (on_read settings number runner.node held frame read).prints) (sym reads)
           (body_served settings number runner.node held id is_id asked.status asked.sequence asked.body names frame) session pdu here
-      | inr there ↦ absurd (any_late next.node.kept.clock (mail_of next) served.session.account session pdu there)
+      | inr there ↦ absurd (any_late next.node.kept.clock (mail_of next) served.next.session.account session pdu there)
     ]

@@ -176,7 +176,7 @@ brought_by settings before past printed middle joins (line ∷ lines) came print
       | inl now ↦ at_stage middle joins later.3 now
       | inr after ↦
           subst (λ (all : List (List ℕ)). IsBroughtBy settings all next) (append_assoc before (line ∷ []) lines)
-          (brought_by settings (before ++ line ∷ []) (past ++ done.inputs) (printed ++ done.prints) done.stage
+          (brought_by settings (before ++ line ∷ []) (past ++ done.inputs) (printed ++ done.prints) done.next
           (joins_more settings None middle before past printed line done joins later.3) lines later.1 later.2 last later.6 next after)
     ]
   where

@@ -10,8 +10,9 @@ use Rattle.node_laws.proofs.Orders.{in_mapped}
 use Rattle.pdu_bodies.specs.declared.pdu.Pdu.{Pdu}
 use Rattle.script_lines.specs.Said.{Said, Skipped, Nodes, Octets, Deliver, Crash, Tick, Grant, Settle, Restart, Replay, said_within}
 use Rattle.sessions.specs.Session.{Session}
+use Rattle.script_text.specs.Left.{in_front}
 use Rattle.script_text.specs.Prints.{Delivers, Print}
-use Rattle.script_text.specs.Runner.{Owned, Runner, Told, in_front, on_grant, owner_of, replied, reply_prints, told}
+use Rattle.script_text.specs.Runner.{Owned, Runner, Told, on_grant, owner_of, replied, reply_prints, told}
 use Rattle.script_text.specs.Settings.{Settings}
 use Rattle.script_text.specs.Prints.{At, Refuses, WorldPrint}
 use Rattle.script_text.specs.Script.{Joins, Stepped, step_by, step_of, stepped}

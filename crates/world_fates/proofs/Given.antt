@@ -14,10 +14,11 @@ use Rattle.pdu_tables.specs.StateCodes.{state_code}
 use Rattle.fate_chain.specs.States.{final_code, state_of}
 use Rattle.receipts.specs.Texts.{Report}
 use Rattle.sessions.specs.Session.{Session}
+use Rattle.script_text.specs.Left.{in_front}
 use Rattle.script_text.specs.Prints.{Delivers, Late, Print, Reports}
 use Rattle.script_text.specs.Pushes.{delivery_on}
 use Rattle.script_text.specs.Responses.{reply_pdu}
-use Rattle.script_text.specs.Runner.{Owned, Told, in_front, owner_of, replied, reply_prints, told}
+use Rattle.script_text.specs.Runner.{Owned, Told, owner_of, replied, reply_prints, told}
 use Rattle.script_text.specs.Settings.{Settings}
 use Rattle.script_text.specs.Laws.{StatesFate}
 use Rattle.script_text.specs.Prints.{At, WorldPrint}

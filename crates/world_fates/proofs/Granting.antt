@@ -175,7 +175,7 @@ line_grants settings cluster past world stands line done there id state says is 
         (subst (λ (i : ℕ). WasGivenOut cluster past i knows.final) same knows.given)
 
     done_is : stepped (grants world there id) ≡ Some done →
-        record { stage = Some (grants world there id).next; inputs = (grants world there id).inputs; prints = (grants world there id).prints } ≡ done
+        record { next = Some (grants world there id).next; inputs = (grants world there id).inputs; prints = (grants world there id).prints } ≡ done
     done_is stepped_is = cc
 
 pub stage_grants : (settings : Settings) (later : List (List ℕ)) (came coming : List NodeInput) (prints others : List WorldPrint) (middle last : Stage)

@@ -45,13 +45,14 @@ use Rattle.sessions.specs.declared.requested.Requested.{Requested}
 use Rattle.desk.specs.Admissions.{admitted}
 use Rattle.desk.specs.Arrivals.{door_at, judged_as, next_id}
 use Rattle.desk.specs.declared.request.Request.{Request}
-use Rattle.script_text.specs.Attempts.{Went, all_given_up, concluded, delivered_so, given_up, rests_at, submission_at, unanswered, went}
+use Rattle.script_text.specs.Left.{followed_by, rests}
+use Rattle.script_text.specs.Attempts.{Went, all_given_up, concluded, delivered_so, given_up, submission_at, unanswered, went}
 use Rattle.script_text.specs.Node.{Node, step_at, tick_at, with_step}
 use Rattle.script_text.specs.Prints.{AtOnce, Declined, Delivers, Gone, Late, Print, Ungranted}
 use Rattle.script_text.specs.Pushes.{accounts_up, delivery_on, overdue_in, session_at, target_in, timely_in}
 use Rattle.script_text.specs.Receipts.{Posted}
 use Rattle.script_text.specs.Responses.{reply_pdu}
-use Rattle.script_text.specs.Runner.{Acted, Came, Runner, Served, answered_by, came_by, declined, ends, fails_by, followed_by, gives_up, gone_prints}
+use Rattle.script_text.specs.Runner.{Acted, Came, Runner, Served, answered_by, came_by, declined, ends, fails_by, gives_up, gone_prints}
 use Rattle.script_text.specs.Runner.{granted, granted_unless, held_in, holds, in_window, last_incarnation, mail_of, makes_room, no_incarnation}
 use Rattle.script_text.specs.Runner.{nothing_came, on_delivery, on_done, on_frame, on_frames, on_grant, on_octets, on_reaction, on_read, on_request}
 use Rattle.script_text.specs.Runner.{on_rest, on_restart, on_tick, opened_at, posts, posts_for, posts_for_all, pushes, put_at, refusal_prints}
@@ -92,7 +93,7 @@ grant_no_start slot lost is = cc
 concluded_plain : (node : Node) (slot : Slot) (outcome : Outcome) → IsPlain (concluded node slot outcome).inputs
 concluded_plain node slot outcome = by_test (is_open node.kept slot)
   where
-    by_test : (test : Bool) → IsPlain (cond {A = Went} test (went node (Response slot outcome)) (rests_at node)).inputs
+    by_test : (test : Bool) → IsPlain (cond {A = Went} test (went node (Response slot outcome)) (rests node)).inputs
     by_test true = only_plain (Response slot outcome) (λ lost is. cc)
     by_test false = λ lost among. among
 
@@ -168,13 +169,13 @@ module _ (cluster : Cluster) (m : ℕ) (first : List NodeInput) where
   -- ---- what comes of attempts
 
   abbrev WentWell : List NodeInput → Went → Type 0
-  WentWell past went = IsNode (came_to m went.inputs past) went.node
+  WentWell past went = IsNode (came_to m went.inputs past) went.next
 
   concluded_well : (past : List NodeInput) (node : Node) → IsNode past node → (slot : Slot) (outcome : Outcome) →
       WentWell past (concluded node slot outcome)
   concluded_well past node is slot outcome = by_test (is_open node.kept slot)
     where
-      by_test : (test : Bool) → WentWell past (cond {A = Went} test (went node (Response slot outcome)) (rests_at node))
+      by_test : (test : Bool) → WentWell past (cond {A = Went} test (went node (Response slot outcome)) (rests node))
       by_test true = node_then past node is (Response slot outcome)
       by_test false = is
 
@@ -374,8 +375,8 @@ module _ (cluster : Cluster) (m : ℕ) (first : List NodeInput) where
     -- ---- a frame
 
     record ServedWell (past : List NodeInput) (before : Session) (served : Served) : Type 0 where
-      node : IsNode (came_to m served.inputs past) served.node
-      came : (request : OpenRequest) → In request served.session.requests →
+      node : IsNode (came_to m served.inputs past) served.next.node
+      came : (request : OpenRequest) → In request served.next.session.requests →
           In request before.requests ⊎ CameSince (came_to m served.inputs past) request.ticket
       plain : IsPlain served.inputs
       aside : (print : Print) → In print served.prints → IsAside print
@@ -503,10 +504,10 @@ module _ (cluster : Cluster) (m : ℕ) (first : List NodeInput) where
 
     served_well : (past : List NodeInput) (runner : Runner) (number : ℕ) (served : Served) → ServesWell past runner →
         ServedWell past (session_in runner.sessions number) served → ActsWell past (served_at runner number served)
-    served_well past runner number served s it = by_test (is_gone served.session.state)
+    served_well past runner number served s it = by_test (is_gone served.next.session.state)
       where
         next : Runner
-        next = record runner { node = served.node }
+        next = record runner { node = served.next.node }
 
         without : List (ℕ × Session)
         without = remove_entry (is_at (nat_cmp number)) runner.sessions
@@ -523,7 +524,7 @@ module _ (cluster : Cluster) (m : ℕ) (first : List NodeInput) where
             old_came other request
             (record { session = session; there = removed_in (is_at (nat_cmp number)) runner.sessions (other, session) there; among = among })
 
-        put_came : (other : ℕ) (request : OpenRequest) (session : Session) → (◌≡◌ {A = ℕ × Session} (other, session) (number, served.session)) ⊎ In (other, session) without →
+        put_came : (other : ℕ) (request : OpenRequest) (session : Session) → (◌≡◌ {A = ℕ × Session} (other, session) (number, served.next.session)) ⊎ In (other, session) without →
             In request session.requests → Before other request ⊎ CameSince now request.ticket
         put_came other request session (inl new) among =
             elim (it.came request (subst (λ (x : Session). In request x.requests) (ap (λ (x : ℕ × Session). x.1) new) among)) [
@@ -535,7 +536,7 @@ module _ (cluster : Cluster) (m : ℕ) (first : List NodeInput) where
         put_came other request session (inr old) among = left_came other request session old among
 
         by_test : (gone : Bool) → ActsWell past (record {
-          next = if gone then record next { sessions = without } else record next { sessions = put_at runner.sessions number served.session };
+          next = if gone then record next { sessions = without } else record next { sessions = put_at runner.sessions number served.next.session };
           inputs = served.inputs;
           prints = served.prints;
         })
@@ -547,7 +548,7 @@ module _ (cluster : Cluster) (m : ℕ) (first : List NodeInput) where
         by_test false = record {
           node = it.node;
           came = λ other request asks.
-              put_came other request asks.session (inserted_in without number served.session (other, asks.session) asks.there) asks.among;
+              put_came other request asks.session (inserted_in without number served.next.session (other, asks.session) asks.there) asks.among;
           fine = λ print among. inl (it.aside print among);
         }
 
@@ -556,9 +557,9 @@ module _ (cluster : Cluster) (m : ℕ) (first : List NodeInput) where
     serves_well past runner number served s it =
         let one = served_at runner number served in
         let here = served_well past runner number served s it in
-        acts_then past one (posts_for one.next served.session.account) here
+        acts_then past one (posts_for one.next served.next.session.account) here
         (posts_well (came_to m one.inputs past) one.next _ (then_serves past one here)
-        (posted_for_any_posts one.next.node.kept.clock (mail_of one.next) served.session.account))
+        (posted_for_any_posts one.next.node.kept.clock (mail_of one.next) served.next.session.account))
 
     frame_well : (settings : Settings) (number : ℕ) (past : List NodeInput) (runner : Runner) (octets : List ℕ) → ServesWell past runner →
         ActsWell past (on_frame settings number runner octets)

@@ -14,6 +14,7 @@ use Rattle.node_laws.specs.Clusters.{MayHappen, NodeInput}
 use Rattle.script_lines.specs.Said.{Said, Skipped, Nodes, Octets, Deliver, Crash, Tick, Grant, Settle, Restart, Replay, said_within}
 use Rattle.script_lines.proofs.SaidLemmas.{spells_within}
 use Rattle.sessions.specs.declared.request.OpenRequest.{OpenRequest}
+use Rattle.script_text.specs.Left.{followed_by, rests}
 use Rattle.script_text.specs.Prints.{Print}
 use Rattle.script_text.specs.Runner.{Acted, Runner, given_out, on_delivery, on_grant, on_octets, on_restart, on_tick}
 use Rattle.script_text.specs.Settings.{Settings}
@@ -23,7 +24,7 @@ use Rattle.script_text.specs.World.{most_deliveries}
 use Rattle.script_text.specs.World.{Due, Moved, World, acts, all_come, comes, comes_again, comes_if, comes_to as come_to, no_node}
 use Rattle.script_text.specs.World.{crashed, crashes, crashes_if, due, grants, hears, if_due, if_up, is_down, is_up, is_up_at, marked, no_packet}
 use Rattle.script_text.specs.World.{node_numbers, on_replay, on_settle, packet_of, refuses, replays, restarts, restarts_if, runner_at, settles, shared}
-use Rattle.script_text.specs.World.{stays, then_moved, ticks, unsettled, up_or_refuses}
+use Rattle.script_text.specs.World.{ticks, unsettled, up_or_refuses}
 use Rattle.world_fates.proofs.node.Behind.{behind, behind_both, came_to, happened_before, input_to}
 use Rattle.world_fates.proofs.node.StepsOut.{step_now}
 use Rattle.world_fates.proofs.Places.{row_least, set_cases}
@@ -74,7 +75,7 @@ module _ (cluster : Cluster) (m : ℕ) (least_m : 1 ≤ m) (first : List NodeInp
   abbrev May : List NodeInput → Moved → Type 0
   May past moved = MayHappen cluster (behind moved.inputs past)
 
-  stays_well : (past : List NodeInput) (world : World) → WorldWell past world → MovesWell past (stays world)
+  stays_well : (past : List NodeInput) (world : World) → WorldWell past world → MovesWell past (rests world)
   stays_well past world well = record { well = well; fine = λ print among. absurd among }
 
   refuses_well : (past : List NodeInput) (world : World) (number : ℕ) → WorldWell past world → MovesWell past (refuses world number)
@@ -92,7 +93,7 @@ module _ (cluster : Cluster) (m : ℕ) (least_m : 1 ≤ m) (first : List NodeInp
       none print (inr nothing) = nothing
 
   then_well : (past : List NodeInput) (one other : Moved) → MovesWell past one → MovesWell (behind one.inputs past) other →
-      MovesWell past (then_moved one other)
+      MovesWell past (followed_by one other)
   then_well past one other here there = record {
     well = λ runner is. subst (λ (now : List NodeInput). Serves now runner) (sym (behind_both one.inputs other.inputs past)) (there.well runner is);
     fine = λ print among. elim (in_either (At m print) one.prints other.prints among) [ inl a ↦ here.fine print a | inr b ↦ there.fine print b ];
@@ -228,8 +229,8 @@ module _ (cluster : Cluster) (m : ℕ) (least_m : 1 ≤ m) (first : List NodeInp
       May past (comes_again world number node) → MovesWell past (comes_again world number node)
   comes_again_well past world well number node least may = by_test (is_up_at (runner_at world node)) may
     where
-      by_test : (up : Bool) → May past (if up then comes world number node else stays world) →
-          MovesWell past (if up then comes world number node else stays world)
+      by_test : (up : Bool) → May past (if up then comes world number node else rests world) →
+          MovesWell past (if up then comes world number node else rests world)
       by_test true may = comes_well past world well number node least may
       by_test false may = stays_well past world well
 
@@ -240,11 +241,11 @@ module _ (cluster : Cluster) (m : ℕ) (least_m : 1 ≤ m) (first : List NodeInp
   settles_well (suc more) nodes past world well may = by_due (due world nodes) refl (settles_well more nodes) may
     where
       then_settles : Due → Moved
-      then_settles next = then_moved (comes world next.number next.node) (settles more nodes (comes world next.number next.node).next)
+      then_settles next = followed_by (comes world next.number next.node) (settles more nodes (comes world next.number next.node).next)
 
       by_due : (next : Option Due) → due world nodes ≡ next →
           ((now : List NodeInput) (other : World) → WorldWell now other → May now (settles more nodes other) → MovesWell now (settles more nodes other)) →
-          May past (if_due (stays world) then_settles next) → MovesWell past (if_due (stays world) then_settles next)
+          May past (if_due (rests world) then_settles next) → MovesWell past (if_due (rests world) then_settles next)
       by_due None is others may = stays_well past world well
       by_due (Some next) is others may =
           let one = comes world next.number next.node in
@@ -293,7 +294,7 @@ module _ (cluster : Cluster) (m : ℕ) (least_m : 1 ≤ m) (first : List NodeInp
   -- what a line leaves
   record LineWell (past : List NodeInput) (done : Stepped) : Type 0 where
     next : World
-    stage_is : done.stage ≡ Some next
+    stage_is : done.next ≡ Some next
     well : WorldWell (behind done.inputs past) next
     fine : (print : Print) → In (At m print) done.prints → Fine print
 
@@ -303,7 +304,7 @@ module _ (cluster : Cluster) (m : ℕ) (least_m : 1 ≤ m) (first : List NodeInp
 
     does_well : (moved : Moved) (done : Stepped) → stepped moved ≡ Some done → (May past moved → MovesWell past moved) → MayDo done → LineWell past done
     does_well moved done is moves may =
-        let same = the_same (record { stage = Some moved.next; inputs = moved.inputs; prints = moved.prints }) done is in
+        let same = the_same (record { next = Some moved.next; inputs = moved.inputs; prints = moved.prints }) done is in
         let it = moves (subst MayDo (sym same) may) in
         subst (LineWell past) same (record { next = moved.next; stage_is = refl; well = it.well; fine = it.fine })
       where
@@ -312,7 +313,7 @@ module _ (cluster : Cluster) (m : ℕ) (least_m : 1 ≤ m) (first : List NodeInp
 
     said_well : (said : Said) (done : Stepped) → said_within (length world.runners) line ≡ Some said → moved_by settings world said ≡ Some done →
         MayDo done → LineWell past done
-    said_well Skipped done says is = does_well (stays world) done is (λ may. stays_well past world well)
+    said_well Skipped done says is = does_well (rests world) done is (λ may. stays_well past world well)
     said_well (Nodes count serial) done says is = absurd cc
     said_well (Octets node session octets) done says is =
         let least = (spells_within (length world.runners) line (Octets node session octets) says).wording.0.least in

@@ -51,9 +51,9 @@ pub record JoinsSo (cluster : Cluster) (Tells : FactOfPrints) (past : List NodeI
 module _ (settings : Settings) (cluster : Cluster) (Tells : FactOfPrints) (telling : IsTelling cluster Tells) where
   -- what a line does is what its world does, or nothing
   moved_so : (past : List NodeInput) (moved : Moved) (done : Stepped) → MovesSo cluster Tells past moved → stepped moved ≡ Some done →
-      JoinsSo cluster Tells past done.inputs done.prints done.stage
+      JoinsSo cluster Tells past done.inputs done.prints done.next
   moved_so past moved done moves is =
-      subst (λ (d : Stepped). JoinsSo cluster Tells past d.inputs d.prints d.stage) (same _ done is)
+      subst (λ (d : Stepped). JoinsSo cluster Tells past d.inputs d.prints d.next) (same _ done is)
       (record { world = moved.next; stage_is = refl; later = moves.later; later_is = moves.later_is; stands = moves.stands; tell = moves.tell })
     where
       same : (one other : Stepped) → Some one ≡ Some other → one ≡ other
@@ -61,7 +61,7 @@ module _ (settings : Settings) (cluster : Cluster) (Tells : FactOfPrints) (telli
 
   pub said_so : (past : List NodeInput) (world : World) → WorldStands cluster past world → (line : List ℕ) (said : Said) (done : Stepped) →
       (AsksForAnAttempt said → TakesDeliveries Tells) → said_within (length world.runners) line ≡ Some said → moved_by settings world said ≡ Some done →
-      JoinsSo cluster Tells past done.inputs done.prints done.stage
+      JoinsSo cluster Tells past done.inputs done.prints done.next
   said_so past world stands line Skipped done takes says is =
       moved_so past (record { next = world; inputs = []; prints = [] }) done
       (record { later = past; later_is = refl; stands = stands; tell = λ last prints tells. tells }) is
@@ -90,12 +90,12 @@ module _ (settings : Settings) (cluster : Cluster) (Tells : FactOfPrints) (telli
       moved_so past (on_replay world count) done (replay_so cluster Tells telling past world stands count) is
 
   line_so : TakesDeliveries Tells → (past : List NodeInput) (world : World) → WorldStands cluster past world → (line : List ℕ) (done : Stepped) →
-      step_of settings (Some world) line ≡ Some done → JoinsSo cluster Tells past done.inputs done.prints done.stage
+      step_of settings (Some world) line ≡ Some done → JoinsSo cluster Tells past done.inputs done.prints done.next
   unfolding step_of
   line_so takes past world stands line done is = by_said (said_within (length world.runners) line) refl is
     where
       by_said : (said : Option Said) → said_within (length world.runners) line ≡ said → step_by settings (Some world) said ≡ Some done →
-          JoinsSo cluster Tells past done.inputs done.prints done.stage
+          JoinsSo cluster Tells past done.inputs done.prints done.next
       by_said None says is = absurd cc
       by_said (Some said) says is = said_so past world stands line said done (λ asks. takes) says is
 
@@ -176,13 +176,13 @@ module _ (settings : Settings) (Tells : Cluster → FactOfPrints)
       by_said (said_within 9 line) refl joins.3 (first_so lines joins.1 joins.2 stage)
     where
       -- a line that prints nothing leads on
-      leads_on : (middle : Stage) → Some (record { stage = middle; inputs = []; prints = [] }) ≡ Some joins.0 →
+      leads_on : (middle : Stage) → Some (record { next = middle; inputs = []; prints = [] }) ≡ Some joins.0 →
           (prints ≡ joins.2) × (inputs ≡ joins.1) × Joins settings middle lines joins.1 joins.2 stage
       leads_on middle is =
-          let same = stepped_same (record { stage = middle; inputs = []; prints = [] }) joins.0 is in (
+          let same = stepped_same (record { next = middle; inputs = []; prints = [] }) joins.0 is in (
             joins.5 ∙ ap (λ (d : Stepped). d.prints ++ joins.2) (sym same),
             joins.4 ∙ ap (λ (d : Stepped). d.inputs ++ joins.1) (sym same),
-            subst (λ (d : Stepped). Joins settings d.stage lines joins.1 joins.2 stage) (sym same) joins.6,
+            subst (λ (d : Stepped). Joins settings d.next lines joins.1 joins.2 stage) (sym same) joins.6,
           )
         where
           stepped_same : (one other : Stepped) → Some one ≡ Some other → one ≡ other
@@ -233,13 +233,13 @@ good_lines settings (line ∷ lines) first = by_step (step_of settings first lin
   where
     by_step : (step : Option Stepped) → step_of settings first line ≡ step →
         ((next : Stage) → GoodLines settings next (prints_from settings next lines)) →
-        GoodLines settings first (after [] (λ (done : Stepped). done.prints ++ prints_from settings done.stage lines) step)
+        GoodLines settings first (after [] (λ (done : Stepped). done.prints ++ prints_from settings done.next lines) step)
     by_step None is others = record { lines = []; inputs = []; last = first; joins = (refl, refl, refl) }
     by_step (Some done) is others =
-        let rest = others done.stage in
+        let rest = others done.next in
         record {
           lines = line ∷ rest.lines;
           inputs = done.inputs ++ rest.inputs;
           last = rest.last;
-          joins = (done, rest.inputs, prints_from settings done.stage lines, is, refl, refl, rest.joins);
+          joins = (done, rest.inputs, prints_from settings done.next lines, is, refl, refl, rest.joins);
         }

@@ -17,6 +17,7 @@ use Rattle.node_model.specs.Stepped.{stepped as node_stepped}
 use Rattle.node_laws.specs.Clusters.{MayHappen, NodeInput, cluster_with, kept_reached}
 use Rattle.script_lines.specs.Said.{Said, Skipped, Nodes, Octets, Deliver, Crash as Crashes, Tick, Grant, Settle, Restart, Replay, said_within}
 use Rattle.script_lines.proofs.SaidLemmas.{spells_within}
+use Rattle.script_text.specs.Left.{followed_by, rests}
 use Rattle.script_text.specs.Node.{Node, awaiting, opened_by, step_at, with_step}
 use Rattle.script_text.specs.Runner.{Acted, Runner, given_out, on_delivery, on_grant, on_octets, on_restart, on_tick, runner_opened}
 use Rattle.script_text.specs.Settings.{Settings}
@@ -29,7 +30,7 @@ use Rattle.script_text.specs.World.{most_deliveries}
 use Rattle.script_text.specs.World.{Due, Moved, World, acts, all_come, comes, comes_again, comes_if, comes_to}
 use Rattle.script_text.specs.World.{crashed, crashes, crashes_if, due, grants, hears, if_due, if_up}
 use Rattle.script_text.specs.World.{is_down, is_up, is_up_at, marked, node_numbers, on_replay, on_settle, opened, packet_of, refuses}
-use Rattle.script_text.specs.World.{replays, restarts, restarts_if, runner_at, settles, shared, stays, then_moved, ticks, up_or_refuses}
+use Rattle.script_text.specs.World.{replays, restarts, restarts_if, runner_at, settles, shared, ticks, up_or_refuses}
 use Rattle.world_fates.proofs.node.Behind.{behind, behind_then, came_to}
 use Rattle.world_fates.proofs.node.Serving.{came_then}
 use Rattle.world_fates.proofs.node.Tellings.{FactOfPrints, IsTelling}
@@ -86,7 +87,7 @@ module _ (cluster : Cluster) where
   abbrev MovesTo : World → Moved → Type 0
   MovesTo world moved = (past : List NodeInput) → StandsStill past world → StandsStill (behind moved.inputs past) moved.next
 
-  then_to : (world : World) (first other : Moved) → MovesTo world first → MovesTo first.next other → MovesTo world (then_moved first other)
+  then_to : (world : World) (first other : Moved) → MovesTo world first → MovesTo first.next other → MovesTo world (followed_by first other)
   then_to world first other moves others past stands =
       let middle = behind first.inputs past in
       subst (λ (now : List NodeInput). StandsStill now other.next)
@@ -213,7 +214,7 @@ module _ (cluster : Cluster) where
   comes_again_to : (world : World) (number node : ℕ) → 1 ≤ node → MovesTo world (comes_again world number node)
   comes_again_to world number node least = by_test (is_up_at (runner_at world node))
     where
-      by_test : (up : Bool) → MovesTo world (if up then comes world number node else stays world)
+      by_test : (up : Bool) → MovesTo world (if up then comes world number node else rests world)
       by_test true = comes_to_node world number node least
       by_test false = λ past still. still
 
@@ -223,8 +224,8 @@ module _ (cluster : Cluster) where
   settles_to (suc more) nodes world = by_due (due world nodes) refl (settles_to more nodes)
     where
       by_due : (next : Option Due) → due world nodes ≡ next → ((other : World) → MovesTo other (settles more nodes other)) →
-          MovesTo world (if_due (stays world)
-          (λ next. then_moved (comes world next.number next.node) (settles more nodes (comes world next.number next.node).next)) next)
+          MovesTo world (if_due (rests world)
+          (λ next. followed_by (comes world next.number next.node) (settles more nodes (comes world next.number next.node).next)) next)
       by_due None is others = λ past still. still
       by_due (Some next) is others =
           let one = comes world next.number next.node in
@@ -259,7 +260,7 @@ module _ (cluster : Cluster) where
   -- a line leads there
   record LeadsTo (world : World) (done : Stepped) : Type 0 where
     next : World
-    stage_is : done.stage ≡ Some next
+    stage_is : done.next ≡ Some next
     moves : (past : List NodeInput) → StandsStill past world → StandsStill (behind done.inputs past) next
 
   module _ (settings : Settings) where
@@ -272,7 +273,7 @@ module _ (cluster : Cluster) where
 
     said_to : (world : World) (line : List ℕ) (said : Said) (done : Stepped) → said_within (length world.runners) line ≡ Some said →
         moved_by settings world said ≡ Some done → LeadsTo world done
-    said_to world line Skipped done says is = moved_to world (stays world) done (λ past still. still) is
+    said_to world line Skipped done says is = moved_to world (rests world) done (λ past still. still) is
     said_to world line (Nodes count serial) done says is = absurd cc
     said_to world line (Octets node session octets) done says is =
         let least = (spells_within (length world.runners) line (Octets node session octets) says).wording.0.least in
@@ -371,12 +372,12 @@ script_run settings (line ∷ lines) came prints world joins =
     by_said (said_within 9 line) refl joins.3 (script_run settings lines joins.1 joins.2 world)
   where
     -- a line to which nothing comes leads on
-    leads_on : (middle : Stage) → Some (record { stage = middle; inputs = []; prints = [] }) ≡ Some joins.0 →
+    leads_on : (middle : Stage) → Some (record { next = middle; inputs = []; prints = [] }) ≡ Some joins.0 →
         (came ≡ joins.1) × Joins settings middle lines joins.1 joins.2 (Some world)
     leads_on middle is =
-        let same = stepped_same (record { stage = middle; inputs = []; prints = [] }) joins.0 is in (
+        let same = stepped_same (record { next = middle; inputs = []; prints = [] }) joins.0 is in (
           joins.4 ∙ ap (λ (d : Stepped). d.inputs ++ joins.1) (sym same),
-          subst (λ (d : Stepped). Joins settings d.stage lines joins.1 joins.2 (Some world)) (sym same) joins.6,
+          subst (λ (d : Stepped). Joins settings d.next lines joins.1 joins.2 (Some world)) (sym same) joins.6,
         )
       where
         stepped_same : (one other : Stepped) → Some one ≡ Some other → one ≡ other

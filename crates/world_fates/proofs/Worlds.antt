@@ -15,6 +15,7 @@ use Rattle.node_model.specs.Kept.{Kept}
 use Rattle.node_model.specs.Stepped.{sender_of}
 use Rattle.node_laws.specs.Clusters.{NodeInput, kept_reached, step_at}
 use Rattle.node_laws.specs.Runs.{IsOneOf}
+use Rattle.script_text.specs.Left.{followed_by, rests}
 use Rattle.script_text.specs.Node.{Node, awaiting}
 use Rattle.script_text.specs.Prints.{Print}
 use Rattle.script_text.specs.Runner.{Acted, Runner, given_out, on_delivery, on_grant, on_octets, on_restart, on_tick}
@@ -24,7 +25,7 @@ use Rattle.script_text.specs.World.{most_deliveries}
 use Rattle.script_text.specs.World.{Due, Moved, World, acts, all_come, comes, comes_again, comes_if, comes_to, no_node}
 use Rattle.script_text.specs.World.{crashed, crashes, crashes_if, due, due_among, due_at, due_first, grants, hears, if_due, if_up}
 use Rattle.script_text.specs.World.{is_down, is_up, is_up_at, lacks, marked, no_packet, node_numbers, on_replay, on_settle, packet_of}
-use Rattle.script_text.specs.World.{refuses, replays, restarts, restarts_if, runner_at, settles, shared, stays, takes_part, then_moved}
+use Rattle.script_text.specs.World.{refuses, replays, restarts, restarts_if, runner_at, settles, shared, takes_part}
 use Rattle.script_text.specs.World.{ticks, unsettled, up_or_refuses}
 use Rattle.world_fates.proofs.node.Posting.{found_in}
 use Rattle.world_fates.proofs.node.Behind.{behind, behind_then, came_to, input_to, sent_later}
@@ -135,7 +136,7 @@ due_least world nodes (number ∷ numbers) next is =
 module _ (cluster : Cluster) (Tells : FactOfPrints) (telling : IsTelling cluster Tells) where
   -- ---- nothing is done, or one thing after the other
 
-  stays_so : (past : List NodeInput) (world : World) → WorldStands cluster past world → MovesSo cluster Tells past (stays world)
+  stays_so : (past : List NodeInput) (world : World) → WorldStands cluster past world → MovesSo cluster Tells past (rests world)
   stays_so past world stands = record { later = past; later_is = refl; stands = stands; tell = λ last prints tells. tells }
 
   -- and what is printed is by no node
@@ -146,7 +147,7 @@ module _ (cluster : Cluster) (Tells : FactOfPrints) (telling : IsTelling cluster
   unsettled_so past world stands = record { later = past; later_is = refl; stands = stands; tell = λ last prints tells. tells }
 
   then_so : (past : List NodeInput) (first other : Moved) (moves : MovesSo cluster Tells past first) → MovesSo cluster Tells moves.later other →
-      MovesSo cluster Tells past (then_moved first other)
+      MovesSo cluster Tells past (followed_by first other)
   then_so past first other moves others = record {
     later = others.later;
     later_is = behind_then first.inputs other.inputs past moves.later others.later moves.later_is others.later_is;
@@ -320,7 +321,7 @@ module _ (cluster : Cluster) (Tells : FactOfPrints) (telling : IsTelling cluster
     comes_again_so : (number node : ℕ) → 1 ≤ node → MovesSo cluster Tells past (comes_again world number node)
     comes_again_so number node least = by_test (is_up_at (runner_at world node))
       where
-        by_test : (up : Bool) → MovesSo cluster Tells past (if up then comes world number node else stays world)
+        by_test : (up : Bool) → MovesSo cluster Tells past (if up then comes world number node else rests world)
         by_test true = comes_so number node least
         by_test false = stays_so past world stands
 
@@ -334,8 +335,8 @@ module _ (cluster : Cluster) (Tells : FactOfPrints) (telling : IsTelling cluster
     where
       by_due : (next : Option Due) → due world nodes ≡ next →
           ((now : List NodeInput) (other : World) → WorldStands cluster now other → MovesSo cluster Tells now (settles more nodes other)) →
-          MovesSo cluster Tells past (if_due (stays world)
-          (λ next. then_moved (comes world next.number next.node) (settles more nodes (comes world next.number next.node).next)) next)
+          MovesSo cluster Tells past (if_due (rests world)
+          (λ next. followed_by (comes world next.number next.node) (settles more nodes (comes world next.number next.node).next)) next)
       by_due None is others = stays_so past world stands
       by_due (Some next) is others =
           let one = comes world next.number next.node in

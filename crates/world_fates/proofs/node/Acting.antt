@@ -19,6 +19,7 @@ use Rattle.node_laws.specs.Clusters.{MayHappen, NodeInput, kept_reached}
 use Rattle.pdu_codec.specs.Pdu.{read_pdu}
 use Rattle.pdu_frames.specs.Frames.{Cut, cut, begins_wrong}
 use Rattle.sessions.specs.Session.{Session}
+use Rattle.script_text.specs.Left.{followed_by}
 use Rattle.script_text.specs.Settings.{Settings}
 use Rattle.script_text.specs.Node.{Node, awaiting, step_at, tick_at, with_step}
 use Rattle.script_text.specs.Attempts.{concluded, submission_at, taken_on, unanswered}
@@ -28,7 +29,7 @@ use Rattle.std.specs.BTreeMap.{is_at}
 use Rattle.sessions.specs.States.{is_gone}
 use Rattle.script_text.specs.Pushes.{accounts_up, overdue_in, session_at, target_in}
 use Rattle.script_text.specs.Receipts.{Posted, all_posted, posted_for_all, posted_for_any}
-use Rattle.script_text.specs.Runner.{Runner, Acted, Served, answered_by, declined, ends, fails_by, followed_by, gives_up, gone_prints}
+use Rattle.script_text.specs.Runner.{Runner, Acted, Served, answered_by, declined, ends, fails_by, gives_up, gone_prints}
 use Rattle.script_text.specs.Runner.{granted, granted_unless, held_in, holds, last_incarnation, mail_of, makes_room, no_incarnation}
 use Rattle.script_text.specs.Runner.{on_delivery, on_frame, on_frames, on_grant, on_octets, on_read, on_rest, on_restart, on_tick}
 use Rattle.script_text.specs.Runner.{opened_at, posts, posts_for, posts_for_all, pushes, put_at, reports_by, restarted, sent, sent_to}
@@ -162,14 +163,14 @@ module _ (member : Member) (Tells : FactOfPrints) (telling : IsTelling member.cl
       ActsSo member Tells past true (serves runner number served)
   serves_act past runner s number served goes =
       let one = served_at runner number served in
-      let same = put_back (record runner { node = served.node }) number served.session in
+      let same = put_back (record runner { node = served.next.node }) number served.next.session in
       let acts = mute_acts past true one (subst (Leads member past served.inputs true) (sym same.node) goes.leads)
       (subst (AreOut past) (sym same.waiting) s.waiting) goes.mute in
-      acts_then past true one (posts_for one.next served.session.account) acts
+      acts_then past true one (posts_for one.next served.next.session.account) acts
       (posts_act acts.leads.later acts.leads.fit one.next acts.leads.at
-      (posted_for_any one.next.node.kept.clock (mail_of one.next) served.session.account)
+      (posted_for_any one.next.node.kept.clock (mail_of one.next) served.next.session.account)
       (posted_for_any_so cluster Tells telling member.number acts.leads.later acts.leads.fit.may one.next.node.kept.clock (mail_of one.next)
-      served.session.account acts.waiting))
+      served.next.session.account acts.waiting))
 
   frame_acts : (settings : Settings) (number : ℕ) (past : List NodeInput) (runner : Runner) (octets : List ℕ) → IsServing past runner →
       ActsSo member Tells past true (on_frame settings number runner octets)

@@ -12,10 +12,11 @@ use Rattle.node_laws.specs.Clusters.{MayHappen, NodeInput}
 use Rattle.pdu_tables.specs.StateCodes.{state_code}
 use Rattle.fate_chain.specs.States.{state_of}
 use Rattle.sessions.specs.Session.{Session}
+use Rattle.script_text.specs.Left.{in_front}
 use Rattle.script_text.specs.Prints.{Delivers, Late, Print, Reports}
 use Rattle.script_text.specs.Pushes.{delivery_on}
 use Rattle.script_text.specs.Responses.{reply_pdu}
-use Rattle.script_text.specs.Runner.{Owned, Told, in_front, owner_of, replied, reply_prints, told}
+use Rattle.script_text.specs.Runner.{Owned, Told, owner_of, replied, reply_prints, told}
 use Rattle.script_text.specs.Laws.{StatesFate}
 use Rattle.world_fates.proofs.node.Decided.{IsDecided}
 use Rattle.world_fates.proofs.node.Replying.{AreFit, Grows, replies_fit}

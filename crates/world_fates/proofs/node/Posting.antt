@@ -9,11 +9,12 @@ use Rattle.node_laws.specs.Clusters.{MayHappen, NodeInput}
 use Rattle.receipts.specs.Texts.{Report}
 use Rattle.sessions.specs.Session.{Session}
 use Rattle.sessions.specs.Windows.{without_first}
+use Rattle.script_text.specs.Left.{followed_by, rests}
 use Rattle.script_text.specs.Prints.{Print}
 use Rattle.script_text.specs.Pushes.{knows_optional, session_at, target_in}
 use Rattle.script_text.specs.Receipts.{Mail, Posted, all_posted, goes_out, goes_out_up_to, is_for, most_waiting, posted, posted_for}
-use Rattle.script_text.specs.Receipts.{posted_for_all, posted_for_any, posted_to, reported_by, reports_on, stays, submitter_of}
-use Rattle.script_text.specs.Receipts.{then_posted, waits_for, with_both}
+use Rattle.script_text.specs.Receipts.{posted_for_all, posted_for_any, posted_to, reported_by, reports_on, submitter_of}
+use Rattle.script_text.specs.Receipts.{waits_for, with_both}
 use Rattle.world_fates.proofs.node.Reports.{report_is}
 use Rattle.world_fates.proofs.node.ReceiptsOut.{AreReceiptsOut, IsReceiptOut}
 use Rattle.world_fates.proofs.node.Tellings.{FactOfPrints, IsTelling, NodePrint, both_at, prints_at}
@@ -52,13 +53,13 @@ module _ (cluster : Cluster) (Tells : FactOfPrints) (telling : IsTelling cluster
 
   -- what waits then was given out, and so was what is printed
   pub record PostsSo (posted : Posted) : Type 0 where
-    pub waiting : AreOut posted.mail.waiting
+    pub waiting : AreOut posted.next.waiting
     pub tell : TellsMore posted.prints
 
-  stays_so : (mail : Mail) → AreOut mail.waiting → PostsSo (stays mail)
+  stays_so : (mail : Mail) → AreOut mail.waiting → PostsSo (rests mail)
   stays_so mail out = record { waiting = out; tell = λ last prints tells. tells }
 
-  then_so : (first last : Posted) → PostsSo first → PostsSo last → PostsSo (then_posted first last)
+  then_so : (first last : Posted) → PostsSo first → PostsSo last → PostsSo (followed_by first last)
   then_so first last one other = record {
     waiting = other.waiting;
     tell = λ end prints tells.
@@ -90,13 +91,13 @@ module _ (cluster : Cluster) (Tells : FactOfPrints) (telling : IsTelling cluster
     where
       at_both : (found : Option Receipt) (target : Option ℕ) → find (is_for account) mail.waiting ≡ found →
           ((next : Mail) → AreOut next.waiting → PostsSo (goes_out_up_to more now account next)) →
-          PostsSo (with_both (stays mail)
-          (λ receipt number. then_posted (goes_out now account mail receipt number)
-          (goes_out_up_to more now account (goes_out now account mail receipt number).mail)) found target)
+          PostsSo (with_both (rests mail)
+          (λ receipt number. followed_by (goes_out now account mail receipt number)
+          (goes_out_up_to more now account (goes_out now account mail receipt number).next)) found target)
       at_both (Some receipt) (Some number) is behind =
           let one = goes_out now account mail receipt number in
           let so = goes_out_so now account mail receipt number out (out receipt (found_in (is_for account) mail.waiting receipt is)) in
-          then_so one (goes_out_up_to more now account one.mail) so (behind one.mail so.waiting)
+          then_so one (goes_out_up_to more now account one.next) so (behind one.next so.waiting)
       at_both None target is behind = stays_so mail out
       at_both (Some receipt) None is behind = stays_so mail out
 
@@ -115,7 +116,7 @@ module _ (cluster : Cluster) (Tells : FactOfPrints) (telling : IsTelling cluster
   posted_for_all_so now mail (account ∷ others) out =
       let one = posted_for now mail account in
       let so = posted_for_so now mail account out in
-      then_so one (posted_for_all now one.mail others) so (posted_for_all_so now one.mail others so.waiting)
+      then_so one (posted_for_all now one.next others) so (posted_for_all_so now one.next others so.waiting)
 
   -- ---- new ones
 
@@ -143,4 +144,4 @@ module _ (cluster : Cluster) (Tells : FactOfPrints) (telling : IsTelling cluster
   all_posted_so now mail (receipt ∷ others) out new =
       let one = posted now mail receipt in
       let so = posted_to_so now mail receipt (submitter_of receipt) out (new receipt (inl refl)) in
-      then_so one (all_posted now one.mail others) so (all_posted_so now one.mail others so.waiting (λ other among. new other (inr among)))
+      then_so one (all_posted now one.next others) so (all_posted_so now one.next others so.waiting (λ other among. new other (inr among)))

@@ -21,7 +21,8 @@ use Rattle.sessions.specs.declared.reaction.Reaction.{Reaction}
 use Rattle.sessions.specs.declared.reaction.Reaction.TheVariants as reactions
 use Rattle.sessions.specs.declared.requested.Requested.{Requested}
 use Rattle.desk.specs.declared.request.Request.{Request}
-use Rattle.script_text.specs.Attempts.{Went, all_given_up, concluded, delivered_so, given_up, rests_at, unanswered, went}
+use Rattle.script_text.specs.Left.{rests}
+use Rattle.script_text.specs.Attempts.{Went, all_given_up, concluded, delivered_so, given_up, unanswered, went}
 use Rattle.script_text.specs.Settings.{Settings}
 use Rattle.script_text.specs.Node.{Node, request_at, step_at}
 use Rattle.script_text.specs.Prints.{Print}
@@ -42,14 +43,14 @@ came_then number first last past middle later first_is last_is =
 -- ---- what came of attempts
 
 abbrev pub WentLeads : Member → List NodeInput → Went → Type 0
-WentLeads member past went = Leads member past went.inputs true went.node
+WentLeads member past went = Leads member past went.inputs true went.next
 
 module _ (member : Member) (past : List NodeInput) (fit : IsFit member.cluster past) (node : Node) (at : IsAt member past true node) where
   concluded_leads : (slot : Slot) (outcome : Outcome) → IsOutcome outcome → WentLeads member past (concluded node slot outcome)
   concluded_leads slot outcome possible = by_test (is_open node.kept slot) refl
     where
       by_test : (test : Bool) → is_open node.kept slot ≡ test →
-          WentLeads member past (cond {A = Went} test (went node (Response slot outcome)) (rests_at node))
+          WentLeads member past (cond {A = Went} test (went node (Response slot outcome)) (rests node))
       by_test true is = (response_steps member past fit node at slot outcome possible is).leads
       by_test false is = leads_still member past true node fit at
 
@@ -92,7 +93,7 @@ IsSound came = ((sequence : ℕ) → IsPossible (came.outcome sequence)) × IsCl
 
 -- the node goes on, and what is printed tells nothing of a fate
 pub record IsServed (member : Member) (past : List NodeInput) (served : Served) : Type 0 where
-  pub leads : Leads member past served.inputs true served.node
+  pub leads : Leads member past served.inputs true served.next.node
   pub mute : AreMute served.prints
 
 module _ (member : Member) (past : List NodeInput) (fit : IsFit member.cluster past) (node : Node) (at : IsAt member past true node) where
