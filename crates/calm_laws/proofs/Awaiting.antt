@@ -54,21 +54,21 @@ module _ (waiting : List Packet) where
   runner_behind runner = record runner { node = node_behind runner.node }
 
   abbrev went_behind : Went → Went
-  went_behind went = record went { node = node_behind went.next }
+  went_behind so = record so { next = node_behind so.next }
 
   abbrev served_behind : Served → Served
-  served_behind served = record served { node = node_behind served.next.node }
+  served_behind served = record served { next = record served.next { node = node_behind served.next.node } }
 
   abbrev pub acted_behind : Acted → Acted
   acted_behind acted = record acted { next = runner_behind acted.next }
 
   record WentAlike (one other : Went) : Type 0 where
     is : one ≡ went_behind other
-    alone : IsAlone other.node
+    alone : IsAlone other.next
 
   record ServedAlike (one other : Served) : Type 0 where
     is : one ≡ served_behind other
-    alone : IsAlone other.node
+    alone : IsAlone other.next.node
 
   -- the one act is the other, but that these packets wait in front, and the node stays alone
   pub record ActedAlike (one other : Acted) : Type 0 where
@@ -85,7 +85,7 @@ module _ (waiting : List Packet) where
 
   goes_alike : (node : Node) → IsAlone node → (input : Input) → IsPlain input → WentAlike (went (node_behind node) input) (went node input)
   goes_alike node alone input plain = record {
-    is = ap (λ (n : Node). record { node = n; inputs = input ∷ [] }) (step_behind node input);
+    is = ap (λ (n : Node). record { next = n; inputs = input ∷ []; prints = [] }) (step_behind node input);
     alone = step_alone node alone input plain;
   }
 
@@ -114,9 +114,9 @@ module _ (waiting : List Packet) where
   all_alike node alone (first ∷ others) =
       let one = delivered_alike node alone first.delivery (Some unanswered) in
       let done = given_up node first in
-      let later = all_alike done.node one.alone others in
+      let later = all_alike done.next one.alone others in
       record {
-        is = ap (λ (w : Went). followed_by w (all_given_up w.node others)) one.is ∙ ap (λ (w : Went). followed_by done w) later.is;
+        is = ap (λ (w : Went). followed_by w (all_given_up w.next others)) one.is ∙ ap (λ (w : Went). followed_by done w) later.is;
         alone = later.alone;
       }
 
@@ -133,7 +133,8 @@ module _ (waiting : List Packet) where
   input_alike : (number : ℕ) (node : Node) → IsAlone node → (session : Session) (requested : Requested) (sequence : ℕ) (input : Input) → IsPlain input →
       ServedAlike (on_input number (node_behind node) session requested sequence input) (on_input number node session requested sequence input)
   input_alike number node alone session requested sequence input plain = record {
-    is = ap (λ (n : Node). record (on_input number node session requested sequence input) { node = n }) (step_behind node input);
+    is = ap (λ (n : Node). let served = on_input number node session requested sequence input in record served { next = record served.next { node = n } })
+        (step_behind node input);
     alone = step_alone node alone input plain;
   }
 
@@ -215,18 +216,19 @@ module _ (waiting : List Packet) where
       ActedAlike (served_at (runner_behind runner) number one) (served_at runner number other)
   served_alike runner number one other alike = record {
     is = ap (λ (s : Served). served_at (runner_behind runner) number s) alike.is
-        ∙ ap (λ (r : Runner). record { next = r; inputs = other.inputs; prints = other.prints }) (session_behind runner number other.node other.session);
-    alone = session_alone runner number other.node other.session alike.alone;
+        ∙ ap (λ (r : Runner). record { next = r; inputs = other.inputs; prints = other.prints }) 
+        (session_behind runner number other.next.node other.next.session);
+    alone = session_alone runner number other.next.node other.next.session alike.alone;
   }
 
   serves_alike : (runner : Runner) (number : ℕ) (one other : Served) → ServedAlike one other →
       ActedAlike (serves (runner_behind runner) number one) (serves runner number other)
   serves_alike runner number one other alike =
-      let same : one.session.account ≡ other.session.account = ap (λ (s : Served). s.session.account) alike.is in
+      let same : one.next.session.account ≡ other.next.session.account = ap (λ (s : Served). s.next.session.account) alike.is in
       subst (λ (account : Option (List ℕ)). ActedAlike
       (followed_by (served_at (runner_behind runner) number one) (posts_for (served_at (runner_behind runner) number one).next account))
       (serves runner number other)) (sym same)
-      (then_alike (λ (r : Runner). posts_for r other.session.account) (posts_alike other.session.account)
+      (then_alike (λ (r : Runner). posts_for r other.next.session.account) (posts_alike other.next.session.account)
       (served_at (runner_behind runner) number one) (served_at runner number other) (served_alike runner number one other alike))
 
   frame_alike : (settings : Settings) (number : ℕ) (octets : List ℕ) (runner : Runner) → IsAlone runner.node →

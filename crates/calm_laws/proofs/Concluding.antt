@@ -70,11 +70,11 @@ module _ (settings : Settings) (first left : ℕ) (one : OneNode) (k : Kept) (fi
     waiting = waiting_with t.table one.sessions fit.waiting slot.id after off;
   }
 
-  pub outcome_comes : Agree settings first left (concludes one slot.id outcome) None (concluded (node_of settings first k) slot outcome).node
+  pub outcome_comes : Agree settings first left (concludes one slot.id outcome) None (concluded (node_of settings first k) slot outcome).next
   outcome_comes =
       subst
       (λ (b : Bool). Agree settings first left (concludes one slot.id outcome) None
-      (cond b (went (node_of settings first k) (Response slot outcome)) (rests (node_of settings first k))).node)
+      (cond b (went (node_of settings first k) (Response slot outcome)) (rests (node_of settings first k))).next)
       (sym open_now)
       (stepped_on settings first left (concludes one slot.id outcome) k (stepped setup k (Response slot outcome)) (receipts_on t slot.id outcome) fit_then
       room settles owed (ap (λ (receipts : List Receipt). receipts ++ receipts_on t slot.id outcome) due))

@@ -55,11 +55,11 @@ module _ (settings : Settings) (first left : ℕ) (quiet : Bool) (one : OneNode)
   abbrev after : Told
   after = told runner.sessions runs.agree.replies
 
-  owed : AreConnected one.sessions None after.sessions × (after.prints ≡ one.owed)
+  owed : AreConnected one.sessions None after.next × (after.prints ≡ one.owed)
   owed = owed_told one.sessions runner.sessions runs.agree.replies runs.holds one.owed runs.agree.owes runs.sessions
 
   abbrev mail : Mail
-  mail = record { sessions = after.sessions; waiting = runner.waiting }
+  mail = record { sessions = after.next; waiting = runner.waiting }
 
   -- and what is due is posted
   posted : ArePosted clock one.node None mail (all_posted clock (one_node.mail_of one) one.due) (all_posted clock mail one.due)

@@ -14,6 +14,7 @@ use Rattle.sessions.specs.Windows.{without_first}
 use Rattle.sessions.specs.declared.pushed.Delivery.{Delivery}
 use Rattle.sessions.specs.declared.pushed.Delivery.TheVariants as deliveries
 use Rattle.sessions.specs.declared.request.OpenRequest.{OpenRequest}
+use Rattle.script_text.proofs.Left.{followed_assoc}
 use Rattle.script_text.specs.Left.{followed_by, rests}
 use Rattle.script_text.specs.Prints.{Print}
 use Rattle.script_text.specs.Pushes.{pushed_on, session_at, target_in, with_push}
@@ -208,6 +209,4 @@ posted_behind now before [] others = refl
 posted_behind now before (receipt ∷ receipts) others =
     let first = posted now before receipt in
     let middle = all_posted now first.next receipts in
-    let last = all_posted now middle.next others in
-    ap (followed_by first) (posted_behind now first.next receipts others)
-    ∙ (λ i. record { mail = last.next; prints = sym (append_assoc first.prints middle.prints last.prints) i })
+    ap (followed_by first) (posted_behind now first.next receipts others) ∙ sym (followed_assoc first middle (all_posted now middle.next others))

@@ -89,11 +89,11 @@ module _ (theirs : List (ℕ × Session)) (owned : Owned) where
 
 -- replies have gone out: nothing waits, and this was owed
 abbrev HasAll : List (ℕ × Session) → List Print → Told → Type 0
-HasAll theirs owed done = AreConnected theirs None done.sessions × (done.prints ≡ owed)
+HasAll theirs owed done = AreConnected theirs None done.next × (done.prints ≡ owed)
 
 pub owed_told : (theirs connected : List (ℕ × Session)) (replies : List Reply) (holds : Option Owned) (owed : List Print) →
     Owes replies holds owed → AreConnected theirs holds connected →
-    AreConnected theirs None (told connected replies).sessions × ((told connected replies).prints ≡ owed)
+    AreConnected theirs None (told connected replies).next × ((told connected replies).prints ≡ owed)
 unfolding told
 owed_told theirs connected replies None owed owes were =
     subst (λ (rs : List Reply). HasAll theirs owed (told connected rs)) (sym owes.0) (were, sym owes.1)

@@ -21,26 +21,27 @@ use Rattle.calm_laws.proofs.Posting.{posted_behind}
 
 -- replies go out one after the other
 pub told_behind : (connected : List (ℕ × Session)) (replies others : List Reply) →
-    told connected (replies ++ others) ≡ in_front (told connected replies).prints (told (told connected replies).sessions others)
+    told connected (replies ++ others) ≡ in_front (told connected replies).prints (told (told connected replies).next others)
 unfolding told
 told_behind connected [] others = refl
 told_behind connected (reply ∷ replies) others =
     let owner = owner_of connected reply.ticket in
     let next = replied connected reply.ticket owner in
     ap (in_front (reply_prints reply owner)) (told_behind next replies others)
-    ∙ ap (λ (prints : List Print). record { sessions = (told (told next replies).sessions others).sessions; prints = prints })
-    (sym (append_assoc (reply_prints reply owner) (told next replies).prints (told (told next replies).sessions others).prints))
+    ∙ ap (λ (prints : List Print). let last = told (told next replies).next others in record last { prints = prints })
+    (sym (append_assoc (reply_prints reply owner) (told next replies).prints (told (told next replies).next others).prints))
 
 -- ---- what a delivery gives out
 
 -- the sessions after replies
 abbrev after_told : Mail → List Reply → Mail
-after_told mail replies = record { sessions = (told mail.sessions replies).sessions; waiting = mail.waiting }
+after_told mail replies = record { sessions = (told mail.sessions replies).next; waiting = mail.waiting }
 
 -- replies go out, and then receipts
 abbrev pub handed : ℕ → Mail → List Reply → List Receipt → Posted
 handed now mail replies receipts = record {
-  mail = (all_posted now (after_told mail replies) receipts).next;
+  next = (all_posted now (after_told mail replies) receipts).next;
+  inputs = [];
   prints = (told mail.sessions replies).prints ++ (all_posted now (after_told mail replies) receipts).prints;
 }
 
@@ -58,8 +59,9 @@ handed_behind now mail replies others receipts later (inl none) =
   where
     with_told : Told → Posted
     with_told t = record {
-      mail = (all_posted now (record { sessions = t.sessions; waiting = mail.waiting }) later).next;
-      prints = t.prints ++ (all_posted now (record { sessions = t.sessions; waiting = mail.waiting }) later).prints;
+      next = (all_posted now (record { sessions = t.next; waiting = mail.waiting }) later).next;
+      inputs = [];
+      prints = t.prints ++ (all_posted now (record { sessions = t.next; waiting = mail.waiting }) later).prints;
     }
 
     first : Told
@@ -69,12 +71,13 @@ handed_behind now mail replies others receipts later (inl none) =
     last = all_posted now (after_told (after_told mail replies) others) later
 
     reordered : followed_by (handed now mail replies []) (handed now (handed now mail replies []).next others later)
-        ≡ with_told (in_front first.prints (told first.sessions others))
+        ≡ with_told (in_front first.prints (told first.next others))
     reordered = λ i. record {
-      mail = last.next;
+      next = last.next;
+      inputs = [];
       prints =
-          (ap (λ (prints : List Print). prints ++ ((told first.sessions others).prints ++ last.prints)) (append-nil first.prints)
-          ∙ sym (append_assoc first.prints (told first.sessions others).prints last.prints)) i;
+          (ap (λ (prints : List Print). prints ++ ((told first.next others).prints ++ last.prints)) (append-nil first.prints)
+          ∙ sym (append_assoc first.prints (told first.next others).prints last.prints)) i;
     }
 handed_behind now mail replies others receipts later (inr none) =
     subst
@@ -87,7 +90,7 @@ handed_behind now mail replies others receipts later (inr none) =
     first = told mail.sessions replies
 
     with_posts : Posted → Posted
-    with_posts posts = record { mail = posts.next; prints = first.prints ++ posts.prints }
+    with_posts posts = record { next = posts.next; inputs = []; prints = first.prints ++ posts.prints }
 
     middle : Posted
     middle = all_posted now (after_told mail replies) receipts
@@ -98,7 +101,7 @@ handed_behind now mail replies others receipts later (inr none) =
     reordered : followed_by (handed now mail replies receipts) (handed now (handed now mail replies receipts).next [] later)
         ≡ handed now mail replies (receipts ++ later)
     reordered =
-        (λ i. record { mail = last.next; prints = append_assoc first.prints middle.prints last.prints i })
+        (λ i. record { next = last.next; inputs = []; prints = append_assoc first.prints middle.prints last.prints i })
         ∙ ap with_posts (sym (posted_behind now (after_told mail replies) receipts later))
 
 -- nothing stands behind a list that is the whole

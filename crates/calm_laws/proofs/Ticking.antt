@@ -147,7 +147,7 @@ module _ (settings : Settings) (first left : ℕ) (one : OneNode) (streams : Lis
 
   -- the node is told, and nothing goes out
   abbrev tells : Acted
-  tells = answered now next (tick_at moment (accounts_up runner.sessions)) (record { sessions = runner.sessions; prints = [] })
+  tells = answered now next (tick_at moment (accounts_up runner.sessions)) (rests runner.sessions)
 
   room_left : t.ticket + left < 2 ^ 64
   room_left = let room = quiet.room in omega (arith, room)
@@ -183,7 +183,7 @@ module _ (settings : Settings) (first left : ℕ) (one : OneNode) (streams : Lis
   quiet_ticks : Ticked (on_tick now moment)
   unfolding told
   quiet_ticks =
-      let silent : told runner.sessions step.outputs.replies ≡ record { sessions = runner.sessions; prints = [] } =
+      let silent : told runner.sessions step.outputs.replies ≡ rests runner.sessions =
       ap (told runner.sessions) on.replies_later in
       let clock = tells.next.node.kept.clock in
       let nothing = gives_nothing_up tells.next clock (none_overdue one.sessions empty None clock runner.sessions were.entries)

@@ -4,3 +4,4 @@ pub mod Example
 pub mod Texts
 pub mod ThreeNodes
 pub mod Opening
+pub mod Left
