@@ -344,9 +344,9 @@ unfolding all_given_up
 all_unanswered node [] slot error among = among
 all_unanswered node (first ∷ others) slot error among =
     let one = given_up node first in
-    elim (in_either (Response slot (Concluded Delivered error)) one.inputs (all_given_up one.node others).inputs among) [
+    elim (in_either (Response slot (Concluded Delivered error)) one.inputs (all_given_up one.next others).inputs among) [
       | inl here ↦ given_up_unanswered node first.delivery slot error here
-      | inr there ↦ all_unanswered one.node others slot error there
+      | inr there ↦ all_unanswered one.next others slot error there
     ]
 
 -- ---- a moment

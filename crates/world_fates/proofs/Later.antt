@@ -107,9 +107,9 @@ unfolding all_given_up
 all_plain node [] lost among = among
 all_plain node (first ∷ others) lost among =
     let one = given_up node first in
-    elim (in_either (Restart lost) one.inputs (all_given_up one.node others).inputs among) [
+    elim (in_either (Restart lost) one.inputs (all_given_up one.next others).inputs among) [
       | inl here ↦ delivered_plain node first.delivery (Some unanswered) lost here
-      | inr there ↦ all_plain one.node others lost there
+      | inr there ↦ all_plain one.next others lost there
     ]
 
 module _ (cluster : Cluster) (m : ℕ) (first : List NodeInput) where
@@ -190,9 +190,9 @@ module _ (cluster : Cluster) (m : ℕ) (first : List NodeInput) where
   all_well past node is [] = is
   all_well past node is (next ∷ others) =
       let one = given_up node next in
-      subst (λ (now : List NodeInput). IsNode now (all_given_up one.node others).node)
-      (sym (inputs_then one.inputs (all_given_up one.node others).inputs past))
-      (all_well (came_to m one.inputs past) one.node (delivered_well past node is next.delivery (Some unanswered)) others)
+      subst (λ (now : List NodeInput). IsNode now (all_given_up one.next others).next)
+      (sym (inputs_then one.inputs (all_given_up one.next others).inputs past))
+      (all_well (came_to m one.inputs past) one.next (delivered_well past node is next.delivery (Some unanswered)) others)
 
   -- ---- acts
 

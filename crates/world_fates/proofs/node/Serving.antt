@@ -73,10 +73,10 @@ all_lead member past fit node at [] = leads_still member past true node fit at
 all_lead member past fit node at (first ∷ others) =
     let one = given_up node first in
     let here = given_up_leads member past fit node at first in
-    let last = all_lead member here.later here.fit one.node here.at others in
+    let last = all_lead member here.later here.fit one.next here.at others in
     record {
       later = last.later;
-      later_is = came_then member.number one.inputs (all_given_up one.node others).inputs past here.later last.later here.later_is last.later_is;
+      later_is = came_then member.number one.inputs (all_given_up one.next others).inputs past here.later last.later here.later_is last.later_is;
       fit = last.fit;
       at = last.at;
     }
