@@ -1,46 +1,11 @@
 -- A worked row: the life of one message over the table.
-use Rattle.std.specs.Prelude.{ℕ, true, false, List, [], ◌∷◌, ◌++◌}
-use Rattle.mc_model.specs.message.Submission.{Address, Submission}
-use Rattle.mc_model.specs.message.Decree.{Attempt, Decree, Delivered, Fate, Kind, Taken}
+use Rattle.std.specs.Prelude.{true, false, List, [], ◌∷◌, ◌++◌}
+use Rattle.mc_model.specs.message.Decree.{Delivered}
 use Rattle.mc_model.specs.node.Actor.{Query, Submit}
 use Rattle.mc_model.specs.node.Outcome.{Concluded}
+use Rattle.mc_parts.specs.FirstMessage.{account, first_id, message, midnight, sender}
 use Rattle.alone_laws.specs.Tables.{TableNode, new_table}
 use Rattle.alone_laws.specs.Events.{Concludes, Event, Grants, Requests, Ticks, happened}
-
--- 2024-01-31T00:00:00Z, and the account sme1
-abbrev pub midnight : ℕ
-midnight = 1706659200
-
-abbrev pub account : List ℕ
-account = 115 ∷ 109 ∷ 101 ∷ 49 ∷ []
-
-abbrev pub sender : List ℕ
-sender = 49 ∷ 52 ∷ 52 ∷ []
-
-abbrev pub address : List ℕ → Address
-address digits = record { ton = 1; npi = 1; digits = digits }
-
--- from 144 to 155, with the text Hi, valid for three days; a receipt is asked for on every final state
-abbrev pub message : Submission
-message = record {
-  submitter = account;
-  target = account;
-  service_type = [];
-  source = address sender;
-  destination = address (49 ∷ 53 ∷ 53 ∷ []);
-  esm_class = 0;
-  protocol_id = 0;
-  priority_flag = 0;
-  registered_delivery = 1;
-  data_coding = 0;
-  schedule = 1706659200;
-  expiry = 1706918400;
-  text = 72 ∷ 105 ∷ [];
-  passed = [];
-}
-
-abbrev pub first_id : ℕ
-first_id = 1000100001
 
 -- it is taken at midnight, attempted at a tick and granted
 abbrev pub begins : List Event
@@ -65,9 +30,3 @@ after_life = happened after_grant concludes
 
 abbrev pub asks : Event
 asks = Requests (Query first_id account sender)
-
-abbrev pub decreed : Kind → Decree
-decreed kind = record { author = record { node = 1; incarnation = 1 }; moment = midnight; kind = kind }
-
-abbrev pub delivered : List Decree
-delivered = decreed (Fate Delivered 0) ∷ decreed (Attempt 1) ∷ decreed (Taken message) ∷ []

@@ -2,9 +2,10 @@
 
 ghost use Rattle.std.specs.Prelude.{◌≡◌, false, [], ◌∷◌};
 ghost use Rattle.mc_model.specs.node.Replies.{Shown};
+ghost use Rattle.mc_parts.specs.FirstMessage.{delivered, first_id};
 ghost use Rattle.alone_laws.specs.Tables.{new_table};
 ghost use Rattle.alone_laws.specs.Events.{MayAllHappen, receipts_of_event, replies_by};
-ghost use Rattle.alone_laws.specs.Examples.{after_grant, after_life, asks, concludes, delivered, first_id, life};
+ghost use Rattle.alone_laws.specs.Examples.{after_grant, after_life, asks, concludes, life};
 
 /// A message is taken, attempted, granted and delivered: all that may happen. The table then has its chain, a receipt goes out with the last
 /// event, and a query_sm is answered by that chain.

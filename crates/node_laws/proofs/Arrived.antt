@@ -17,12 +17,12 @@ use Rattle.mc_model.specs.node.Setup.{Setup}
 use Rattle.mc_parts.proofs.Majorities.{both}
 use Rattle.mc_parts.proofs.Membership.{in_either}
 use Rattle.node_model.specs.Kept.{Held, Kept, message_at}
-use Rattle.node_model.specs.Requests.{begun, ticket_of}
+use Rattle.node_model.specs.Requests.{Ascend, begun, ticket_of}
 use Rattle.node_model.specs.Ticks.{waits_too}
 use Rattle.node_laws.specs.Stands.{Agrees, IsCoherent, IsHeld, IsMessage}
 use Rattle.node_laws.proofs.Changing.{message_changed}
 use Rattle.node_laws.proofs.Coherence.{IsLater, fit_later}
-use Rattle.node_laws.proofs.Orders.{Ascend, ascend_from, in_append, increasing_from}
+use Rattle.node_laws.proofs.Orders.{ascend_from, below_in, in_append, in_below, increasing_from}
 use Rattle.node_laws.proofs.Owning.{IsGround}
 
 -- nobody has told to a ticket that is still to be given
@@ -52,12 +52,12 @@ unknown_yet nodes node a coherent mine id message numbered chain knows =
     ]
 
 ascend_last : (held : List Held) (new : Held) → Ascend held → ((h : Held) → In h held → ticket_of h < ticket_of new) → Ascend (held ++ new ∷ [])
-ascend_last [] new ascends below = ((λ later none. absurd none), tt)
+ascend_last [] new ascends below = (tt, tt)
 ascend_last (h ∷ held) new ascends below = (
-  λ later among. elim (in_either later held (new ∷ []) among) [
-    | inl before ↦ ascends.0 later before
+  in_below (ticket_of h) (held ++ new ∷ []) (λ later among. elim (in_either later held (new ∷ []) among) [
+    | inl before ↦ below_in (ticket_of h) held ascends.0 later before
     | inr last ↦ elim last [ inl same ↦ subst (λ (x : Held). ticket_of h < ticket_of x) (sym same) (below h (inl refl)) | inr none ↦ absurd none ]
-  ],
+  ]),
   ascend_last held new ascends.1 (λ it among. below it (inr among)),
 )
 

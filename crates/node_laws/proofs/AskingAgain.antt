@@ -23,13 +23,13 @@ use Rattle.mc_model.specs.node.Settling.{HasTold}
 use Rattle.mc_model.specs.node.Setup.{Setup}
 use Rattle.mc_parts.proofs.Membership.{in_filter}
 use Rattle.node_model.specs.Kept.{Held, Kept}
-use Rattle.node_model.specs.Requests.{asks, id_of, is_untold, ticket_of}
+use Rattle.node_model.specs.Requests.{Ascend, asks, id_of, is_untold, ticket_of}
 use Rattle.node_model.specs.Sets.{is_majority}
 use Rattle.node_model.specs.Ticks.{question}
 use Rattle.node_laws.specs.Stands.{IsHeld}
 use Rattle.node_laws.proofs.Held.{kept_as, waits_among}
 use Rattle.node_laws.proofs.Learning.{majority_decides}
-use Rattle.node_laws.proofs.Orders.{Ascend, acts_fall, ascend_filter, in_mapped, in_reverse, mapped_in, reverse_in}
+use Rattle.node_laws.proofs.Orders.{acts_fall, ascend_filter, in_mapped, in_reverse, mapped_in, reverse_in}
 use Rattle.node_model.proofs.Filters.{filter_in, filter_passes}
 use Rattle.mc_laws.proofs.Assembly.{alone_on}
 use Rattle.node_laws.proofs.Runs.{packets_more, receipts_more, replies_more, run_more, saved_more}

@@ -13,13 +13,12 @@ use Rattle.mc_model.specs.node.Phases.{DueToEnd}
 use Rattle.mc_model.specs.node.Replies.{Answer, IsAnswer, TooLate, longest_wait}
 use Rattle.mc_model.specs.node.Setup.{Setup}
 use Rattle.node_model.specs.Kept.{Held}
-use Rattle.node_model.specs.Requests.{id_of, ticket_of}
+use Rattle.node_model.specs.Requests.{Ascend, id_of, ticket_of}
 use Rattle.node_model.specs.Answers.{replied}
 use Rattle.node_model.specs.Ticks.{is_late, late_reply}
 use Rattle.node_model.proofs.Decisions.{nat_le_decides}
 use Rattle.node_laws.specs.Steps.{IsAtWork}
 use Rattle.node_laws.proofs.Held.{kept_as, waits_among}
-use Rattle.node_laws.proofs.Orders.{Ascend}
 use Rattle.node_laws.proofs.Replied.{in_replied, reached_replies, replied_in, replies_fall, replies_of, replies_out, reply_acts, run_replies, waits_on, without}
 use Rattle.node_laws.proofs.Replied.{without_all}
 

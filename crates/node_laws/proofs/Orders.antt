@@ -14,7 +14,7 @@ use Rattle.mc_model.specs.node.Act.{Act}
 use Rattle.mc_model.specs.node.Due.{Fall, key_of}
 use Rattle.mc_parts.proofs.Membership.{in_either, in_filter}
 use Rattle.node_model.specs.Kept.{Held}
-use Rattle.node_model.specs.Requests.{ticket_of}
+use Rattle.node_model.specs.Requests.{Ascend, IsBelow, ticket_of}
 
 -- ---- lists
 
@@ -67,10 +67,15 @@ fall_join (x ∷ next ∷ front) back falls after apart =
 
 -- ---- tickets
 
--- each request stands before those of higher tickets
-abbrev pub Ascend : List Held → Type 0
-Ascend [] = Unit {0}
-Ascend (h ∷ others) = ((later : Held) → In later others → ticket_of h < ticket_of later) × Ascend others
+-- a ticket below those of requests is below that of each
+pub below_in : (ticket : ℕ) (held : List Held) → IsBelow ticket held → (h : Held) → In h held → ticket < ticket_of h
+below_in ticket [] below h none = absurd none
+below_in ticket (first ∷ others) below h (inl same) = subst (λ (x : Held). ticket < ticket_of x) (sym same) below.0
+below_in ticket (first ∷ others) below h (inr later) = below_in ticket others below.1 h later
+
+pub in_below : (ticket : ℕ) (held : List Held) → ((h : Held) → In h held → ticket < ticket_of h) → IsBelow ticket held
+in_below ticket [] each = tt
+in_below ticket (first ∷ others) each = (each first (inl refl), in_below ticket others (λ h later. each h (inr later)))
 
 all_below : (ticket : ℕ) (held : List Held) → AllByRecursion (λ (other : ℕ). nat_cmp ticket other ≡ Less) (map ticket_of held) → (h : Held) → In h held →
     ticket < ticket_of h
@@ -88,12 +93,12 @@ below_all ticket (first ∷ others) below =
 sorted_ascends : (held : List Held) → IsStrictlySortedBy nat_cmp (map ticket_of held) → Ascend held
 unfolding IsStrictlySortedBy
 sorted_ascends [] sorted = tt
-sorted_ascends (h ∷ others) sorted = (all_below (ticket_of h) others sorted.0, sorted_ascends others sorted.1)
+sorted_ascends (h ∷ others) sorted = (in_below (ticket_of h) others (all_below (ticket_of h) others sorted.0), sorted_ascends others sorted.1)
 
 ascends_sorted : (held : List Held) → Ascend held → IsStrictlySortedBy nat_cmp (map ticket_of held)
 unfolding IsStrictlySortedBy
 ascends_sorted [] ascends = tt
-ascends_sorted (h ∷ others) ascends = (below_all (ticket_of h) others ascends.0, ascends_sorted others ascends.1)
+ascends_sorted (h ∷ others) ascends = (below_all (ticket_of h) others (below_in (ticket_of h) others ascends.0), ascends_sorted others ascends.1)
 
 pub ascend_from : (held : List Held) → IsStrictlyIncreasing (map ticket_of held) → Ascend held
 ascend_from held rises = sorted_ascends held (sorted_from_strictly_increasing (map ticket_of held) rises)
@@ -106,7 +111,10 @@ ascend_filter test [] ascends = tt
 ascend_filter test (h ∷ others) ascends = by_test (test h) (ascend_filter test others ascends.1)
   where
     by_test : (b : Bool) → Ascend (filter test others) → Ascend (cond b (h ∷ filter test others) (filter test others))
-    by_test true rest = ((λ later among. ascends.0 later (in_filter test others later among)), rest)
+    by_test true rest = (
+      in_below (ticket_of h) (filter test others) (λ later among. below_in (ticket_of h) others ascends.0 later (in_filter test others later among)),
+      rest,
+    )
     by_test false rest = rest
 
 -- a ticket is of one request
@@ -114,9 +122,9 @@ pub one_of_ticket : (held : List Held) → Ascend held → (one other : Held) �
 one_of_ticket [] ascends one other none among same = absurd none
 one_of_ticket (h ∷ others) ascends one other (inl first) (inl second) same = first ∙ sym second
 one_of_ticket (h ∷ others) ascends one other (inl first) (inr later) same =
-    let below = ascends.0 other later in let at = ap ticket_of first in absurd (omega arith)
+    let below = below_in (ticket_of h) others ascends.0 other later in let at = ap ticket_of first in absurd (omega arith)
 one_of_ticket (h ∷ others) ascends one other (inr later) (inl second) same =
-    let below = ascends.0 one later in let at = ap ticket_of second in absurd (omega arith)
+    let below = below_in (ticket_of h) others ascends.0 one later in let at = ap ticket_of second in absurd (omega arith)
 one_of_ticket (h ∷ others) ascends one other (inr later) (inr beyond) same = one_of_ticket others ascends.1 one other later beyond same
 
 -- acts by ascending tickets, the newest first
@@ -132,7 +140,7 @@ acts_fall act keys (h ∷ others) ascends =
     apart high low above (inl same) =
         let it = in_mapped key_of (reverse (map act others)) high above in
         let of = in_mapped act others it.from (in_reverse it.from (map act others) it.among) in
-        let below = ascends.0 of.from of.among in
+        let below = below_in (ticket_of h) others ascends.0 of.from of.among in
         let key_high : high ≡ ticket_of of.from = it.is ∙ ap key_of of.is ∙ keys of.from in
         let key_low : low ≡ ticket_of h = same ∙ keys h in
         omega arith

@@ -26,14 +26,14 @@ use Rattle.mc_parts.proofs.Membership.{in_either, in_filter}
 use Rattle.node_model.specs.Kept.{Held, Kept, message_at}
 use Rattle.node_model.specs.Message.{Round}
 use Rattle.node_model.specs.Answers.{answer_by, answer_to, cancel_answer, cancel_decided, replied}
-use Rattle.node_model.specs.Requests.{id_of, is_settled, ticket_of}
+use Rattle.node_model.specs.Requests.{Ascend, id_of, is_settled, ticket_of}
 use Rattle.node_laws.specs.Stands.{Agrees, IsBehind, IsRound, IsRoundOf as IsKeptRound}
 use Rattle.node_laws.specs.Steps.{IsAtWork}
 use Rattle.node_laws.proofs.Answered.{AnswerIs, answer_is, known_is}
 use Rattle.node_laws.proofs.Deciding.{answered_in, known_for, to_answer}
 use Rattle.node_laws.proofs.Cancelling.{match_decides}
 use Rattle.node_laws.proofs.Held.{IsKeptAs, kept_as, waits_among}
-use Rattle.node_laws.proofs.Orders.{Ascend, ascend_filter, ascend_from, fall_join, in_append, in_mapped, increasing_from}
+use Rattle.node_laws.proofs.Orders.{ascend_filter, ascend_from, below_in, fall_join, in_append, in_mapped, increasing_from}
 use Rattle.node_model.proofs.Filters.{filter_in}
 use Rattle.node_laws.proofs.Runs.{packets_more, receipts_more, replies_more, run_more}
 use Rattle.mc_laws.proofs.Assembly.{alone_on}
@@ -101,7 +101,7 @@ module _ (answer : Held → Option Answer) where
       apart it high low above (inl same) =
           let of = in_mapped key_of (reply_acts others) high above in
           let from = replied_in others of.from of.among in
-          let below = ascends.0 from.request from.among in
+          let below = below_in (ticket_of h) others ascends.0 from.request from.among in
           let keys : high ≡ ticket_of from.request = of.is ∙ ap key_of from.is in
           omega arith
 
@@ -169,13 +169,13 @@ module _ (answer : Held → Option Answer) where
           without others (without_one (ticket_of h) x (h.waiting ∷ map (λ it. it.waiting) others)) ≡
           map (λ it. it.waiting) (cond (is_none x) (h ∷ filter waits_on others) (filter waits_on others))
       by_answer None rest =
-          without_first h.waiting others (map (λ it. it.waiting) others) ascends.0
+          without_first h.waiting others (map (λ it. it.waiting) others) (below_in (ticket_of h) others ascends.0)
           ∙ ap (λ (ws : List Waiting). h.waiting ∷ ws) rest
       by_answer (Some it) rest =
           ap (λ (b : Bool). without others (cond b (h.waiting ∷ filter (other_than (ticket_of h)) (map (λ x. x.waiting) others))
           (filter (other_than (ticket_of h)) (map (λ x. x.waiting) others))))
           (is_own h.waiting (ticket_of h) refl)
-          ∙ ap (without others) (none_gone (ticket_of h) others ascends.0)
+          ∙ ap (without others) (none_gone (ticket_of h) others (below_in (ticket_of h) others ascends.0))
           ∙ rest
 
   -- ---- what goes out
@@ -261,7 +261,7 @@ module _ (answer : Held → Option Answer) where
           run_more setup.nodes setup.node s (reply_acts others) (Replies (ticket_of h) (id_of h) it ∷ [])
           (rest (after_alone setup.node s (Replies (ticket_of h) (id_of h) it)) (record { least = works.least; most = works.most; up = works.up })
           (λ x among. filter_in (other_than (ticket_of h)) s.actor.waiting x.waiting (waits x (inr among))
-          (is_other x.waiting (ticket_of h) (λ same. let less = ascends.0 x among in absurd (omega arith))))
+          (is_other x.waiting (ticket_of h) (λ same. let less = below_in (ticket_of h) others ascends.0 x among in absurd (omega arith))))
           (λ x with among answers ws. fits x with (inr among) answers ws)) (
             record {
               least = works.least;

@@ -20,12 +20,12 @@ use Rattle.mc_model.specs.node.Settling.{MaySettle}
 use Rattle.mc_parts.proofs.Membership.{in_filter}
 use Rattle.node_model.specs.Kept.{Held, Kept, message_at}
 use Rattle.node_model.specs.Message.{Round}
-use Rattle.node_model.specs.Requests.{is_cancel, is_settled, settled_by, settles, ticket_of}
+use Rattle.node_model.specs.Requests.{Ascend, is_cancel, is_settled, settled_by, settles, ticket_of}
 use Rattle.node_laws.specs.Stands.{Agrees, IsHeld}
 use Rattle.node_laws.specs.Steps.{IsAtWork}
 use Rattle.node_laws.proofs.Deciding.{known_for, settled_in, to_settle}
 use Rattle.node_laws.proofs.Held.{IsKeptAs, kept_as, waits_among}
-use Rattle.node_laws.proofs.Orders.{Ascend, acts_fall, ascend_filter, ascend_from, in_mapped, in_reverse, mapped_in, reverse_in}
+use Rattle.node_laws.proofs.Orders.{acts_fall, ascend_filter, ascend_from, below_in, in_mapped, in_reverse, mapped_in, reverse_in}
 use Rattle.node_model.proofs.Filters.{filter_in, filter_passes}
 use Rattle.node_laws.proofs.Runs.{did_more, packets_more, receipts_more, replies_more, run_more, saved_more}
 use Rattle.mc_laws.proofs.Assembly.{alone_on}
@@ -98,12 +98,12 @@ module _ (test : Held → Bool) where
           settled_waiting (cond b (h ∷ filter test held) (filter test held)) (h.waiting ∷ map (λ it. it.waiting) held) ≡ (as_settled b h).waiting ∷ map
           (λ it. it.waiting) (map (λ it. as_settled (test it) it) held)
       by_test true rest =
-          (λ i. settled_waiting (filter test held) (settle_own h.waiting i ∷ settle_none (ticket_of h) held ascends.0 i))
+          (λ i. settled_waiting (filter test held) (settle_own h.waiting i ∷ settle_none (ticket_of h) held (below_in (ticket_of h) held ascends.0) i))
           ∙ settled_first (record h.waiting { settled = true }) (filter test held) (map (λ it. it.waiting) held)
-          (λ it among. ascends.0 it (in_filter test held it among))
+          (λ it among. below_in (ticket_of h) held ascends.0 it (in_filter test held it among))
           ∙ ap (λ (ws : List Waiting). record h.waiting { settled = true } ∷ ws) rest
       by_test false rest =
-          settled_first h.waiting (filter test held) (map (λ it. it.waiting) held) (λ it among. ascends.0 it (in_filter test held it among))
+          settled_first h.waiting (filter test held) (map (λ it. it.waiting) held) (λ it among. below_in (ticket_of h) held ascends.0 it (in_filter test held it among))
           ∙ ap (λ (ws : List Waiting). h.waiting ∷ ws) rest
 
 -- ---- they may be settled

@@ -32,7 +32,7 @@ use Rattle.node_model.specs.Kept.{Held, Kept, message_at}
 use Rattle.node_model.specs.Outputs.{leaves, sends}
 use Rattle.node_model.specs.Packets.{answer_told, is_member, is_own_name, on_tell, start_told, tell_held, tells_about, told_to}
 use Rattle.node_model.specs.Proposer.{Prepared, Start, started}
-use Rattle.node_model.specs.Requests.{held_at, id_of, is_cancel, is_settled, settled_by, settles, ticket_of, told_by, with_held}
+use Rattle.node_model.specs.Requests.{Ascend, held_at, id_of, is_cancel, is_settled, settled_by, settles, ticket_of, told_by, with_held}
 use Rattle.node_model.specs.Sets.{is_majority}
 use Rattle.node_model.specs.Starts.{delete_for, delete_of, follow, follow_told, is_ahead}
 use Rattle.node_model.specs.Stepped.{stepped}
@@ -45,7 +45,7 @@ use Rattle.node_laws.proofs.Deciding.{IsCalm, calm_of, known_for}
 use Rattle.node_laws.proofs.Hearing.{received}
 use Rattle.node_laws.proofs.Held.{kept_as, waits_among}
 use Rattle.node_laws.proofs.Learning.{majority_decides}
-use Rattle.node_laws.proofs.Orders.{Ascend, ascend_from, one_of_ticket}
+use Rattle.node_laws.proofs.Orders.{ascend_from, below_in, one_of_ticket}
 use Rattle.node_laws.proofs.Plain.{plain_steps}
 use Rattle.node_laws.proofs.Busy.{busy_steps, same_id}
 use Rattle.node_laws.proofs.Decided.{Decided}
@@ -650,11 +650,11 @@ module _ (setup : Setup) (k : Kept) (s : Node) (stands : Stands setup k s) (tell
       where
         none_other : (x : Held) → In x others → answer_2 x ≡ None
         none_other x among = elim (each x (inr among)) [
-          | inl same ↦ let less = ascends.0 x among in let at : ticket_of x ≡ ticket_of g = ap ticket_of (same ∙ first) in absurd (omega arith)
+          | inl same ↦ let less = below_in (ticket_of g) others ascends.0 x among in let at : ticket_of x ≡ ticket_of g = ap ticket_of (same ∙ first) in absurd (omega arith)
           | inr other ↦ answer_other x other.0
         ]
     one_replied it is (g ∷ others) ascends each (inr later) = elim (each g (inl refl)) [
-      | inl same ↦ let less = ascends.0 new later in let at : ticket_of g ≡ ticket_of new = ap ticket_of same in absurd (omega arith)
+      | inl same ↦ let less = below_in (ticket_of g) others ascends.0 new later in let at : ticket_of g ≡ ticket_of new = ap ticket_of same in absurd (omega arith)
       | inr other ↦
           ap (λ (x : Option Answer). replied g x (replies_of answer_2 others)) (answer_other g other.0)
           ∙ one_replied it is others ascends.1 (λ x among. each x (inr among)) later

@@ -18,7 +18,7 @@ use Rattle.mc_model.specs.node.Setup.{Setup}
 use Rattle.mc_model.specs.node.Step.{IsExact}
 use Rattle.node_model.specs.Kept.{Held, Kept, message_at}
 use Rattle.node_model.specs.Message.{Message}
-use Rattle.node_model.specs.Requests.{is_untold}
+use Rattle.node_model.specs.Requests.{Ascend, is_untold}
 use Rattle.node_model.specs.Stepped.{stepped, stepped_down, stepped_up}
 use Rattle.node_model.specs.Ticks.{asked_again, ids_of, is_late, late_reply, on_tick, ruled_each}
 use Rattle.node_laws.specs.Stands.{Agrees, IsQuiet, Stands}
@@ -26,7 +26,7 @@ use Rattle.node_laws.specs.Steps.{IsAtWork, StepsAs}
 use Rattle.node_laws.proofs.AskingAgain.{ask_acts, ask_packets, ask_receipts, ask_replies, asks_due, asks_may, reached_ask}
 use Rattle.node_laws.proofs.FirstRule.{agrees_on}
 use Rattle.node_laws.proofs.LateReplies.{late_answer, late_due, late_lead, late_may, late_replies}
-use Rattle.node_laws.proofs.Orders.{Ascend, ascend_from, in_mapped, mapped_in}
+use Rattle.node_laws.proofs.Orders.{ascend_from, in_mapped, mapped_in}
 use Rattle.node_laws.proofs.Quiet.{quiet_with, to_settle_back}
 use Rattle.node_laws.proofs.Replied.{replies_packets, replies_receipts, reply_acts}
 use Rattle.node_laws.proofs.Ruling.{keys_of_starts, later, packet_of, packets_of_starts, prepare_of, reached_starts}

@@ -1,49 +1,14 @@
 -- Worked rows of a cluster of one node, and of one of three.
 use Rattle.std.specs.Prelude.{ℕ, Bool, true, false, List, [], ◌∷◌, ◌++◌}
-use Rattle.mc_model.specs.message.Submission.{Address, Submission}
-use Rattle.mc_model.specs.message.Decree.{Attempt, Decree, Deleted, Delivered, Failed, Fate, Kind, Taken}
+use Rattle.mc_model.specs.message.Decree.{Attempt, Decree, Deleted, Delivered, Failed, Fate, Kind}
 use Rattle.mc_model.specs.synod.Packet.{Slot, slot_at}
 use Rattle.mc_model.specs.node.Actor.{Cancel, Query, Submit}
 use Rattle.mc_model.specs.node.Input.{Arrival, Grant, Input, Response, Restart, Tick}
 use Rattle.mc_model.specs.node.Outcome.{Concluded}
 use Rattle.mc_model.specs.node.Setup.{Setup}
+use Rattle.mc_parts.specs.FirstMessage.{account, attempted, decreed, first_id, message, midnight, sender, taken}
 use Rattle.node_model.specs.Stepped.{opened_new}
 use Rattle.node_laws.specs.Scripts.{Played, begins_with, played}
-
--- 2024-01-31T00:00:00Z, and the account sme1
-abbrev pub noon : ℕ
-noon = 1706659200
-
-abbrev pub account : List ℕ
-account = 115 ∷ 109 ∷ 101 ∷ 49 ∷ []
-
-abbrev pub address : List ℕ → Address
-address digits = record { ton = 1; npi = 1; digits = digits }
-
-abbrev pub sender : List ℕ
-sender = 49 ∷ 52 ∷ 52 ∷ []
-
--- from 144 to 155, with the text Hi, valid for three days; a receipt is asked for on every final state
-abbrev pub message : Submission
-message = record {
-  submitter = account;
-  target = account;
-  service_type = [];
-  source = address sender;
-  destination = address (49 ∷ 53 ∷ 53 ∷ []);
-  esm_class = 0;
-  protocol_id = 0;
-  priority_flag = 0;
-  registered_delivery = 1;
-  data_coding = 0;
-  schedule = 1706659200;
-  expiry = 1706918400;
-  text = 72 ∷ 105 ∷ [];
-  passed = [];
-}
-
-abbrev pub first_id : ℕ
-first_id = 1000100001
 
 abbrev pub first_slot : Slot
 first_slot = slot_at first_id 0
@@ -51,18 +16,6 @@ first_slot = slot_at first_id 0
 -- round 1 of node 1 in its first incarnation
 abbrev pub first_ballot : ℕ
 first_ballot = 262161
-
-abbrev pub decreed : Kind → Decree
-decreed kind = record { author = record { node = 1; incarnation = 1 }; moment = noon; kind = kind }
-
-abbrev pub taken : List Decree
-taken = decreed (Taken message) ∷ []
-
-abbrev pub attempted : List Decree
-attempted = decreed (Attempt 1) ∷ taken
-
-abbrev pub delivered : List Decree
-delivered = decreed (Fate Delivered 0) ∷ attempted
 
 abbrev pub deleted : List Decree
 deleted = decreed (Fate Deleted 0) ∷ taken
@@ -77,9 +30,9 @@ all_up text = true
 abbrev pub none_up : List ℕ → Bool
 none_up text = false
 
--- the submit_sm comes at noon
+-- the submit_sm comes at midnight
 abbrev pub submits : List Input
-submits = Tick noon none_up ∷ Arrival (Submit first_id message) ∷ []
+submits = Tick midnight none_up ∷ Arrival (Submit first_id message) ∷ []
 
 abbrev pub queries : Input
 queries = Arrival (Query first_id account sender)
@@ -97,7 +50,7 @@ attempt_slot = slot_at first_id 1
 
 -- it is begun at a tick, granted, and answered ESME_ROK
 abbrev pub attempts : List Input
-attempts = submits ++ Tick noon all_up ∷ []
+attempts = submits ++ Tick midnight all_up ∷ []
 
 abbrev pub grants : List Input
 grants = attempts ++ Grant attempt_slot ∷ []
@@ -108,16 +61,16 @@ delivers = grants ++ Response attempt_slot (Concluded Delivered 0) ∷ []
 -- ---- a restart while an attempt is open
 
 abbrev pub restarts : List Input
-restarts = attempts ++ Restart 0 ∷ Tick noon none_up ∷ []
+restarts = attempts ++ Restart 0 ∷ Tick midnight none_up ∷ []
 
 abbrev pub decreed_again : ℕ → Kind → Decree
 decreed_again moment kind = record { author = record { node = 1; incarnation = 2 }; moment = moment; kind = kind }
 
 abbrev pub lost : List Decree
-lost = decreed_again noon (Failed 999) ∷ attempted
+lost = decreed_again midnight (Failed 999) ∷ attempted
 
 abbrev pub loses : List Input
-loses = restarts ++ Tick noon all_up ∷ []
+loses = restarts ++ Tick midnight all_up ∷ []
 
 abbrev pub tried_again : List Decree
 tried_again = decreed_again 1706659260 (Attempt 2) ∷ lost

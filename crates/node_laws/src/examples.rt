@@ -9,18 +9,15 @@ ghost use Rattle.mc_model.specs.node.Input.{Arrival, Delivery, Tick};
 ghost use Rattle.mc_model.specs.node.Replies.{Accepted, Kept, NotOwner, Removed, Shown, TooLate, Unknown};
 ghost use Rattle.node_model.specs.Kept.{message_at};
 ghost use Rattle.node_model.specs.Attempts.{grant_refusal};
+ghost use Rattle.mc_parts.specs.FirstMessage.{account, attempted, delivered, first_id, sender, taken};
 ghost use Rattle.node_laws.specs.Examples.{
-  account,
   all_up,
   alone,
-  attempted,
   attempts,
   cancels,
   deleted,
-  delivered,
   delivers,
   first_ballot,
-  first_id,
   first_slot,
   grants,
   loses,
@@ -31,9 +28,7 @@ ghost use Rattle.node_laws.specs.Examples.{
   played_of_three,
   queries,
   restarts,
-  sender,
   submits,
-  taken,
   third_ballot,
   tried_again,
 };

@@ -1,5 +1,5 @@
 -- Requests that wait, and what is told to their questions.
-use Rattle.std.specs.Prelude.{ℕ, pred, Bool, true, false, ◌==◌, ◌&&◌, ◌||◌, not, nat_le, nat_lt, List, find, length, map, Option, Some, None, if◌then◌else◌}
+use Rattle.std.specs.Prelude.{ℕ, ◌<◌, pred, Bool, true, false, ◌==◌, ◌&&◌, ◌||◌, not, nat_le, nat_lt, List, [], ◌∷◌, find, length, map, Option, Some, None, if◌then◌else◌}
 use Rattle.mc_model.specs.message.Decree.{Decree}
 use Rattle.mc_model.specs.synod.Packet.{TopVote}
 use Rattle.mc_model.specs.node.Actor.{Cancel, Query, Request, Submit, id_in}
@@ -18,6 +18,16 @@ begun ticket clock request = record {
   tellers = nobody;
   top = None;
 }
+
+-- each of these requests has a higher ticket than this one
+abbrev pub IsBelow : ℕ → List Held → Type 0
+IsBelow ticket [] = Unit {0}
+IsBelow ticket (first ∷ others) = (ticket < ticket_of first) × IsBelow ticket others
+
+-- their tickets ascend
+abbrev pub Ascend : List Held → Type 0
+Ascend [] = Unit {0}
+Ascend (first ∷ others) = IsBelow (ticket_of first) others × Ascend others
 
 -- the request of a ticket
 abbrev pub held_at : List Held → ℕ → Option Held

@@ -9,7 +9,8 @@ use Rattle.node_model.specs.Packets.{settled_for}
 use Rattle.std.proofs.lemmas.List.{length-append, length-map}
 use Rattle.mc_model.specs.node.Room.{most_waiting}
 use Rattle.requests.specs.Waiting.{Waits, held_in, held_of}
-use Rattle.requests.specs.Queues.{Ascend, IsAbove, IsBelow, IsQueue}
+use Rattle.node_model.specs.Requests.{Ascend, IsBelow}
+use Rattle.requests.specs.Queues.{IsAbove, IsQueue}
 
 below_pushed : (ticket : ℕ) (waits : List Waits) (w : Waits) → IsBelow ticket (held_in waits) → ticket < w.waiting.ticket →
     IsBelow ticket (held_in (waits ++ w ∷ []))

@@ -17,7 +17,8 @@ use Rattle.node_model.specs.Answers.{replied, replies_to, reply_of}
 use Rattle.node_model.specs.Requests.{ticket_of, with_held}
 use Rattle.requests.specs.declared.answer.Reply.{Reply as Sent}
 use Rattle.requests.specs.Replying.{reply_given, reply_with}
-use Rattle.requests.specs.Queues.{Ascend, IsBelow, boxed_in}
+use Rattle.node_model.specs.Requests.{Ascend, IsBelow}
+use Rattle.requests.specs.Queues.{boxed_in}
 use Rattle.requests.specs.Waiting.{Waits, held_of}
 
 abbrev pub in_box : Box Waits → Held

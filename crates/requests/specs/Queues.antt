@@ -7,7 +7,7 @@ use Rattle.mc_model.specs.message.Decree.{Decree}
 use Rattle.node_model.specs.Answers.{still_waits}
 use Rattle.node_model.specs.Kept.{Held}
 use Rattle.node_model.specs.Packets.{settled_for}
-use Rattle.node_model.specs.Requests.{ticket_of}
+use Rattle.node_model.specs.Requests.{Ascend, ticket_of}
 use Rattle.node_model.specs.Ticks.{is_late}
 use Rattle.requests.specs.Waiting.{Waits, held_in}
 
@@ -15,15 +15,6 @@ use Rattle.requests.specs.Waiting.{Waits, held_in}
 abbrev pub IsAbove : List Held → ℕ → Type 0
 IsAbove [] ticket = Unit {0}
 IsAbove (first ∷ others) ticket = (ticket_of first < ticket) × IsAbove others ticket
-
--- each ticket is higher than this one
-abbrev pub IsBelow : ℕ → List Held → Type 0
-IsBelow ticket [] = Unit {0}
-IsBelow ticket (first ∷ others) = (ticket < ticket_of first) × IsBelow ticket others
-
-abbrev pub Ascend : List Held → Type 0
-Ascend [] = Unit {0}
-Ascend (first ∷ others) = IsBelow (ticket_of first) others × Ascend others
 
 -- their tickets ascend, and there is room for as many as may wait
 pub record IsQueue (capacity : ℕ) (waits : List Waits) : Type 0 where
