@@ -116,7 +116,7 @@ pub replies_act : (at : Placed) (service : Service) (replies : List Reply) (befo
 replies_act at service replies before after went waiting w runner running =
     let same = ap (λ (sessions : List (ℕ × Session)). told sessions replies) running.sessions in
     record {
-      running = served at.site.node at (record at.site { service = service }) w runner (told runner.sessions replies).sessions runner.waiting running refl refl
+      running = served at.site.node at (record at.site { service = service }) w runner (told runner.sessions replies).next runner.waiting running refl refl
           (went.sessions ∙ ap (λ (t : Told). t.next) same) (waiting ∙ running.waiting);
       text = went.text ∙ ap (λ (t : Told). before ++ text_at at.site.node t.prints) same;
     }

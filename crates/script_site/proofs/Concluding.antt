@@ -26,8 +26,8 @@ use Rattle.script_site.proofs.Stepping.{answer_goes, stays}
 
 module _ (home : ℕ) (slot : Slot) (outcome : Outcome) (old new : Scene) where
   by_open : (w : World) (node : Node) (is_so : Bool) → is_open node.kept slot ≡ is_so
-      → IsGoing home new w (if◌then◌else◌ {A = Went} is_so (went node (Response slot (outcome_kept outcome))) (rests node)).node → IsGoing home new w (concluded node slot (outcome_kept outcome)).node
-  by_open w node is_so is going = subst (λ (b : Bool). IsGoing home new w (if b then went node (Response slot (outcome_kept outcome)) else rests node).node) (sym is) going
+      → IsGoing home new w (if◌then◌else◌ {A = Went} is_so (went node (Response slot (outcome_kept outcome))) (rests node)).next → IsGoing home new w (concluded node slot (outcome_kept outcome)).next
+  by_open w node is_so is going = subst (λ (b : Bool). IsGoing home new w (if b then went node (Response slot (outcome_kept outcome)) else rests node).next) (sym is) going
 
   -- it was open
   pub concluded_so : (given : Given) → Takes old (steps.Answered home slot outcome) given new → Goes home (λ n. concluded n slot (outcome_kept outcome)) old new
@@ -55,13 +55,13 @@ delivered_if (Ok done) home delivery outcome slot one old new is some goes =
 -- What is left to give up leads to what all leads to.
 pub record IsLeft (home : ℕ) (start : Scene) (all : List Pushed) (now : Scene) (rest : List Pushed) : Type 0 where
   pub each : (w : World) (node : Node) → IsGoing home start w node
-      → (mid : Node) × IsGoing home now w mid × ((all_given_up mid rest).node ≡ (all_given_up node all).node)
+      → (mid : Node) × IsGoing home now w mid × ((all_given_up mid rest).next ≡ (all_given_up node all).next)
 
 pub all_left : (home : ℕ) (start : Scene) (all rest : List Pushed) → rest ≡ all → IsLeft home start all start rest
-all_left home start all rest same = record { each = λ w node going. (node, going, ap (λ (ps : List Pushed). (all_given_up node ps).node) same) }
+all_left home start all rest same = record { each = λ w node going. (node, going, ap (λ (ps : List Pushed). (all_given_up node ps).next) same) }
 
 first_so : (node : Node) (pushed : Pushed) (others : List Pushed)
-    → all_given_up node (pushed ∷ others) ≡ followed_by (given_up node pushed) (all_given_up (given_up node pushed).node others)
+    → all_given_up node (pushed ∷ others) ≡ followed_by (given_up node pushed) (all_given_up (given_up node pushed).next others)
 unfolding all_given_up
 first_so node pushed others = refl
 
@@ -72,14 +72,14 @@ one_left home start all now place pushed new left within is goes = record {
   each = λ w node going.
       let here = left.each w node going in
       let rest = behind_it all place pushed within is in (
-        (given_up here.0 pushed).node,
+        (given_up here.0 pushed).next,
         goes w here.0 here.1,
         ap (λ (went : Went). went.next) (sym (first_so here.0 pushed (drop (place + 1) all)))
-            ∙ ap (λ (ps : List Pushed). (all_given_up here.0 ps).node) (sym rest) ∙ here.2,
+            ∙ ap (λ (ps : List Pushed). (all_given_up here.0 ps).next) (sym rest) ∙ here.2,
       );
 }
 
-none_so : (node : Node) → (all_given_up node []).node ≡ node
+none_so : (node : Node) → (all_given_up node []).next ≡ node
 unfolding all_given_up
 none_so node = refl
 
@@ -87,4 +87,4 @@ pub none_left : (home : ℕ) (start : Scene) (all : List Pushed) (now : Scene) (
     → Goes home (λ n. all_given_up n all) start now
 none_left home start all now rest none left w node going =
     let here = left.each w node going in
-    subst (IsGoing home now w) (sym (none_so here.0) ∙ ap (λ (ps : List Pushed). (all_given_up here.0 ps).node) (sym none) ∙ here.2) here.1
+    subst (IsGoing home now w) (sym (none_so here.0) ∙ ap (λ (ps : List Pushed). (all_given_up here.0 ps).next) (sym none) ∙ here.2) here.1

@@ -146,7 +146,7 @@ module _ (settings : Settings) (number : ℕ) (at : Placed) where
 
   -- the node went on by what came of attempts
   went_on : (act : Node → Went) (new : Scene) (w : World) (runner : Runner) → Goes home act at.world new → IsRunning home at w runner
-      → IsRunning home (record { world = new; site = at.site }) w (record runner { node = (act runner.node).node })
+      → IsRunning home (record { world = new; site = at.site }) w (record runner { node = (act runner.node).next })
   went_on act new w runner goes running = record {
     home_is = running.home_is;
     going = goes w runner.node running.going;

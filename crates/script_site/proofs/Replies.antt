@@ -8,7 +8,7 @@ use Rattle.mc_model.specs.node.Outputs.{Reply as Given}
 use Rattle.requests.specs.Replying.{reply_given}
 use Rattle.requests.specs.declared.answer.Reply.{Reply as Sent}
 use Rattle.sessions.specs.Session.{Session}
-use Rattle.script_text.specs.Left.{in_front}
+use Rattle.script_text.specs.Left.{in_front, rests}
 use Rattle.script_text.specs.Prints.{Print, line_at, text_at}
 use Rattle.script_text.specs.Runner.{Owned, Told, owner_of, replied, reply_prints, told}
 use Rattle.esme_service.specs.Told.{reply_to}
@@ -21,7 +21,7 @@ use Rattle.script_site.specs.Written.{IsWritten, line_of}
 
 -- What was written, and what is still to be told, is all that was to be told; and it leaves the same sessions.
 pub record AreLeft (node : ℕ) (all rest : Told) (before text : List ℕ) : Type 0 where
-  pub sessions : rest.sessions ≡ all.sessions
+  pub sessions : rest.next ≡ all.next
   pub written : text ++ text_at node rest.prints ≡ before ++ text_at node all.prints
 
 first_told : (connected : List (ℕ × Session)) (all replies : List Given) (reply : Given) → all ≡ reply ∷ replies
@@ -30,7 +30,7 @@ first_told : (connected : List (ℕ × Session)) (all replies : List Given) (rep
 unfolding told
 first_told connected all replies reply is = rw is refl
 
-told_nothing : (connected : List (ℕ × Session)) (waiting : List Given) → waiting ≡ [] → told connected waiting ≡ record { sessions = connected; prints = [] }
+told_nothing : (connected : List (ℕ × Session)) (waiting : List Given) → waiting ≡ [] → told connected waiting ≡ rests connected
 unfolding told
 told_nothing connected waiting none = rw none refl
 

@@ -11,6 +11,7 @@ use Rattle.pdu_codec.specs.Pdu.{read_pdu}
 use Rattle.pdu_bodies.specs.declared.pdu.Pdu.{Pdu}
 use Rattle.pdu_fields.specs.declared.fault.PduFault.{PduFault}
 use Rattle.desk.specs.declared.request.Request.{Request}
+use Rattle.delivery.specs.Outcomes.{told_in}
 use Rattle.sessions.specs.Session.{Session}
 use Rattle.sessions.specs.Responses.{requested_by}
 use Rattle.sessions.specs.States.{is_gone}
@@ -30,11 +31,11 @@ use Rattle.node_model.proofs.Places.{here}
 use Rattle.script_text.specs.Left.{followed_by, rests}
 use Rattle.script_text.specs.Settings.{Settings}
 use Rattle.script_text.specs.Node.{Node, request_at, step_at, with_step}
-use Rattle.script_text.specs.Attempts.{Went, delivered_so}
+use Rattle.script_text.specs.Attempts.{Went, all_given_up, delivered_so}
 use Rattle.script_text.specs.Prints.{Print}
 use Rattle.script_text.specs.Pushes.{session_at}
 use Rattle.script_text.specs.Runner.{Acted, Came, Runner, Served, came_by, ends, gone_on, nothing_came, on_done, on_frame, on_reaction}
-use Rattle.script_text.specs.Runner.{on_read, on_request, posts_for, refusal_prints, served_at, serves, unasked, with_session}
+use Rattle.script_text.specs.Runner.{on_read, on_request, posts_for, reaction_prints, refusal_prints, served_at, serves, unasked, with_session}
 use Rattle.script_site.specs.Heeding.{asked_by as node_asked, asks_if, by_went, heeded, then_posts}
 
 -- the runner whose session of a number was served
@@ -88,8 +89,7 @@ module _ (settings : Settings) (number : ℕ) (old : Runner) (session : Session)
   -- the node takes the step of a request, which waits on its session
   stepped_so : (requested : Requested) (sequence : ℕ) (input : Input) (step : Stepped) → is_gone session.state ≡ false
       → served_at old number (record {
-        node = with_step old.node step;
-        session = in_window session requested sequence step.outputs.ticket;
+        next = record { node = with_step old.node step; session = in_window session requested sequence step.outputs.ticket };
         inputs = input ∷ [];
         prints = refusal_prints number requested sequence step.outputs.refused;
       }) ≡ node_asked number (kept old number session) (record { requested = requested; sequence = sequence }) input step
@@ -149,7 +149,8 @@ module _ (settings : Settings) (number : ℕ) (old : Runner) (session : Session)
       ≡ heeded settings number (kept old number session) (told_by reaction)
   fault_so Nothing = unasked_so []
   fault_so (Respond outgoing) = unasked_so _
-  fault_so (Leave outgoing abandoned) = gone_on_so _ _
+  fault_so (Leave outgoing abandoned) =
+      gone_on_so (all_given_up old.node abandoned) (reaction_prints settings number (Leave outgoing abandoned))
   fault_so (Ask requested) = ap (served_at old number) (unasked_by number old.node session requested 0 session.account) ∙ unasked_so []
   fault_so (Answered pushed) =
       ap (λ (went : Went). served_at old number (gone_on session went [])) (unanswered_by old.node pushed.delivery) ∙ gone_on_so (rests old.node) []
@@ -160,9 +161,10 @@ module _ (settings : Settings) (number : ℕ) (old : Runner) (session : Session)
       ≡ heeded settings number (kept old number session) (heard_of settings session pdu reaction)
   pdu_so pdu Nothing asks = unasked_so []
   pdu_so pdu (Respond outgoing) asks = unasked_so _
-  pdu_so pdu (Leave outgoing abandoned) asks = gone_on_so _ _
+  pdu_so pdu (Leave outgoing abandoned) asks =
+      gone_on_so (all_given_up old.node abandoned) (reaction_prints settings number (Leave outgoing abandoned))
   pdu_so pdu (Ask requested) asks = asked_so requested pdu.sequence session.account _ (asks requested refl) refl
-  pdu_so pdu (Answered pushed) asks = gone_on_so _ _
+  pdu_so pdu (Answered pushed) asks = gone_on_so (delivered_so old.node pushed.delivery (told_in pushed.sequence pdu)) []
 
 -- ---- the session that is left
 
@@ -185,7 +187,7 @@ window_account session requested sequence (Some ticket) = by_test (can_wait sess
     by_test false = refl
 
 request_like : (number : ℕ) (node : Node) (session : Session) (requested : Requested) (sequence : ℕ) (account : Option (List ℕ)) (request : Option Request)
-    → IsLike (on_request number node session requested sequence account request).session session
+    → IsLike (on_request number node session requested sequence account request).next.session session
 request_like number node session requested sequence None request = itself_like session
 request_like number node session requested sequence (Some account) None = itself_like session
 request_like number node session requested sequence (Some account) (Some request) =
@@ -193,7 +195,7 @@ request_like number node session requested sequence (Some account) (Some request
     record { gone = window_so session requested sequence ticket; account = window_account session requested sequence ticket }
 
 left_like : (settings : Settings) (number : ℕ) (node : Node) (came : Came) (session : Session) (reaction : Reaction)
-    → IsLike (on_reaction settings number node came session reaction).session session
+    → IsLike (on_reaction settings number node came session reaction).next.session session
 left_like settings number node came session Nothing = itself_like session
 left_like settings number node came session (Respond outgoing) = itself_like session
 left_like settings number node came session (Leave outgoing abandoned) = itself_like session

@@ -75,7 +75,7 @@ gave_up at new left now pushed are goes timely w runner running =
     let overdue = are ∙ ap (λ (sessions : List (ℕ × Session)). overdue_in sessions now) running.sessions in
     record {
       home_is = refl;
-      going = subst (λ (ps : List Pushed). IsGoing at.site.node new w (all_given_up runner.node ps).node) overdue (goes w runner.node running.going);
+      going = subst (λ (ps : List Pushed). IsGoing at.site.node new w (all_given_up runner.node ps).next) overdue (goes w runner.node running.going);
       sessions = ap (λ (s : Service). s.sessions) timely ∙ ap (λ (sessions : List (ℕ × Session)). timely_in sessions now) running.sessions;
       streams = running.streams;
       waiting = ap (λ (s : Service). s.waiting) timely ∙ running.waiting;

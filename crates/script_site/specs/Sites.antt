@@ -41,7 +41,7 @@ pub record Takes (old : Scene) (step : Step) (given : Given) (new : Scene) : Typ
 
 -- wherever its node stood, this came of attempts there
 abbrev pub Goes : ℕ → (Node → Went) → Scene → Scene → Type 0
-Goes home act old new = (w : World) (node : Node) → IsGoing home old w node → IsGoing home new w (act node).node
+Goes home act old new = (w : World) (node : Node) → IsGoing home old w node → IsGoing home new w (act node).next
 
 -- ---- its site
 
