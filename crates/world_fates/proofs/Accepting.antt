@@ -3,6 +3,7 @@ use Rattle.std.proofs.Common.{◌≡◌, ℕ, ◌≤◌, List, [], ◌∷◌, �
 use Rattle.std.specs.Fmt.{decimal}
 use Rattle.std.specs.List.{AllByRecursion}
 use Rattle.mc_model.specs.synod.Lists.{In}
+use Rattle.mc_model.specs.node.Actor.{Cancel, Query, Request, Submit, id_in}
 use Rattle.mc_model.specs.node.Input.{Input}
 use Rattle.mc_model.specs.node.Outputs.{Outputs, Reply}
 use Rattle.mc_model.specs.node.Replies.{Accepted, Answer, Kept as Keeps, NotMatched, NotOwner, Removed, Shown, TooLate, Unknown}
@@ -28,12 +29,13 @@ use Rattle.fate_laws.proofs.Printing.{of_all}
 use Rattle.fate_laws.proofs.StepsOut.{step_now}
 use Rattle.fate_laws.proofs.Telling.{delivery_is_mute}
 use Rattle.fate_laws.proofs.Tellings.{IsTelling, NodePrint, TakesDeliveries, by_node, prints_at}
-use Rattle.world_fates.specs.Questions.{AnswersWhatWaited, TellsAcceptance, TellsUnknown}
+use Rattle.world_fates.specs.Questions.{AnswersWhatWaited, AsksAbout, TellsAcceptance, TellsUnknown}
 use Rattle.world_fates.proofs.Worlds.{told_by, told_by_all}
 use Rattle.world_fates.proofs.Printing.{JoinsSo, WorldSo, first_so, joined_so}
+use Rattle.world_fates.proofs.Holding.{MayAnswer}
 use Rattle.world_fates.proofs.Later.{CameSince}
 use Rattle.world_fates.proofs.LaterLines.{lines_fine}
-use Rattle.world_fates.proofs.Fresh.{Waited, given_first, waited_answers, waits_well}
+use Rattle.world_fates.proofs.Fresh.{Anything, OlderOr, Waited, given_first, older_answers, older_or, waits_well}
 
 -- ---- what a PDU tells of an answer
 
@@ -174,10 +176,16 @@ says_known cluster node first id accepted past input ticket since may reply same
     reply_is : reply ≡ record { ticket = ticket; id = id; answer = Unknown }
     reply_is = λ i. record { ticket = sym same i; id = about i; answer = unknown i }
 
+-- that there is no such message is told to a query_sm or a cancel_sm alone
+asks_about : (request : Request) (answer : Answer) → answer ≡ Unknown → MayAnswer answer request → (id : ℕ) → id_in request ≡ id → AsksAbout id request
+asks_about (Query other account source) answer is may id about = about
+asks_about (Cancel other account source destination) answer is may id about = about
+asks_about (Submit other message) answer is may id about = absurd (subst (λ (a : Answer). MayAnswer a (Submit other message)) is may)
+
 pub later_requests : (settings : Settings) (before later : List (List ℕ)) (came coming : List LineInput) (prints others : List WorldPrint) (world : World)
     (last : Stage) (here there : ℕ) (first answer : Print) (id : ℕ) → Joins settings None before came prints (Some world) →
     Joins settings (Some world) later coming others last → 1 ≤ there → In (At here first) prints → In (At there answer) others →
-    TellsAcceptance first id → TellsUnknown answer id → AnswersWhatWaited world there answer
+    TellsAcceptance first id → TellsUnknown answer id → AnswersWhatWaited (AsksAbout id) world there answer
 later_requests settings before later came coming prints others world last here there first answer id joins more least first_in answer_in accepts unknown =
     let so : WorldSo settings AcceptedFrom accepted_telling accepted_takes came world prints =
     first_so settings AcceptedFrom accepted_telling accepted_takes before came prints (Some world) joins in
@@ -187,20 +195,26 @@ later_requests settings before later came coming prints others world last here t
     of_all (AcceptsAt cluster so.past) (told_by prints) (by_node here first)
     (subst (AllByRecursion (AcceptsAt cluster so.past)) (append-nil (told_by prints)) all.tell) (told_by_all here first prints first_in) id accepts in
     let rest : JoinsSo cluster (AcceptedFrom cluster) so.past coming others last =
-    joined_so settings cluster (AcceptedFrom cluster) (accepted_telling cluster) (accepted_takes cluster) later so.past world so.stands coming others last more in
+    joined_so settings cluster (AcceptedFrom cluster) (accepted_telling cluster) (accepted_takes cluster) later so.past world so.stands
+    coming others last more in
     let says = says_known cluster there so.past id accepted in
-    elim (lines_fine cluster there least so.past (Waited world there) (SaysKnown id) says settings later so.past world
-    (waits_well cluster so.past world so.stands there least (SaysKnown id) says) coming others last more
+    elim (lines_fine cluster there least so.past (Waited world there) Anything (OlderOr (SaysKnown id) cluster so.past world there)
+    (older_or cluster there so.past world (SaysKnown id) says) settings later so.past world
+    (waits_well cluster so.past world so.stands there least Anything (OlderOr (SaysKnown id) cluster so.past world there)
+    (older_or cluster there so.past world (SaysKnown id) says))
+    (λ session pdu comes asked is door next account request admitted. tt) coming others last more
     (subst (MayHappen cluster) rest.later_is rest.stands.fit.may) answer answer_in) [
       | inl aside ↦ absurd (aside.late unknown.session id unknown.pdu unknown.printed)
-      | inr it ↦ elim it.so [
-        | inl waited ↦ waited_answers world there it.number it.request it.reply answer it.print_is waited
-        | inr known ↦
-            let request = it.request in
-            let reply = it.reply in
-            let pdu = reply_pdu request.requested request.sequence reply.id reply.answer in
-            let same = late_same it.number reply.id unknown.session id pdu unknown.pdu (sym it.print_is ∙ unknown.printed) in
-            absurd (known same.0
-            (refuses_unknown request.requested request.sequence reply.id reply.answer (ap (λ (p : Pdu). p.status) same.1 ∙ unknown.status)))
-      ]
+      | inr it ↦
+          let request = it.request in
+          let reply = it.reply in
+          let pdu = reply_pdu request.requested request.sequence reply.id reply.answer in
+          let same = late_same it.number reply.id unknown.session id pdu unknown.pdu (sym it.print_is ∙ unknown.printed) in
+          let refused = refuses_unknown request.requested request.sequence reply.id reply.answer (ap (λ (p : Pdu). p.status) same.1 ∙ unknown.status) in
+          elim it.so [
+            | inl older ↦
+                older_answers cluster so.past world so.stands there least it.number request reply answer (AsksAbout id) it.print_is older
+                (asks_about older.held.request reply.answer refused older.held.may id (older.held.about ∙ same.0))
+            | inr known ↦ absurd (known same.0 refused)
+          ]
     ]

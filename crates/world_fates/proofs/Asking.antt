@@ -50,7 +50,8 @@ AllAsked before after = (number : ℕ) (request : OpenRequest) → AsksOn after 
 
 -- one of them is another now
 set_asked : (before : List (ℕ × Session)) (at : ℕ) (session next : Session) → lookup (is_at (nat_cmp at)) before ≡ Some session → IsLess session next →
-    (number : ℕ) (request : OpenRequest) (other : Session) → (◌≡◌ {A = ℕ × Session} (number, other) (at, next)) ⊎ In (number, other) before → In request other.requests →
+    (number : ℕ) (request : OpenRequest) (other : Session) → (◌≡◌ {A = ℕ × Session} (number, other) (at, next)) ⊎ In (number, other) before →
+    In request other.requests →
     AsksOn before number request
 set_asked before at session next found less number request other (inl new) among = record {
   session = session;

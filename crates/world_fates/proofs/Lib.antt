@@ -16,7 +16,9 @@ pub mod Answering
 pub mod Delivered
 pub mod AtOnce
 pub mod Asking
+pub mod Holding
 pub mod Later
+pub mod Older
 pub mod LaterLines
 pub mod Named
 pub mod Fresh
