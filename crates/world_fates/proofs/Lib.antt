@@ -19,7 +19,9 @@ pub mod Asking
 pub mod Holding
 pub mod Later
 pub mod Older
+pub mod Ids
 pub mod LaterLines
 pub mod Named
 pub mod Fresh
 pub mod Accepting
+pub mod Sequences

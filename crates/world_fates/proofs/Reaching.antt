@@ -14,7 +14,7 @@ use Rattle.world_fates.specs.Laws.{NothingWaitsFor}
 use Rattle.world_fates.specs.Questions.{AsksState}
 use Rattle.world_fates.proofs.Fresh.{later_queries}
 
-about_state : (request : Request) (message_id : List ℕ) → AsksState message_id request → decimal (id_in request) ≡ message_id
+pub about_state : (request : Request) (message_id : List ℕ) → AsksState message_id request → decimal (id_in request) ≡ message_id
 about_state (Query id account source) message_id asks = asks
 about_state (Submit id message) message_id asks = absurd asks
 about_state (Cancel id account source destination) message_id asks = absurd asks

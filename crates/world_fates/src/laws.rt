@@ -19,6 +19,11 @@ ghost use Rattle.world_fates.specs.Questions.{
   LaterRequestsAreOfKnownMessages,
 };
 ghost use Rattle.world_fates.specs.Refusals.{IdsAreNotRefusedAtOnce};
+ghost use Rattle.world_fates.specs.Requests.{
+  AcceptedIdsAreNotRefusedAtOnce,
+  LaterQueriesAreToldTheFate,
+  LaterRequestsAreNotRefusedAsUnknown,
+};
 ghost use Rattle.world_fates.specs.Runs.{AScriptIsARun};
 
 /// A script is a run of the model: its lines lead a cluster to where its nodes and their packets stand, by what came to the nodes.
@@ -51,6 +56,23 @@ pub fn later_queries_tell_the_fate()
 /// After ESME_ROK to a submit_sm (SMPP 3.4, 4.4.2) no request that comes later, and waits, is refused as one for a message that there is not.
 pub fn later_requests_are_of_known_messages()
     ensures { LaterRequestsAreOfKnownMessages }
+{}
+
+/// By lines: after a print of a final state each query_sm of the message (SMPP 3.4, 4.8.1) that comes with a sequence_number of its own, on whatever session
+/// of whatever node, is told that state if it is answered ESME_ROK (SMPP 3.4, 4.8.2).
+pub fn later_queries_are_told_the_fate()
+    ensures { LaterQueriesAreToldTheFate }
+{}
+
+/// And after ESME_ROK to a submit_sm no query_sm or cancel_sm of its message that comes so, and waits, is refused as one for a message that there is not
+/// (SMPP 3.4, 4.8, 4.9 and 5.1.3).
+pub fn later_requests_are_not_refused_as_unknown()
+    ensures { LaterRequestsAreNotRefusedAsUnknown }
+{}
+
+/// And no such request is at once.
+pub fn accepted_ids_are_not_refused_at_once()
+    ensures { AcceptedIdsAreNotRefusedAtOnce }
 {}
 
 /// And no node grants an attempt of it any more.
