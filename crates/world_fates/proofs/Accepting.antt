@@ -109,7 +109,8 @@ module _ (cluster : Cluster) where
   never_accepts past print never id tells = absurd (never tells.session id tells.pdu tells.printed)
 
   reply_accepts : (past : List NodeInput) (outputs : Outputs) → In outputs (cluster_outputs cluster past) → (number : ℕ) (requested : Requested)
-      (sequence : ℕ) (reply : Reply) → In reply outputs.replies → (reply.answer ≡ Accepted → IsId reply.id) → Accepts past (Late number reply.id (reply_pdu requested sequence reply.id reply.answer))
+      (sequence : ℕ) (reply : Reply) → In reply outputs.replies → (reply.answer ≡ Accepted → IsId reply.id) →
+      Accepts past (Late number reply.id (reply_pdu requested sequence reply.id reply.answer))
   reply_accepts past outputs given number requested sequence reply among ids id tells =
       let same = late_same number reply.id tells.session id (reply_pdu requested sequence reply.id reply.answer) tells.pdu tells.printed in
       let answer = accepts requested sequence reply.id reply.answer (decimal id) (ap (λ (p : Pdu). p.status) same.1 ∙ tells.status)

@@ -166,7 +166,8 @@ older_or cluster node first world Says says front past is input number waits (in
 abbrev SaysFate : ℕ → Final → Reply → Type 0
 SaysFate id final reply = reply.id ≡ id → (chain : List Decree) → reply.answer ≡ Shown chain → final_in chain ≡ Some final
 
-pub says_fate : (cluster : Cluster) (node : ℕ) (first : List NodeInput) (outputs : Outputs) (id : ℕ) (final : Final) → In outputs (cluster_outputs cluster first) →
+pub says_fate : (cluster : Cluster) (node : ℕ) (first : List NodeInput) (outputs : Outputs) (id : ℕ) (final : Final) →
+    In outputs (cluster_outputs cluster first) →
     StatesFinal outputs id final → (past : List NodeInput) (input : Input) (ticket : ℕ) → CameSince cluster node first past ticket →
     MayHappen cluster (input_to node input ∷ past) → (reply : Reply) → ticket ≡ reply.ticket →
     In reply (step_now cluster (input_to node input) past).outputs.replies → SaysFate id final reply

@@ -240,7 +240,8 @@ silent_keeps Answers connected acted apart waited ungone silent = record {
   answers = λ slot error among. absurd (silent slot error among);
 }
 
-posts_keep : (Answers : Slot → Type 0) (runner : Runner) (posted : Posted) → Posts (mail_of runner) posted → Keeps Answers runner.sessions (with_posted runner posted)
+posts_keep : (Answers : Slot → Type 0) (runner : Runner) (posted : Posted) → Posts (mail_of runner) posted →
+    Keeps Answers runner.sessions (with_posted runner posted)
 posts_keep Answers runner posted it =
     silent_keeps Answers runner.sessions (with_posted runner posted) it.apart it.waited it.ungone (λ slot error among. among)
 
@@ -531,7 +532,8 @@ module _ (Answers : Slot → Type 0) (number : ℕ) (node : Node) where
 faults_served : (Answers : Slot → Type 0) (settings : Settings) (number : ℕ) (node : Node) (session : Session) (done : Done) → ComesOf session done →
     IsServed Answers number session (on_done settings number node nothing_came done)
 faults_served Answers settings number node session done comes =
-    reaction_served Answers number node settings nothing_came session done.next done.reaction comes (λ pushed among slot error attempt told. absurd (never error told))
+    reaction_served Answers number node settings nothing_came session done.next done.reaction comes
+    (λ pushed among slot error attempt told. absurd (never error told))
   where
     never : (error : ℕ) → None ≡ Some (Concluded Delivered error) → ⊥
     never error is = cc

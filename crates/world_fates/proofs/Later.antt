@@ -560,7 +560,8 @@ module _ (cluster : Cluster) (m : ℕ) (first : List NodeInput) where
             (record { session = session; there = removed_in (is_at (nat_cmp number)) runner.sessions (other, session) there; among = among })
 
         put_came : (other : ℕ) (request : OpenRequest) (session : Session) →
-            (◌≡◌ {A = ℕ × Session} (other, session) (number, served.session)) ⊎ In (other, session) without → In request session.requests → HasCome now other request
+            (◌≡◌ {A = ℕ × Session} (other, session) (number, served.session)) ⊎ In (other, session) without → In request session.requests →
+            HasCome now other request
         put_came other request session (inl new) among =
             subst (λ (n : ℕ). HasCome now n request) (sym (ap (λ (x : ℕ × Session). x.0) new))
             (elim (it.came request (subst (λ (x : Session). In request x.requests) (ap (λ (x : ℕ × Session). x.1) new) among)) [

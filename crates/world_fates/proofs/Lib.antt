@@ -4,7 +4,6 @@ pub mod Printing
 pub mod Standing
 pub mod Fates
 pub mod Given
-pub mod Reaching
 pub mod Granting
 pub mod Example
 pub mod Delivering

@@ -9,7 +9,7 @@ use Rattle.mc_model.specs.message.Chain.{final_in}
 use Rattle.mc_model.specs.message.Decree.{Decree, Final}
 use Rattle.mc_model.specs.message.Ids.{IsId}
 use Rattle.mc_model.specs.synod.Lists.{In}
-use Rattle.mc_model.specs.node.Actor.{Cancel, Query, Request, id_in}
+use Rattle.mc_model.specs.node.Actor.{Cancel, Query, Request, Submit, id_in}
 use Rattle.mc_model.specs.node.Input.{Input}
 use Rattle.mc_model.specs.node.Outputs.{Reply}
 use Rattle.mc_model.specs.node.Replies.{Shown, Unknown}
@@ -57,7 +57,6 @@ use Rattle.world_fates.proofs.Later.{CameSince}
 use Rattle.world_fates.proofs.LaterLines.{lines_fine}
 use Rattle.world_fates.proofs.Fresh.{Saying, Waited, reply_sequence, says_fate, waits_well}
 use Rattle.world_fates.proofs.Accepting.{AcceptedFrom, WasAccepted, accepted_so, accepted_takes, accepted_telling, refuses_unknown, says_known}
-use Rattle.world_fates.proofs.Reaching.{about_state}
 
 -- ---- what waits of a query_sm, and of a cancel_sm
 
@@ -135,6 +134,11 @@ module _ (door : Door) (next : ℕ) (account : List ℕ) (request : Request) whe
       ap id_in it.request_is ∙ same_id it.id id it.is_id is_id (sym it.names ∙ only tt)
   about_waits routes (bodies.SubmitSm message) id is_id only wish is admits = absurd (only tt)
   about_waits routes other id is_id only wish is admits = absurd cc
+
+about_state : (request : Request) (message_id : List ℕ) → AsksState message_id request → decimal (id_in request) ≡ message_id
+about_state (Query id account source) message_id asks = asks
+about_state (Submit id message) message_id asks = absurd asks
+about_state (Cancel id account source destination) message_id asks = absurd asks
 
 -- ---- with a sequence_number of its own
 

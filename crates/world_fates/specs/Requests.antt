@@ -21,7 +21,7 @@ use Rattle.world_fates.specs.Refusals.{NamesMessage}
 
 -- ---- what comes on a session
 
--- Octets come on a session of a node, and in them the frame of a PDU ends; it may have begun in octets that came before (SMPP 3.4, 3.1 and 5.1).
+-- Octets come on a session of a node, and in them the frame of a PDU ends; it may have begun in octets that came before (SMPP 3.4, 3.2 and 5.1.1).
 pub record EndsIn (world : World) (line : List ℕ) (node session : ℕ) (pdu : Pdu) : Type 0 where
   pub octets : List ℕ
   pub says : said_within (length world.runners) line ≡ Some (Octets node session octets)

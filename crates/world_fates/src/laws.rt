@@ -11,7 +11,6 @@ ghost use Rattle.world_fates.specs.Laws.{
   DeliveriesComeBeforeFates,
   NoAttemptIsGrantedAfterAFate,
   OneFateIsPrintedByAllNodes,
-  PrintedFatesAreToldByAllNodes,
   PrintedFatesStay,
 };
 ghost use Rattle.world_fates.specs.Questions.{
@@ -42,18 +41,15 @@ pub fn printed_fates_stay()
     ensures { PrintedFatesStay }
 {}
 
-/// And so does each node at which no request about the message waits then, of every query_sm that comes later.
-pub fn printed_fates_are_told_by_all_nodes()
-    ensures { PrintedFatesAreToldByAllNodes }
-{}
-
 /// And so does each query_sm that comes later, to whatever node: each query_sm_resp (SMPP 3.4, 4.8.2) that is printed afterwards tells that state,
-/// unless it answers a query_sm that had come before.
+/// unless it answers a query_sm of the message that had come before: one that waits on that session with that sequence_number then (SMPP 3.4, 5.1.4), and
+/// that its node holds.
 pub fn later_queries_tell_the_fate()
     ensures { LaterQueriesTellTheFate }
 {}
 
-/// After ESME_ROK to a submit_sm (SMPP 3.4, 4.4.2) no request that comes later, and waits, is refused as one for a message that there is not.
+/// After ESME_ROK to a submit_sm (SMPP 3.4, 4.4.2) no query_sm or cancel_sm of the message that comes later, and waits, is refused as one for a message
+/// that there is not (SMPP 3.4, 5.1.3).
 pub fn later_requests_are_of_known_messages()
     ensures { LaterRequestsAreOfKnownMessages }
 {}
