@@ -210,8 +210,8 @@ module _ (cluster : Cluster) (m : ℕ) (first : List NodeInput) where
       (says : (front past : List NodeInput) → past ≡ front ++ first → (input : Input) (number : ℕ) (waits : OpenRequest) →
       Before number waits ⊎ CameOn Asked past number waits → MayHappen cluster (input_to m input ∷ past) → (reply : Reply) →
       waits.ticket ≡ reply.ticket → In reply (step_now cluster (input_to m input) past).outputs.replies → Says number waits reply) where
-    abbrev pub HasCome : List NodeInput → ℕ → OpenRequest → Type 0
-    HasCome past number waits = Before number waits ⊎ CameOn Asked past number waits
+    abbrev pub CameBeforeOrSince : List NodeInput → ℕ → OpenRequest → Type 0
+    CameBeforeOrSince past number waits = Before number waits ⊎ CameOn Asked past number waits
 
     -- what was asked for on a session with a sequence_number waits as that which was asked for
     abbrev pub AsksBy : ℕ → ℕ → Option Request → Type 0
@@ -225,7 +225,7 @@ module _ (cluster : Cluster) (m : ℕ) (first : List NodeInput) where
     -- each request that waits came since, or before
     abbrev pub AllCame : List NodeInput → List (ℕ × Session) → Type 0
     AllCame past connected =
-        (number : ℕ) (request : OpenRequest) → AsksOn connected number request → HasCome past number request
+        (number : ℕ) (request : OpenRequest) → AsksOn connected number request → CameBeforeOrSince past number request
 
     -- a print answers a request so
     pub record IsAnswer (print : Print) : Type 0 where
@@ -554,16 +554,16 @@ module _ (cluster : Cluster) (m : ℕ) (first : List NodeInput) where
         old_came = came_through served.inputs past runner.sessions it.plain s.came
 
         left_came : (other : ℕ) (request : OpenRequest) (session : Session) → In (other, session) without → In request session.requests →
-            HasCome now other request
+            CameBeforeOrSince now other request
         left_came other request session there among =
             old_came other request
             (record { session = session; there = removed_in (is_at (nat_cmp number)) runner.sessions (other, session) there; among = among })
 
         put_came : (other : ℕ) (request : OpenRequest) (session : Session) →
             (◌≡◌ {A = ℕ × Session} (other, session) (number, served.session)) ⊎ In (other, session) without → In request session.requests →
-            HasCome now other request
+            CameBeforeOrSince now other request
         put_came other request session (inl new) among =
-            subst (λ (n : ℕ). HasCome now n request) (sym (ap (λ (x : ℕ × Session). x.0) new))
+            subst (λ (n : ℕ). CameBeforeOrSince now n request) (sym (ap (λ (x : ℕ × Session). x.0) new))
             (elim (it.came request (subst (λ (x : Session). In request x.requests) (ap (λ (x : ℕ × Session). x.1) new) among)) [
               | inl old ↦ old_came number request (in_session runner.sessions number request old)
               | inr on ↦ inr on
@@ -647,7 +647,7 @@ module _ (cluster : Cluster) (m : ℕ) (first : List NodeInput) where
             elim (inserted_in (remove_entry (is_at (nat_cmp number)) runner.sessions) number (session_in runner.sessions number) (other, asks.session)
             asks.there) [
               | inl new ↦
-                  subst (λ (n : ℕ). HasCome past n request) (sym (ap (λ (x : ℕ × Session). x.0) new))
+                  subst (λ (n : ℕ). CameBeforeOrSince past n request) (sym (ap (λ (x : ℕ × Session). x.0) new))
                   (s.came number request (in_session runner.sessions number request
                   (subst (λ (x : Session). In request x.requests) (ap (λ (x : ℕ × Session). x.1) new) asks.among)))
               | inr old ↦

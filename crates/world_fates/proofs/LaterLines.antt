@@ -313,11 +313,11 @@ module _ (cluster : Cluster) (m : ℕ) (least_m : 1 ≤ m) (first : List NodeInp
   -- ---- lines
 
   -- what a line leaves
-  record LineWell (past : List NodeInput) (done : Stepped) : Type 0 where
-    next : World
-    stage_is : done.stage ≡ Some next
-    well : WorldWell (behind (inputs_of done.inputs) past) next
-    fine : (print : Print) → In (At m print) done.prints → Fine print
+  pub record LineWell (past : List NodeInput) (done : Stepped) : Type 0 where
+    pub next : World
+    pub stage_is : done.stage ≡ Some next
+    pub well : WorldWell (behind (inputs_of done.inputs) past) next
+    pub fine : (print : Print) → In (At m print) done.prints → Fine print
 
   -- what comes by a line on a session of the node asks so
   abbrev pub LineAsks : Settings → World → List ℕ → Type 0
@@ -375,7 +375,7 @@ module _ (cluster : Cluster) (m : ℕ) (least_m : 1 ≤ m) (first : List NodeInp
     said_well (Replay count) done says is =
         does_well (on_replay world count) done is (replays_well count (length world.packets) past world well)
 
-    line_well : (done : Stepped) → step_of settings (Some world) line ≡ Some done → MayDo done → LineWell past done
+    pub line_well : (done : Stepped) → step_of settings (Some world) line ≡ Some done → MayDo done → LineWell past done
     unfolding step_of
     line_well done is = by_said (said_within (length world.runners) line) refl is
       where

@@ -24,3 +24,4 @@ pub mod Named
 pub mod Fresh
 pub mod Accepting
 pub mod Sequences
+pub mod Coming

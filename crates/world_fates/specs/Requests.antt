@@ -50,6 +50,30 @@ IsRequest (QuerySm query) = Unit {0}
 IsRequest (CancelSm cancel) = Unit {0}
 IsRequest other = ⊥
 
+-- By lines that lead to a world such a request came on a session of a node, with this sequence_number (SMPP 3.4, 5.1.4).
+pub record HasCome (settings : Settings) (lines : List (List ℕ)) (node session sequence : ℕ) : Type 0 where
+  pub before : List (List ℕ)
+  pub line : List ℕ
+  pub later : List (List ℕ)
+  pub lines_are : lines ≡ before ++ line ∷ later
+  pub world : World
+  pub came : List NodeInput
+  pub prints : List WorldPrint
+  pub joins : Joins settings None before came prints (Some world)
+  pub pdu : Pdu
+  pub ends : EndsIn world line node session pdu
+  pub request : IsRequest pdu.body
+  pub sequence_is : pdu.sequence ≡ sequence
+
+-- What waits on a session came there in octets: so no request with a sequence_number waits where none has come that has it.
+abbrev pub RequestsThatWaitCameInOctets : Type 0
+RequestsThatWaitCameInOctets =
+    (settings : Settings) (lines : List (List ℕ)) (came : List NodeInput) (prints : List WorldPrint) (world : World) (node session sequence : ℕ)
+    → Joins settings None lines came prints (Some world)
+    → 1 ≤ node
+    → IsAskedAt world node session sequence
+    → HasCome settings lines node session sequence
+
 -- From a world on, a sequence_number is used for such requests alone on a session of a node (SMPP 3.4, 2.9 and 5.1.4): no request waits there
 -- that has it, and each request with it that comes by these lines is such a one.
 pub record IsUsedFor (Asks : Body → Type 0) (settings : Settings) (first : World) (lines : List (List ℕ)) (node session sequence : ℕ) : Type 0 where

@@ -22,6 +22,7 @@ ghost use Rattle.world_fates.specs.Requests.{
   AcceptedIdsAreNotRefusedAtOnce,
   LaterQueriesAreToldTheFate,
   LaterRequestsAreNotRefusedAsUnknown,
+  RequestsThatWaitCameInOctets,
 };
 ghost use Rattle.world_fates.specs.Runs.{AScriptIsARun};
 
@@ -69,6 +70,12 @@ pub fn later_requests_are_not_refused_as_unknown()
 /// And no such request is at once.
 pub fn accepted_ids_are_not_refused_at_once()
     ensures { AcceptedIdsAreNotRefusedAtOnce }
+{}
+
+/// Whether a sequence_number is free on a session is told by octets: what waits there came in the octets of an earlier line on the session of that number,
+/// as a submit_sm, a query_sm or a cancel_sm with its sequence_number (SMPP 3.4, 4.4.1, 4.8.1, 4.9.1 and 5.1.4).
+pub fn requests_that_wait_came_in_octets()
+    ensures { RequestsThatWaitCameInOctets }
 {}
 
 /// And no node grants an attempt of it any more.
