@@ -13,7 +13,7 @@ use Rattle.sessions.specs.Session.{Session}
 use Rattle.script_world.specs.Prints.{At, WorldPrint}
 use Rattle.script_world.specs.Script.{Joins, Stage, Stepped, step_by, step_of}
 use Rattle.script_world.specs.World.{NodeInput, World, opened}
-use Rattle.world_fates.specs.Deliveries.{GoesOut, IsAnswered, IsSaid, WentOut, comes}
+use Rattle.world_fates.specs.Deliveries.{GoesOut, IsAnswered, IsSaid, Stays, WentOut, comes}
 use Rattle.world_fates.proofs.Entries.{AreApart}
 use Rattle.world_fates.proofs.Windows.{WaitsOn}
 use Rattle.world_fates.proofs.Lines.{AreSound, IsHeard, WaitsAt, line_leads, opened_apart}
@@ -42,6 +42,21 @@ joins_more settings first middle (next ∷ lines) came prints line done joins do
   ap (λ (printed : List WorldPrint). printed ++ done.prints) joins.5 ∙ append_assoc joins.0.prints joins.2 done.prints,
   joins_more settings joins.0.stage middle lines joins.1 joins.2 line done joins.6 does,
 )
+
+-- a session that stays does so by one more line
+pub stays_more : (settings : Settings) (first : Stage) (lines : List (List ℕ)) (world : World) (node session : ℕ) →
+    Stays settings first lines world node session → (line : List ℕ) (done : Stepped) → step_of settings (Some world) line ≡ Some done → (next : World) →
+    done.stage ≡ Some next → (In (At node (Gone session)) done.prints → ⊥) → Stays settings first (lines ++ line ∷ []) next node session
+stays_more settings first lines world node session it line done does next stage ungone = record {
+  came = it.came ++ done.inputs;
+  prints = it.prints ++ done.prints;
+  joins = subst (λ (s : Stage). Joins settings first (lines ++ line ∷ []) (it.came ++ done.inputs) (it.prints ++ done.prints) s) stage
+      (joins_more settings first (Some world) lines it.came it.prints line done it.joins does);
+  stays = λ among. elim (in_either (At node (Gone session)) it.prints done.prints among) [
+    | inl here ↦ it.stays here
+    | inr there ↦ ungone there
+  ];
+}
 
 -- ---- what waits went out
 
@@ -75,18 +90,7 @@ module _ (settings : Settings) (before : List (List ℕ)) (came : List NodeInput
     done = went.done;
     said = went.said;
     goes = went.goes;
-    stays = record {
-      came = went.stays.came ++ done.inputs;
-      prints = went.stays.prints ++ done.prints;
-      joins = subst
-          (λ (s : Stage). Joins settings went.done.stage (went.later ++ line ∷ []) (went.stays.came ++ done.inputs) (went.stays.prints ++ done.prints) s)
-          stage
-          (joins_more settings went.done.stage (Some world) went.later went.stays.came went.stays.prints line done went.stays.joins does);
-      stays = λ among. elim (in_either (At node (Gone session)) went.stays.prints done.prints among) [
-        | inl here ↦ went.stays.stays here
-        | inr there ↦ ungone there
-      ];
-    };
+    stays = stays_more settings went.done.stage went.later world node session went.stays line done does next stage ungone;
   }
 
   -- it goes out by this line

@@ -13,7 +13,8 @@ use Rattle.sessions.specs.declared.request.OpenRequest.{OpenRequest}
 use Rattle.desk.specs.declared.request.Request.{Request as Asked}
 use Rattle.script_text.specs.Runner.{request_of}
 use Rattle.script_text.specs.Settings.{Settings}
-use Rattle.script_world.specs.Prints.{WorldPrint}
+use Rattle.script_text.specs.Prints.{Gone}
+use Rattle.script_world.specs.Prints.{At, WorldPrint}
 use Rattle.script_world.specs.Script.{Joins, Stepped, step_of}
 use Rattle.script_world.specs.World.{NodeInput as LineInput, World, opened, runner_at}
 use Rattle.fate_laws.proofs.Behind.{behind}
@@ -22,15 +23,17 @@ use Rattle.world_fates.specs.Requests.{EndsIn, HasCome, IsRequest}
 use Rattle.world_fates.proofs.Worlds.{inputs_of}
 use Rattle.world_fates.proofs.Printing.{JoinsSo, WorldSo, first_so, joined_so}
 use Rattle.world_fates.proofs.Given.{GivenFrom, given_takes, given_telling}
-use Rattle.world_fates.proofs.Lines.{opened_apart}
+use Rattle.world_fates.proofs.Entries.{AreApart}
+use Rattle.world_fates.proofs.Lines.{AreSound, line_leads, opened_apart}
 use Rattle.world_fates.proofs.LaterLines.{line_well}
 use Rattle.world_fates.proofs.Fresh.{Saying, Waited, waits_well}
-use Rattle.world_fates.proofs.Answering.{GoesWell, lines_lead}
+use Rattle.world_fates.proofs.Answering.{GoesWell, lines_lead, stays_more}
+use Rattle.world_fates.proofs.LineEnds.{line_ends}
 
 -- each request that waits in a world came by the lines that lead there
-abbrev AllCame : Settings → List (List ℕ) → World → Type 0
-AllCame settings lines world =
-    (node : ℕ) → 1 ≤ node → (session sequence : ℕ) → IsAskedAt world node session sequence → HasCome settings lines node session sequence
+pub record AllCame (settings : Settings) (lines : List (List ℕ)) (world : World) : Type 0 where
+  pub sound : AreSound world
+  pub came : (node : ℕ) → 1 ≤ node → (session sequence : ℕ) → IsAskedAt world node session sequence → HasCome settings lines world node session sequence
 
 -- by a line it came on a session
 record ComesNow (world : World) (line : List ℕ) (node session sequence : ℕ) : Type 0 where
@@ -46,9 +49,13 @@ is_request routes (bodies.CancelSm cancel) wish is = tt
 is_request routes other wish is = absurd cc
 
 opened_came : (settings : Settings) (before : List (List ℕ)) (count serial : ℕ) → AllCame settings before (opened settings count serial)
-opened_came settings before count serial node least session sequence asks =
-    absurd (subst (λ (connected : List (ℕ × Session)). In (session, asks.session) connected) (opened_apart settings count serial node asks.runner asks.there)
-    asks.connected)
+opened_came settings before count serial = record {
+  sound = λ node least runner is.
+      subst (λ (connected : List (ℕ × Session)). AreApart connected) (sym (opened_apart settings count serial node runner is)) tt;
+  came = λ node least session sequence asks.
+      absurd (subst (λ (connected : List (ℕ × Session)). In (session, asks.session) connected)
+      (opened_apart settings count serial node asks.runner asks.there) asks.connected);
+}
 
 the_world : (one other : World) → Some one ≡ Some other → one ≡ other
 the_world one other is = cc
@@ -68,37 +75,40 @@ module _ (settings : Settings) (before : List (List ℕ)) (came : List LineInput
   may : MayHappen so.cluster (behind (inputs_of done.inputs) so.past)
   may = subst (MayHappen so.cluster) (rest.later_is ∙ ap (λ (i : List LineInput). behind (inputs_of i) so.past) (append-nil done.inputs)) rest.stands.fit.may
 
-  -- it came earlier, or by this line
-  came_before : (node session sequence : ℕ) → HasCome settings before node session sequence → HasCome settings (before ++ line ∷ []) node session sequence
-  came_before node session sequence it = record {
+  -- it came earlier, and its session stays, or it came by this line
+  came_before : (next : World) → done.stage ≡ Some next → (node session sequence : ℕ) → HasCome settings before world node session sequence →
+      (In (At node (Gone session)) done.prints → ⊥) → HasCome settings (before ++ line ∷ []) next node session sequence
+  came_before next stage node session sequence it ungone = record {
     before = it.before;
     line = it.line;
     later = it.later ++ line ∷ [];
     lines_are = ap (λ (front : List (List ℕ)). front ++ line ∷ []) it.lines_are ∙ append_assoc it.before (it.line ∷ it.later) (line ∷ []);
     world = it.world;
-    came = it.came;
-    prints = it.prints;
-    joins = it.joins;
+    done = it.done;
+    said = it.said;
     pdu = it.pdu;
     ends = it.ends;
     request = it.request;
     sequence_is = it.sequence_is;
+    stays = stays_more settings it.done.stage it.later world node session it.stays line done does next stage ungone;
   }
 
-  came_now : (node session sequence : ℕ) → ComesNow world line node session sequence → HasCome settings (before ++ line ∷ []) node session sequence
-  came_now node session sequence it = record {
+  came_now : (next : World) → done.stage ≡ Some next → (node session sequence : ℕ) → ComesNow world line node session sequence →
+      HasCome settings (before ++ line ∷ []) next node session sequence
+  unfolding Joins
+  came_now next stage node session sequence it = record {
     before = before;
     line = line;
     later = [];
     lines_are = refl;
     world = world;
-    came = came;
-    prints = prints;
-    joins = joins;
+    done = done;
+    said = record { came = came; prints = prints; joins = joins; does = does };
     pdu = it.pdu;
     ends = it.ends;
     request = it.request;
     sequence_is = it.sequence_is;
+    stays = record { came = []; prints = []; joins = (refl, refl, sym stage); stays = λ among. among };
   }
 
   module _ (node : ℕ) (least : 1 ≤ node) where
@@ -138,16 +148,29 @@ module _ (settings : Settings) (before : List (List ℕ)) (came : List LineInput
 
   one_more : AllCame settings before world → GoesWell (AllCame settings) (before ++ line ∷ []) done.stage
   one_more all =
-      subst (GoesWell (AllCame settings) (before ++ line ∷ [])) (sym rest.stage_is)
-      (λ node least session sequence asks. elim (waited_or_came node least rest.world rest.stage_is session sequence asks) [
-        | inl earlier ↦ came_before node session sequence (all node least session sequence earlier)
-        | inr now ↦ came_now node session sequence now
-      ])
+      let leads = line_leads settings world all.sound line done does in
+      let ends = line_ends settings world all.sound line done does in
+      subst (GoesWell (AllCame settings) (before ++ line ∷ [])) (sym leads.stage_is)
+      (record {
+        sound = leads.sound;
+        came = λ node least session sequence asks.
+            elim (waited_or_came node least leads.next leads.stage_is session sequence asks) [
+              | inl earlier ↦
+                  came_before leads.next leads.stage_is node session sequence (all.came node least session sequence earlier)
+                  (λ among. ends.gone node least session among asks.runner
+                  (ap (λ (w : World). runner_at w node) (the_world ends.next leads.next (sym ends.stage_is ∙ leads.stage_is)) ∙ asks.there)
+                  (record { value = asks.session; among = asks.connected }))
+              | inr now ↦ came_now leads.next leads.stage_is node session sequence now
+            ];
+      })
+
+pub all_came : (settings : Settings) (lines : List (List ℕ)) (came : List LineInput) (prints : List WorldPrint) (world : World) →
+    Joins settings None lines came prints (Some world) → AllCame settings lines world
+all_came settings lines came prints world joins =
+    lines_lead settings (AllCame settings) (opened_came settings) (one_more settings) lines came prints (Some world) joins
 
 pub waiting_came : (settings : Settings) (lines : List (List ℕ)) (came : List LineInput) (prints : List WorldPrint) (world : World)
     (node session sequence : ℕ) → Joins settings None lines came prints (Some world) → 1 ≤ node → IsAskedAt world node session sequence →
-    HasCome settings lines node session sequence
+    HasCome settings lines world node session sequence
 waiting_came settings lines came prints world node session sequence joins least asks =
-    let all : AllCame settings lines world =
-    lines_lead settings (AllCame settings) (opened_came settings) (one_more settings) lines came prints (Some world) joins in
-    all node least session sequence asks
+    (all_came settings lines came prints world joins).came node least session sequence asks

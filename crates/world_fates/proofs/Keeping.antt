@@ -428,10 +428,10 @@ pub record IsAnswerIn (frames : List (List ℕ)) (connected : List (ℕ × Sessi
   pub waits : WaitsOn connected number slot sequence
 
 -- what serving a session leaves
-record IsServed (Answers : Slot → Type 0) (number : ℕ) (session : Session) (served : Served) : Type 0 where
-  fewer : IsFewer session served.session
-  gone : (other : ℕ) → In (Gone other) served.prints → (other ≡ number) × (is_gone served.session.state ≡ true)
-  answers : (slot : Slot) (error : ℕ) → In (Response slot (Concluded Delivered error)) served.inputs → Answers slot
+pub record IsServed (Answers : Slot → Type 0) (number : ℕ) (session : Session) (served : Served) : Type 0 where
+  pub fewer : IsFewer session served.session
+  pub gone : (other : ℕ) → In (Gone other) served.prints → (other ≡ number) × (is_gone served.session.state ≡ true)
+  pub answers : (slot : Slot) (error : ℕ) → In (Response slot (Concluded Delivered error)) served.inputs → Answers slot
 
 module _ (Answers : Slot → Type 0) (number : ℕ) (node : Node) where
   refusal_ungone : (requested : Requested) (sequence : ℕ) (refused : Option ℕ) (other : ℕ) →
@@ -529,7 +529,7 @@ module _ (Answers : Slot → Type 0) (number : ℕ) (node : Node) where
   reaction_served settings came before session reactions.Nothing comes tells = unasked_served before session [] comes.fewer (λ other among. among)
 
 -- no PDU came, so no answer
-faults_served : (Answers : Slot → Type 0) (settings : Settings) (number : ℕ) (node : Node) (session : Session) (done : Done) → ComesOf session done →
+pub faults_served : (Answers : Slot → Type 0) (settings : Settings) (number : ℕ) (node : Node) (session : Session) (done : Done) → ComesOf session done →
     IsServed Answers number session (on_done settings number node nothing_came done)
 faults_served Answers settings number node session done comes =
     reaction_served Answers number node settings nothing_came session done.next done.reaction comes
@@ -538,7 +538,7 @@ faults_served Answers settings number node session done comes =
     never : (error : ℕ) → None ≡ Some (Concluded Delivered error) → ⊥
     never error is = cc
 
-read_served : (settings : Settings) (number : ℕ) (node : Node) (connected : List (ℕ × Session)) (octets : List ℕ) (read : Result Pdu PduFault) →
+pub read_served : (settings : Settings) (number : ℕ) (node : Node) (connected : List (ℕ × Session)) (octets : List ℕ) (read : Result Pdu PduFault) →
     read_pdu octets ≡ read → IsServed (IsAnswerIn (octets ∷ []) connected number) number (session_in connected number)
     (on_read settings number node (session_in connected number) octets read)
 read_served settings number node connected octets (Ok pdu) reads =
@@ -576,7 +576,7 @@ put_waited connected number next fewer other slot sequence waits =
       }
     ]
 
-put_apart : (connected : List (ℕ × Session)) (number : ℕ) (next : Session) → AreApart connected → AreApart (put_at connected number next)
+pub put_apart : (connected : List (ℕ × Session)) (number : ℕ) (next : Session) → AreApart connected → AreApart (put_at connected number next)
 put_apart connected number next apart =
     insert_apart (remove_entry (is_at (nat_cmp number)) connected) number next (none_left number connected apart)
     (remove_apart (is_at (nat_cmp number)) connected apart)
@@ -631,7 +631,7 @@ serves_keeps Answers runner number served apart it =
 
 -- ---- the octets of a session
 
-frame_keeps : (settings : Settings) (number : ℕ) (runner : Runner) (octets : List ℕ) → AreApart runner.sessions →
+pub frame_keeps : (settings : Settings) (number : ℕ) (runner : Runner) (octets : List ℕ) → AreApart runner.sessions →
     Keeps (IsAnswerIn (octets ∷ []) runner.sessions number) runner.sessions (on_frame settings number runner octets)
 unfolding on_frame
 frame_keeps settings number runner octets apart =

@@ -24,4 +24,6 @@ pub mod Named
 pub mod Fresh
 pub mod Accepting
 pub mod Sequences
+pub mod Ending
+pub mod LineEnds
 pub mod Coming

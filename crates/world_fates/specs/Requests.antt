@@ -14,8 +14,9 @@ use Rattle.script_text.specs.Prints.{AtOnce, Delivers, Gone, Late, Print, Report
 use Rattle.script_text.specs.Runner.{Runner, held_in, on_frame}
 use Rattle.script_text.specs.Settings.{Settings}
 use Rattle.script_world.specs.Prints.{At, WorldPrint}
-use Rattle.script_world.specs.Script.{Joins, Stage}
+use Rattle.script_world.specs.Script.{Joins, Stage, Stepped}
 use Rattle.script_world.specs.World.{NodeInput, World, runner_at}
+use Rattle.world_fates.specs.Deliveries.{IsSaid, Stays}
 use Rattle.world_fates.specs.Questions.{IsAskedAt, TellsAcceptance}
 use Rattle.world_fates.specs.Refusals.{NamesMessage}
 
@@ -50,29 +51,31 @@ IsRequest (QuerySm query) = Unit {0}
 IsRequest (CancelSm cancel) = Unit {0}
 IsRequest other = ⊥
 
--- By lines that lead to a world such a request came on a session of a node, with this sequence_number (SMPP 3.4, 5.1.4).
-pub record HasCome (settings : Settings) (lines : List (List ℕ)) (node session sequence : ℕ) : Type 0 where
+-- By lines that lead to a world such a request came on a session of a node, with this sequence_number (SMPP 3.4, 5.1.4), and the session is the same
+-- still.
+pub record HasCome (settings : Settings) (lines : List (List ℕ)) (last : World) (node session sequence : ℕ) : Type 0 where
   pub before : List (List ℕ)
   pub line : List ℕ
   pub later : List (List ℕ)
   pub lines_are : lines ≡ before ++ line ∷ later
   pub world : World
-  pub came : List NodeInput
-  pub prints : List WorldPrint
-  pub joins : Joins settings None before came prints (Some world)
+  pub done : Stepped
+  pub said : IsSaid settings before world line done
   pub pdu : Pdu
   pub ends : EndsIn world line node session pdu
   pub request : IsRequest pdu.body
   pub sequence_is : pdu.sequence ≡ sequence
+  pub stays : Stays settings done.stage later last node session
 
--- What waits on a session came there in octets: so no request with a sequence_number waits where none has come that has it.
+-- What waits on a session came there in octets, and the session was not gone meanwhile: so no request with a sequence_number waits if none has come
+-- on the session that has it.
 abbrev pub RequestsThatWaitCameInOctets : Type 0
 RequestsThatWaitCameInOctets =
     (settings : Settings) (lines : List (List ℕ)) (came : List NodeInput) (prints : List WorldPrint) (world : World) (node session sequence : ℕ)
     → Joins settings None lines came prints (Some world)
     → 1 ≤ node
     → IsAskedAt world node session sequence
-    → HasCome settings lines node session sequence
+    → HasCome settings lines world node session sequence
 
 -- From a world on, a sequence_number is used for such requests alone on a session of a node (SMPP 3.4, 2.9 and 5.1.4): no request waits there
 -- that has it, and each request with it that comes by these lines is such a one.

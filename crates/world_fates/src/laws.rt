@@ -72,8 +72,8 @@ pub fn accepted_ids_are_not_refused_at_once()
     ensures { AcceptedIdsAreNotRefusedAtOnce }
 {}
 
-/// Whether a sequence_number is free on a session is told by octets: what waits there came in the octets of an earlier line on the session of that number,
-/// as a submit_sm, a query_sm or a cancel_sm with its sequence_number (SMPP 3.4, 4.4.1, 4.8.1, 4.9.1 and 5.1.4).
+/// Whether a sequence_number is free on a session is told by octets: what waits there came in the octets of an earlier line on that session, which was not
+/// gone meanwhile, as a submit_sm, a query_sm or a cancel_sm with its sequence_number (SMPP 3.4, 4.4.1, 4.8.1, 4.9.1 and 5.1.4).
 pub fn requests_that_wait_came_in_octets()
     ensures { RequestsThatWaitCameInOctets }
 {}
