@@ -36,7 +36,8 @@ use Rattle.script_text.specs.Node.{Node, awaiting, request_at, step_at, tick_at}
 use Rattle.script_text.specs.Prints.{AtOnce, Declined, Delivers, Gone, Late, Print, Ungranted}
 use Rattle.script_text.specs.Pushes.{accounts_up, delivery_on, session_at, target_in}
 use Rattle.script_text.specs.Runner.{Acted, Runner, answered_by, gone_prints, granted, granted_unless, last_incarnation, mail_of, makes_room}
-use Rattle.script_text.specs.Runner.{declined, no_incarnation, on_delivery, on_grant, on_restart, on_tick, posts, posts_for_all, pushes, restarted, sent, sent_to}
+use Rattle.script_text.specs.Runner.{declined, no_incarnation, on_delivery, on_grant, on_restart, on_tick, posts, posts_for_all, pushes, restarted, sent}
+use Rattle.script_text.specs.Runner.{sent_to}
 use Rattle.script_text.specs.Receipts.{posted_for_any}
 use Rattle.script_text.specs.Runner.{Came, Served, came_by, ends, followed_by, gives_up, held_in, holds, nothing_came, on_done, on_frame, on_frames, on_octets}
 use Rattle.script_text.specs.Runner.{on_reaction, on_read, on_request, on_rest, opened_at, posts_for, put_at, refusal_prints, served_at, serves, session_in}
@@ -254,7 +255,8 @@ module _ (settings : Settings) (number : ℕ) (node : Node) where
       reaction_number_is nothing_came done.next done.reaction session pdu among
 
   -- a wrong length ends the session
-  length_told : (left : Session) (session : ℕ) (pdu : Pdu) → In (AtOnce session pdu) (on_done settings number node nothing_came (on_wrong_length left)).prints →
+  pub length_told : (left : Session) (session : ℕ) (pdu : Pdu) →
+      In (AtOnce session pdu) (on_done settings number node nothing_came (on_wrong_length left)).prints →
       pdu.status ≡ status_code statuses.InvalidCommandLength
   length_told left session pdu among = by_test (is_gone left.state) among
     where

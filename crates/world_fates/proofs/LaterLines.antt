@@ -347,12 +347,14 @@ module _ (cluster : Cluster) (m : ℕ) (least_m : 1 ≤ m) (first : List NodeInp
         let least = (spells_within (length world.runners) line (Octets node session octets) says).wording.0.least in
         does_well (hears settings world node session octets) done is
         (hears_well past world well node least settings session octets (λ same runner there frame ends pdu reads. asks session pdu (record {
-          octets = octets;
-          says = says ∙ ap (λ (n : ℕ). Some (Octets n session octets)) same;
-          runner = runner;
-          there = ap (λ (n : ℕ). runner_at world n) (sym same) ∙ there;
           frame = frame;
-          ends = ends;
+          ends = record {
+            octets = octets;
+            says = says ∙ ap (λ (n : ℕ). Some (Octets n session octets)) same;
+            runner = runner;
+            there = ap (λ (n : ℕ). runner_at world n) (sym same) ∙ there;
+            ends = ends;
+          };
           reads = reads;
         })))
     said_well (Deliver number node) done says is =
@@ -387,7 +389,7 @@ module _ (cluster : Cluster) (m : ℕ) (least_m : 1 ≤ m) (first : List NodeInp
   -- what comes by these lines asks so
   abbrev pub AllAsk : Settings → World → List (List ℕ) → Type 0
   AllAsk settings world lines =
-      (session : ℕ) (pdu : Pdu) → ComesBy settings world lines m session pdu →
+      (session : ℕ) (pdu : Pdu) → ComesBy settings world lines (λ w line. EndsIn w line m session pdu) →
       AsksBy cluster m first Before Asked Says says session pdu.sequence (request_of settings.routes pdu.body)
 
   -- what these lines print at the node is fine

@@ -26,4 +26,6 @@ pub mod Accepting
 pub mod Sequences
 pub mod Ending
 pub mod LineEnds
+pub mod Responding
 pub mod Coming
+pub mod KnownAtOnce

@@ -49,7 +49,7 @@ use Rattle.fate_laws.proofs.StepsOut.{step_now}
 use Rattle.fate_laws.proofs.Telling.{reply_is_told}
 use Rattle.world_fates.specs.Questions.{AsksState, IsAskedAt, TellsAcceptance}
 use Rattle.world_fates.specs.Refusals.{NamesMessage}
-use Rattle.world_fates.specs.Requests.{ComesBy, GoesOutOn, IsAbout, IsQueryOf, IsRequest, IsUsedFor}
+use Rattle.world_fates.specs.Requests.{ComesBy, EndsIn, GoesOutOn, IsAbout, IsQueryOf, IsRequest, IsUsedFor}
 use Rattle.world_fates.proofs.Printing.{JoinsSo, WorldSo, first_so, joined_so}
 use Rattle.world_fates.proofs.Given.{GivenFrom, KnowsFate, given_takes, given_telling, given_then_so}
 use Rattle.world_fates.proofs.AtOnce.{ids_known}
@@ -229,7 +229,7 @@ queries_told settings before later came coming prints others world last here nod
     (waits_well so.cluster so.past world so.stands node least Asks Says says)
     (λ number pdu comes wish is door next account request admits here same.
     query_waits door next account request settings.routes pdu.body message_id
-    (used.only pdu (subst (λ (n : ℕ). ComesBy settings world later node n pdu) here comes) same) wish is admits)
+    (used.only pdu (subst (λ (n : ℕ). ComesBy settings world later (λ w line. EndsIn w line node n pdu)) here comes) same) wish is admits)
     coming others last more (subst (MayHappen so.cluster) rest.later_is rest.stands.fit.may) answer answer_in) [
       | inl aside ↦ absurd (aside.state also other tells)
       | inr it ↦
@@ -287,7 +287,7 @@ requests_known settings before later came coming prints others world last here n
     (waits_well so.cluster so.past world so.stands node least Asks Says says)
     (λ number asking comes wish is door next account request admits here same.
     about_waits door next account request settings.routes asking.body id accepted.is_id
-    (used.only asking (subst (λ (n : ℕ). ComesBy settings world later node n asking) here comes) same) wish is admits)
+    (used.only asking (subst (λ (n : ℕ). ComesBy settings world later (λ w line. EndsIn w line node n asking)) here comes) same) wish is admits)
     coming others last more (subst (MayHappen so.cluster) rest.later_is rest.stands.fit.may) (Late session other pdu) answer_in) [
       | inl aside ↦ aside.late session other pdu refl
       | inr it ↦

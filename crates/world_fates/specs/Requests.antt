@@ -6,6 +6,7 @@ use Rattle.pdu_tables.specs.declared.status.Status.TheVariants as statuses
 use Rattle.pdu_bodies.specs.declared.pdu.Body.{Body}
 use Rattle.pdu_bodies.specs.declared.pdu.Body.TheVariants.{CancelSm, QuerySm, SubmitSm}
 use Rattle.pdu_bodies.specs.declared.pdu.Pdu.{Pdu}
+use Rattle.pdu_codec.specs.Grammar.{word_at}
 use Rattle.pdu_codec.specs.Pdu.{read_pdu}
 use Rattle.pdu_frames.specs.Frames.{cut}
 use Rattle.script_lines.specs.Said.{Octets, said_within}
@@ -22,18 +23,22 @@ use Rattle.world_fates.specs.Refusals.{NamesMessage}
 
 -- ---- what comes on a session
 
--- Octets come on a session of a node, and in them the frame of a PDU ends; it may have begun in octets that came before (SMPP 3.4, 3.2 and 5.1.1).
-pub record EndsIn (world : World) (line : List ℕ) (node session : ℕ) (pdu : Pdu) : Type 0 where
+-- Octets come on a session of a node, and in them this frame ends; it may have begun in octets that came before (SMPP 3.4, 3.2 and 5.1.1).
+pub record FrameEndsIn (world : World) (line : List ℕ) (node session : ℕ) (frame : List ℕ) : Type 0 where
   pub octets : List ℕ
   pub says : said_within (length world.runners) line ≡ Some (Octets node session octets)
   pub runner : Runner
   pub there : runner_at world node ≡ Some runner
-  pub frame : List ℕ
   pub ends : In frame (cut (held_in runner.streams session ++ octets)).frames
+
+-- it reads as this PDU
+pub record EndsIn (world : World) (line : List ℕ) (node session : ℕ) (pdu : Pdu) : Type 0 where
+  pub frame : List ℕ
+  pub ends : FrameEndsIn world line node session frame
   pub reads : read_pdu frame ≡ Ok pdu
 
--- by one of these lines, from a world on (own)
-pub record ComesBy (settings : Settings) (first : World) (lines : List (List ℕ)) (node session : ℕ) (pdu : Pdu) : Type 0 where
+-- by one of these lines it is so, from a world on (own)
+pub record ComesBy (settings : Settings) (first : World) (lines : List (List ℕ)) (Ends : World → List ℕ → Type 0) : Type 0 where
   pub before : List (List ℕ)
   pub line : List ℕ
   pub later : List (List ℕ)
@@ -42,7 +47,7 @@ pub record ComesBy (settings : Settings) (first : World) (lines : List (List ℕ
   pub came : List NodeInput
   pub prints : List WorldPrint
   pub joins : Joins settings (Some first) before came prints (Some world)
-  pub ends : EndsIn world line node session pdu
+  pub ends : Ends world line
 
 -- a submit_sm, a query_sm or a cancel_sm (SMPP 3.4, 4.4.1, 4.8.1 and 4.9.1)
 abbrev pub IsRequest : Body → Type 0
@@ -81,7 +86,14 @@ RequestsThatWaitCameInOctets =
 -- that has it, and each request with it that comes by these lines is such a one.
 pub record IsUsedFor (Asks : Body → Type 0) (settings : Settings) (first : World) (lines : List (List ℕ)) (node session sequence : ℕ) : Type 0 where
   pub free : IsAskedAt first node session sequence → ⊥
-  pub only : (pdu : Pdu) → ComesBy settings first lines node session pdu → pdu.sequence ≡ sequence → IsRequest pdu.body → Asks pdu.body
+  pub only : (pdu : Pdu) → ComesBy settings first lines (λ world line. EndsIn world line node session pdu) → pdu.sequence ≡ sequence →
+      IsRequest pdu.body → Asks pdu.body
+
+-- Each frame with this sequence_number that comes there by these lines reads as a PDU (SMPP 3.4, 3.2 and 5.1.4).
+abbrev pub AreRead : Settings → World → List (List ℕ) → ℕ → ℕ → ℕ → Type 0
+AreRead settings first lines node session sequence =
+    (frame : List ℕ) → ComesBy settings first lines (λ world line. FrameEndsIn world line node session frame) → word_at 12 frame ≡ sequence →
+    (pdu : Pdu) × (read_pdu frame ≡ Ok pdu)
 
 -- a PDU of this sequence_number goes out on this session, at once or later (SMPP 3.4, 5.1.4)
 abbrev pub GoesOutOn : Print → ℕ → ℕ → Type 0
@@ -142,7 +154,23 @@ LaterRequestsAreNotRefusedAsUnknown =
     → pdu.sequence ≡ sequence
     → pdu.status ≢ status_code statuses.InvalidMessageId
 
--- And of a frame that reads as such a request no node says so at once, at whatever time, however much waits there.
+-- Nor is any at once, if each frame with that sequence_number reads as a PDU: a message_id that is too long is refused so, too.
+abbrev pub LaterRequestsAreNotRefusedAtOnce : Type 0
+LaterRequestsAreNotRefusedAtOnce =
+    (settings : Settings) (before later : List (List ℕ)) (came coming : List NodeInput) (prints others : List WorldPrint) (world : World) (last : Stage)
+    (here node session sequence : ℕ) (first : Print) (id : ℕ) (pdu : Pdu)
+    → Joins settings None before came prints (Some world)
+    → Joins settings (Some world) later coming others last
+    → 1 ≤ node
+    → In (At here first) prints
+    → TellsAcceptance first id
+    → IsUsedFor (IsAbout id) settings world later node session sequence
+    → AreRead settings world later node session sequence
+    → In (At node (AtOnce session pdu)) others
+    → pdu.sequence ≡ sequence
+    → pdu.status ≢ status_code statuses.InvalidMessageId
+
+-- And of a frame that reads as such a request no node says so at once, whatever is at hand, at whatever time.
 abbrev pub AcceptedIdsAreNotRefusedAtOnce : Type 0
 AcceptedIdsAreNotRefusedAtOnce =
     (settings : Settings) (before : List (List ℕ)) (came : List NodeInput) (prints : List WorldPrint) (world : World)

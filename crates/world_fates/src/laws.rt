@@ -22,6 +22,7 @@ ghost use Rattle.world_fates.specs.Requests.{
   AcceptedIdsAreNotRefusedAtOnce,
   LaterQueriesAreToldTheFate,
   LaterRequestsAreNotRefusedAsUnknown,
+  LaterRequestsAreNotRefusedAtOnce,
   RequestsThatWaitCameInOctets,
 };
 ghost use Rattle.world_fates.specs.Runs.{AScriptIsARun};
@@ -67,7 +68,12 @@ pub fn later_requests_are_not_refused_as_unknown()
     ensures { LaterRequestsAreNotRefusedAsUnknown }
 {}
 
-/// And no such request is at once.
+/// And none that comes so is refused at once, if each frame with that sequence_number reads as a PDU (SMPP 3.4, 3.2 and 5.1.3).
+pub fn later_requests_are_not_refused_at_once()
+    ensures { LaterRequestsAreNotRefusedAtOnce }
+{}
+
+/// Nor is any frame that reads as such a request, whatever is at hand.
 pub fn accepted_ids_are_not_refused_at_once()
     ensures { AcceptedIdsAreNotRefusedAtOnce }
 {}
