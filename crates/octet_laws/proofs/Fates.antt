@@ -31,7 +31,7 @@ use Rattle.script_text.specs.Responses.{final_date_of, reply_pdu}
 use Rattle.script_text.specs.Settings.{script_settings}
 use Rattle.script_world.specs.Prints.{At, WorldPrint}
 use Rattle.script_world.specs.Script.{Stage, prints_of, text_of}
-use Rattle.script_world.specs.World.{NodeInput as LineInput}
+use Rattle.script_world.specs.World.{NodeInput as NodeInput}
 use Rattle.fate_laws.proofs.Clear.{IsClear}
 use Rattle.fate_laws.proofs.Printing.{of_all}
 use Rattle.fate_laws.proofs.Submitted.{WasSubmitted}
@@ -241,7 +241,7 @@ record IsStated (script message_id : List ℕ) (state : ℕ) : Type 0 where
   among : In (At node print) (prints_of script)
   states_it : StatesFate print message_id state
 
-stage_states : (stage : Stage) (inputs : List LineInput) (prints : List WorldPrint) →
+stage_states : (stage : Stage) (inputs : List NodeInput) (prints : List WorldPrint) →
     StageSo script_settings (λ cluster. MadeFrom) made_telling (λ cluster. made_takes) stage inputs prints → (node : ℕ) (printed : Print) (pdu : Pdu)
     (octets message_id : List ℕ) (state : ℕ) → In (At node printed) prints → pdu_in printed ≡ Some pdu → IsFrontRead (octets_of pdu) octets →
     AnswersState octets message_id state ⊎ ReportsState octets message_id state → StatesFate printed message_id state

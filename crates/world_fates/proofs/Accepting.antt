@@ -17,19 +17,20 @@ use Rattle.pdu_tables.specs.StatusCodes.{status_code}
 use Rattle.pdu_tables.specs.declared.status.Status.TheVariants as statuses
 use Rattle.sessions.specs.Session.{Session}
 use Rattle.sessions.specs.declared.requested.Requested.{Requested}
+use Rattle.script_text.specs.Left.{in_front}
 use Rattle.script_text.specs.Prints.{Delivers, Late, Print, Reports}
 use Rattle.script_text.specs.Pushes.{delivery_on}
 use Rattle.script_text.specs.Responses.{reply_pdu}
-use Rattle.script_text.specs.Runner.{Owned, Told, in_front, owner_of, replied, reply_prints, told}
+use Rattle.script_text.specs.Runner.{Owned, Told, owner_of, replied, reply_prints, told}
 use Rattle.script_text.specs.Settings.{Settings}
-use Rattle.script_world.specs.Prints.{At, WorldPrint}
-use Rattle.script_world.specs.Script.{Joins, Stage}
-use Rattle.script_world.specs.World.{NodeInput as LineInput, World}
-use Rattle.fate_laws.proofs.Behind.{behind, given_later, input_to}
-use Rattle.fate_laws.proofs.Printing.{of_all}
-use Rattle.fate_laws.proofs.StepsOut.{step_now}
-use Rattle.fate_laws.proofs.Telling.{delivery_is_mute}
-use Rattle.fate_laws.proofs.Tellings.{IsTelling, NodePrint, TakesDeliveries, by_node, prints_at}
+use Rattle.script_text.specs.Prints.{At, WorldPrint}
+use Rattle.script_text.specs.Script.{Joins, Stage}
+use Rattle.script_text.specs.World.{World}
+use Rattle.world_fates.proofs.node.Behind.{behind, given_later, input_to}
+use Rattle.world_fates.proofs.node.Once.{of_all}
+use Rattle.world_fates.proofs.node.StepsOut.{step_now}
+use Rattle.world_fates.proofs.node.Telling.{delivery_is_mute}
+use Rattle.world_fates.proofs.node.Tellings.{IsTelling, NodePrint, TakesDeliveries, by_node, prints_at}
 use Rattle.world_fates.specs.Questions.{AnswersWhatWaited, AsksAbout, TellsAcceptance, TellsUnknown}
 use Rattle.world_fates.proofs.Worlds.{told_by, told_by_all}
 use Rattle.world_fates.proofs.Printing.{JoinsSo, WorldSo, first_so, joined_so}
@@ -165,7 +166,7 @@ module _ (cluster : Cluster) where
   }
 
 -- what lines print that lead to a world was given out then
-pub accepted_so : (settings : Settings) (inputs : List LineInput) (world : World) (prints : List WorldPrint)
+pub accepted_so : (settings : Settings) (inputs : List NodeInput) (world : World) (prints : List WorldPrint)
     (so : WorldSo settings AcceptedFrom accepted_telling accepted_takes inputs world prints)
     (node : ℕ) (print : Print) → In (At node print) prints → (id : ℕ) → TellsAcceptance print id → WasAccepted so.cluster so.past id
 accepted_so settings inputs world prints so node print among =
@@ -197,7 +198,7 @@ asks_about (Query other account source) answer is may id about = about
 asks_about (Cancel other account source destination) answer is may id about = about
 asks_about (Submit other message) answer is may id about = absurd (subst (λ (a : Answer). MayAnswer a (Submit other message)) is may)
 
-pub later_requests : (settings : Settings) (before later : List (List ℕ)) (came coming : List LineInput) (prints others : List WorldPrint) (world : World)
+pub later_requests : (settings : Settings) (before later : List (List ℕ)) (came coming : List NodeInput) (prints others : List WorldPrint) (world : World)
     (last : Stage) (here there : ℕ) (first answer : Print) (id : ℕ) → Joins settings None before came prints (Some world) →
     Joins settings (Some world) later coming others last → 1 ≤ there → In (At here first) prints → In (At there answer) others →
     TellsAcceptance first id → TellsUnknown answer id → AnswersWhatWaited (AsksAbout id) world there answer

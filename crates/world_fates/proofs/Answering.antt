@@ -10,9 +10,9 @@ use Rattle.script_lines.specs.Said.{Said, Skipped, Nodes, Octets, Deliver, Crash
 use Rattle.script_text.specs.Prints.{Gone}
 use Rattle.script_text.specs.Settings.{Settings}
 use Rattle.sessions.specs.Session.{Session}
-use Rattle.script_world.specs.Prints.{At, WorldPrint}
-use Rattle.script_world.specs.Script.{Joins, Stage, Stepped, step_by, step_of}
-use Rattle.script_world.specs.World.{NodeInput, World, opened}
+use Rattle.script_text.specs.Prints.{At, WorldPrint}
+use Rattle.script_text.specs.Script.{Joins, Stage, Stepped, step_by, step_of}
+use Rattle.script_text.specs.World.{NodeInput, World, opened}
 use Rattle.world_fates.specs.Deliveries.{GoesOut, IsAnswered, IsSaid, Stays, WentOut, comes}
 use Rattle.world_fates.proofs.Entries.{AreApart}
 use Rattle.world_fates.proofs.Windows.{WaitsOn}
@@ -22,7 +22,7 @@ use Rattle.world_fates.proofs.Lines.{AreSound, IsHeard, WaitsAt, line_leads, ope
 
 pub joins_more : (settings : Settings) (first middle : Stage) (lines : List (List ℕ)) (came : List NodeInput) (prints : List WorldPrint) (line : List ℕ)
     (done : Stepped) → Joins settings first lines came prints middle → step_of settings middle line ≡ Some done →
-    Joins settings first (lines ++ line ∷ []) (came ++ done.inputs) (prints ++ done.prints) done.stage
+    Joins settings first (lines ++ line ∷ []) (came ++ done.inputs) (prints ++ done.prints) done.next
 unfolding Joins
 joins_more settings first middle [] came prints line done joins does = (
   done,
@@ -40,13 +40,13 @@ joins_more settings first middle (next ∷ lines) came prints line done joins do
   joins.3,
   ap (λ (inputs : List NodeInput). inputs ++ done.inputs) joins.4 ∙ append_assoc joins.0.inputs joins.1 done.inputs,
   ap (λ (printed : List WorldPrint). printed ++ done.prints) joins.5 ∙ append_assoc joins.0.prints joins.2 done.prints,
-  joins_more settings joins.0.stage middle lines joins.1 joins.2 line done joins.6 does,
+  joins_more settings joins.0.next middle lines joins.1 joins.2 line done joins.6 does,
 )
 
 -- a session that stays does so by one more line
 pub stays_more : (settings : Settings) (first : Stage) (lines : List (List ℕ)) (world : World) (node session : ℕ) →
     Stays settings first lines world node session → (line : List ℕ) (done : Stepped) → step_of settings (Some world) line ≡ Some done → (next : World) →
-    done.stage ≡ Some next → (In (At node (Gone session)) done.prints → ⊥) → Stays settings first (lines ++ line ∷ []) next node session
+    done.next ≡ Some next → (In (At node (Gone session)) done.prints → ⊥) → Stays settings first (lines ++ line ∷ []) next node session
 stays_more settings first lines world node session it line done does next stage ungone = record {
   came = it.came ++ done.inputs;
   prints = it.prints ++ done.prints;
@@ -78,7 +78,7 @@ module _ (settings : Settings) (before : List (List ℕ)) (came : List NodeInput
   lines = before ++ line ∷ []
 
   -- it went out before, and its session stays
-  went_still : (next : World) → done.stage ≡ Some next → (node session sequence : ℕ) (slot : Slot) →
+  went_still : (next : World) → done.next ≡ Some next → (node session sequence : ℕ) (slot : Slot) →
       WentOut settings before world node session sequence slot → (In (At node (Gone session)) done.prints → ⊥) →
       WentOut settings lines next node session sequence slot
   went_still next stage node session sequence slot went ungone = record {
@@ -90,11 +90,11 @@ module _ (settings : Settings) (before : List (List ℕ)) (came : List NodeInput
     done = went.done;
     said = went.said;
     goes = went.goes;
-    stays = stays_more settings went.done.stage went.later world node session went.stays line done does next stage ungone;
+    stays = stays_more settings went.done.next went.later world node session went.stays line done does next stage ungone;
   }
 
   -- it goes out by this line
-  went_now : (next : World) → done.stage ≡ Some next → (node session sequence : ℕ) (slot : Slot) →
+  went_now : (next : World) → done.next ≡ Some next → (node session sequence : ℕ) (slot : Slot) →
       GoesOut world line done node session sequence slot → WentOut settings lines next node session sequence slot
   unfolding Joins
   went_now next stage node session sequence slot goes = record {
@@ -109,7 +109,7 @@ module _ (settings : Settings) (before : List (List ℕ)) (came : List NodeInput
     stays = record { came = []; prints = []; joins = (refl, refl, sym stage); stays = λ among. among };
   }
 
-  one_more : AllWentOut settings before world → GoesWell (AllWentOut settings) lines done.stage
+  one_more : AllWentOut settings before world → GoesWell (AllWentOut settings) lines done.next
   one_more all =
       let leads = line_leads settings world all.sound line done does in
       subst (GoesWell (AllWentOut settings) lines) (sym leads.stage_is)
@@ -140,7 +140,7 @@ opened_well settings before count serial = record {
 module _ (settings : Settings) (All : List (List ℕ) → World → Type 0)
     (opens : (before : List (List ℕ)) (count serial : ℕ) → All before (opened settings count serial))
     (leads : (before : List (List ℕ)) (came : List NodeInput) (prints : List WorldPrint) (world : World) → Joins settings None before came prints (Some world) →
-    (line : List ℕ) (done : Stepped) → step_of settings (Some world) line ≡ Some done → All before world → GoesWell All (before ++ line ∷ []) done.stage) where
+    (line : List ℕ) (done : Stepped) → step_of settings (Some world) line ≡ Some done → All before world → GoesWell All (before ++ line ∷ []) done.next) where
   -- the lines behind these
   lines_behind : (before : List (List ℕ)) (came : List NodeInput) (prints : List WorldPrint) (middle : Stage) →
       Joins settings None before came prints middle → GoesWell All before middle → (lines : List (List ℕ)) (coming : List NodeInput)
@@ -151,18 +151,18 @@ module _ (settings : Settings) (All : List (List ℕ) → World → Type 0)
   lines_behind before came prints middle joins well (line ∷ lines) coming others last later =
       let done = later.0 in
       subst (λ (all : List (List ℕ)). GoesWell All all last) (append_assoc before (line ∷ []) lines)
-      (lines_behind (before ++ line ∷ []) (came ++ done.inputs) (prints ++ done.prints) done.stage
+      (lines_behind (before ++ line ∷ []) (came ++ done.inputs) (prints ++ done.prints) done.next
       (joins_more settings None middle before came prints line done joins later.3) (next middle joins well later.3) lines later.1 later.2 last later.6)
     where
       same : (one other : Stepped) → Some one ≡ Some other → one ≡ other
       same one other is = cc
 
-      by_said : (said : Option Said) → (done : Stepped) → step_by settings None said ≡ Some done → GoesWell All (before ++ line ∷ []) done.stage
+      by_said : (said : Option Said) → (done : Stepped) → step_by settings None said ≡ Some done → GoesWell All (before ++ line ∷ []) done.next
       by_said None done is = absurd cc
       by_said (Some Skipped) done is =
-          subst (λ (d : Stepped). GoesWell All (before ++ line ∷ []) d.stage) (same _ done is) tt
+          subst (λ (d : Stepped). GoesWell All (before ++ line ∷ []) d.next) (same _ done is) tt
       by_said (Some (Nodes count serial)) done is =
-          subst (λ (d : Stepped). GoesWell All (before ++ line ∷ []) d.stage) (same _ done is) (opens (before ++ line ∷ []) count serial)
+          subst (λ (d : Stepped). GoesWell All (before ++ line ∷ []) d.next) (same _ done is) (opens (before ++ line ∷ []) count serial)
       by_said (Some (Octets node session octets)) done is = absurd cc
       by_said (Some (Deliver number node)) done is = absurd cc
       by_said (Some (Crash node number after)) done is = absurd cc
@@ -173,7 +173,7 @@ module _ (settings : Settings) (All : List (List ℕ) → World → Type 0)
       by_said (Some (Replay count)) done is = absurd cc
 
       next : (stage : Stage) → Joins settings None before came prints stage → GoesWell All before stage → step_of settings stage line ≡ Some later.0 →
-          GoesWell All (before ++ line ∷ []) later.0.stage
+          GoesWell All (before ++ line ∷ []) later.0.next
       next None joins well does = by_said (said_within 9 line) later.0 does
       next (Some world) joins well does = leads before came prints world joins line later.0 does well
 

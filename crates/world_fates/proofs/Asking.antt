@@ -18,20 +18,20 @@ use Rattle.sessions.specs.declared.pushed.Delivery.{Delivery}
 use Rattle.sessions.specs.declared.pushed.Delivery.TheVariants as deliveries
 use Rattle.sessions.specs.declared.pushed.PushRefusal.{PushRefusal}
 use Rattle.sessions.specs.declared.request.OpenRequest.{OpenRequest}
+use Rattle.script_text.specs.Left.{followed_by, in_front, rests}
 use Rattle.script_text.specs.Laws.{TellsState}
 use Rattle.script_text.specs.Prints.{AtOnce, Gone, Late, Print, Reports}
 use Rattle.script_text.specs.Pushes.{pushed_on, session_at, target_in, with_push}
 use Rattle.script_text.specs.Receipts.{Mail, Posted, all_posted, goes_out, goes_out_up_to, is_for, posted, posted_for, posted_for_all}
-use Rattle.script_text.specs.Receipts.{posted_for_any, posted_to, reports_on, stays, submitter_of, then_posted, waits_for, with_both}
+use Rattle.script_text.specs.Receipts.{posted_for_any, posted_to, reports_on, submitter_of, waits_for, with_both}
 use Rattle.script_text.specs.Responses.{reply_pdu}
 use Rattle.script_text.specs.Runner.{Owned, Told, found_at}
-use Rattle.script_text.specs.Runner.{in_front}
 use Rattle.script_text.specs.Runner.{owner_of}
 use Rattle.script_text.specs.Runner.{replied, replied_at, reply_prints}
 use Rattle.script_text.specs.Runner.{session_in, session_or_opened, told}
-use Rattle.fate_laws.proofs.Behind.{behind}
-use Rattle.fate_laws.proofs.Posting.{left_in}
-use Rattle.fate_laws.proofs.Telling.{report_tells_no_state}
+use Rattle.world_fates.proofs.node.Behind.{behind}
+use Rattle.world_fates.proofs.node.Posting.{left_in}
+use Rattle.world_fates.proofs.node.Telling.{report_tells_no_state}
 use Rattle.world_fates.proofs.Entries.{Has, found_entry, set_has, set_in}
 
 -- ---- requests that wait on sessions
@@ -101,12 +101,12 @@ pub record IsQuiet (print : Print) : Type 0 where
 -- ---- receipts go out
 
 pub record Posts (mail : Mail) (posted : Posted) : Type 0 where
-  pub asked : AllAsked mail.sessions posted.mail.sessions
-  pub has : (number : ℕ) → Has posted.mail.sessions number → Has mail.sessions number
+  pub asked : AllAsked mail.sessions posted.next.sessions
+  pub has : (number : ℕ) → Has posted.next.sessions number → Has mail.sessions number
   pub aside : (print : Print) → In print posted.prints → IsAside print
   pub quiet : (print : Print) → In print posted.prints → IsQuiet print
 
-stays_posted : (mail : Mail) → Posts mail (stays mail)
+stays_posted : (mail : Mail) → Posts mail (rests mail)
 stays_posted mail = record {
   asked = λ number request asks. asks;
   has = λ number has. has;
@@ -114,7 +114,7 @@ stays_posted mail = record {
   quiet = λ print among. absurd among;
 }
 
-then_posts : (mail : Mail) (first last : Posted) → Posts mail first → Posts first.mail last → Posts mail (then_posted first last)
+then_posts : (mail : Mail) (first last : Posted) → Posts mail first → Posts first.next last → Posts mail (followed_by first last)
 then_posts mail first last one other = record {
   asked = λ number request asks. one.asked number request (other.asked number request asks);
   has = λ number has. one.has number (other.has number has);
@@ -170,12 +170,12 @@ goes_out_up_to_posts (suc more) now account mail =
     at_both (find (is_for account) mail.waiting) (target_in mail.sessions account) (goes_out_up_to_posts more now account)
   where
     at_both : (found : Option Receipt) (target : Option ℕ) → ((next : Mail) → Posts next (goes_out_up_to more now account next)) →
-        Posts mail (with_both (stays mail)
-        (λ receipt number. then_posted (goes_out now account mail receipt number)
-        (goes_out_up_to more now account (goes_out now account mail receipt number).mail)) found target)
+        Posts mail (with_both (rests mail)
+        (λ receipt number. followed_by (goes_out now account mail receipt number)
+        (goes_out_up_to more now account (goes_out now account mail receipt number).next)) found target)
     at_both (Some receipt) (Some number) behind =
         let one = goes_out now account mail receipt number in
-        then_posts mail one (goes_out_up_to more now account one.mail) (goes_out_posts now account mail receipt number) (behind one.mail)
+        then_posts mail one (goes_out_up_to more now account one.next) (goes_out_posts now account mail receipt number) (behind one.next)
     at_both None target behind = stays_posted mail
     at_both (Some receipt) None behind = stays_posted mail
 
@@ -191,7 +191,7 @@ unfolding posted_for_all
 posted_for_all_posts now mail [] = stays_posted mail
 posted_for_all_posts now mail (account ∷ others) =
     let one = posted_for now mail account in
-    then_posts mail one (posted_for_all now one.mail others) (posted_for_posts now mail account) (posted_for_all_posts now one.mail others)
+    then_posts mail one (posted_for_all now one.next others) (posted_for_posts now mail account) (posted_for_all_posts now one.next others)
 
 posted_to_posts : (now : ℕ) (mail : Mail) (receipt : Receipt) (account : Option (List ℕ)) → Posts mail (posted_to now mail receipt account)
 posted_to_posts now mail receipt None = stays_posted mail
@@ -204,7 +204,7 @@ unfolding all_posted
 all_posted_posts now mail [] = stays_posted mail
 all_posted_posts now mail (receipt ∷ others) =
     let one = posted now mail receipt in
-    then_posts mail one (all_posted now one.mail others) (posted_to_posts now mail receipt (submitter_of receipt)) (all_posted_posts now one.mail others)
+    then_posts mail one (all_posted now one.next others) (posted_to_posts now mail receipt (submitter_of receipt)) (all_posted_posts now one.next others)
 
 -- ---- replies
 
@@ -272,7 +272,7 @@ pub record IsReplyTo (connected : List (ℕ × Session)) (replies : List Reply) 
   pub print_is : print ≡ Late number reply.id (reply_pdu request.requested request.sequence reply.id reply.answer)
 
 pub record Tells (connected : List (ℕ × Session)) (replies : List Reply) (told : Told) : Type 0 where
-  pub asked : AllAsked connected told.sessions
+  pub asked : AllAsked connected told.next
   pub prints : (print : Print) → In print told.prints → IsReplyTo connected replies print
 
 pub replies_tell : (connected : List (ℕ × Session)) (replies : List Reply) → Tells connected replies (told connected replies)

@@ -192,11 +192,11 @@ ids_known settings number session runner frame asked id pdu reads names is_id am
     let held = session_in runner.sessions number in
     let served = on_read settings number runner.node held frame (read_pdu frame) in
     let next = (served_at runner number served).next in
-    elim (in_either (AtOnce session pdu) served.prints (posted_for_any next.node.kept.clock (mail_of next) served.session.account).prints among) [
+    elim (in_either (AtOnce session pdu) served.prints (posted_for_any next.node.kept.clock (mail_of next) served.next.session.account).prints among) [
       | inl here ↦
           subst (λ (read : Result Pdu PduFault). IsKnown (on_read settings number runner.node held frame read).prints) (sym reads)
           (body_served settings number runner.node held id is_id asked.status asked.sequence asked.body names frame) session pdu here
       | inr there ↦
-          let posts = posted_for_any_posts next.node.kept.clock (mail_of next) served.session.account in
+          let posts = posted_for_any_posts next.node.kept.clock (mail_of next) served.next.session.account in
           absurd ((posts.quiet (AtOnce session pdu) there).once session pdu refl)
     ]

@@ -14,13 +14,12 @@ use Rattle.desk.specs.declared.request.Request.{Request as Asked}
 use Rattle.script_text.specs.Runner.{request_of}
 use Rattle.script_text.specs.Settings.{Settings}
 use Rattle.script_text.specs.Prints.{Gone}
-use Rattle.script_world.specs.Prints.{At, WorldPrint}
-use Rattle.script_world.specs.Script.{Joins, Stepped, step_of}
-use Rattle.script_world.specs.World.{NodeInput as LineInput, World, opened, runner_at}
-use Rattle.fate_laws.proofs.Behind.{behind}
+use Rattle.script_text.specs.Prints.{At, WorldPrint}
+use Rattle.script_text.specs.Script.{Joins, Stepped, step_of}
+use Rattle.script_text.specs.World.{NodeInput, World, opened, runner_at}
+use Rattle.world_fates.proofs.node.Behind.{behind}
 use Rattle.world_fates.specs.Questions.{IsAskedAt}
 use Rattle.world_fates.specs.Requests.{EndsIn, HasCome, IsRequest}
-use Rattle.world_fates.proofs.Worlds.{inputs_of}
 use Rattle.world_fates.proofs.Printing.{JoinsSo, WorldSo, first_so, joined_so}
 use Rattle.world_fates.proofs.Given.{GivenFrom, given_takes, given_telling}
 use Rattle.world_fates.proofs.Entries.{AreApart}
@@ -60,23 +59,23 @@ opened_came settings before count serial = record {
 the_world : (one other : World) → Some one ≡ Some other → one ≡ other
 the_world one other is = cc
 
-module _ (settings : Settings) (before : List (List ℕ)) (came : List LineInput) (prints : List WorldPrint) (world : World)
+module _ (settings : Settings) (before : List (List ℕ)) (came : List NodeInput) (prints : List WorldPrint) (world : World)
     (joins : Joins settings None before came prints (Some world)) (line : List ℕ) (done : Stepped)
     (does : step_of settings (Some world) line ≡ Some done) where
   so : WorldSo settings GivenFrom given_telling given_takes came world prints
   so = first_so settings GivenFrom given_telling given_takes before came prints (Some world) joins
 
-  rest : JoinsSo so.cluster (GivenFrom so.cluster) so.past (done.inputs ++ []) (done.prints ++ []) done.stage
+  rest : JoinsSo so.cluster (GivenFrom so.cluster) so.past (done.inputs ++ []) (done.prints ++ []) done.next
   unfolding Joins
   rest =
       joined_so settings so.cluster (GivenFrom so.cluster) (given_telling so.cluster) (given_takes so.cluster) (line ∷ []) so.past world so.stands
-      (done.inputs ++ []) (done.prints ++ []) done.stage (done, [], [], does, refl, refl, (refl, refl, refl))
+      (done.inputs ++ []) (done.prints ++ []) done.next (done, [], [], does, refl, refl, (refl, refl, refl))
 
-  may : MayHappen so.cluster (behind (inputs_of done.inputs) so.past)
-  may = subst (MayHappen so.cluster) (rest.later_is ∙ ap (λ (i : List LineInput). behind (inputs_of i) so.past) (append-nil done.inputs)) rest.stands.fit.may
+  may : MayHappen so.cluster (behind done.inputs so.past)
+  may = subst (MayHappen so.cluster) (rest.later_is ∙ ap (λ (i : List NodeInput). behind i so.past) (append-nil done.inputs)) rest.stands.fit.may
 
   -- it came earlier, and its session stays, or it came by this line
-  came_before : (next : World) → done.stage ≡ Some next → (node session sequence : ℕ) → HasCome settings before world node session sequence →
+  came_before : (next : World) → done.next ≡ Some next → (node session sequence : ℕ) → HasCome settings before world node session sequence →
       (In (At node (Gone session)) done.prints → ⊥) → HasCome settings (before ++ line ∷ []) next node session sequence
   came_before next stage node session sequence it ungone = record {
     before = it.before;
@@ -93,7 +92,7 @@ module _ (settings : Settings) (before : List (List ℕ)) (came : List LineInput
     stays = stays_more settings it.done.stage it.later world node session it.stays line done does next stage ungone;
   }
 
-  came_now : (next : World) → done.stage ≡ Some next → (node session sequence : ℕ) → ComesNow world line node session sequence →
+  came_now : (next : World) → done.next ≡ Some next → (node session sequence : ℕ) → ComesNow world line node session sequence →
       HasCome settings (before ++ line ∷ []) next node session sequence
   unfolding Joins
   came_now next stage node session sequence it = record {
@@ -121,7 +120,7 @@ module _ (settings : Settings) (before : List (List ℕ)) (came : List LineInput
     anyhow : Saying so.cluster node so.past (Waited world node) Came Anyhow
     anyhow front past is input number waits come happens reply same among = tt
 
-    waited_or_came : (next : World) → done.stage ≡ Some next → (session sequence : ℕ) → IsAskedAt next node session sequence →
+    waited_or_came : (next : World) → done.next ≡ Some next → (session sequence : ℕ) → IsAskedAt next node session sequence →
         IsAskedAt world node session sequence ⊎ ComesNow world line node session sequence
     waited_or_came next stage session sequence asks =
         let it = line_well so.cluster node least so.past (Waited world node) Came Anyhow anyhow settings so.past world
@@ -146,7 +145,7 @@ module _ (settings : Settings) (before : List (List ℕ)) (came : List LineInput
           | inr on ↦ inr (subst (ComesNow world line node session) asks.sequence_is on.asked)
         ]
 
-  one_more : AllCame settings before world → GoesWell (AllCame settings) (before ++ line ∷ []) done.stage
+  one_more : AllCame settings before world → GoesWell (AllCame settings) (before ++ line ∷ []) done.next
   one_more all =
       let leads = line_leads settings world all.sound line done does in
       let ends = line_ends settings world all.sound line done does in
@@ -164,12 +163,12 @@ module _ (settings : Settings) (before : List (List ℕ)) (came : List LineInput
             ];
       })
 
-pub all_came : (settings : Settings) (lines : List (List ℕ)) (came : List LineInput) (prints : List WorldPrint) (world : World) →
+pub all_came : (settings : Settings) (lines : List (List ℕ)) (came : List NodeInput) (prints : List WorldPrint) (world : World) →
     Joins settings None lines came prints (Some world) → AllCame settings lines world
 all_came settings lines came prints world joins =
     lines_lead settings (AllCame settings) (opened_came settings) (one_more settings) lines came prints (Some world) joins
 
-pub waiting_came : (settings : Settings) (lines : List (List ℕ)) (came : List LineInput) (prints : List WorldPrint) (world : World)
+pub waiting_came : (settings : Settings) (lines : List (List ℕ)) (came : List NodeInput) (prints : List WorldPrint) (world : World)
     (node session sequence : ℕ) → Joins settings None lines came prints (Some world) → 1 ≤ node → IsAskedAt world node session sequence →
     HasCome settings lines world node session sequence
 waiting_came settings lines came prints world node session sequence joins least asks =

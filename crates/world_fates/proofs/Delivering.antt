@@ -10,16 +10,17 @@ use Rattle.node_laws.proofs.Orders.{in_mapped}
 use Rattle.pdu_bodies.specs.declared.pdu.Pdu.{Pdu}
 use Rattle.script_lines.specs.Said.{Said, Skipped, Nodes, Octets, Deliver, Crash, Tick, Grant, Settle, Restart, Replay, said_within}
 use Rattle.sessions.specs.Session.{Session}
+use Rattle.script_text.specs.Left.{in_front}
 use Rattle.script_text.specs.Prints.{Delivers, Print}
-use Rattle.script_text.specs.Runner.{Owned, Runner, Told, in_front, on_grant, owner_of, replied, reply_prints, told}
+use Rattle.script_text.specs.Runner.{Owned, Runner, Told, on_grant, owner_of, replied, reply_prints, told}
 use Rattle.script_text.specs.Settings.{Settings}
-use Rattle.script_world.specs.Prints.{At, Refuses, WorldPrint}
-use Rattle.script_world.specs.Script.{Joins, Stepped, step_by, step_of, stepped}
-use Rattle.script_world.specs.World.{Moved, NodeInput as LineInput, World, grants, is_down, is_up, refuses, runner_at, shared, up_or_refuses, no_node}
-use Rattle.fate_laws.proofs.Printing.{of_all}
-use Rattle.fate_laws.proofs.StepsOut.{step_now}
-use Rattle.fate_laws.proofs.Telling.{IsNoDelivery}
-use Rattle.fate_laws.proofs.Tellings.{IsTelling, NodePrint, by_node, prints_at}
+use Rattle.script_text.specs.Prints.{At, Refuses, WorldPrint}
+use Rattle.script_text.specs.Script.{Joins, Stepped, step_by, step_of, stepped}
+use Rattle.script_text.specs.World.{Moved, World, grants, is_down, is_up, refuses, runner_at, shared, up_or_refuses, no_node}
+use Rattle.world_fates.proofs.node.Once.{of_all}
+use Rattle.world_fates.proofs.node.StepsOut.{step_now}
+use Rattle.world_fates.proofs.node.Telling.{IsNoDelivery}
+use Rattle.world_fates.proofs.node.Tellings.{IsTelling, NodePrint, by_node, prints_at}
 use Rattle.world_fates.specs.Laws.{AsksBeforeAFate}
 use Rattle.world_fates.proofs.Worlds.{WorldStands, told_by, told_by_all}
 use Rattle.world_fates.proofs.Printing.{AsksForAnAttempt, WorldSo, first_so, said_so}
@@ -136,7 +137,7 @@ line_asks settings cluster past world stands line done is node session pdu among
     by_said None says is = absurd cc
     by_said (Some said) says is = by_asked said says is (asks_cases said)
 
-pub deliveries_first : (settings : Settings) (before : List (List ℕ)) (came : List LineInput) (prints : List WorldPrint) (world : World) (line : List ℕ)
+pub deliveries_first : (settings : Settings) (before : List (List ℕ)) (came : List NodeInput) (prints : List WorldPrint) (world : World) (line : List ℕ)
     (done : Stepped) (node session : ℕ) (pdu : Pdu) → Joins settings None before came prints (Some world) → step_of settings (Some world) line ≡ Some done →
     In (At node (Delivers session pdu)) done.prints → AsksBeforeAFate prints node (said_within (length world.runners) line)
 unfolding Joins

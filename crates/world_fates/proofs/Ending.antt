@@ -31,6 +31,7 @@ use Rattle.sessions.specs.declared.reaction.Reaction.TheVariants as reactions
 use Rattle.sessions.specs.declared.requested.Requested.{Requested}
 use Rattle.sessions.specs.declared.response.Response.TheVariants.{Nack}
 use Rattle.desk.specs.declared.request.Request.{Request}
+use Rattle.script_text.specs.Left.{followed_by}
 use Rattle.script_text.specs.Attempts.{submission_at}
 use Rattle.script_text.specs.Node.{Node, awaiting, request_at, step_at, tick_at}
 use Rattle.script_text.specs.Prints.{AtOnce, Declined, Delivers, Gone, Late, Print, Ungranted}
@@ -39,7 +40,7 @@ use Rattle.script_text.specs.Runner.{Acted, Runner, answered_by, gone_prints, gr
 use Rattle.script_text.specs.Runner.{declined, no_incarnation, on_delivery, on_grant, on_restart, on_tick, posts, posts_for_all, pushes, restarted, sent}
 use Rattle.script_text.specs.Runner.{sent_to}
 use Rattle.script_text.specs.Receipts.{posted_for_any}
-use Rattle.script_text.specs.Runner.{Came, Served, came_by, ends, followed_by, gives_up, held_in, holds, nothing_came, on_done, on_frame, on_frames, on_octets}
+use Rattle.script_text.specs.Runner.{Came, Served, came_by, ends, gives_up, held_in, holds, nothing_came, on_done, on_frame, on_frames, on_octets}
 use Rattle.script_text.specs.Runner.{on_reaction, on_read, on_request, on_rest, opened_at, posts_for, put_at, refusal_prints, served_at, serves, session_in}
 use Rattle.script_text.specs.Runner.{ticked, told}
 use Rattle.script_text.specs.Settings.{Settings}
@@ -177,7 +178,7 @@ once_more number Once More acted more it = record {
 }
 
 serves_ends : (Once : ℕ → Pdu → Type 0) (runner : Runner) (number : ℕ) (served : Served) → AreApart runner.sessions →
-    ((other : ℕ) → In (Gone other) served.prints → (other ≡ number) × (is_gone served.session.state ≡ true)) →
+    ((other : ℕ) → In (Gone other) served.prints → (other ≡ number) × (is_gone served.next.session.state ≡ true)) →
     ((session : ℕ) (pdu : Pdu) → In (AtOnce session pdu) served.prints → Once session pdu) → EndsOn number Once (serves runner number served)
 serves_ends Once runner number served apart gone once = record {
   ends = record {
@@ -202,21 +203,21 @@ serves_ends Once runner number served apart gone once = record {
     one = served_at runner number served
 
     posted : List Print
-    posted = (posts_for one.next served.session.account).prints
+    posted = (posts_for one.next served.next.session.account).prints
 
-    posts : Posts (mail_of one.next) (posted_for_any one.next.node.kept.clock (mail_of one.next) served.session.account)
-    posts = posted_for_any_posts one.next.node.kept.clock (mail_of one.next) served.session.account
+    posts : Posts (mail_of one.next) (posted_for_any one.next.node.kept.clock (mail_of one.next) served.next.session.account)
+    posts = posted_for_any_posts one.next.node.kept.clock (mail_of one.next) served.next.session.account
 
     without : List (ℕ × Session)
     without = remove_entry (is_at (nat_cmp number)) runner.sessions
 
     next : Runner
-    next = record runner { node = served.node }
+    next = record runner { node = served.next.node }
 
-    left : (session : ℕ) → is_gone served.session.state ≡ true → Has one.next.sessions session → Has without session
+    left : (session : ℕ) → is_gone served.next.session.state ≡ true → Has one.next.sessions session → Has without session
     left session is has =
         subst (λ (test : Bool). Has (if test then record next { sessions = without }
-        else record next { sessions = put_at runner.sessions number served.session }).sessions session) is has
+        else record next { sessions = put_at runner.sessions number served.next.session }).sessions session) is has
 
 -- what is answered at once goes out on the session that was served
 module _ (settings : Settings) (number : ℕ) (node : Node) where
@@ -277,7 +278,7 @@ unfolding on_frame
 frame_ends settings number runner octets apart =
     let served = on_read settings number runner.node (session_in runner.sessions number) octets (read_pdu octets) in
     let one = (served_at runner number served).next in
-    let posted = (posts_for one served.session.account).prints in
+    let posted = (posts_for one served.next.session.account).prints in
     serves_ends (OfOctets settings number (octets ∷ [])) runner number served apart
     (read_served settings number runner.node runner.sessions octets (read_pdu octets) refl).gone
     (λ session pdu among.

@@ -25,14 +25,14 @@ use Rattle.script_text.specs.Prints.{Late, Print}
 use Rattle.script_text.specs.Responses.{reply_pdu}
 use Rattle.script_text.specs.Runner.{Runner}
 use Rattle.script_text.specs.Settings.{Settings}
-use Rattle.script_world.specs.Prints.{At, WorldPrint}
-use Rattle.script_world.specs.Script.{Joins, Stage}
-use Rattle.script_world.specs.World.{NodeInput as LineInput, World, runner_at}
-use Rattle.fate_laws.proofs.Behind.{input_to}
-use Rattle.fate_laws.proofs.Printing.{of_all}
-use Rattle.fate_laws.proofs.StepsOut.{step_now}
-use Rattle.fate_laws.proofs.Telling.{reply_is_told}
-use Rattle.fate_laws.proofs.Tellings.{by_node}
+use Rattle.script_text.specs.Prints.{At, WorldPrint}
+use Rattle.script_text.specs.Script.{Joins, Stage}
+use Rattle.script_text.specs.World.{World, runner_at}
+use Rattle.world_fates.proofs.node.Behind.{input_to}
+use Rattle.world_fates.proofs.node.Once.{of_all}
+use Rattle.world_fates.proofs.node.StepsOut.{step_now}
+use Rattle.world_fates.proofs.node.Telling.{reply_is_told}
+use Rattle.world_fates.proofs.node.Tellings.{by_node}
 use Rattle.world_fates.specs.Questions.{AnswersWhatWaited, AsksState}
 use Rattle.world_fates.proofs.Worlds.{WorldStands, one_of_many, told_by, told_by_all}
 use Rattle.world_fates.proofs.Printing.{JoinsSo, WorldSo, first_so, joined_so}
@@ -193,7 +193,7 @@ asks_state (Cancel id account source destination) reply chain is may message_id 
 late_id : (one other id also : ℕ) (pdu late : Pdu) → Late one id pdu ≡ Late other also late → also ≡ id
 late_id one other id also pdu late is = cc
 
-pub later_queries : (settings : Settings) (before later : List (List ℕ)) (came coming : List LineInput) (prints others : List WorldPrint) (world : World)
+pub later_queries : (settings : Settings) (before later : List (List ℕ)) (came coming : List NodeInput) (prints others : List WorldPrint) (world : World)
     (last : Stage) (here there : ℕ) (first query : Print) (message_id : List ℕ) (one other : ℕ) →
     Joins settings None before came prints (Some world) → Joins settings (Some world) later coming others last → 1 ≤ there →
     In (At here first) prints → In (At there query) others → StatesFate first message_id one → TellsState query message_id other →

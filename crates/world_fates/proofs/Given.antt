@@ -14,21 +14,22 @@ use Rattle.pdu_tables.specs.StateCodes.{state_code}
 use Rattle.fate_chain.specs.States.{final_code, state_of}
 use Rattle.receipts.specs.Texts.{Report}
 use Rattle.sessions.specs.Session.{Session}
+use Rattle.script_text.specs.Left.{in_front}
 use Rattle.script_text.specs.Prints.{Delivers, Late, Print, Reports}
 use Rattle.script_text.specs.Pushes.{delivery_on}
 use Rattle.script_text.specs.Responses.{reply_pdu}
-use Rattle.script_text.specs.Runner.{Owned, Told, in_front, owner_of, replied, reply_prints, told}
+use Rattle.script_text.specs.Runner.{Owned, Told, owner_of, replied, reply_prints, told}
 use Rattle.script_text.specs.Settings.{Settings}
 use Rattle.script_text.specs.Laws.{StatesFate}
-use Rattle.script_world.specs.Prints.{At, WorldPrint}
-use Rattle.script_world.specs.World.{NodeInput as LineInput, World}
-use Rattle.fate_laws.proofs.Reports.{IsReportOf}
-use Rattle.fate_laws.proofs.Printing.{of_all}
-use Rattle.fate_laws.proofs.Telling.{IsMute, IsTold, Shows, delivery_is_mute, reply_is_told, report_tells_no_deletion, report_tells_no_state}
-use Rattle.fate_laws.proofs.Behind.{behind, given_later}
-use Rattle.fate_laws.proofs.ReceiptsOut.{IsReceiptOut}
-use Rattle.fate_laws.proofs.StepsOut.{removal_ends, step_now}
-use Rattle.fate_laws.proofs.Tellings.{IsTelling, NodePrint, TakesDeliveries, by_node, prints_at}
+use Rattle.script_text.specs.Prints.{At, WorldPrint}
+use Rattle.script_text.specs.World.{World}
+use Rattle.world_fates.proofs.node.Reports.{IsReportOf}
+use Rattle.world_fates.proofs.node.Once.{of_all}
+use Rattle.world_fates.proofs.node.Telling.{IsMute, IsTold, Shows, delivery_is_mute, reply_is_told, report_tells_no_deletion, report_tells_no_state}
+use Rattle.world_fates.proofs.node.Behind.{behind, given_later}
+use Rattle.world_fates.proofs.node.ReceiptsOut.{IsReceiptOut}
+use Rattle.world_fates.proofs.node.StepsOut.{removal_ends, step_now}
+use Rattle.world_fates.proofs.node.Tellings.{IsTelling, NodePrint, TakesDeliveries, by_node, prints_at}
 use Rattle.world_fates.proofs.Worlds.{told_by, told_by_all}
 use Rattle.world_fates.proofs.Printing.{WorldSo}
 
@@ -231,7 +232,7 @@ module _ (cluster : Cluster) where
   }
 
 -- what lines print that lead to a world was given out then
-pub given_then_so : (settings : Settings) (inputs : List LineInput) (world : World) (prints : List WorldPrint)
+pub given_then_so : (settings : Settings) (inputs : List NodeInput) (world : World) (prints : List WorldPrint)
     (so : WorldSo settings GivenFrom given_telling given_takes inputs world prints)
     (node : ℕ) (print : Print) → In (At node print) prints → TellsGiven so.cluster so.past print
 given_then_so settings inputs world prints so node print among =

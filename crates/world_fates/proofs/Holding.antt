@@ -31,7 +31,7 @@ use Rattle.node_model.specs.Stepped.{saved_by, sender_of, stepped, stepped_down,
 use Rattle.node_model.specs.Ticks.{ids_of, is_late, late_reply, ticked, waits_too}
 use Rattle.node_laws.proofs.Orders.{in_mapped}
 use Rattle.node_laws.proofs.Told.{found_at}
-use Rattle.fate_laws.proofs.Lasting.{Lasts, lasts_then, message_lasts, rules_last, start_lasts}
+use Rattle.arrival_laws.proofs.Lasting.{Lasts, lasts_then, message_lasts, rules_last, start_lasts}
 use Rattle.world_fates.specs.Questions.{HoldsUnder}
 
 -- ---- requests under tickets

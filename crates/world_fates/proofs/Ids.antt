@@ -13,7 +13,7 @@ use Rattle.node_model.specs.Kept.{Held, Kept}
 use Rattle.node_laws.specs.Clusters.{MayHappen, NodeInput, kept_reached, step_at}
 use Rattle.node_laws.specs.Runs.{IsFitToCome, IsNextMessage, IsOneOf, MayCome}
 use Rattle.node_laws.proofs.Clustered.{clustered}
-use Rattle.fate_laws.proofs.StepsOut.{step_now}
+use Rattle.world_fates.proofs.node.StepsOut.{step_now}
 use Rattle.world_fates.proofs.Holding.{MayAnswer, holds_on, request_of}
 
 -- a submit_sm has an id

@@ -40,14 +40,15 @@ use Rattle.sessions.specs.declared.requested.Requested.{Requested}
 use Rattle.desk.specs.Admissions.{admitted}
 use Rattle.desk.specs.Arrivals.{door_at, judged_as, next_id}
 use Rattle.desk.specs.declared.request.Request.{Request}
-use Rattle.script_text.specs.Attempts.{Went, all_given_up, concluded, delivered_so, given_up, rests_at, submission_at, unanswered, went}
+use Rattle.script_text.specs.Left.{followed_by, in_front, rests}
+use Rattle.script_text.specs.Attempts.{Went, all_given_up, concluded, delivered_so, given_up, submission_at, unanswered, went}
 use Rattle.script_text.specs.Node.{Node, awaiting, request_at, step_at, tick_at}
 use Rattle.script_text.specs.Prints.{AtOnce, Delivers, Gone, Print, Ungranted}
 use Rattle.script_text.specs.Pushes.{accounts_up, delivery_on, overdue_in, pushed_on, session_at, target_in, timely_in, with_push}
 use Rattle.script_text.specs.Receipts.{Mail, Posted, all_posted, goes_out, goes_out_up_to, is_for, posted, posted_for, posted_for_all}
-use Rattle.script_text.specs.Receipts.{posted_for_any, posted_to, reports_on, stays, submitter_of, then_posted, waits_for, with_both}
-use Rattle.script_text.specs.Runner.{Acted, Came, Owned, Runner, Served, Told, answered_by, came_by, declined, ends, fails_by, followed_by, gives_up}
-use Rattle.script_text.specs.Runner.{granted, granted_unless, held_in, holds, in_front, in_window, last_incarnation, mail_of, makes_room}
+use Rattle.script_text.specs.Receipts.{posted_for_any, posted_to, reports_on, submitter_of, waits_for, with_both}
+use Rattle.script_text.specs.Runner.{Acted, Came, Owned, Runner, Served, Told, answered_by, came_by, declined, ends, fails_by, gives_up}
+use Rattle.script_text.specs.Runner.{granted, granted_unless, held_in, holds, in_window, last_incarnation, mail_of, makes_room}
 use Rattle.script_text.specs.Runner.{no_incarnation, nothing_came, on_delivery, on_done, on_frame, on_frames, on_grant, on_octets, on_reaction}
 use Rattle.script_text.specs.Runner.{on_read, on_request, on_rest, on_restart, on_tick, opened_at, owner_of, posts, posts_for, posts_for_all}
 use Rattle.script_text.specs.Runner.{pushes, put_at, refusal_prints, replied, replied_at, reply_prints, reports_by, restarted, sent, sent_to}
@@ -112,14 +113,14 @@ push_apart connected at now delivery apart = by_found (session_at connected at)
 -- ---- receipts go out
 
 record Posts (mail : Mail) (posted : Posted) : Type 0 where
-  apart : AreApart posted.mail.sessions
-  waited : AllWaited mail.sessions posted.mail.sessions
+  apart : AreApart posted.next.sessions
+  waited : AllWaited mail.sessions posted.next.sessions
   ungone : (number : ℕ) → In (Gone number) posted.prints → ⊥
 
-stays_posted : (mail : Mail) → AreApart mail.sessions → Posts mail (stays mail)
+stays_posted : (mail : Mail) → AreApart mail.sessions → Posts mail (rests mail)
 stays_posted mail apart = record { apart = apart; waited = λ number slot sequence waits. waits; ungone = λ number among. among }
 
-then_posts : (mail : Mail) (first last : Posted) → Posts mail first → Posts first.mail last → Posts mail (then_posted first last)
+then_posts : (mail : Mail) (first last : Posted) → Posts mail first → Posts first.next last → Posts mail (followed_by first last)
 then_posts mail first last one other = record {
   apart = other.apart;
   waited = λ number slot sequence waits. one.waited number slot sequence (other.waited number slot sequence waits);
@@ -151,13 +152,13 @@ goes_out_up_to_posts (suc more) now account mail apart =
   where
     at_both : (found : Option Receipt) (target : Option ℕ) →
         ((next : Mail) → AreApart next.sessions → Posts next (goes_out_up_to more now account next)) →
-        Posts mail (with_both (stays mail)
-        (λ receipt number. then_posted (goes_out now account mail receipt number)
-        (goes_out_up_to more now account (goes_out now account mail receipt number).mail)) found target)
+        Posts mail (with_both (rests mail)
+        (λ receipt number. followed_by (goes_out now account mail receipt number)
+        (goes_out_up_to more now account (goes_out now account mail receipt number).next)) found target)
     at_both (Some receipt) (Some number) behind =
         let one = goes_out now account mail receipt number in
         let here = goes_out_posts now account mail receipt number apart in
-        then_posts mail one (goes_out_up_to more now account one.mail) here (behind one.mail here.apart)
+        then_posts mail one (goes_out_up_to more now account one.next) here (behind one.next here.apart)
     at_both None target behind = stays_posted mail apart
     at_both (Some receipt) None behind = stays_posted mail apart
 
@@ -174,7 +175,7 @@ posted_for_all_posts now mail [] apart = stays_posted mail apart
 posted_for_all_posts now mail (account ∷ others) apart =
     let one = posted_for now mail account in
     let here = posted_for_posts now mail account apart in
-    then_posts mail one (posted_for_all now one.mail others) here (posted_for_all_posts now one.mail others here.apart)
+    then_posts mail one (posted_for_all now one.next others) here (posted_for_all_posts now one.next others here.apart)
 
 posted_to_posts : (now : ℕ) (mail : Mail) (receipt : Receipt) (account : Option (List ℕ)) → AreApart mail.sessions →
     Posts mail (posted_to now mail receipt account)
@@ -189,7 +190,7 @@ all_posted_posts now mail [] apart = stays_posted mail apart
 all_posted_posts now mail (receipt ∷ others) apart =
     let one = posted now mail receipt in
     let here = posted_to_posts now mail receipt (submitter_of receipt) apart in
-    then_posts mail one (all_posted now one.mail others) here (all_posted_posts now one.mail others here.apart)
+    then_posts mail one (all_posted now one.next others) here (all_posted_posts now one.next others here.apart)
 
 -- ---- acts
 
@@ -271,8 +272,8 @@ replied_apart connected ticket (Some owned) apart = by_found (session_at connect
     by_found (Some session) = set_apart (is_at (nat_cmp owned.number)) connected (on_reply session ticket) apart
 
 record Tells (connected : List (ℕ × Session)) (told : Told) : Type 0 where
-  apart : AreApart told.sessions
-  waited : AllWaited connected told.sessions
+  apart : AreApart told.next
+  waited : AllWaited connected told.next
   ungone : (number : ℕ) → In (Gone number) told.prints → ⊥
 
 replies_tell : (connected : List (ℕ × Session)) (replies : List Reply) → AreApart connected → Tells connected (told connected replies)
@@ -332,7 +333,7 @@ IsUnanswered inputs = (slot : Slot) (error : ℕ) → In (Response slot (Conclud
 concluded_unanswered : (node : Node) (slot : Slot) → IsUnanswered (concluded node slot unanswered).inputs
 concluded_unanswered node slot = by_test (is_open node.kept slot)
   where
-    by_test : (test : Bool) → IsUnanswered (cond {A = Went} test (went node (Response slot unanswered)) (rests_at node)).inputs
+    by_test : (test : Bool) → IsUnanswered (cond {A = Went} test (went node (Response slot unanswered)) (rests node)).inputs
     by_test true other error (inl same) = cc
     by_test true other error (inr none) = none
     by_test false other error among = among
@@ -346,9 +347,9 @@ unfolding all_given_up
 all_unanswered node [] slot error among = among
 all_unanswered node (first ∷ others) slot error among =
     let one = given_up node first in
-    elim (in_either (Response slot (Concluded Delivered error)) one.inputs (all_given_up one.node others).inputs among) [
+    elim (in_either (Response slot (Concluded Delivered error)) one.inputs (all_given_up one.next others).inputs among) [
       | inl here ↦ given_up_unanswered node first.delivery slot error here
-      | inr there ↦ all_unanswered one.node others slot error there
+      | inr there ↦ all_unanswered one.next others slot error there
     ]
 
 -- ---- a moment
@@ -429,8 +430,8 @@ pub record IsAnswerIn (frames : List (List ℕ)) (connected : List (ℕ × Sessi
 
 -- what serving a session leaves
 pub record IsServed (Answers : Slot → Type 0) (number : ℕ) (session : Session) (served : Served) : Type 0 where
-  pub fewer : IsFewer session served.session
-  pub gone : (other : ℕ) → In (Gone other) served.prints → (other ≡ number) × (is_gone served.session.state ≡ true)
+  pub fewer : IsFewer session served.next.session
+  pub gone : (other : ℕ) → In (Gone other) served.prints → (other ≡ number) × (is_gone served.next.session.state ≡ true)
   pub answers : (slot : Slot) (error : ℕ) → In (Response slot (Concluded Delivered error)) served.inputs → Answers slot
 
 module _ (Answers : Slot → Type 0) (number : ℕ) (node : Node) where
@@ -487,7 +488,7 @@ module _ (Answers : Slot → Type 0) (number : ℕ) (node : Node) where
       the_outcome is = cc
 
       by_test : (test : Bool) → In (Response slot (Concluded Delivered error))
-          (cond {A = Went} test (went node (Response there outcome)) (rests_at node)).inputs → Answers slot
+          (cond {A = Went} test (went node (Response there outcome)) (rests node)).inputs → Answers slot
       by_test true (inl same) = tells slot error (the_slot same) (the_outcome same)
       by_test true (inr none) = absurd none
       by_test false among = absurd among
@@ -583,16 +584,16 @@ put_apart connected number next apart =
 
 served_keeps : (Answers : Slot → Type 0) (runner : Runner) (number : ℕ) (served : Served) → AreApart runner.sessions →
     IsServed Answers number (session_in runner.sessions number) served → Keeps Answers runner.sessions (served_at runner number served)
-served_keeps Answers runner number served apart it = by_test (is_gone served.session.state) refl
+served_keeps Answers runner number served apart it = by_test (is_gone served.next.session.state) refl
   where
     next : Runner
-    next = record runner { node = served.node }
+    next = record runner { node = served.next.node }
 
     without : List (ℕ × Session)
     without = remove_entry (is_at (nat_cmp number)) runner.sessions
 
-    by_test : (gone : Bool) → is_gone served.session.state ≡ gone → Keeps Answers runner.sessions (record {
-      next = if gone then record next { sessions = without } else record next { sessions = put_at runner.sessions number served.session };
+    by_test : (gone : Bool) → is_gone served.next.session.state ≡ gone → Keeps Answers runner.sessions (record {
+      next = if gone then record next { sessions = without } else record next { sessions = put_at runner.sessions number served.next.session };
       inputs = served.inputs;
       prints = served.prints;
     })
@@ -610,9 +611,9 @@ served_keeps Answers runner number served apart it = by_test (is_gone served.ses
       answers = it.answers;
     }
     by_test false is = record {
-      apart = put_apart runner.sessions number served.session apart;
+      apart = put_apart runner.sessions number served.next.session apart;
       waited = λ other slot sequence waits. (
-        put_waited runner.sessions number served.session it.fewer other slot sequence waits,
+        put_waited runner.sessions number served.next.session it.fewer other slot sequence waits,
         λ among. not_both (sym is ∙ (it.gone other among).1),
       );
       answers = it.answers;
@@ -626,8 +627,8 @@ serves_keeps : (Answers : Slot → Type 0) (runner : Runner) (number : ℕ) (ser
 serves_keeps Answers runner number served apart it =
     let one = served_at runner number served in
     let here = served_keeps Answers runner number served apart it in
-    keeps_then Answers runner.sessions one (posts_for one.next served.session.account) here
-    (posts_keep Answers one.next _ (posted_for_any_posts one.next.node.kept.clock (mail_of one.next) served.session.account here.apart))
+    keeps_then Answers runner.sessions one (posts_for one.next served.next.session.account) here
+    (posts_keep Answers one.next _ (posted_for_any_posts one.next.node.kept.clock (mail_of one.next) served.next.session.account here.apart))
 
 -- ---- the octets of a session
 

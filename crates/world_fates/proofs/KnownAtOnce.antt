@@ -17,9 +17,9 @@ use Rattle.sessions.specs.Session.{Session}
 use Rattle.script_text.specs.Prints.{AtOnce, Print}
 use Rattle.script_text.specs.Runner.{Runner, held_in, mail_of, on_frame, on_read, request_of, served_at, session_in}
 use Rattle.script_text.specs.Settings.{Settings}
-use Rattle.script_world.specs.Prints.{At, WorldPrint}
-use Rattle.script_world.specs.Script.{Joins, Stage}
-use Rattle.script_world.specs.World.{NodeInput as LineInput, World}
+use Rattle.script_text.specs.Prints.{At, WorldPrint}
+use Rattle.script_text.specs.Script.{Joins, Stage}
+use Rattle.script_text.specs.World.{NodeInput, World}
 use Rattle.world_fates.specs.Questions.{TellsAcceptance}
 use Rattle.world_fates.specs.Requests.{AreRead, ComesBy, FrameEndsIn, IsAbout, IsRequest, IsUsedFor}
 use Rattle.world_fates.proofs.Printing.{WorldSo, first_so}
@@ -75,7 +75,7 @@ module _ (settings : Settings) (number : ℕ) (runner : Runner) (frame : List �
     frame_known =
         let served = on_read settings number runner.node served_on frame (read_pdu frame) in
         let next = (served_at runner number served).next in
-        let posts = posted_for_any_posts next.node.kept.clock (mail_of next) served.session.account in
+        let posts = posted_for_any_posts next.node.kept.clock (mail_of next) served.next.session.account in
         elim (in_either (AtOnce number pdu) served.prints _ among) [
           | inl here ↦ read_known (read_pdu frame) refl here
           | inr there ↦ absurd ((posts.quiet (AtOnce number pdu) there).once number pdu refl)
@@ -84,7 +84,7 @@ module _ (settings : Settings) (number : ℕ) (runner : Runner) (frame : List �
 -- ---- lines
 
 -- what is answered at once is answered to the octets of a line
-once_by : (settings : Settings) (lines : List (List ℕ)) (first : World) → AreSound first → (inputs : List LineInput) (prints : List WorldPrint)
+once_by : (settings : Settings) (lines : List (List ℕ)) (first : World) → AreSound first → (inputs : List NodeInput) (prints : List WorldPrint)
     (stage : Stage) → Joins settings (Some first) lines inputs prints stage → (node session : ℕ) (pdu : Pdu) → In (At node (AtOnce session pdu)) prints →
     ComesBy settings first lines (λ world line. OfLine settings world line node session pdu)
 unfolding Joins
@@ -128,7 +128,7 @@ once_by settings (line ∷ lines) first sound inputs prints stage joins node ses
           }
     ]
 
-pub requests_known_at_once : (settings : Settings) (before later : List (List ℕ)) (came coming : List LineInput) (prints others : List WorldPrint)
+pub requests_known_at_once : (settings : Settings) (before later : List (List ℕ)) (came coming : List NodeInput) (prints others : List WorldPrint)
     (world : World) (last : Stage) (here node session sequence : ℕ) (first : Print) (id : ℕ) (pdu : Pdu) →
     Joins settings None before came prints (Some world) → Joins settings (Some world) later coming others last → 1 ≤ node → In (At here first) prints →
     TellsAcceptance first id → IsUsedFor (IsAbout id) settings world later node session sequence → AreRead settings world later node session sequence →

@@ -46,21 +46,22 @@ use Rattle.desk.specs.Admissions.{admitted}
 use Rattle.desk.specs.Arrivals.{door_at, judged_as, next_id}
 use Rattle.desk.specs.declared.door.Door.{Door}
 use Rattle.desk.specs.declared.request.Request.{Request}
-use Rattle.script_text.specs.Attempts.{Went, all_given_up, concluded, delivered_so, given_up, rests_at, submission_at, unanswered, went}
+use Rattle.script_text.specs.Left.{followed_by, rests}
+use Rattle.script_text.specs.Attempts.{Went, all_given_up, concluded, delivered_so, given_up, submission_at, unanswered, went}
 use Rattle.script_text.specs.Node.{Node, awaiting, step_at, tick_at, with_step}
 use Rattle.script_text.specs.Prints.{AtOnce, Declined, Delivers, Gone, Late, Print, Ungranted}
 use Rattle.script_text.specs.Pushes.{accounts_up, delivery_on, overdue_in, session_at, target_in, timely_in}
 use Rattle.script_text.specs.Receipts.{Posted}
 use Rattle.script_text.specs.Responses.{reply_pdu}
-use Rattle.script_text.specs.Runner.{Acted, Came, Runner, Served, answered_by, came_by, declined, ends, fails_by, followed_by, gives_up, gone_prints}
+use Rattle.script_text.specs.Runner.{Acted, Came, Runner, Served, answered_by, came_by, declined, ends, fails_by, gives_up, gone_prints}
 use Rattle.script_text.specs.Runner.{granted, granted_unless, held_in, holds, in_window, last_incarnation, mail_of, makes_room, no_incarnation}
 use Rattle.script_text.specs.Runner.{nothing_came, on_delivery, on_done, on_frame, on_frames, on_grant, on_octets, on_reaction, on_read, on_request}
 use Rattle.script_text.specs.Runner.{on_rest, on_restart, on_tick, opened_at, posts, posts_for, posts_for_all, pushes, put_at, refusal_prints}
 use Rattle.script_text.specs.Runner.{reports_by, request_of, restarted, sent, sent_to, served_at, serves, session_in, ticked, unasked, with_posted}
 use Rattle.script_text.specs.Settings.{Settings}
-use Rattle.fate_laws.proofs.Behind.{behind, behind_both, came_to, happened_before, input_to}
-use Rattle.fate_laws.proofs.StepsOut.{step_now}
-use Rattle.fate_laws.proofs.Telling.{IsMute, declined_is_mute, delivery_is_mute, gone_is_mute, refusal_is_mute, response_is_mute, ungranted_is_mute}
+use Rattle.world_fates.proofs.node.Behind.{behind, behind_both, came_to, happened_before, input_to}
+use Rattle.world_fates.proofs.node.StepsOut.{step_now}
+use Rattle.world_fates.proofs.node.Telling.{IsMute, declined_is_mute, delivery_is_mute, gone_is_mute, refusal_is_mute, response_is_mute, ungranted_is_mute}
 use Rattle.world_fates.proofs.Entries.{inserted_in, removed_in}
 use Rattle.world_fates.proofs.Windows.{ComesOf, fault_so, pdu_so, wrong_length_so}
 use Rattle.world_fates.proofs.Asking.{AllAsked, AsksOn, IsAside, Posts, all_posted_posts, in_session, posted_for_all_posts, posted_for_any_posts}
@@ -93,7 +94,7 @@ grant_no_start slot lost is = cc
 concluded_plain : (node : Node) (slot : Slot) (outcome : Outcome) → IsPlain (concluded node slot outcome).inputs
 concluded_plain node slot outcome = by_test (is_open node.kept slot)
   where
-    by_test : (test : Bool) → IsPlain (cond {A = Went} test (went node (Response slot outcome)) (rests_at node)).inputs
+    by_test : (test : Bool) → IsPlain (cond {A = Went} test (went node (Response slot outcome)) (rests node)).inputs
     by_test true = only_plain (Response slot outcome) (λ lost is. cc)
     by_test false = λ lost among. among
 
@@ -107,9 +108,9 @@ unfolding all_given_up
 all_plain node [] lost among = among
 all_plain node (first ∷ others) lost among =
     let one = given_up node first in
-    elim (in_either (Restart lost) one.inputs (all_given_up one.node others).inputs among) [
+    elim (in_either (Restart lost) one.inputs (all_given_up one.next others).inputs among) [
       | inl here ↦ delivered_plain node first.delivery (Some unanswered) lost here
-      | inr there ↦ all_plain one.node others lost there
+      | inr there ↦ all_plain one.next others lost there
     ]
 
 module _ (cluster : Cluster) (m : ℕ) (first : List NodeInput) where
@@ -179,13 +180,13 @@ module _ (cluster : Cluster) (m : ℕ) (first : List NodeInput) where
   -- ---- what comes of attempts
 
   abbrev WentWell : List NodeInput → Went → Type 0
-  WentWell past went = IsNode (came_to m went.inputs past) went.node
+  WentWell past went = IsNode (came_to m went.inputs past) went.next
 
   concluded_well : (past : List NodeInput) (node : Node) → IsNode past node → (slot : Slot) (outcome : Outcome) →
       WentWell past (concluded node slot outcome)
   concluded_well past node is slot outcome = by_test (is_open node.kept slot)
     where
-      by_test : (test : Bool) → WentWell past (cond {A = Went} test (went node (Response slot outcome)) (rests_at node))
+      by_test : (test : Bool) → WentWell past (cond {A = Went} test (went node (Response slot outcome)) (rests node))
       by_test true = node_then past node is (Response slot outcome)
       by_test false = is
 
@@ -200,9 +201,9 @@ module _ (cluster : Cluster) (m : ℕ) (first : List NodeInput) where
   all_well past node is [] = is
   all_well past node is (next ∷ others) =
       let one = given_up node next in
-      subst (λ (now : List NodeInput). IsNode now (all_given_up one.node others).node)
-      (sym (inputs_then one.inputs (all_given_up one.node others).inputs past))
-      (all_well (came_to m one.inputs past) one.node (delivered_well past node is next.delivery (Some unanswered)) others)
+      subst (λ (now : List NodeInput). IsNode now (all_given_up one.next others).next)
+      (sym (inputs_then one.inputs (all_given_up one.next others).inputs past))
+      (all_well (came_to m one.inputs past) one.next (delivered_well past node is next.delivery (Some unanswered)) others)
 
   -- ---- acts
 
@@ -398,8 +399,8 @@ module _ (cluster : Cluster) (m : ℕ) (first : List NodeInput) where
     -- ---- a frame
 
     record ServedWell (past : List NodeInput) (number : ℕ) (before : Session) (served : Served) : Type 0 where
-      node : IsNode (came_to m served.inputs past) served.node
-      came : (request : OpenRequest) → In request served.session.requests →
+      node : IsNode (came_to m served.inputs past) served.next.node
+      came : (request : OpenRequest) → In request served.next.session.requests →
           In request before.requests ⊎ CameOn Asked (came_to m served.inputs past) number request
       plain : IsPlain served.inputs
       aside : (print : Print) → In print served.prints → IsAside print
@@ -539,10 +540,10 @@ module _ (cluster : Cluster) (m : ℕ) (first : List NodeInput) where
 
     served_well : (past : List NodeInput) (runner : Runner) (number : ℕ) (served : Served) → ServesWell past runner →
         ServedWell past number (session_in runner.sessions number) served → ActsWell past (served_at runner number served)
-    served_well past runner number served s it = by_test (is_gone served.session.state)
+    served_well past runner number served s it = by_test (is_gone served.next.session.state)
       where
         next : Runner
-        next = record runner { node = served.node }
+        next = record runner { node = served.next.node }
 
         without : List (ℕ × Session)
         without = remove_entry (is_at (nat_cmp number)) runner.sessions
@@ -560,7 +561,7 @@ module _ (cluster : Cluster) (m : ℕ) (first : List NodeInput) where
             (record { session = session; there = removed_in (is_at (nat_cmp number)) runner.sessions (other, session) there; among = among })
 
         put_came : (other : ℕ) (request : OpenRequest) (session : Session) →
-            (◌≡◌ {A = ℕ × Session} (other, session) (number, served.session)) ⊎ In (other, session) without → In request session.requests →
+            (◌≡◌ {A = ℕ × Session} (other, session) (number, served.next.session)) ⊎ In (other, session) without → In request session.requests →
             CameBeforeOrSince now other request
         put_came other request session (inl new) among =
             subst (λ (n : ℕ). CameBeforeOrSince now n request) (sym (ap (λ (x : ℕ × Session). x.0) new))
@@ -571,7 +572,7 @@ module _ (cluster : Cluster) (m : ℕ) (first : List NodeInput) where
         put_came other request session (inr old) among = left_came other request session old among
 
         by_test : (gone : Bool) → ActsWell past (record {
-          next = if gone then record next { sessions = without } else record next { sessions = put_at runner.sessions number served.session };
+          next = if gone then record next { sessions = without } else record next { sessions = put_at runner.sessions number served.next.session };
           inputs = served.inputs;
           prints = served.prints;
         })
@@ -583,7 +584,7 @@ module _ (cluster : Cluster) (m : ℕ) (first : List NodeInput) where
         by_test false = record {
           node = it.node;
           came = λ other request asks.
-              put_came other request asks.session (inserted_in without number served.session (other, asks.session) asks.there) asks.among;
+              put_came other request asks.session (inserted_in without number served.next.session (other, asks.session) asks.there) asks.among;
           fine = λ print among. inl (it.aside print among);
         }
 
@@ -592,9 +593,9 @@ module _ (cluster : Cluster) (m : ℕ) (first : List NodeInput) where
     serves_well past runner number served s it =
         let one = served_at runner number served in
         let here = served_well past runner number served s it in
-        acts_then past one (posts_for one.next served.session.account) here
+        acts_then past one (posts_for one.next served.next.session.account) here
         (posts_well (came_to m one.inputs past) one.next _ (then_serves past one here)
-        (posted_for_any_posts one.next.node.kept.clock (mail_of one.next) served.session.account))
+        (posted_for_any_posts one.next.node.kept.clock (mail_of one.next) served.next.session.account))
 
     frame_well : (settings : Settings) (number : ℕ) (past : List NodeInput) (runner : Runner) (octets : List ℕ) → FrameAsks settings number octets →
         ServesWell past runner → ActsWell past (on_frame settings number runner octets)

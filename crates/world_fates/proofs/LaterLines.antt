@@ -17,21 +17,23 @@ use Rattle.pdu_frames.specs.Frames.{cut}
 use Rattle.script_lines.specs.Said.{Said, Skipped, Nodes, Octets, Deliver, Crash, Tick, Grant, Settle, Restart, Replay, said_within}
 use Rattle.script_lines.proofs.SaidLemmas.{spells_within}
 use Rattle.sessions.specs.declared.request.OpenRequest.{OpenRequest}
+use Rattle.script_text.specs.Left.{followed_by, rests}
 use Rattle.script_text.specs.Prints.{Print}
-use Rattle.script_text.specs.Runner.{Acted, Runner, given_out, most_deliveries, on_delivery, on_grant, on_octets, on_restart, on_tick}
+use Rattle.script_text.specs.Runner.{Acted, Runner, given_out, on_delivery, on_grant, on_octets, on_restart, on_tick}
 use Rattle.script_text.specs.Runner.{held_in, request_of}
 use Rattle.script_text.specs.Settings.{Settings}
-use Rattle.script_world.specs.Prints.{At, Refuses, StopsSettling, WorldPrint}
-use Rattle.script_world.specs.Script.{Joins, Stage, Stepped, moved_by, step_by, step_of, stepped}
-use Rattle.script_world.specs.World.{Due, Moved, NodeInput as LineInput, World, acts, all_come, comes, comes_again, comes_if, comes_to as come_to, no_node}
-use Rattle.script_world.specs.World.{crashed, crashes, crashes_if, due, grants, hears, if_due, if_up, is_down, is_up, is_up_at, marked, no_packet}
-use Rattle.script_world.specs.World.{node_numbers, on_replay, on_settle, packet_of, refuses, replays, restarts, restarts_if, runner_at, settles, shared}
-use Rattle.script_world.specs.World.{stays, then_moved, ticks, unsettled, up_or_refuses}
-use Rattle.fate_laws.proofs.Behind.{behind, behind_both, came_to, happened_before, input_to}
-use Rattle.fate_laws.proofs.StepsOut.{step_now}
+use Rattle.script_text.specs.Prints.{At, Refuses, StopsSettling, WorldPrint}
+use Rattle.script_text.specs.Script.{Joins, Stage, Stepped, moved_by, step_by, step_of, stepped}
+use Rattle.script_text.specs.World.{most_deliveries}
+use Rattle.script_text.specs.World.{Due, Moved, World, acts, all_come, comes, comes_again, comes_if, comes_to as come_to, no_node}
+use Rattle.script_text.specs.World.{crashed, crashes, crashes_if, due, grants, hears, if_due, if_up, is_down, is_up, is_up_at, marked, no_packet}
+use Rattle.script_text.specs.World.{node_numbers, on_replay, on_settle, packet_of, refuses, replays, restarts, restarts_if, runner_at, settles, shared}
+use Rattle.script_text.specs.World.{ticks, unsettled, up_or_refuses}
+use Rattle.world_fates.proofs.node.Behind.{behind, behind_both, came_to, happened_before, input_to}
+use Rattle.world_fates.proofs.node.StepsOut.{step_now}
 use Rattle.world_fates.specs.Requests.{ComesBy, EndsIn}
 use Rattle.world_fates.proofs.Places.{row_least, set_cases}
-use Rattle.world_fates.proofs.Worlds.{due_least, inputs_of, kept_apart, to_cluster}
+use Rattle.world_fates.proofs.Worlds.{due_least, kept_apart}
 use Rattle.world_fates.proofs.Lines.{one_node, printed_at}
 use Rattle.world_fates.proofs.Later.{ActsWell, AsksBy, CameOn, FrameAsks, IsFine, ServesWell, delivery_well, ended_well, grant_well, octets_well, on_later}
 use Rattle.world_fates.proofs.Later.{restart_well, tick_well}
@@ -41,18 +43,18 @@ of_one : (node : ℕ) (inputs : List Input) → inputs_of (map (λ (input : Inpu
 of_one node [] = refl
 of_one node (input ∷ inputs) = ap (λ (others : List NodeInput). input_to node input ∷ others) (of_one node inputs)
 
-lines_then : (one other : List LineInput) (past : List NodeInput) →
-    behind (inputs_of (one ++ other)) past ≡ behind (inputs_of other) (behind (inputs_of one) past)
+lines_then : (one other : List NodeInput) (past : List NodeInput) →
+    behind (one ++ other) past ≡ behind other (behind one past)
 lines_then one other past =
-    ap (λ (inputs : List NodeInput). behind inputs past) (map-append to_cluster one other) ∙ behind_both (inputs_of one) (inputs_of other) past
+    ap (λ (inputs : List NodeInput). behind inputs past) (map-append to_cluster one other) ∙ behind_both one other past
 
-lines_front : (cluster : Cluster) (one other : List LineInput) (past : List NodeInput) → MayHappen cluster (behind (inputs_of (one ++ other)) past) →
-    MayHappen cluster (behind (inputs_of one) past)
+lines_front : (cluster : Cluster) (one other : List NodeInput) (past : List NodeInput) → MayHappen cluster (behind (one ++ other) past) →
+    MayHappen cluster (behind one past)
 lines_front cluster one other past may =
-    happened_before cluster (inputs_of other) (behind (inputs_of one) past) (subst (MayHappen cluster) (lines_then one other past) may)
+    happened_before cluster other (behind one past) (subst (MayHappen cluster) (lines_then one other past) may)
 
-lines_back : (cluster : Cluster) (one other : List LineInput) (past : List NodeInput) → MayHappen cluster (behind (inputs_of (one ++ other)) past) →
-    MayHappen cluster (behind (inputs_of other) (behind (inputs_of one) past))
+lines_back : (cluster : Cluster) (one other : List NodeInput) (past : List NodeInput) → MayHappen cluster (behind (one ++ other) past) →
+    MayHappen cluster (behind other (behind one past))
 lines_back cluster one other past may = subst (MayHappen cluster) (lines_then one other past) may
 
 -- inputs behind others that are behind the first ones
@@ -86,13 +88,13 @@ module _ (cluster : Cluster) (m : ℕ) (least_m : 1 ≤ m) (first : List NodeInp
   WorldWell past world = (runner : Runner) → runner_at world m ≡ Some runner → Serves past runner
 
   record MovesWell (past : List NodeInput) (moved : Moved) : Type 0 where
-    well : WorldWell (behind (inputs_of moved.inputs) past) moved.next
+    well : WorldWell (behind moved.inputs past) moved.next
     fine : (print : Print) → In (At m print) moved.prints → Fine print
 
   abbrev May : List NodeInput → Moved → Type 0
-  May past moved = MayHappen cluster (behind (inputs_of moved.inputs) past)
+  May past moved = MayHappen cluster (behind moved.inputs past)
 
-  stays_well : (past : List NodeInput) (world : World) → WorldWell past world → MovesWell past (stays world)
+  stays_well : (past : List NodeInput) (world : World) → WorldWell past world → MovesWell past (rests world)
   stays_well past world well = record { well = well; fine = λ print among. absurd among }
 
   refuses_well : (past : List NodeInput) (world : World) (number : ℕ) → WorldWell past world → MovesWell past (refuses world number)
@@ -109,8 +111,8 @@ module _ (cluster : Cluster) (m : ℕ) (least_m : 1 ≤ m) (first : List NodeInp
       none print (inl same) = cc
       none print (inr nothing) = nothing
 
-  then_well : (past : List NodeInput) (one other : Moved) → MovesWell past one → MovesWell (behind (inputs_of one.inputs) past) other →
-      MovesWell past (then_moved one other)
+  then_well : (past : List NodeInput) (one other : Moved) → MovesWell past one → MovesWell (behind one.inputs past) other →
+      MovesWell past (followed_by one other)
   then_well past one other here there = record {
     well = λ runner is. subst (λ (now : List NodeInput). Serves now runner) (sym (lines_then one.inputs other.inputs past)) (there.well runner is);
     fine = λ print among. elim (in_either (At m print) one.prints other.prints among) [ inl a ↦ here.fine print a | inr b ↦ there.fine print b ];
@@ -234,24 +236,24 @@ module _ (cluster : Cluster) (m : ℕ) (least_m : 1 ≤ m) (first : List NodeInp
       MovesWell past (comes world number node)
   comes_well past world well number node least may = by_packet (packet_of world.packets number) may
     where
-      delivery_may : (runner : Runner) (packet : Packet) → MayHappen cluster (came_to m (on_delivery runner packet []).inputs past) →
+      delivery_may : (runner : Runner) (packet : Packet) → MayHappen cluster (came_to m (on_delivery runner packet).inputs past) →
           MayHappen cluster (input_to m (Delivery packet) ∷ past)
       delivery_may runner packet may = may
 
       by_packet : (found : Option Packet) → May past (comes_if world number node found) → MovesWell past (comes_if world number node found)
       by_packet None may = refuses_well past world no_packet well
       by_packet (Some packet) may =
-          if_up_well past world well node least (λ runner. shared (marked world number node) node (on_delivery runner packet []))
-          (λ runner is happens. shared_well past (marked world number node) well node least (on_delivery runner packet [])
-          (λ same. delivery_well cluster m first Before Asked Says says past runner packet [] (the_runner past world well node least runner is same)
-          (delivery_may runner packet (shared_may past (marked world number node) well node least (on_delivery runner packet []) same happens)))) may
+          if_up_well past world well node least (λ runner. shared (marked world number node) node (on_delivery runner packet))
+          (λ runner is happens. shared_well past (marked world number node) well node least (on_delivery runner packet)
+          (λ same. delivery_well cluster m first Before Asked Says says past runner packet (the_runner past world well node least runner is same)
+          (delivery_may runner packet (shared_may past (marked world number node) well node least (on_delivery runner packet) same happens)))) may
 
   comes_again_well : (past : List NodeInput) (world : World) → WorldWell past world → (number node : ℕ) → 1 ≤ node →
       May past (comes_again world number node) → MovesWell past (comes_again world number node)
   comes_again_well past world well number node least may = by_test (is_up_at (runner_at world node)) may
     where
-      by_test : (up : Bool) → May past (if up then comes world number node else stays world) →
-          MovesWell past (if up then comes world number node else stays world)
+      by_test : (up : Bool) → May past (if up then comes world number node else rests world) →
+          MovesWell past (if up then comes world number node else rests world)
       by_test true may = comes_well past world well number node least may
       by_test false may = stays_well past world well
 
@@ -262,18 +264,18 @@ module _ (cluster : Cluster) (m : ℕ) (least_m : 1 ≤ m) (first : List NodeInp
   settles_well (suc more) nodes past world well may = by_due (due world nodes) refl (settles_well more nodes) may
     where
       then_settles : Due → Moved
-      then_settles next = then_moved (comes world next.number next.node) (settles more nodes (comes world next.number next.node).next)
+      then_settles next = followed_by (comes world next.number next.node) (settles more nodes (comes world next.number next.node).next)
 
       by_due : (next : Option Due) → due world nodes ≡ next →
           ((now : List NodeInput) (other : World) → WorldWell now other → May now (settles more nodes other) → MovesWell now (settles more nodes other)) →
-          May past (if_due (stays world) then_settles next) → MovesWell past (if_due (stays world) then_settles next)
+          May past (if_due (rests world) then_settles next) → MovesWell past (if_due (rests world) then_settles next)
       by_due None is others may = stays_well past world well
       by_due (Some next) is others may =
           let one = comes world next.number next.node in
           let other = settles more nodes one.next in
           let here = comes_well past world well next.number next.node (due_least world nodes (range_with_len 1 (length world.packets)) next is)
           (lines_front cluster one.inputs other.inputs past may) in
-          then_well past one other here (others (behind (inputs_of one.inputs) past) one.next here.well (lines_back cluster one.inputs other.inputs past may))
+          then_well past one other here (others (behind one.inputs past) one.next here.well (lines_back cluster one.inputs other.inputs past may))
 
   come_to_well : (number : ℕ) (nodes : List ℕ) → ((node : ℕ) → In node nodes → 1 ≤ node) → (past : List NodeInput) (world : World) → WorldWell past world →
       May past (come_to number nodes world) → MovesWell past (come_to number nodes world)
@@ -284,7 +286,7 @@ module _ (cluster : Cluster) (m : ℕ) (least_m : 1 ≤ m) (first : List NodeInp
       let other = come_to number nodes one.next in
       let here = comes_again_well past world well number node (least node (inl refl)) (lines_front cluster one.inputs other.inputs past may) in
       then_well past one other here
-      (come_to_well number nodes (λ n among. least n (inr among)) (behind (inputs_of one.inputs) past) one.next here.well
+      (come_to_well number nodes (λ n among. least n (inr among)) (behind one.inputs past) one.next here.well
       (lines_back cluster one.inputs other.inputs past may))
 
   all_come_well : (numbers : List ℕ) (past : List NodeInput) (world : World) → WorldWell past world → May past (all_come numbers world) →
@@ -297,7 +299,7 @@ module _ (cluster : Cluster) (m : ℕ) (least_m : 1 ≤ m) (first : List NodeInp
       let here = come_to_well number (node_numbers world) (λ node among. row_least 1 (length world.runners) node among) past world well
       (lines_front cluster one.inputs other.inputs past may) in
       then_well past one other here
-      (all_come_well numbers (behind (inputs_of one.inputs) past) one.next here.well (lines_back cluster one.inputs other.inputs past may))
+      (all_come_well numbers (behind one.inputs past) one.next here.well (lines_back cluster one.inputs other.inputs past may))
 
   replays_well : (more count : ℕ) (past : List NodeInput) (world : World) → WorldWell past world → May past (replays more count world) →
       MovesWell past (replays more count world)
@@ -308,15 +310,15 @@ module _ (cluster : Cluster) (m : ℕ) (least_m : 1 ≤ m) (first : List NodeInp
       let other = replays more count one.next in
       let here = all_come_well (reverse (range_with_len 1 count)) past world well (lines_front cluster one.inputs other.inputs past may) in
       then_well past one other here
-      (replays_well more count (behind (inputs_of one.inputs) past) one.next here.well (lines_back cluster one.inputs other.inputs past may))
+      (replays_well more count (behind one.inputs past) one.next here.well (lines_back cluster one.inputs other.inputs past may))
 
   -- ---- lines
 
   -- what a line leaves
   pub record LineWell (past : List NodeInput) (done : Stepped) : Type 0 where
     pub next : World
-    pub stage_is : done.stage ≡ Some next
-    pub well : WorldWell (behind (inputs_of done.inputs) past) next
+    pub stage_is : done.next ≡ Some next
+    pub well : WorldWell (behind done.inputs past) next
     pub fine : (print : Print) → In (At m print) done.prints → Fine print
 
   -- what comes by a line on a session of the node asks so
@@ -328,11 +330,11 @@ module _ (cluster : Cluster) (m : ℕ) (least_m : 1 ≤ m) (first : List NodeInp
   module _ (settings : Settings) (past : List NodeInput) (world : World) (well : WorldWell past world) (line : List ℕ)
       (asks : LineAsks settings world line) where
     abbrev MayDo : Stepped → Type 0
-    MayDo done = MayHappen cluster (behind (inputs_of done.inputs) past)
+    MayDo done = MayHappen cluster (behind done.inputs past)
 
     does_well : (moved : Moved) (done : Stepped) → stepped moved ≡ Some done → (May past moved → MovesWell past moved) → MayDo done → LineWell past done
     does_well moved done is moves may =
-        let same = the_same (record { stage = Some moved.next; inputs = moved.inputs; prints = moved.prints }) done is in
+        let same = the_same (record { next = Some moved.next; inputs = moved.inputs; prints = moved.prints }) done is in
         let it = moves (subst MayDo (sym same) may) in
         subst (LineWell past) same (record { next = moved.next; stage_is = refl; well = it.well; fine = it.fine })
       where
@@ -341,7 +343,7 @@ module _ (cluster : Cluster) (m : ℕ) (least_m : 1 ≤ m) (first : List NodeInp
 
     said_well : (said : Said) (done : Stepped) → said_within (length world.runners) line ≡ Some said → moved_by settings world said ≡ Some done →
         MayDo done → LineWell past done
-    said_well Skipped done says is = does_well (stays world) done is (λ may. stays_well past world well)
+    said_well Skipped done says is = does_well (rests world) done is (λ may. stays_well past world well)
     said_well (Nodes count serial) done says is = absurd cc
     said_well (Octets node session octets) done says is =
         let least = (spells_within (length world.runners) line (Octets node session octets) says).wording.0.least in
@@ -394,13 +396,13 @@ module _ (cluster : Cluster) (m : ℕ) (least_m : 1 ≤ m) (first : List NodeInp
 
   -- what these lines print at the node is fine
   pub lines_fine : (settings : Settings) (lines : List (List ℕ)) (past : List NodeInput) (world : World) → WorldWell past world → AllAsk settings world lines →
-      (inputs : List LineInput) (prints : List WorldPrint) (stage : Stage) → Joins settings (Some world) lines inputs prints stage →
-      MayHappen cluster (behind (inputs_of inputs) past) → (print : Print) → In (At m print) prints → Fine print
+      (inputs : List NodeInput) (prints : List WorldPrint) (stage : Stage) → Joins settings (Some world) lines inputs prints stage →
+      MayHappen cluster (behind inputs past) → (print : Print) → In (At m print) prints → Fine print
   unfolding Joins
   lines_fine settings [] past world well asks inputs prints stage joins may print among = absurd (subst (In (At m print)) joins.1 among)
   lines_fine settings (line ∷ lines) past world well asks inputs prints stage joins may print among =
       let done = joins.0 in
-      let happens = subst (λ (came : List LineInput). MayHappen cluster (behind (inputs_of came) past)) joins.4 may in
+      let happens = subst (λ (came : List NodeInput). MayHappen cluster (behind came past)) joins.4 may in
       let one = line_well settings past world well line
       (λ session pdu ends. asks session pdu (record {
         before = [];
@@ -416,7 +418,7 @@ module _ (cluster : Cluster) (m : ℕ) (least_m : 1 ≤ m) (first : List NodeInp
       elim (in_either (At m print) done.prints joins.2 (subst (In (At m print)) joins.5 among)) [
         | inl here ↦ one.fine print here
         | inr there ↦
-            lines_fine settings lines (behind (inputs_of done.inputs) past) one.next one.well
+            lines_fine settings lines (behind done.inputs past) one.next one.well
             (λ session pdu comes. asks session pdu (record {
               before = line ∷ comes.before;
               line = comes.line;

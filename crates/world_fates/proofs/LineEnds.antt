@@ -10,14 +10,16 @@ use Rattle.pdu_bodies.specs.declared.pdu.Pdu.{Pdu}
 use Rattle.pdu_frames.specs.Frames.{cut}
 use Rattle.script_lines.specs.Said.{Said, Skipped, Nodes, Octets, Deliver, Crash, Tick, Grant, Settle, Restart, Replay, said_within}
 use Rattle.script_lines.proofs.SaidLemmas.{spells_within}
+use Rattle.script_text.specs.Left.{followed_by, rests}
 use Rattle.script_text.specs.Prints.{AtOnce, Gone, Print}
-use Rattle.script_text.specs.Runner.{Acted, Runner, given_out, held_in, most_deliveries, on_delivery, on_grant, on_octets, on_restart, on_tick}
+use Rattle.script_text.specs.Runner.{Acted, Runner, given_out, held_in, on_delivery, on_grant, on_octets, on_restart, on_tick}
 use Rattle.script_text.specs.Settings.{Settings}
-use Rattle.script_world.specs.Prints.{At}
-use Rattle.script_world.specs.Script.{Stepped, moved_by, step_by, step_of, stepped}
-use Rattle.script_world.specs.World.{Due, Moved, World, all_come, comes, comes_again, comes_if, comes_to, crashed, crashes, crashes_if, due, grants, hears}
-use Rattle.script_world.specs.World.{if_due, if_up, is_down, is_up, is_up_at, marked, no_node, no_packet, node_numbers, on_replay, on_settle, packet_of}
-use Rattle.script_world.specs.World.{refuses, replays, restarts, restarts_if, runner_at, settles, shared, stays, then_moved, ticks, unsettled, up_or_refuses}
+use Rattle.script_text.specs.Prints.{At}
+use Rattle.script_text.specs.Script.{Stepped, moved_by, step_by, step_of, stepped}
+use Rattle.script_text.specs.World.{most_deliveries}
+use Rattle.script_text.specs.World.{Due, Moved, World, all_come, comes, comes_again, comes_if, comes_to, crashed, crashes, crashes_if, due, grants, hears}
+use Rattle.script_text.specs.World.{if_due, if_up, is_down, is_up, is_up_at, marked, no_node, no_packet, node_numbers, on_replay, on_settle, packet_of}
+use Rattle.script_text.specs.World.{refuses, replays, restarts, restarts_if, runner_at, settles, shared, ticks, unsettled, up_or_refuses}
 use Rattle.world_fates.proofs.Places.{set_cases}
 use Rattle.world_fates.proofs.Entries.{Has}
 use Rattle.world_fates.proofs.Lines.{AreSound, printed_at}
@@ -29,7 +31,7 @@ use Rattle.world_fates.proofs.Ending.{AreQuiet, Ends, OfOctets, all_ends, delive
 abbrev MovesQuietly : Moved → Type 0
 MovesQuietly moved = (node : ℕ) (print : Print) → In (At node print) moved.prints → IsQuiet print
 
-stays_quietly : (world : World) → MovesQuietly (stays world)
+stays_quietly : (world : World) → MovesQuietly (rests world)
 stays_quietly world node print among = absurd among
 
 refuses_quietly : (world : World) (number : ℕ) → MovesQuietly (refuses world number)
@@ -40,7 +42,7 @@ unsettled_quietly : (world : World) → MovesQuietly (unsettled world)
 unsettled_quietly world node print (inl same) = absurd cc
 unsettled_quietly world node print (inr none) = absurd none
 
-then_quietly : (one other : Moved) → MovesQuietly one → MovesQuietly other → MovesQuietly (then_moved one other)
+then_quietly : (one other : Moved) → MovesQuietly one → MovesQuietly other → MovesQuietly (followed_by one other)
 then_quietly one other first last node print among = elim (in_either (At node print) one.prints other.prints among) [
   | inl here ↦ first node print here
   | inr there ↦ last node print there
@@ -66,13 +68,13 @@ comes_quietly world number node = by_packet (packet_of world.packets number)
     by_packet : (found : Option Packet) → MovesQuietly (comes_if world number node found)
     by_packet None = refuses_quietly world no_packet
     by_packet (Some packet) =
-        if_up_quietly world node (λ runner. shared (marked world number node) node (on_delivery runner packet []))
-        (λ runner. shared_quietly (marked world number node) node (on_delivery runner packet []) (delivery_quiet runner packet []))
+        if_up_quietly world node (λ runner. shared (marked world number node) node (on_delivery runner packet))
+        (λ runner. shared_quietly (marked world number node) node (on_delivery runner packet) (delivery_quiet runner packet []))
 
 comes_again_quietly : (world : World) (number node : ℕ) → MovesQuietly (comes_again world number node)
 comes_again_quietly world number node = by_test (is_up_at (runner_at world node))
   where
-    by_test : (up : Bool) → MovesQuietly (if up then comes world number node else stays world)
+    by_test : (up : Bool) → MovesQuietly (if up then comes world number node else rests world)
     by_test true = comes_quietly world number node
     by_test false = stays_quietly world
 
@@ -82,9 +84,9 @@ settles_quietly zero nodes world = unsettled_quietly world
 settles_quietly (suc more) nodes world = by_due (due world nodes) (settles_quietly more nodes)
   where
     then_settles : Due → Moved
-    then_settles next = then_moved (comes world next.number next.node) (settles more nodes (comes world next.number next.node).next)
+    then_settles next = followed_by (comes world next.number next.node) (settles more nodes (comes world next.number next.node).next)
 
-    by_due : (next : Option Due) → ((other : World) → MovesQuietly (settles more nodes other)) → MovesQuietly (if_due (stays world) then_settles next)
+    by_due : (next : Option Due) → ((other : World) → MovesQuietly (settles more nodes other)) → MovesQuietly (if_due (rests world) then_settles next)
     by_due None others = stays_quietly world
     by_due (Some next) others =
         let one = comes world next.number next.node in
@@ -164,7 +166,7 @@ pub record OfLine (settings : Settings) (world : World) (line : List ℕ) (node 
 
 pub record LineEnds (settings : Settings) (world : World) (line : List ℕ) (done : Stepped) : Type 0 where
   pub next : World
-  pub stage_is : done.stage ≡ Some next
+  pub stage_is : done.next ≡ Some next
   pub once : (node session : ℕ) (pdu : Pdu) → In (At node (AtOnce session pdu)) done.prints → OfLine settings world line node session pdu
   pub gone : (node : ℕ) → 1 ≤ node → (session : ℕ) → In (At node (Gone session)) done.prints → (runner : Runner) → runner_at next node ≡ Some runner →
       Has runner.sessions session → ⊥
@@ -212,7 +214,7 @@ module _ (settings : Settings) (world : World) (sound : AreSound world) (line : 
 
   does_end : (moved : Moved) (done : Stepped) → stepped moved ≡ Some done → MovesEnd Once moved → LineEnds settings world line done
   does_end moved done is it =
-      subst (LineEnds settings world line) (the_same (record { stage = Some moved.next; inputs = moved.inputs; prints = moved.prints }) done is)
+      subst (LineEnds settings world line) (the_same (record { next = Some moved.next; inputs = moved.inputs; prints = moved.prints }) done is)
       (record { next = moved.next; stage_is = refl; once = it.once; gone = it.gone })
     where
       the_same : (one other : Stepped) → Some one ≡ Some other → one ≡ other
@@ -220,7 +222,7 @@ module _ (settings : Settings) (world : World) (sound : AreSound world) (line : 
 
   said_end : (said : Said) (done : Stepped) → said_within (length world.runners) line ≡ Some said → moved_by settings world said ≡ Some done →
       LineEnds settings world line done
-  said_end Skipped done says is = does_end (stays world) done is (quietly_end Once (stays world) (stays_quietly world))
+  said_end Skipped done says is = does_end (rests world) done is (quietly_end Once (rests world) (stays_quietly world))
   said_end (Nodes count serial) done says is = absurd cc
   said_end (Octets node session octets) done says is =
       let least = (spells_within (length world.runners) line (Octets node session octets) says).wording.0.least in

@@ -14,17 +14,19 @@ use Rattle.node_laws.proofs.Orders.{in_mapped}
 use Rattle.pdu_frames.specs.Frames.{cut}
 use Rattle.script_lines.specs.Said.{Said, Skipped, Nodes, Octets, Deliver, Crash, Tick, Grant, Settle, Restart, Replay, said_within}
 use Rattle.script_lines.proofs.SaidLemmas.{spells_within}
+use Rattle.script_text.specs.Left.{followed_by, rests}
 use Rattle.script_text.specs.Node.{opened_by}
 use Rattle.script_text.specs.Prints.{Delivers, Gone, Print}
-use Rattle.script_text.specs.Runner.{Acted, Runner, given_out, held_in, most_deliveries, on_delivery, on_grant, on_octets, on_restart, on_tick, runner_opened}
+use Rattle.script_text.specs.Runner.{Acted, Runner, given_out, held_in, on_delivery, on_grant, on_octets, on_restart, on_tick, runner_opened}
 use Rattle.script_text.specs.Settings.{Settings}
-use Rattle.script_world.specs.Prints.{At, Refuses, StopsSettling}
-use Rattle.script_world.specs.Script.{Stepped, moved_by, step_by, step_of, stepped}
-use Rattle.script_world.specs.World.{Due, Moved, NodeInput, World, acts, all_come, comes as packet_comes, comes_again, comes_if, comes_to, no_node}
-use Rattle.script_world.specs.World.{crashed, crashes, crashes_if, due, grants, hears, if_due, if_up}
-use Rattle.script_world.specs.World.{is_down, is_up, is_up_at, marked, no_packet, node_numbers, on_replay, on_settle, opened, packet_of, refuses}
-use Rattle.script_world.specs.World.{replays, restarts, restarts_if, runner_at, setup_of, settles, shared, stays, then_moved, ticks, unsettled}
-use Rattle.script_world.specs.World.{up_or_refuses}
+use Rattle.script_text.specs.Prints.{At, Refuses, StopsSettling}
+use Rattle.script_text.specs.Script.{Stepped, moved_by, step_by, step_of, stepped}
+use Rattle.script_text.specs.World.{most_deliveries}
+use Rattle.script_text.specs.World.{Due, Moved, NodeInput, World, acts, all_come, comes as packet_comes, comes_again, comes_if, comes_to, no_node}
+use Rattle.script_text.specs.World.{crashed, crashes, crashes_if, due, grants, hears, if_due, if_up}
+use Rattle.script_text.specs.World.{is_down, is_up, is_up_at, marked, no_packet, node_numbers, on_replay, on_settle, opened, packet_of, refuses}
+use Rattle.script_text.specs.World.{replays, restarts, restarts_if, runner_at, setup_of, settles, shared, ticks, unsettled}
+use Rattle.script_text.specs.World.{up_or_refuses}
 use Rattle.world_fates.specs.Deliveries.{GoesOut, comes}
 use Rattle.world_fates.proofs.Places.{row_least, set_cases}
 use Rattle.world_fates.proofs.Worlds.{due_least}
@@ -71,8 +73,8 @@ still_moves Answers world moved sound same none ungone = record {
   answers = λ node slot error among. absurd (subst (In (comes node (Response slot (Concluded Delivered error)))) none among);
 }
 
-stays_moves : (Answers : ℕ → Slot → Type 0) (world : World) → AreSound world → MovesOn Answers world (stays world)
-stays_moves Answers world sound = still_moves Answers world (stays world) sound refl refl (λ node session among. among)
+stays_moves : (Answers : ℕ → Slot → Type 0) (world : World) → AreSound world → MovesOn Answers world (rests world)
+stays_moves Answers world sound = still_moves Answers world (rests world) sound refl refl (λ node session among. among)
 
 refuses_moves : (Answers : ℕ → Slot → Type 0) (world : World) (number : ℕ) → AreSound world → MovesOn Answers world (refuses world number)
 refuses_moves Answers world number sound = still_moves Answers world (refuses world number) sound refl refl none
@@ -89,7 +91,7 @@ unsettled_moves Answers world sound = still_moves Answers world (unsettled world
     none node session (inr nothing) = nothing
 
 then_moves : (Answers : ℕ → Slot → Type 0) (world : World) (one other : Moved) → MovesOn Answers world one → MovesOn Answers one.next other →
-    MovesOn Answers world (then_moved one other)
+    MovesOn Answers world (followed_by one other)
 then_moves Answers world one other first last = record {
   sound = last.sound;
   waited = λ node least session slot sequence waits.
@@ -230,13 +232,13 @@ comes_move : (world : World) (number node : ℕ) → 1 ≤ node → AreSound wor
 comes_move world number node least sound = by_packet (packet_of world.packets number)
   where
     up : Packet → Runner → Moved
-    up packet runner = shared (marked world number node) node (on_delivery runner packet [])
+    up packet runner = shared (marked world number node) node (on_delivery runner packet)
 
     there : (packet : Packet) (runner : Runner) → runner_at world node ≡ Some runner → MovesOn NothingAt world (up packet runner)
     there packet runner is =
         let it = nothing_moves (marked world number node) node (up packet runner)
-        (shared_moves (marked world number node) node least sound runner is (λ other. Nothing) (on_delivery runner packet [])
-        (delivery_keeps runner packet [] (sound node least runner is))) in
+        (shared_moves (marked world number node) node least sound runner is (λ other. Nothing) (on_delivery runner packet)
+        (delivery_keeps runner packet (sound node least runner is))) in
         record {
           sound = it.sound;
           waited = λ other first session slot sequence waits.
@@ -268,7 +270,7 @@ crashes_move world node number after least sound = by_packet (packet_of world.pa
 comes_again_move : (world : World) (number node : ℕ) → 1 ≤ node → AreSound world → MovesOn NothingAt world (comes_again world number node)
 comes_again_move world number node least sound = by_test (is_up_at (runner_at world node))
   where
-    by_test : (up : Bool) → MovesOn NothingAt world (if up then packet_comes world number node else stays world)
+    by_test : (up : Bool) → MovesOn NothingAt world (if up then packet_comes world number node else rests world)
     by_test true = comes_move world number node least sound
     by_test false = stays_moves NothingAt world sound
 
@@ -279,8 +281,8 @@ settles_move (suc more) nodes world sound = by_due (due world nodes) refl (settl
   where
     by_due : (next : Option Due) → due world nodes ≡ next →
         ((other : World) → AreSound other → MovesOn NothingAt other (settles more nodes other)) →
-        MovesOn NothingAt world (if_due (stays world)
-        (λ next. then_moved (packet_comes world next.number next.node) (settles more nodes (packet_comes world next.number next.node).next)) next)
+        MovesOn NothingAt world (if_due (rests world)
+        (λ next. followed_by (packet_comes world next.number next.node) (settles more nodes (packet_comes world next.number next.node).next)) next)
     by_due None is others = stays_moves NothingAt world sound
     by_due (Some next) is others =
         let one = packet_comes world next.number next.node in
@@ -328,7 +330,7 @@ pub record IsHeard (world : World) (line : List ℕ) (node : ℕ) (slot : Slot) 
 -- what a line leaves: what waits waited before, or goes out by this line
 pub record LeadsOn (world : World) (line : List ℕ) (done : Stepped) : Type 0 where
   pub next : World
-  pub stage_is : done.stage ≡ Some next
+  pub stage_is : done.next ≡ Some next
   pub sound : AreSound next
   pub waited : (node : ℕ) → 1 ≤ node → (session : ℕ) (slot : Slot) (sequence : ℕ) → WaitsAt next node session slot sequence →
       (WaitsAt world node session slot sequence × (In (At node (Gone session)) done.prints → ⊥)) ⊎ GoesOut world line done node session sequence slot
@@ -337,7 +339,7 @@ pub record LeadsOn (world : World) (line : List ℕ) (done : Stepped) : Type 0 w
 
 module _ (settings : Settings) (world : World) (sound : AreSound world) (line : List ℕ) where
   abbrev done_by : Moved → Stepped
-  done_by moved = record { stage = Some moved.next; inputs = moved.inputs; prints = moved.prints }
+  done_by moved = record { next = Some moved.next; inputs = moved.inputs; prints = moved.prints }
 
   -- what a line does is what its world does
   does_so : (moved : Moved) (done : Stepped) → stepped moved ≡ Some done → LeadsOn world line (done_by moved) → LeadsOn world line done
@@ -432,7 +434,7 @@ module _ (settings : Settings) (world : World) (sound : AreSound world) (line : 
 
   said_leads : (said : Said) (done : Stepped) → said_within (length world.runners) line ≡ Some said → moved_by settings world said ≡ Some done →
       LeadsOn world line done
-  said_leads Skipped done says is = does_so (stays world) done is (moves_lead (stays world) (stays_moves NothingAt world sound))
+  said_leads Skipped done says is = does_so (rests world) done is (moves_lead (rests world) (stays_moves NothingAt world sound))
   said_leads (Nodes count serial) done says is = absurd cc
   said_leads (Octets node session octets) done says is =
       let least = (spells_within (length world.runners) line (Octets node session octets) says).wording.0.least in

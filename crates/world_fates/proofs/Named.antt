@@ -8,14 +8,15 @@ use Rattle.mc_model.specs.cluster.Steps.{Cluster}
 use Rattle.node_laws.specs.Clusters.{NodeInput}
 use Rattle.pdu_bodies.specs.declared.pdu.Pdu.{Pdu}
 use Rattle.sessions.specs.Session.{Session}
+use Rattle.script_text.specs.Left.{in_front}
 use Rattle.script_text.specs.Laws.{TellsState}
 use Rattle.script_text.specs.Prints.{Delivers, Late, Print}
 use Rattle.script_text.specs.Pushes.{delivery_on}
 use Rattle.script_text.specs.Responses.{reply_pdu}
-use Rattle.script_text.specs.Runner.{Owned, Told, in_front, owner_of, replied, reply_prints, told}
-use Rattle.fate_laws.proofs.StepsOut.{step_now}
-use Rattle.fate_laws.proofs.Telling.{IsMute, delivery_is_mute, reply_is_told, report_tells_no_state}
-use Rattle.fate_laws.proofs.Tellings.{IsTelling, NodePrint, TakesDeliveries, by_node, prints_at}
+use Rattle.script_text.specs.Runner.{Owned, Told, owner_of, replied, reply_prints, told}
+use Rattle.world_fates.proofs.node.StepsOut.{step_now}
+use Rattle.world_fates.proofs.node.Telling.{IsMute, delivery_is_mute, reply_is_told, report_tells_no_state}
+use Rattle.world_fates.proofs.node.Tellings.{IsTelling, NodePrint, TakesDeliveries, by_node, prints_at}
 
 -- it answers a request that waited, for the message of a message_id, whose id is a short number
 pub record IsNamed (print : Print) (message_id : List ℕ) : Type 0 where

@@ -11,8 +11,8 @@ use Rattle.node_model.specs.Outputs.{Stepped}
 use Rattle.node_model.specs.Requests.{ticket_of}
 use Rattle.node_model.specs.Stepped.{stepped}
 use Rattle.node_laws.specs.Clusters.{NodeInput, comes_to, kept_reached, outputs_at, step_at}
-use Rattle.fate_laws.proofs.Behind.{input_to}
-use Rattle.fate_laws.proofs.StepsOut.{step_now}
+use Rattle.world_fates.proofs.node.Behind.{input_to}
+use Rattle.world_fates.proofs.node.StepsOut.{step_now}
 use Rattle.world_fates.specs.Questions.{HoldsUnder}
 use Rattle.world_fates.proofs.Holding.{AnswersHeld, ComesUnder, holds_on, request_of, restart_holds}
 use Rattle.world_fates.proofs.Later.{CameSince, since_later}

@@ -40,13 +40,13 @@ use Rattle.script_text.specs.Prints.{AtOnce, Late, Print}
 use Rattle.script_text.specs.Responses.{reply_pdu}
 use Rattle.script_text.specs.Runner.{Runner, on_frame, request_of}
 use Rattle.script_text.specs.Settings.{Settings}
-use Rattle.script_world.specs.Prints.{At, WorldPrint}
-use Rattle.script_world.specs.Script.{Joins, Stage}
-use Rattle.script_world.specs.World.{NodeInput as LineInput, World}
-use Rattle.fate_laws.proofs.Behind.{input_to}
-use Rattle.fate_laws.proofs.Reports.{named_small}
-use Rattle.fate_laws.proofs.StepsOut.{step_now}
-use Rattle.fate_laws.proofs.Telling.{reply_is_told}
+use Rattle.script_text.specs.Prints.{At, WorldPrint}
+use Rattle.script_text.specs.Script.{Joins, Stage}
+use Rattle.script_text.specs.World.{World}
+use Rattle.world_fates.proofs.node.Behind.{input_to}
+use Rattle.world_fates.proofs.node.Reports.{named_small}
+use Rattle.world_fates.proofs.node.StepsOut.{step_now}
+use Rattle.world_fates.proofs.node.Telling.{reply_is_told}
 use Rattle.world_fates.specs.Questions.{AsksState, IsAskedAt, TellsAcceptance}
 use Rattle.world_fates.specs.Refusals.{NamesMessage}
 use Rattle.world_fates.specs.Requests.{ComesBy, EndsIn, GoesOutOn, IsAbout, IsQueryOf, IsRequest, IsUsedFor}
@@ -208,7 +208,7 @@ goes_out_late : (answer : Print) (number id session sequence : ℕ) (pdu : Pdu) 
     (number ≡ session) × (pdu.sequence ≡ sequence)
 goes_out_late answer number id session sequence pdu is goes = subst (λ (p : Print). GoesOutOn p session sequence) is goes
 
-pub queries_told : (settings : Settings) (before later : List (List ℕ)) (came coming : List LineInput) (prints others : List WorldPrint) (world : World)
+pub queries_told : (settings : Settings) (before later : List (List ℕ)) (came coming : List NodeInput) (prints others : List WorldPrint) (world : World)
     (last : Stage) (here node session sequence : ℕ) (first answer : Print) (message_id also : List ℕ) (one other : ℕ) →
     Joins settings None before came prints (Some world) → Joins settings (Some world) later coming others last → 1 ≤ node →
     In (At here first) prints → StatesFate first message_id one →
@@ -267,7 +267,7 @@ module _ (cluster : Cluster) (node session sequence : ℕ) (first : List NodeInp
 late_parts : (number id other also : ℕ) (pdu late : Pdu) → Late number id pdu ≡ Late other also late → (number ≡ other) × (pdu ≡ late)
 late_parts number id other also pdu late is = (cc, cc)
 
-pub requests_known : (settings : Settings) (before later : List (List ℕ)) (came coming : List LineInput) (prints others : List WorldPrint) (world : World)
+pub requests_known : (settings : Settings) (before later : List (List ℕ)) (came coming : List NodeInput) (prints others : List WorldPrint) (world : World)
     (last : Stage) (here node session sequence : ℕ) (first : Print) (id other : ℕ) (pdu : Pdu) →
     Joins settings None before came prints (Some world) → Joins settings (Some world) later coming others last → 1 ≤ node →
     In (At here first) prints → TellsAcceptance first id → IsUsedFor (IsAbout id) settings world later node session sequence →
@@ -302,7 +302,7 @@ requests_known settings before later came coming prints others world last here n
 
 -- ---- at once
 
-pub accepted_known : (settings : Settings) (before : List (List ℕ)) (came : List LineInput) (prints : List WorldPrint) (world : World) (here : ℕ)
+pub accepted_known : (settings : Settings) (before : List (List ℕ)) (came : List NodeInput) (prints : List WorldPrint) (world : World) (here : ℕ)
     (first : Print) (id number session : ℕ) (runner : Runner) (frame : List ℕ) (asking pdu : Pdu) →
     Joins settings None before came prints (Some world) → In (At here first) prints → TellsAcceptance first id → read_pdu frame ≡ Ok asking →
     NamesMessage asking.body id → In (AtOnce session pdu) (on_frame settings number runner frame).prints →

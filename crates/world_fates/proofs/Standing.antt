@@ -17,24 +17,26 @@ use Rattle.node_model.specs.Stepped.{stepped as node_stepped}
 use Rattle.node_laws.specs.Clusters.{MayHappen, NodeInput, kept_reached}
 use Rattle.script_lines.specs.Said.{Said, Skipped, Nodes, Octets, Deliver, Crash as Crashes, Tick, Grant, Settle, Restart, Replay, said_within}
 use Rattle.script_lines.proofs.SaidLemmas.{spells_within}
+use Rattle.script_text.specs.Left.{followed_by, rests}
 use Rattle.script_text.specs.Node.{Node, awaiting, opened_by, step_at, with_step}
-use Rattle.script_text.specs.Runner.{Acted, Runner, given_out, most_deliveries, on_delivery, on_grant, on_octets, on_restart, on_tick, runner_opened}
+use Rattle.script_text.specs.Runner.{Acted, Runner, given_out, on_delivery, on_grant, on_octets, on_restart, on_tick, runner_opened}
 use Rattle.script_text.specs.Settings.{Settings}
 use Rattle.script_text.proofs.Going.{IsGoing, delivery_goes, grant_goes, octets_go, restart_goes, tick_goes}
-use Rattle.script_world.specs.Prints.{WorldPrint}
-use Rattle.script_world.specs.Runs.{IsNodeOf, StandsFor}
-use Rattle.script_world.specs.Script.{Joins, Stage, Stepped, moved_by, step_by, step_of, stepped}
-use Rattle.script_world.specs.World.{Due, Moved, NodeInput as LineInput, World, acts, all_come, comes, comes_again, comes_if, comes_to}
-use Rattle.script_world.specs.World.{crashed, crashes, crashes_if, due, grants, hears, if_due, if_up}
-use Rattle.script_world.specs.World.{is_down, is_up, is_up_at, marked, node_numbers, on_replay, on_settle, opened, packet_of, refuses}
-use Rattle.script_world.specs.World.{replays, restarts, restarts_if, runner_at, setup_of, settles, shared, stays, then_moved, ticks, up_or_refuses}
-use Rattle.fate_laws.proofs.Behind.{behind, came_to}
-use Rattle.fate_laws.proofs.Serving.{came_then}
-use Rattle.fate_laws.proofs.Tellings.{FactOfPrints, IsTelling}
+use Rattle.script_text.specs.Prints.{WorldPrint}
+use Rattle.script_text.specs.Runs.{IsNodeOf, StandsFor}
+use Rattle.script_text.specs.Script.{Joins, Stage, Stepped, moved_by, step_by, step_of, stepped}
+use Rattle.script_text.specs.World.{most_deliveries}
+use Rattle.script_text.specs.World.{Due, Moved, World, acts, all_come, comes, comes_again, comes_if, comes_to}
+use Rattle.script_text.specs.World.{crashed, crashes, crashes_if, due, grants, hears, if_due, if_up}
+use Rattle.script_text.specs.World.{is_down, is_up, is_up_at, marked, node_numbers, on_replay, on_settle, opened, packet_of, refuses}
+use Rattle.script_text.specs.World.{replays, restarts, restarts_if, runner_at, setup_of, settles, shared, ticks, up_or_refuses}
+use Rattle.world_fates.proofs.node.Behind.{behind, came_to}
+use Rattle.world_fates.proofs.node.Serving.{came_then}
+use Rattle.world_fates.proofs.node.Tellings.{FactOfPrints, IsTelling}
 use Rattle.world_fates.specs.Runs.{IsRun, cluster_of, newest_first}
 use Rattle.world_fates.proofs.Places.{row_at, row_least, set_cases}
 use Rattle.world_fates.proofs.Printing.{joined_so, opened_stands}
-use Rattle.world_fates.proofs.Worlds.{behind_lines, due_least, inputs_of, kept_apart, of_one_node}
+use Rattle.world_fates.proofs.Worlds.{due_least, kept_apart}
 
 module _ (cluster : Cluster) where
   -- ---- a node
@@ -82,13 +84,13 @@ module _ (cluster : Cluster) where
     pub none : (place : ℕ) (runner : Runner) → slice_get world.runners place ≡ Some runner → runner.node.packets ≡ []
 
   abbrev MovesTo : World → Moved → Type 0
-  MovesTo world moved = (past : List NodeInput) → StandsStill past world → StandsStill (behind (inputs_of moved.inputs) past) moved.next
+  MovesTo world moved = (past : List NodeInput) → StandsStill past world → StandsStill (behind moved.inputs past) moved.next
 
-  then_to : (world : World) (first other : Moved) → MovesTo world first → MovesTo first.next other → MovesTo world (then_moved first other)
+  then_to : (world : World) (first other : Moved) → MovesTo world first → MovesTo first.next other → MovesTo world (followed_by first other)
   then_to world first other moves others past stands =
-      let middle = behind (inputs_of first.inputs) past in
+      let middle = behind first.inputs past in
       subst (λ (now : List NodeInput). StandsStill now other.next)
-      (behind_lines first.inputs other.inputs past middle (behind (inputs_of other.inputs) middle) refl refl)
+      (behind_lines first.inputs other.inputs past middle (behind other.inputs middle) refl refl)
       (others middle (moves past stands))
 
   -- ---- a node of many
@@ -129,7 +131,7 @@ module _ (cluster : Cluster) where
         later : List NodeInput
         later = came_to number acted.inputs past
 
-        later_is : behind (inputs_of (shared world number acted).inputs) past ≡ later
+        later_is : behind ((shared world number acted).inputs) past ≡ later
         later_is = ap (λ (inputs : List NodeInput). behind inputs past) (of_one_node number acted.inputs)
 
         newest : HoldsNewest number later (reverse world.packets) acted.next.node
@@ -186,12 +188,12 @@ module _ (cluster : Cluster) where
   comes_to_node world number node least = by_packet (packet_of world.packets number)
     where
       up : Packet → Runner → Moved
-      up packet runner = shared (marked world number node) node (on_delivery runner packet [])
+      up packet runner = shared (marked world number node) node (on_delivery runner packet)
 
       there : (packet : Packet) (runner : Runner) → runner_at world node ≡ Some runner → MovesTo world (up packet runner)
       there packet runner is past still =
           let now = marked world number node in
-          shared_from now node least runner is (awaiting runner.node []) (on_delivery runner packet []) (held_none now node least runner is)
+          shared_from now node least runner is (awaiting runner.node []) (on_delivery runner packet) (held_none now node least runner is)
           (delivery_goes (Sends node) (sends node) runner packet []) past
           (record {
             stands = record { count = still.stands.count; each = still.stands.each; packets = still.stands.packets };
@@ -212,7 +214,7 @@ module _ (cluster : Cluster) where
   comes_again_to : (world : World) (number node : ℕ) → 1 ≤ node → MovesTo world (comes_again world number node)
   comes_again_to world number node least = by_test (is_up_at (runner_at world node))
     where
-      by_test : (up : Bool) → MovesTo world (if up then comes world number node else stays world)
+      by_test : (up : Bool) → MovesTo world (if up then comes world number node else rests world)
       by_test true = comes_to_node world number node least
       by_test false = λ past still. still
 
@@ -222,8 +224,8 @@ module _ (cluster : Cluster) where
   settles_to (suc more) nodes world = by_due (due world nodes) refl (settles_to more nodes)
     where
       by_due : (next : Option Due) → due world nodes ≡ next → ((other : World) → MovesTo other (settles more nodes other)) →
-          MovesTo world (if_due (stays world)
-          (λ next. then_moved (comes world next.number next.node) (settles more nodes (comes world next.number next.node).next)) next)
+          MovesTo world (if_due (rests world)
+          (λ next. followed_by (comes world next.number next.node) (settles more nodes (comes world next.number next.node).next)) next)
       by_due None is others = λ past still. still
       by_due (Some next) is others =
           let one = comes world next.number next.node in
@@ -258,8 +260,8 @@ module _ (cluster : Cluster) where
   -- a line leads there
   record LeadsTo (world : World) (done : Stepped) : Type 0 where
     next : World
-    stage_is : done.stage ≡ Some next
-    moves : (past : List NodeInput) → StandsStill past world → StandsStill (behind (inputs_of done.inputs) past) next
+    stage_is : done.next ≡ Some next
+    moves : (past : List NodeInput) → StandsStill past world → StandsStill (behind done.inputs past) next
 
   module _ (settings : Settings) where
     moved_to : (world : World) (moved : Moved) (done : Stepped) → MovesTo world moved → stepped moved ≡ Some done → LeadsTo world done
@@ -271,7 +273,7 @@ module _ (cluster : Cluster) where
 
     said_to : (world : World) (line : List ℕ) (said : Said) (done : Stepped) → said_within (length world.runners) line ≡ Some said →
         moved_by settings world said ≡ Some done → LeadsTo world done
-    said_to world line Skipped done says is = moved_to world (stays world) done (λ past still. still) is
+    said_to world line Skipped done says is = moved_to world (rests world) done (λ past still. still) is
     said_to world line (Nodes count serial) done says is = absurd cc
     said_to world line (Octets node session octets) done says is =
         let least = (spells_within (length world.runners) line (Octets node session octets) says).wording.0.least in
@@ -307,23 +309,23 @@ module _ (cluster : Cluster) where
         by_said None says is = absurd cc
         by_said (Some said) says is = said_to world line said done says is
 
-    pub lines_to : (lines : List (List ℕ)) (world : World) (inputs : List LineInput) (prints : List WorldPrint) (last : World) →
+    pub lines_to : (lines : List (List ℕ)) (world : World) (inputs : List NodeInput) (prints : List WorldPrint) (last : World) →
         Joins settings (Some world) lines inputs prints (Some last) → (past : List NodeInput) → StandsStill past world →
-        StandsStill (behind (inputs_of inputs) past) last
+        StandsStill (behind inputs past) last
     unfolding Joins
     lines_to [] world inputs prints last joins past still =
         let same : world ≡ last = (let is = joins.2 in cc) in
-        subst (StandsStill (behind (inputs_of inputs) past)) same
-        (subst (λ (came : List LineInput). StandsStill (behind (inputs_of came) past) world) (sym joins.0) still)
+        subst (StandsStill (behind inputs past)) same
+        (subst (λ (came : List NodeInput). StandsStill (behind came past) world) (sym joins.0) still)
     lines_to (line ∷ lines) world inputs prints last joins past still =
         let done = joins.0 in
         let one = line_to world line done joins.3 in
-        let middle = behind (inputs_of done.inputs) past in
+        let middle = behind done.inputs past in
         let rest = lines_to lines one.next joins.1 joins.2 last
         (subst (λ (s : Stage). Joins settings s lines joins.1 joins.2 (Some last)) one.stage_is joins.6) middle (one.moves past still) in
         subst (λ (now : List NodeInput). StandsStill now last)
-        (behind_lines done.inputs joins.1 past middle (behind (inputs_of joins.1) middle) refl refl
-        ∙ ap (λ (came : List LineInput). behind (inputs_of came) past) (sym joins.4)) rest
+        (behind_lines done.inputs joins.1 past middle (behind joins.1 middle) refl refl
+        ∙ ap (λ (came : List NodeInput). behind came past) (sym joins.4)) rest
 
 -- ---- a world that opens
 
@@ -374,10 +376,10 @@ behind_is (next ∷ inputs) past =
     ∙ sym (append_assoc (reverse inputs) (next ∷ []) past)
     ∙ ap (λ (front : List NodeInput). front ++ past) (sym (reverse_onto inputs next []))
 
-newest_is : (inputs : List LineInput) → behind (inputs_of inputs) [] ≡ newest_first inputs
-newest_is inputs = behind_is (inputs_of inputs) [] ∙ append-nil (reverse (inputs_of inputs))
+newest_is : (inputs : List NodeInput) → behind inputs [] ≡ newest_first inputs
+newest_is inputs = behind_is inputs [] ∙ append-nil (reverse inputs)
 
-pub script_run : (settings : Settings) (lines : List (List ℕ)) (came : List LineInput) (prints : List WorldPrint) (world : World) →
+pub script_run : (settings : Settings) (lines : List (List ℕ)) (came : List NodeInput) (prints : List WorldPrint) (world : World) →
     Joins settings None lines came prints (Some world) → IsRun settings lines came world
 unfolding Joins step_of
 script_run settings [] came prints world joins = absurd (let is = joins.2 in cc)
@@ -385,12 +387,12 @@ script_run settings (line ∷ lines) came prints world joins =
     by_said (said_within 9 line) refl joins.3 (script_run settings lines joins.1 joins.2 world)
   where
     -- a line to which nothing comes leads on
-    leads_on : (middle : Stage) → Some (record { stage = middle; inputs = []; prints = [] }) ≡ Some joins.0 →
+    leads_on : (middle : Stage) → Some (record { next = middle; inputs = []; prints = [] }) ≡ Some joins.0 →
         (came ≡ joins.1) × Joins settings middle lines joins.1 joins.2 (Some world)
     leads_on middle is =
-        let same = stepped_same (record { stage = middle; inputs = []; prints = [] }) joins.0 is in (
+        let same = stepped_same (record { next = middle; inputs = []; prints = [] }) joins.0 is in (
           joins.4 ∙ ap (λ (d : Stepped). d.inputs ++ joins.1) (sym same),
-          subst (λ (d : Stepped). Joins settings d.stage lines joins.1 joins.2 (Some world)) (sym same) joins.6,
+          subst (λ (d : Stepped). Joins settings d.next lines joins.1 joins.2 (Some world)) (sym same) joins.6,
         )
       where
         stepped_same : (one other : Stepped) → Some one ≡ Some other → one ≡ other
@@ -402,7 +404,7 @@ script_run settings (line ∷ lines) came prints world joins =
     by_said (Some Skipped) says is later =
         let on = leads_on None is in
         let run = later on.1 in
-        subst (λ (inputs : List LineInput). IsRun settings (line ∷ lines) inputs world) (sym on.0)
+        subst (λ (inputs : List NodeInput). IsRun settings (line ∷ lines) inputs world) (sym on.0)
         (record {
           count = run.count;
           serial = run.serial;
@@ -423,7 +425,7 @@ script_run settings (line ∷ lines) came prints world joins =
         first
         (opened_stands settings count serial wording.0.most wording.1) joins.1 joins.2 (Some world) on.1 in
         let still = lines_to cluster settings lines first joins.1 joins.2 world on.1 [] (opened_still settings count serial) in
-        let now : behind (inputs_of joins.1) [] ≡ newest_first came = newest_is joins.1 ∙ ap newest_first (sym on.0) in
+        let now : behind joins.1 [] ≡ newest_first came = newest_is joins.1 ∙ ap newest_first (sym on.0) in
         record {
           count = count;
           serial = serial;

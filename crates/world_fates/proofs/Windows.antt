@@ -44,7 +44,7 @@ use Rattle.sessions.specs.declared.response.Outgoing.{Outgoing}
 use Rattle.sessions.specs.declared.response.Response.{Response}
 use Rattle.sessions.specs.declared.response.Response.TheVariants.{Nack}
 use Rattle.script_text.specs.Runner.{session_in, session_or_opened}
-use Rattle.fate_laws.proofs.Posting.{found_in, left_in}
+use Rattle.world_fates.proofs.node.Posting.{found_in, left_in}
 use Rattle.world_fates.proofs.Entries.{found_entry}
 
 -- ---- what waits

@@ -15,22 +15,24 @@ use Rattle.node_model.specs.Kept.{Kept}
 use Rattle.node_model.specs.Stepped.{sender_of}
 use Rattle.node_laws.specs.Clusters.{NodeInput, kept_reached, step_at}
 use Rattle.node_laws.specs.Runs.{IsOneOf}
+use Rattle.script_text.specs.Left.{followed_by, rests}
 use Rattle.script_text.specs.Node.{Node, awaiting}
 use Rattle.script_text.specs.Prints.{Print}
-use Rattle.script_text.specs.Runner.{Acted, Runner, given_out, most_deliveries, on_delivery, on_grant, on_octets, on_restart, on_tick}
+use Rattle.script_text.specs.Runner.{Acted, Runner, given_out, on_delivery, on_grant, on_octets, on_restart, on_tick}
 use Rattle.script_text.specs.Settings.{Settings}
-use Rattle.script_world.specs.Prints.{At, Refuses, StopsSettling, WorldPrint}
-use Rattle.script_world.specs.World.{Due, Moved, NodeInput as LineInput, World, acts, all_come, comes, comes_again, comes_if, comes_to, no_node}
-use Rattle.script_world.specs.World.{crashed, crashes, crashes_if, due, due_among, due_at, due_first, grants, hears, if_due, if_up}
-use Rattle.script_world.specs.World.{is_down, is_up, is_up_at, lacks, marked, no_packet, node_numbers, on_replay, on_settle, packet_of}
-use Rattle.script_world.specs.World.{refuses, replays, restarts, restarts_if, runner_at, settles, shared, stays, takes_part, then_moved}
-use Rattle.script_world.specs.World.{ticks, unsettled, up_or_refuses}
-use Rattle.fate_laws.proofs.Posting.{found_in}
-use Rattle.fate_laws.proofs.Behind.{behind, behind_then, came_to, input_to, sent_later}
-use Rattle.fate_laws.proofs.ReceiptsOut.{AreReceiptsOut, receipts_out_later}
-use Rattle.fate_laws.proofs.Standing.{IsAt, IsFit, Member, WereSent, crash_steps}
-use Rattle.fate_laws.proofs.Tellings.{FactOfPrints, IsTelling, NodePrint, TakesDeliveries, by_node, prints_at}
-use Rattle.fate_laws.proofs.Acting.{ActsSo, IsServing, delivery_acts, gone_are_mute, grant_acts, mute_acts, octets_act, restart_acts, tick_acts}
+use Rattle.script_text.specs.Prints.{At, Refuses, StopsSettling, WorldPrint}
+use Rattle.script_text.specs.World.{most_deliveries}
+use Rattle.script_text.specs.World.{Due, Moved, World, acts, all_come, comes, comes_again, comes_if, comes_to, no_node}
+use Rattle.script_text.specs.World.{crashed, crashes, crashes_if, due, due_among, due_at, due_first, grants, hears, if_due, if_up}
+use Rattle.script_text.specs.World.{is_down, is_up, is_up_at, lacks, marked, no_packet, node_numbers, on_replay, on_settle, packet_of}
+use Rattle.script_text.specs.World.{refuses, replays, restarts, restarts_if, runner_at, settles, shared, takes_part}
+use Rattle.script_text.specs.World.{ticks, unsettled, up_or_refuses}
+use Rattle.world_fates.proofs.node.Posting.{found_in}
+use Rattle.world_fates.proofs.node.Behind.{behind, behind_then, came_to, input_to, sent_later}
+use Rattle.world_fates.proofs.node.ReceiptsOut.{AreReceiptsOut, receipts_out_later}
+use Rattle.world_fates.proofs.node.Standing.{IsAt, IsFit, Member, WereSent, crash_steps}
+use Rattle.world_fates.proofs.node.Tellings.{FactOfPrints, IsTelling, NodePrint, TakesDeliveries, by_node, prints_at}
+use Rattle.world_fates.proofs.node.Acting.{ActsSo, IsServing, delivery_acts, gone_are_mute, grant_acts, mute_acts, octets_act, restart_acts, tick_acts}
 use Rattle.world_fates.proofs.Places.{row_least, set_cases}
 
 -- ---- a crash of a node
@@ -61,10 +63,10 @@ pub record WorldStands (cluster : Cluster) (past : List NodeInput) (world : Worl
   pub sent : WereSent cluster past world.packets
 
 -- what came to nodes by lines
-abbrev pub to_cluster : LineInput → NodeInput
+abbrev pub to_cluster : NodeInput → NodeInput
 to_cluster next = input_to next.node next.input
 
-abbrev pub inputs_of : List LineInput → List NodeInput
+abbrev pub inputs_of : List NodeInput → List NodeInput
 inputs_of inputs = map to_cluster inputs
 
 -- what is printed at nodes: no other print tells of a fate
@@ -94,17 +96,17 @@ told_by_node node (print ∷ prints) = ap (λ (told : List NodePrint). by_node n
 -- the world stands where what came to nodes leads, and what is printed was given out
 pub record MovesSo (cluster : Cluster) (Tells : FactOfPrints) (past : List NodeInput) (moved : Moved) : Type 0 where
   pub later : List NodeInput
-  pub later_is : later ≡ behind (inputs_of moved.inputs) past
+  pub later_is : later ≡ behind moved.inputs past
   pub stands : WorldStands cluster later moved.next
   pub tell : (last : List NodeInput) (prints : List NodePrint) → Tells last later prints → Tells last past (told_by moved.prints ++ prints)
 
-pub behind_lines : (first others : List LineInput) (past middle later : List NodeInput) → middle ≡ behind (inputs_of first) past →
-    later ≡ behind (inputs_of others) middle → later ≡ behind (inputs_of (first ++ others)) past
+pub behind_lines : (first others : List NodeInput) (past middle later : List NodeInput) → middle ≡ behind first past →
+    later ≡ behind others middle → later ≡ behind (first ++ others) past
 behind_lines first others past middle later first_is others_are =
-    behind_then (inputs_of first) (inputs_of others) past middle later first_is others_are
+    behind_then first others past middle later first_is others_are
     ∙ ap (λ (inputs : List NodeInput). behind inputs past) (sym (map-append to_cluster first others))
 
-abbrev pub at_line : ℕ → Input → LineInput
+abbrev pub at_line : ℕ → Input → NodeInput
 at_line node input = record { node = node; input = input }
 
 pub of_one_node : (node : ℕ) (inputs : List Input) → inputs_of (map (at_line node) inputs) ≡ map (input_to node) inputs
@@ -154,7 +156,7 @@ due_least world nodes (number ∷ numbers) next is =
 module _ (cluster : Cluster) (Tells : FactOfPrints) (telling : IsTelling cluster Tells) where
   -- ---- nothing is done, or one thing after the other
 
-  stays_so : (past : List NodeInput) (world : World) → WorldStands cluster past world → MovesSo cluster Tells past (stays world)
+  stays_so : (past : List NodeInput) (world : World) → WorldStands cluster past world → MovesSo cluster Tells past (rests world)
   stays_so past world stands = record { later = past; later_is = refl; stands = stands; tell = λ last prints tells. tells }
 
   -- and what is printed is by no node
@@ -165,7 +167,7 @@ module _ (cluster : Cluster) (Tells : FactOfPrints) (telling : IsTelling cluster
   unsettled_so past world stands = record { later = past; later_is = refl; stands = stands; tell = λ last prints tells. tells }
 
   then_so : (past : List NodeInput) (first other : Moved) (moves : MovesSo cluster Tells past first) → MovesSo cluster Tells moves.later other →
-      MovesSo cluster Tells past (then_moved first other)
+      MovesSo cluster Tells past (followed_by first other)
   then_so past first other moves others = record {
     later = others.later;
     later_is = behind_lines first.inputs other.inputs past moves.later others.later moves.later_is others.later_is;
@@ -322,9 +324,9 @@ module _ (cluster : Cluster) (Tells : FactOfPrints) (telling : IsTelling cluster
         by_packet : (found : Option Packet) → packet_of world.packets number ≡ found → MovesSo cluster Tells past (comes_if world number node found)
         by_packet None is = refuses_so past world no_packet stands
         by_packet (Some packet) is =
-            if_up_so node least (λ runner. shared (marked world number node) node (on_delivery runner packet []))
+            if_up_so node least (λ runner. shared (marked world number node) node (on_delivery runner packet))
             (λ one_of runner serving.
-            shared_so past (marked world number node) (marked_stands number node) node one_of true (on_delivery runner packet [])
+            shared_so past (marked world number node) (marked_stands number node) node one_of true (on_delivery runner packet)
             (delivery_acts (member_of cluster node one_of) Tells telling past runner packet [] serving
             (λ other among. of_only (λ (p : Packet). In p (kept_reached cluster past).packets) packet other (packet_sent number packet is) among)))
 
@@ -340,7 +342,7 @@ module _ (cluster : Cluster) (Tells : FactOfPrints) (telling : IsTelling cluster
     comes_again_so : (number node : ℕ) → 1 ≤ node → MovesSo cluster Tells past (comes_again world number node)
     comes_again_so number node least = by_test (is_up_at (runner_at world node))
       where
-        by_test : (up : Bool) → MovesSo cluster Tells past (if up then comes world number node else stays world)
+        by_test : (up : Bool) → MovesSo cluster Tells past (if up then comes world number node else rests world)
         by_test true = comes_so number node least
         by_test false = stays_so past world stands
 
@@ -354,8 +356,8 @@ module _ (cluster : Cluster) (Tells : FactOfPrints) (telling : IsTelling cluster
     where
       by_due : (next : Option Due) → due world nodes ≡ next →
           ((now : List NodeInput) (other : World) → WorldStands cluster now other → MovesSo cluster Tells now (settles more nodes other)) →
-          MovesSo cluster Tells past (if_due (stays world)
-          (λ next. then_moved (comes world next.number next.node) (settles more nodes (comes world next.number next.node).next)) next)
+          MovesSo cluster Tells past (if_due (rests world)
+          (λ next. followed_by (comes world next.number next.node) (settles more nodes (comes world next.number next.node).next)) next)
       by_due None is others = stays_so past world stands
       by_due (Some next) is others =
           let one = comes world next.number next.node in

@@ -19,9 +19,9 @@ use Rattle.script_text.specs.Laws.{StatesFate}
 use Rattle.script_text.specs.Prints.{Delivers, Gone, Print}
 use Rattle.script_text.specs.Runner.{Runner, held_in}
 use Rattle.script_text.specs.Settings.{Settings}
-use Rattle.script_world.specs.Prints.{At, WorldPrint}
-use Rattle.script_world.specs.Script.{Joins, Stage, Stepped, step_of}
-use Rattle.script_world.specs.World.{NodeInput, World, runner_at}
+use Rattle.script_text.specs.Prints.{At, WorldPrint}
+use Rattle.script_text.specs.Script.{Joins, Stage, Stepped, step_of}
+use Rattle.script_text.specs.World.{NodeInput, World, runner_at}
 
 -- ---- by what came to nodes
 
@@ -89,7 +89,7 @@ pub record WentOut (settings : Settings) (lines : List (List ℕ)) (last : World
   pub done : Stepped
   pub said : IsSaid settings before world asking done
   pub goes : GoesOut world asking done node session sequence slot
-  pub stays : Stays settings done.stage later last node session
+  pub stays : Stays settings done.next later last node session
 
 -- Octets come on a session of a node, and in them a frame ends that reads as a deliver_sm_resp with ESME_ROK and this sequence_number
 -- (SMPP 3.4, 4.6.2, 5.1.3 and 5.1.4); it may have begun in octets that came before.

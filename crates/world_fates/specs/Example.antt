@@ -6,8 +6,8 @@ use Rattle.pdu_tables.specs.declared.state.State.TheVariants as states
 use Rattle.script_text.specs.Example.{second_script}
 use Rattle.script_text.specs.Laws.{TellsDeletion, TellsReceipt, TellsState}
 use Rattle.script_text.specs.Prints.{Print}
-use Rattle.script_world.specs.Prints.{At}
-use Rattle.script_world.specs.Script.{prints_of}
+use Rattle.script_text.specs.Prints.{At}
+use Rattle.script_text.specs.Script.{prints_of}
 
 -- At the node 1 an ESME binds, submits with a receipt asked for, and cancels, and all nodes agree. At the node 2 it binds and asks.
 abbrev pub cancelled_and_asked : List ℕ

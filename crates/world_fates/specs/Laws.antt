@@ -10,9 +10,9 @@ use Rattle.script_lines.specs.Said.{Grant, Said, said_within}
 use Rattle.script_text.specs.Laws.{StatesFate, TellsState}
 use Rattle.script_text.specs.Prints.{Print, Delivers}
 use Rattle.script_text.specs.Settings.{Settings}
-use Rattle.script_world.specs.Prints.{At, WorldPrint}
-use Rattle.script_world.specs.Script.{Joins, Stage, Stepped, nodes_of, prints_of, step_of}
-use Rattle.script_world.specs.World.{NodeInput, World}
+use Rattle.script_text.specs.Prints.{At, WorldPrint}
+use Rattle.script_text.specs.Script.{Joins, Stage, Stepped, nodes_of, prints_of, step_of}
+use Rattle.script_text.specs.World.{NodeInput, World}
 
 -- Two final states that a script prints for one message are equal, at whatever nodes they are printed.
 abbrev pub OneFateIsPrintedByAllNodes : Type 0

@@ -15,9 +15,9 @@ use Rattle.script_text.specs.Laws.{StatesFate, TellsState}
 use Rattle.script_text.specs.Prints.{Late, Print}
 use Rattle.script_text.specs.Runner.{Runner}
 use Rattle.script_text.specs.Settings.{Settings}
-use Rattle.script_world.specs.Prints.{At, WorldPrint}
-use Rattle.script_world.specs.Script.{Joins, Stage}
-use Rattle.script_world.specs.World.{NodeInput, World, runner_at}
+use Rattle.script_text.specs.Prints.{At, WorldPrint}
+use Rattle.script_text.specs.Script.{Joins, Stage}
+use Rattle.script_text.specs.World.{NodeInput, World, runner_at}
 
 -- In a world a request waits on a session of a node, with this sequence_number (SMPP 3.4, 2.9 and 5.1.4).
 pub record IsAskedAt (world : World) (node number sequence : ℕ) : Type 0 where

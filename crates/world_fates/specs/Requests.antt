@@ -14,9 +14,9 @@ use Rattle.script_text.specs.Laws.{StatesFate, TellsState}
 use Rattle.script_text.specs.Prints.{AtOnce, Delivers, Gone, Late, Print, Reports, Declined, Ungranted, Unsettled}
 use Rattle.script_text.specs.Runner.{Runner, held_in, on_frame}
 use Rattle.script_text.specs.Settings.{Settings}
-use Rattle.script_world.specs.Prints.{At, WorldPrint}
-use Rattle.script_world.specs.Script.{Joins, Stage, Stepped}
-use Rattle.script_world.specs.World.{NodeInput, World, runner_at}
+use Rattle.script_text.specs.Prints.{At, WorldPrint}
+use Rattle.script_text.specs.Script.{Joins, Stage, Stepped}
+use Rattle.script_text.specs.World.{NodeInput, World, runner_at}
 use Rattle.world_fates.specs.Deliveries.{IsSaid, Stays}
 use Rattle.world_fates.specs.Questions.{IsAskedAt, TellsAcceptance}
 use Rattle.world_fates.specs.Refusals.{NamesMessage}
@@ -70,7 +70,7 @@ pub record HasCome (settings : Settings) (lines : List (List ℕ)) (last : World
   pub ends : EndsIn world line node session pdu
   pub request : IsRequest pdu.body
   pub sequence_is : pdu.sequence ≡ sequence
-  pub stays : Stays settings done.stage later last node session
+  pub stays : Stays settings done.next later last node session
 
 -- What waits on a session came there in octets, and the session was not gone meanwhile: so no request with a sequence_number waits if none has come
 -- on the session that has it.

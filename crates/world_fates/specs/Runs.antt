@@ -5,10 +5,10 @@ use Rattle.mc_model.specs.cluster.Steps.{Cluster}
 use Rattle.node_laws.specs.Clusters.{MayHappen, NodeInput as ClusterInput, comes_to}
 use Rattle.script_lines.specs.Said.{Nodes, said_within}
 use Rattle.script_text.specs.Settings.{Settings}
-use Rattle.script_world.specs.Prints.{WorldPrint}
-use Rattle.script_world.specs.Runs.{StandsFor}
-use Rattle.script_world.specs.Script.{Joins, nodes_of}
-use Rattle.script_world.specs.World.{NodeInput, World}
+use Rattle.script_text.specs.Prints.{WorldPrint}
+use Rattle.script_text.specs.Runs.{StandsFor}
+use Rattle.script_text.specs.Script.{Joins, nodes_of}
+use Rattle.script_text.specs.World.{NodeInput, World}
 
 -- so many nodes with new stores, whose first messages have this serial
 abbrev pub cluster_of : Settings → ℕ → ℕ → Cluster
