@@ -237,6 +237,13 @@ module _ (cluster : Cluster) where
         fresh_query cluster.nodes cluster.serials it.beginning ticket request id chain it.past it.answered said.deed final (it.behind said.deed said.past)
         (subst (λ (i : ℕ). States said.deed i final) (about_it it.beginning ticket request id (Shown chain) it.past it.answered) said.states)
 
+    -- the message of a reply is the one that was asked for
+    pub about_asked : (answer : Answer) → MayHappen cluster (comes_to node next ∷ (middle ++ comes_to node (Arrival request) ∷ older)) →
+        (outputs_at cluster older (comes_to node (Arrival request))).ticket ≡ Some ticket → LivesOn node middle → AnsweredSo answer → id ≡ id_in request
+    about_asked answer may asked between among =
+        let it = is_asked older middle node ticket request next id answer may asked between among in
+        about_it it.beginning ticket request id answer it.past it.answered
+
     pub never_unknown : (accepting : Outputs) (taken : ℕ) →
         MayHappen cluster (comes_to node next ∷ (middle ++ comes_to node (Arrival request) ∷ older)) →
         In accepting (cluster_outputs cluster older) → In (record { ticket = taken; id = id; answer = Accepted }) accepting.replies →

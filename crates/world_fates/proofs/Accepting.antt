@@ -2,7 +2,9 @@
 use Rattle.std.proofs.Common.{◌≡◌, ℕ, ◌≤◌, List, [], ◌∷◌, ◌++◌, Option, Some, None, refl, sym, ◌∙◌, ap, subst, inl, inr, append-nil, arith}
 use Rattle.std.specs.Fmt.{decimal}
 use Rattle.std.specs.List.{AllByRecursion}
+use Rattle.mc_model.specs.message.Ids.{IsId}
 use Rattle.mc_model.specs.synod.Lists.{In}
+use Rattle.mc_model.specs.node.Actor.{Cancel, Query, Request, Submit, id_in}
 use Rattle.mc_model.specs.node.Input.{Input}
 use Rattle.mc_model.specs.node.Outputs.{Outputs, Reply}
 use Rattle.mc_model.specs.node.Replies.{Accepted, Answer, Kept as Keeps, NotMatched, NotOwner, Removed, Shown, TooLate, Unknown}
@@ -29,12 +31,14 @@ use Rattle.world_fates.proofs.node.Once.{of_all}
 use Rattle.world_fates.proofs.node.StepsOut.{step_now}
 use Rattle.world_fates.proofs.node.Telling.{delivery_is_mute}
 use Rattle.world_fates.proofs.node.Tellings.{IsTelling, NodePrint, TakesDeliveries, by_node, prints_at}
-use Rattle.world_fates.specs.Questions.{AnswersWhatWaited, TellsAcceptance, TellsUnknown}
+use Rattle.world_fates.specs.Questions.{AnswersWhatWaited, AsksAbout, TellsAcceptance, TellsUnknown}
 use Rattle.world_fates.proofs.Worlds.{told_by, told_by_all}
 use Rattle.world_fates.proofs.Printing.{JoinsSo, WorldSo, first_so, joined_so}
+use Rattle.world_fates.proofs.Holding.{MayAnswer}
+use Rattle.world_fates.proofs.Ids.{accepted_id}
 use Rattle.world_fates.proofs.Later.{CameSince}
 use Rattle.world_fates.proofs.LaterLines.{lines_fine}
-use Rattle.world_fates.proofs.Fresh.{Waited, given_first, waited_answers, waits_well}
+use Rattle.world_fates.proofs.Fresh.{Anything, OlderOr, Waited, given_first, older_answers, older_or, waits_well}
 
 -- ---- what a PDU tells of an answer
 
@@ -50,7 +54,7 @@ accepts requested sequence id (NotMatched chain) message_id status is = absurd (
 accepts requested sequence id Unknown message_id status is = absurd (omega (arith, status))
 accepts requested sequence id TooLate message_id status is = absurd (omega (arith, status))
 
-refuses_unknown : (requested : Requested) (sequence id : ℕ) (answer : Answer) →
+pub refuses_unknown : (requested : Requested) (sequence id : ℕ) (answer : Answer) →
     (reply_pdu requested sequence id answer).status ≡ status_code statuses.InvalidMessageId → answer ≡ Unknown
 refuses_unknown requested sequence id Accepted status = absurd (omega (arith, status))
 refuses_unknown requested sequence id (Shown chain) status = absurd (omega (arith, status))
@@ -71,6 +75,7 @@ module _ (cluster : Cluster) where
     pub among : In outputs (cluster_outputs cluster past)
     pub ticket : ℕ
     pub accepts : In (record { ticket = ticket; id = id; answer = Accepted }) outputs.replies
+    pub is_id : IsId id
 
   abbrev Accepts : List NodeInput → Print → Type 0
   Accepts past print = (id : ℕ) → TellsAcceptance print id → WasAccepted past id
@@ -78,7 +83,7 @@ module _ (cluster : Cluster) where
   accepted_later : (inputs past : List NodeInput) (print : Print) → Accepts past print → Accepts (behind inputs past) print
   accepted_later inputs past print accepts id tells =
       let it = accepts id tells in
-      record { outputs = it.outputs; among = given_later cluster inputs past it.outputs it.among; ticket = it.ticket; accepts = it.accepts }
+      record { outputs = it.outputs; among = given_later cluster inputs past it.outputs it.among; ticket = it.ticket; accepts = it.accepts; is_id = it.is_id }
 
   abbrev pub AcceptsAt : List NodeInput → NodePrint → Type 0
   AcceptsAt past printed = Accepts past printed.1
@@ -105,8 +110,9 @@ module _ (cluster : Cluster) where
   never_accepts past print never id tells = absurd (never tells.session id tells.pdu tells.printed)
 
   reply_accepts : (past : List NodeInput) (outputs : Outputs) → In outputs (cluster_outputs cluster past) → (number : ℕ) (requested : Requested)
-      (sequence : ℕ) (reply : Reply) → In reply outputs.replies → Accepts past (Late number reply.id (reply_pdu requested sequence reply.id reply.answer))
-  reply_accepts past outputs given number requested sequence reply among id tells =
+      (sequence : ℕ) (reply : Reply) → In reply outputs.replies → (reply.answer ≡ Accepted → IsId reply.id) →
+      Accepts past (Late number reply.id (reply_pdu requested sequence reply.id reply.answer))
+  reply_accepts past outputs given number requested sequence reply among ids id tells =
       let same = late_same number reply.id tells.session id (reply_pdu requested sequence reply.id reply.answer) tells.pdu tells.printed in
       let answer = accepts requested sequence reply.id reply.answer (decimal id) (ap (λ (p : Pdu). p.status) same.1 ∙ tells.status)
       (ap (λ (p : Pdu). p.body) same.1 ∙ tells.body) in
@@ -115,17 +121,19 @@ module _ (cluster : Cluster) where
         among = given;
         ticket = reply.ticket;
         accepts = subst (λ (r : Reply). In r outputs.replies) (λ i. record { ticket = reply.ticket; id = same.0 i; answer = answer i }) among;
+        is_id = subst IsId same.0 (ids answer);
       }
 
   replies_accept : (last past : List NodeInput) (outputs : Outputs) → In outputs (cluster_outputs cluster past) → (node : ℕ) (connected : List (ℕ × Session))
-      (replies : List Reply) (prints : List NodePrint) → ((reply : Reply) → In reply replies → In reply outputs.replies) → AcceptedFrom last past prints →
+      (replies : List Reply) (prints : List NodePrint) → ((reply : Reply) → In reply replies → In reply outputs.replies) →
+      ((reply : Reply) → In reply replies → reply.answer ≡ Accepted → IsId reply.id) → AcceptedFrom last past prints →
       AcceptedFrom last past (prints_at node (told connected replies).prints ++ prints)
   unfolding told
-  replies_accept last past outputs given node connected [] prints out it = it
-  replies_accept last past outputs given node connected (reply ∷ replies) prints out it =
+  replies_accept last past outputs given node connected [] prints out ids it = it
+  replies_accept last past outputs given node connected (reply ∷ replies) prints out ids it =
       at_owner (owner_of connected reply.ticket)
       (replies_accept last past outputs given node (replied connected reply.ticket (owner_of connected reply.ticket)) replies prints
-      (λ other among. out other (inr among)) it)
+      (λ other among. out other (inr among)) (λ other among. ids other (inr among)) it)
     where
       later : Told
       later = told (replied connected reply.ticket (owner_of connected reply.ticket)) replies
@@ -137,7 +145,7 @@ module _ (cluster : Cluster) where
           let request = owned.request in
           accepted_then last past node (Late owned.number reply.id (reply_pdu request.requested request.sequence reply.id reply.answer))
           (prints_at node later.prints ++ prints)
-          (reply_accepts past outputs given owned.number request.requested request.sequence reply (out reply (inl refl))) others
+          (reply_accepts past outputs given owned.number request.requested request.sequence reply (out reply (inl refl)) (ids reply (inl refl))) others
 
   pub accepted_takes : TakesDeliveries AcceptedFrom
   accepted_takes last past node number session taken prints submitted it =
@@ -154,15 +162,24 @@ module _ (cluster : Cluster) where
     replies = λ last past next connected prints may small it.
         accepted_next last past next (prints_at next.node (told connected (step_now cluster next past).outputs.replies).prints ++ prints)
         (replies_accept last (next ∷ past) (step_now cluster next past).outputs (inl refl) next.node connected
-        (step_now cluster next past).outputs.replies prints (λ reply among. among) it);
+        (step_now cluster next past).outputs.replies prints (λ reply among. among) (accepted_id cluster past next may) it);
   }
+
+-- what lines print that lead to a world was given out then
+pub accepted_so : (settings : Settings) (inputs : List NodeInput) (world : World) (prints : List WorldPrint)
+    (so : WorldSo settings AcceptedFrom accepted_telling accepted_takes inputs world prints)
+    (node : ℕ) (print : Print) → In (At node print) prints → (id : ℕ) → TellsAcceptance print id → WasAccepted so.cluster so.past id
+accepted_so settings inputs world prints so node print among =
+    let all = so.tell so.past [] (record { inputs = []; last_is = refl; tell = tt }) in
+    of_all (AcceptsAt so.cluster so.past) (told_by prints) (by_node node print)
+    (subst (AllByRecursion (AcceptsAt so.cluster so.past)) (append-nil (told_by prints)) all.tell) (told_by_all node print prints among)
 
 -- ---- later requests
 
 abbrev SaysKnown : ℕ → Reply → Type 0
 SaysKnown id reply = reply.id ≡ id → reply.answer ≡ Unknown → ⊥
 
-says_known : (cluster : Cluster) (node : ℕ) (first : List NodeInput) (id : ℕ) → WasAccepted cluster first id → (past : List NodeInput) (input : Input)
+pub says_known : (cluster : Cluster) (node : ℕ) (first : List NodeInput) (id : ℕ) → WasAccepted cluster first id → (past : List NodeInput) (input : Input)
     (ticket : ℕ) → CameSince cluster node first past ticket → MayHappen cluster (input_to node input ∷ past) → (reply : Reply) → ticket ≡ reply.ticket →
     In reply (step_now cluster (input_to node input) past).outputs.replies → SaysKnown id reply
 says_known cluster node first id accepted past input ticket since may reply same among about unknown =
@@ -175,33 +192,42 @@ says_known cluster node first id accepted past input ticket since may reply same
     reply_is : reply ≡ record { ticket = ticket; id = id; answer = Unknown }
     reply_is = λ i. record { ticket = sym same i; id = about i; answer = unknown i }
 
+-- that there is no such message is told to a query_sm or a cancel_sm alone
+asks_about : (request : Request) (answer : Answer) → answer ≡ Unknown → MayAnswer answer request → (id : ℕ) → id_in request ≡ id → AsksAbout id request
+asks_about (Query other account source) answer is may id about = about
+asks_about (Cancel other account source destination) answer is may id about = about
+asks_about (Submit other message) answer is may id about = absurd (subst (λ (a : Answer). MayAnswer a (Submit other message)) is may)
+
 pub later_requests : (settings : Settings) (before later : List (List ℕ)) (came coming : List NodeInput) (prints others : List WorldPrint) (world : World)
     (last : Stage) (here there : ℕ) (first answer : Print) (id : ℕ) → Joins settings None before came prints (Some world) →
     Joins settings (Some world) later coming others last → 1 ≤ there → In (At here first) prints → In (At there answer) others →
-    TellsAcceptance first id → TellsUnknown answer id → AnswersWhatWaited world there answer
+    TellsAcceptance first id → TellsUnknown answer id → AnswersWhatWaited (AsksAbout id) world there answer
 later_requests settings before later came coming prints others world last here there first answer id joins more least first_in answer_in accepts unknown =
     let so : WorldSo settings AcceptedFrom accepted_telling accepted_takes came world prints =
     first_so settings AcceptedFrom accepted_telling accepted_takes before came prints (Some world) joins in
     let cluster = so.cluster in
-    let all = so.tell so.past [] (record { inputs = []; last_is = refl; tell = tt }) in
-    let accepted : WasAccepted cluster so.past id =
-    of_all (AcceptsAt cluster so.past) (told_by prints) (by_node here first)
-    (subst (AllByRecursion (AcceptsAt cluster so.past)) (append-nil (told_by prints)) all.tell) (told_by_all here first prints first_in) id accepts in
+    let accepted = accepted_so settings came world prints so here first first_in id accepts in
     let rest : JoinsSo cluster (AcceptedFrom cluster) so.past coming others last =
-    joined_so settings cluster (AcceptedFrom cluster) (accepted_telling cluster) (accepted_takes cluster) later so.past world so.stands coming others last more in
+    joined_so settings cluster (AcceptedFrom cluster) (accepted_telling cluster) (accepted_takes cluster) later so.past world so.stands
+    coming others last more in
     let says = says_known cluster there so.past id accepted in
-    elim (lines_fine cluster there least so.past (Waited world there) (SaysKnown id) says settings later so.past world
-    (waits_well cluster so.past world so.stands there least (SaysKnown id) says) coming others last more
+    elim (lines_fine cluster there least so.past (Waited world there) Anything (OlderOr (SaysKnown id) cluster so.past world there)
+    (older_or cluster there so.past world (SaysKnown id) says) settings later so.past world
+    (waits_well cluster so.past world so.stands there least Anything (OlderOr (SaysKnown id) cluster so.past world there)
+    (older_or cluster there so.past world (SaysKnown id) says))
+    (λ session pdu comes asked is door next account request admitted. tt) coming others last more
     (subst (MayHappen cluster) rest.later_is rest.stands.fit.may) answer answer_in) [
       | inl aside ↦ absurd (aside.late unknown.session id unknown.pdu unknown.printed)
-      | inr it ↦ elim it.so [
-        | inl waited ↦ waited_answers world there it.number it.request it.reply answer it.print_is waited
-        | inr known ↦
-            let request = it.request in
-            let reply = it.reply in
-            let pdu = reply_pdu request.requested request.sequence reply.id reply.answer in
-            let same = late_same it.number reply.id unknown.session id pdu unknown.pdu (sym it.print_is ∙ unknown.printed) in
-            absurd (known same.0
-            (refuses_unknown request.requested request.sequence reply.id reply.answer (ap (λ (p : Pdu). p.status) same.1 ∙ unknown.status)))
-      ]
+      | inr it ↦
+          let request = it.request in
+          let reply = it.reply in
+          let pdu = reply_pdu request.requested request.sequence reply.id reply.answer in
+          let same = late_same it.number reply.id unknown.session id pdu unknown.pdu (sym it.print_is ∙ unknown.printed) in
+          let refused = refuses_unknown request.requested request.sequence reply.id reply.answer (ap (λ (p : Pdu). p.status) same.1 ∙ unknown.status) in
+          elim it.so [
+            | inl older ↦
+                older_answers cluster so.past world so.stands there least it.number request reply answer (AsksAbout id) it.print_is older
+                (asks_about older.held.request reply.answer refused older.held.may id (older.held.about ∙ same.0))
+            | inr known ↦ absurd (known same.0 refused)
+          ]
     ]

@@ -13,7 +13,7 @@ use Rattle.sessions.specs.Session.{Session}
 use Rattle.script_text.specs.Prints.{At, WorldPrint}
 use Rattle.script_text.specs.Script.{Joins, Stage, Stepped, step_by, step_of}
 use Rattle.script_text.specs.World.{NodeInput, World, opened}
-use Rattle.world_fates.specs.Deliveries.{GoesOut, IsAnswered, IsSaid, WentOut, comes}
+use Rattle.world_fates.specs.Deliveries.{GoesOut, IsAnswered, IsSaid, Stays, WentOut, comes}
 use Rattle.world_fates.proofs.Entries.{AreApart}
 use Rattle.world_fates.proofs.Windows.{WaitsOn}
 use Rattle.world_fates.proofs.Lines.{AreSound, IsHeard, WaitsAt, line_leads, opened_apart}
@@ -43,6 +43,21 @@ joins_more settings first middle (next ∷ lines) came prints line done joins do
   joins_more settings joins.0.next middle lines joins.1 joins.2 line done joins.6 does,
 )
 
+-- a session that stays does so by one more line
+pub stays_more : (settings : Settings) (first : Stage) (lines : List (List ℕ)) (world : World) (node session : ℕ) →
+    Stays settings first lines world node session → (line : List ℕ) (done : Stepped) → step_of settings (Some world) line ≡ Some done → (next : World) →
+    done.next ≡ Some next → (In (At node (Gone session)) done.prints → ⊥) → Stays settings first (lines ++ line ∷ []) next node session
+stays_more settings first lines world node session it line done does next stage ungone = record {
+  came = it.came ++ done.inputs;
+  prints = it.prints ++ done.prints;
+  joins = subst (λ (s : Stage). Joins settings first (lines ++ line ∷ []) (it.came ++ done.inputs) (it.prints ++ done.prints) s) stage
+      (joins_more settings first (Some world) lines it.came it.prints line done it.joins does);
+  stays = λ among. elim (in_either (At node (Gone session)) it.prints done.prints among) [
+    | inl here ↦ it.stays here
+    | inr there ↦ ungone there
+  ];
+}
+
 -- ---- what waits went out
 
 -- what waits in a world went out by the lines that lead there
@@ -51,9 +66,10 @@ record AllWentOut (settings : Settings) (before : List (List ℕ)) (world : Worl
   went : (node : ℕ) → 1 ≤ node → (session : ℕ) (slot : Slot) (sequence : ℕ) → WaitsAt world node session slot sequence →
       WentOut settings before world node session sequence slot
 
-abbrev GoesWell : Settings → List (List ℕ) → Stage → Type 0
-GoesWell settings before None = Unit {0}
-GoesWell settings before (Some world) = AllWentOut settings before world
+-- so it is of lines and of the world to which they lead, if they lead to one
+abbrev pub GoesWell : (List (List ℕ) → World → Type 0) → List (List ℕ) → Stage → Type 0
+GoesWell All before None = Unit {0}
+GoesWell All before (Some world) = All before world
 
 module _ (settings : Settings) (before : List (List ℕ)) (came : List NodeInput) (prints : List WorldPrint) (world : World)
     (joins : Joins settings None before came prints (Some world)) (line : List ℕ) (done : Stepped)
@@ -74,18 +90,7 @@ module _ (settings : Settings) (before : List (List ℕ)) (came : List NodeInput
     done = went.done;
     said = went.said;
     goes = went.goes;
-    stays = record {
-      came = went.stays.came ++ done.inputs;
-      prints = went.stays.prints ++ done.prints;
-      joins = subst
-          (λ (s : Stage). Joins settings went.done.next (went.later ++ line ∷ []) (went.stays.came ++ done.inputs) (went.stays.prints ++ done.prints) s)
-          stage
-          (joins_more settings went.done.next (Some world) went.later went.stays.came went.stays.prints line done went.stays.joins does);
-      stays = λ among. elim (in_either (At node (Gone session)) went.stays.prints done.prints among) [
-        | inl here ↦ went.stays.stays here
-        | inr there ↦ ungone there
-      ];
-    };
+    stays = stays_more settings went.done.next went.later world node session went.stays line done does next stage ungone;
   }
 
   -- it goes out by this line
@@ -104,10 +109,10 @@ module _ (settings : Settings) (before : List (List ℕ)) (came : List NodeInput
     stays = record { came = []; prints = []; joins = (refl, refl, sym stage); stays = λ among. among };
   }
 
-  one_more : AllWentOut settings before world → GoesWell settings lines done.next
+  one_more : AllWentOut settings before world → GoesWell (AllWentOut settings) lines done.next
   one_more all =
       let leads = line_leads settings world all.sound line done does in
-      subst (GoesWell settings lines) (sym leads.stage_is)
+      subst (GoesWell (AllWentOut settings) lines) (sym leads.stage_is)
       (record {
         sound = leads.sound;
         went = λ node least session slot sequence waits.
@@ -131,54 +136,60 @@ opened_well settings before count serial = record {
     nowhere : (session : ℕ) (slot : Slot) (sequence : ℕ) → WaitsOn [] session slot sequence → ⊥
     nowhere session slot sequence waits = waits.there
 
--- the lines behind these lead on so
-lines_well : (settings : Settings) (before : List (List ℕ)) (came : List NodeInput) (prints : List WorldPrint) (middle : Stage) →
-    Joins settings None before came prints middle → GoesWell settings before middle → (lines : List (List ℕ)) (coming : List NodeInput)
-    (others : List WorldPrint) (last : Stage) → Joins settings middle lines coming others last → GoesWell settings (before ++ lines) last
-unfolding Joins step_of
-lines_well settings before came prints middle joins well [] coming others last later =
-    subst (GoesWell settings (before ++ [])) (sym later.2) (subst (λ (front : List (List ℕ)). GoesWell settings front middle) (sym (append-nil before)) well)
-lines_well settings before came prints middle joins well (line ∷ lines) coming others last later =
-    let done = later.0 in
-    subst (λ (all : List (List ℕ)). GoesWell settings all last) (append_assoc before (line ∷ []) lines)
-    (lines_well settings (before ++ line ∷ []) (came ++ done.inputs) (prints ++ done.prints) done.next
-    (joins_more settings None middle before came prints line done joins later.3) (next middle joins well later.3) lines later.1 later.2 last later.6)
-  where
-    by_said : (said : Option Said) → (done : Stepped) → step_by settings None said ≡ Some done → GoesWell settings (before ++ line ∷ []) done.next
-    by_said None done is = absurd cc
-    by_said (Some Skipped) done is =
-        subst (λ (d : Stepped). GoesWell settings (before ++ line ∷ []) d.next) (same _ done is) tt
-      where
-        same : (one other : Stepped) → Some one ≡ Some other → one ≡ other
-        same one other is = cc
-    by_said (Some (Nodes count serial)) done is =
-        subst (λ (d : Stepped). GoesWell settings (before ++ line ∷ []) d.next) (same _ done is)
-        (opened_well settings (before ++ line ∷ []) count serial)
-      where
-        same : (one other : Stepped) → Some one ≡ Some other → one ≡ other
-        same one other is = cc
-    by_said (Some (Octets node session octets)) done is = absurd cc
-    by_said (Some (Deliver number node)) done is = absurd cc
-    by_said (Some (Crash node number after)) done is = absurd cc
-    by_said (Some (Tick node moment)) done is = absurd cc
-    by_said (Some (Grant node id)) done is = absurd cc
-    by_said (Some (Settle nodes)) done is = absurd cc
-    by_said (Some (Restart node)) done is = absurd cc
-    by_said (Some (Replay count)) done is = absurd cc
+-- If it is so where a world opens, and each line leads on so, then all lines lead on so.
+module _ (settings : Settings) (All : List (List ℕ) → World → Type 0)
+    (opens : (before : List (List ℕ)) (count serial : ℕ) → All before (opened settings count serial))
+    (leads : (before : List (List ℕ)) (came : List NodeInput) (prints : List WorldPrint) (world : World) → Joins settings None before came prints (Some world) →
+    (line : List ℕ) (done : Stepped) → step_of settings (Some world) line ≡ Some done → All before world → GoesWell All (before ++ line ∷ []) done.next) where
+  -- the lines behind these
+  lines_behind : (before : List (List ℕ)) (came : List NodeInput) (prints : List WorldPrint) (middle : Stage) →
+      Joins settings None before came prints middle → GoesWell All before middle → (lines : List (List ℕ)) (coming : List NodeInput)
+      (others : List WorldPrint) (last : Stage) → Joins settings middle lines coming others last → GoesWell All (before ++ lines) last
+  unfolding Joins step_of
+  lines_behind before came prints middle joins well [] coming others last later =
+      subst (GoesWell All (before ++ [])) (sym later.2) (subst (λ (front : List (List ℕ)). GoesWell All front middle) (sym (append-nil before)) well)
+  lines_behind before came prints middle joins well (line ∷ lines) coming others last later =
+      let done = later.0 in
+      subst (λ (all : List (List ℕ)). GoesWell All all last) (append_assoc before (line ∷ []) lines)
+      (lines_behind (before ++ line ∷ []) (came ++ done.inputs) (prints ++ done.prints) done.next
+      (joins_more settings None middle before came prints line done joins later.3) (next middle joins well later.3) lines later.1 later.2 last later.6)
+    where
+      same : (one other : Stepped) → Some one ≡ Some other → one ≡ other
+      same one other is = cc
 
-    next : (stage : Stage) → Joins settings None before came prints stage → GoesWell settings before stage → step_of settings stage line ≡ Some later.0 →
-        GoesWell settings (before ++ line ∷ []) later.0.next
-    next None joins well does = by_said (said_within 9 line) later.0 does
-    next (Some world) joins well does = one_more settings before came prints world joins line later.0 does well
+      by_said : (said : Option Said) → (done : Stepped) → step_by settings None said ≡ Some done → GoesWell All (before ++ line ∷ []) done.next
+      by_said None done is = absurd cc
+      by_said (Some Skipped) done is =
+          subst (λ (d : Stepped). GoesWell All (before ++ line ∷ []) d.next) (same _ done is) tt
+      by_said (Some (Nodes count serial)) done is =
+          subst (λ (d : Stepped). GoesWell All (before ++ line ∷ []) d.next) (same _ done is) (opens (before ++ line ∷ []) count serial)
+      by_said (Some (Octets node session octets)) done is = absurd cc
+      by_said (Some (Deliver number node)) done is = absurd cc
+      by_said (Some (Crash node number after)) done is = absurd cc
+      by_said (Some (Tick node moment)) done is = absurd cc
+      by_said (Some (Grant node id)) done is = absurd cc
+      by_said (Some (Settle nodes)) done is = absurd cc
+      by_said (Some (Restart node)) done is = absurd cc
+      by_said (Some (Replay count)) done is = absurd cc
+
+      next : (stage : Stage) → Joins settings None before came prints stage → GoesWell All before stage → step_of settings stage line ≡ Some later.0 →
+          GoesWell All (before ++ line ∷ []) later.0.next
+      next None joins well does = by_said (said_within 9 line) later.0 does
+      next (Some world) joins well does = leads before came prints world joins line later.0 does well
+
+  pub lines_lead : (lines : List (List ℕ)) (came : List NodeInput) (prints : List WorldPrint) (last : Stage) → Joins settings None lines came prints last →
+      GoesWell All lines last
+  unfolding Joins
+  lines_lead lines came prints last joins = lines_behind [] [] [] None (refl, refl, refl) tt lines came prints last joins
 
 -- ---- the law
 
 pub answered_in_octets : (settings : Settings) (before : List (List ℕ)) (world : World) (line : List ℕ) (done : Stepped) (node : ℕ) (slot : Slot)
     (error : ℕ) → IsSaid settings before world line done → In (comes node (Response slot (Concluded Delivered error))) done.inputs →
     IsAnswered settings before world line node slot
-unfolding Joins
 answered_in_octets settings before world line done node slot error said among =
-    let all : AllWentOut settings before world = lines_well settings [] [] [] None (refl, refl, refl) tt before said.came said.prints (Some world) said.joins in
+    let all : AllWentOut settings before world =
+    lines_lead settings (AllWentOut settings) (opened_well settings) (one_more settings) before said.came said.prints (Some world) said.joins in
     let leads = line_leads settings world all.sound line done said.does in
     let heard : IsHeard world line node slot = leads.answers node slot error among in
     let answer = heard.answer in

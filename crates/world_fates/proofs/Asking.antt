@@ -20,7 +20,7 @@ use Rattle.sessions.specs.declared.pushed.PushRefusal.{PushRefusal}
 use Rattle.sessions.specs.declared.request.OpenRequest.{OpenRequest}
 use Rattle.script_text.specs.Left.{followed_by, in_front, rests}
 use Rattle.script_text.specs.Laws.{TellsState}
-use Rattle.script_text.specs.Prints.{Late, Print, Reports}
+use Rattle.script_text.specs.Prints.{AtOnce, Gone, Late, Print, Reports}
 use Rattle.script_text.specs.Pushes.{pushed_on, session_at, target_in, with_push}
 use Rattle.script_text.specs.Receipts.{Mail, Posted, all_posted, goes_out, goes_out_up_to, is_for, posted, posted_for, posted_for_all}
 use Rattle.script_text.specs.Receipts.{posted_for_any, posted_to, reports_on, submitter_of, waits_for, with_both}
@@ -32,7 +32,7 @@ use Rattle.script_text.specs.Runner.{session_in, session_or_opened, told}
 use Rattle.world_fates.proofs.node.Behind.{behind}
 use Rattle.world_fates.proofs.node.Posting.{left_in}
 use Rattle.world_fates.proofs.node.Telling.{report_tells_no_state}
-use Rattle.world_fates.proofs.Entries.{found_entry, set_in}
+use Rattle.world_fates.proofs.Entries.{Has, found_entry, set_has, set_in}
 
 -- ---- requests that wait on sessions
 
@@ -50,7 +50,8 @@ AllAsked before after = (number : ℕ) (request : OpenRequest) → AsksOn after 
 
 -- one of them is another now
 set_asked : (before : List (ℕ × Session)) (at : ℕ) (session next : Session) → lookup (is_at (nat_cmp at)) before ≡ Some session → IsLess session next →
-    (number : ℕ) (request : OpenRequest) (other : Session) → (◌≡◌ {A = ℕ × Session} (number, other) (at, next)) ⊎ In (number, other) before → In request other.requests →
+    (number : ℕ) (request : OpenRequest) (other : Session) → (◌≡◌ {A = ℕ × Session} (number, other) (at, next)) ⊎ In (number, other) before →
+    In request other.requests →
     AsksOn before number request
 set_asked before at session next found less number request other (inl new) among = record {
   session = session;
@@ -92,21 +93,38 @@ pub record IsAside (print : Print) : Type 0 where
   pub state : (message_id : List ℕ) (state : ℕ) → TellsState print message_id state → ⊥
   pub late : (session id : ℕ) (pdu : Pdu) → print ≡ Late session id pdu → ⊥
 
+-- it answers nothing at once, and no session is gone by it
+pub record IsQuiet (print : Print) : Type 0 where
+  pub once : (session : ℕ) (pdu : Pdu) → AtOnce session pdu ≡ print → ⊥
+  pub gone : (session : ℕ) → Gone session ≡ print → ⊥
+
 -- ---- receipts go out
 
 pub record Posts (mail : Mail) (posted : Posted) : Type 0 where
   pub asked : AllAsked mail.sessions posted.next.sessions
+  pub has : (number : ℕ) → Has posted.next.sessions number → Has mail.sessions number
   pub aside : (print : Print) → In print posted.prints → IsAside print
+  pub quiet : (print : Print) → In print posted.prints → IsQuiet print
 
 stays_posted : (mail : Mail) → Posts mail (rests mail)
-stays_posted mail = record { asked = λ number request asks. asks; aside = λ print among. absurd among }
+stays_posted mail = record {
+  asked = λ number request asks. asks;
+  has = λ number has. has;
+  aside = λ print among. absurd among;
+  quiet = λ print among. absurd among;
+}
 
 then_posts : (mail : Mail) (first last : Posted) → Posts mail first → Posts first.next last → Posts mail (followed_by first last)
 then_posts mail first last one other = record {
   asked = λ number request asks. one.asked number request (other.asked number request asks);
+  has = λ number has. one.has number (other.has number has);
   aside = λ print among. elim (in_either print first.prints last.prints among) [
     | inl here ↦ one.aside print here
     | inr there ↦ other.aside print there
+  ];
+  quiet = λ print among. elim (in_either print first.prints last.prints among) [
+    | inl here ↦ one.quiet print here
+    | inr there ↦ other.quiet print there
   ];
 }
 
@@ -122,10 +140,27 @@ reports_aside at (Some session) (Some report) print (inr none) = absurd none
 reports_aside at None report print among = absurd among
 reports_aside at (Some session) None print among = absurd among
 
+reports_quiet : (at : ℕ) (session : Option Session) (report : Option Report) (print : Print) → In print (reports_on at session report) → IsQuiet print
+reports_quiet at (Some session) (Some report) print (inl same) =
+    subst IsQuiet (sym same) (record { once = λ other pdu is. absurd cc; gone = λ other is. absurd cc })
+reports_quiet at (Some session) (Some report) print (inr none) = absurd none
+reports_quiet at None report print among = absurd among
+reports_quiet at (Some session) None print among = absurd among
+
+push_has : (connected : List (ℕ × Session)) (at now : ℕ) (delivery : Delivery) (number : ℕ) → Has (with_push connected at now delivery) number →
+    Has connected number
+push_has connected at now delivery number has = by_found (session_at connected at) has
+  where
+    by_found : (found : Option Session) → Has (pushed_on connected at now delivery found) number → Has connected number
+    by_found None has = has
+    by_found (Some session) has = set_has (is_at (nat_cmp at)) connected (on_push session now delivery) number has
+
 goes_out_posts : (now : ℕ) (account : List ℕ) (mail : Mail) (receipt : Receipt) (at : ℕ) → Posts mail (goes_out now account mail receipt at)
 goes_out_posts now account mail receipt at = record {
   asked = push_asked mail.sessions at now (deliveries.Receipt receipt.id);
+  has = push_has mail.sessions at now (deliveries.Receipt receipt.id);
   aside = reports_aside at (session_at mail.sessions at) _;
+  quiet = reports_quiet at (session_at mail.sessions at) _;
 }
 
 goes_out_up_to_posts : (most now : ℕ) (account : List ℕ) (mail : Mail) → Posts mail (goes_out_up_to most now account mail)
@@ -162,7 +197,7 @@ posted_to_posts : (now : ℕ) (mail : Mail) (receipt : Receipt) (account : Optio
 posted_to_posts now mail receipt None = stays_posted mail
 posted_to_posts now mail receipt (Some account) =
     let it = posted_for_posts now (record mail { waiting = waits_for account mail.waiting receipt }) account in
-    record { asked = it.asked; aside = it.aside }
+    record { asked = it.asked; has = it.has; aside = it.aside; quiet = it.quiet }
 
 pub all_posted_posts : (now : ℕ) (mail : Mail) (receipts : List Receipt) → Posts mail (all_posted now mail receipts)
 unfolding all_posted

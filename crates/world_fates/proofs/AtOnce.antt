@@ -1,14 +1,13 @@
 -- A query_sm or a cancel_sm with the message_id of an id is at no time refused at once as one for a message that there is not.
-use Rattle.std.proofs.Common.{◌≡◌, ◌≢◌, ℕ, zero, suc, Bool, true, false, List, [], ◌∷◌, ◌++◌, length, Option, Some, None, Result, Ok, Err}
+use Rattle.std.proofs.Common.{◌≡◌, ◌≢◌, ℕ, Bool, true, false, List, [], ◌∷◌, Option, Some, None, Result, Ok, Err, refl}
 use Rattle.std.proofs.Common.{sym, ◌∙◌, ap, subst, inl, inr, arith}
-use Rattle.std.specs.Prelude.{if◌then◌else◌, find}
+use Rattle.std.specs.Prelude.{if◌then◌else◌}
 use Rattle.std.specs.Fmt.{decimal}
 use Rattle.std.specs.Str.{bytes_eq}
 use Rattle.mc_model.specs.message.Ids.{IsId}
 use Rattle.mc_model.specs.synod.Lists.{In}
 use Rattle.mc_model.specs.node.Actor.{Cancel, Query, Request as Waited}
 use Rattle.mc_model.specs.node.Input.{Arrival, Input, Refusal}
-use Rattle.mc_model.specs.node.Outputs.{Receipt}
 use Rattle.mc_parts.proofs.Membership.{in_either}
 use Rattle.mc_types.specs.Texts.{id_in}
 use Rattle.mc_types.proofs.Texts.{ids_and_texts}
@@ -22,7 +21,6 @@ use Rattle.pdu_bodies.specs.declared.pdu.Pdu.{Pdu}
 use Rattle.pdu_bodies.specs.declared.pdu.Query.{Query as QueryBody}
 use Rattle.pdu_codec.specs.Pdu.{read_pdu}
 use Rattle.pdu_fields.specs.declared.fault.PduFault.{PduFault}
-use Rattle.receipts.specs.Texts.{Report}
 use Rattle.sessions.specs.Session.{Session}
 use Rattle.sessions.specs.States.{in_state}
 use Rattle.sessions.specs.Steps.{on_cell, refused}
@@ -37,14 +35,13 @@ use Rattle.desk.specs.Admissions.{about, admitted, asks_about}
 use Rattle.desk.specs.Arrivals.{door_at, judged_as, next_id}
 use Rattle.desk.specs.declared.request.Request.{Request}
 use Rattle.desk.specs.declared.request.Request.TheVariants.{Ask, Cancel as Cancels}
-use Rattle.script_text.specs.Left.{followed_by, rests}
 use Rattle.script_text.specs.Node.{Node, step_at}
 use Rattle.script_text.specs.Prints.{AtOnce, Print}
-use Rattle.script_text.specs.Pushes.{session_at, target_in}
-use Rattle.script_text.specs.Receipts.{Mail, goes_out, goes_out_up_to, is_for, posted_for_any, reports_on, with_both}
+use Rattle.script_text.specs.Receipts.{posted_for_any}
 use Rattle.script_text.specs.Runner.{Runner, came_by, mail_of, on_done, on_frame, on_reaction, on_read, on_request, refusal_prints, served_at, session_in}
 use Rattle.script_text.specs.Settings.{Settings}
 use Rattle.world_fates.specs.Refusals.{NamesMessage}
+use Rattle.world_fates.proofs.Asking.{posted_for_any_posts}
 
 -- at no place is a request refused with ESME_RINVMSGID
 abbrev IsKnown : List Print → Type 0
@@ -59,43 +56,6 @@ only_known number one never session pdu (inl same) is = never (ap (λ (p : Pdu).
     the_pdu : AtOnce session pdu ≡ AtOnce number one → pdu ≡ one
     the_pdu same = cc
 only_known number one never session pdu (inr none) is = none
-
--- ---- receipts go out
-
-abbrev IsLate : List Print → Type 0
-IsLate prints = (session : ℕ) (pdu : Pdu) → In (AtOnce session pdu) prints → ⊥
-
-then_late : (first last : List Print) → IsLate first → IsLate last → IsLate (first ++ last)
-then_late first last one other session pdu among = elim (in_either (AtOnce session pdu) first last among) [
-  | inl here ↦ one session pdu here
-  | inr there ↦ other session pdu there
-]
-
-reports_late : (at : ℕ) (session : Option Session) (report : Option Report) → IsLate (reports_on at session report)
-reports_late at (Some session) (Some report) other pdu (inl same) = cc
-reports_late at (Some session) (Some report) other pdu (inr none) = none
-reports_late at None report other pdu among = among
-reports_late at (Some session) None other pdu among = among
-
-up_to_late : (most now : ℕ) (account : List ℕ) (mail : Mail) → IsLate (goes_out_up_to most now account mail).prints
-unfolding goes_out_up_to
-up_to_late zero now account mail = λ session pdu among. among
-up_to_late (suc more) now account mail =
-    at_both (find (is_for account) mail.waiting) (target_in mail.sessions account) (up_to_late more now account)
-  where
-    at_both : (found : Option Receipt) (target : Option ℕ) → ((next : Mail) → IsLate (goes_out_up_to more now account next).prints) →
-        IsLate (with_both (rests mail)
-        (λ receipt number. followed_by (goes_out now account mail receipt number)
-        (goes_out_up_to more now account (goes_out now account mail receipt number).next)) found target).prints
-    at_both (Some receipt) (Some number) behind =
-        let one = goes_out now account mail receipt number in
-        then_late one.prints (goes_out_up_to more now account one.next).prints (reports_late number (session_at mail.sessions number) _) (behind one.next)
-    at_both None target behind = λ session pdu among. among
-    at_both (Some receipt) None behind = λ session pdu among. among
-
-any_late : (now : ℕ) (mail : Mail) (account : Option (List ℕ)) → IsLate (posted_for_any now mail account).prints
-any_late now mail None = λ session pdu among. among
-any_late now mail (Some account) = up_to_late (length mail.waiting) now account mail
 
 -- ---- what the node says at once
 
@@ -236,5 +196,7 @@ ids_known settings number session runner frame asked id pdu reads names is_id am
       | inl here ↦
           subst (λ (read : Result Pdu PduFault). IsKnown (on_read settings number runner.node held frame read).prints) (sym reads)
           (body_served settings number runner.node held id is_id asked.status asked.sequence asked.body names frame) session pdu here
-      | inr there ↦ absurd (any_late next.node.kept.clock (mail_of next) served.next.session.account session pdu there)
+      | inr there ↦
+          let posts = posted_for_any_posts next.node.kept.clock (mail_of next) served.next.session.account in
+          absurd ((posts.quiet (AtOnce session pdu) there).once session pdu refl)
     ]

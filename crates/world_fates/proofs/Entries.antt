@@ -135,7 +135,7 @@ module _ {X : Type 0} where
       by_test false here behind (inl same) = inr (inl same)
       by_test false here behind (inr later) = elim (behind later) [ inl new ↦ inl new | inr old ↦ inr (inr old) ]
 
-  set_has : (test : ℕ → Bool) (es : List (ℕ × X)) (value : X) (number : ℕ) → Has (set_value test es value) number → Has es number
+  pub set_has : (test : ℕ → Bool) (es : List (ℕ × X)) (value : X) (number : ℕ) → Has (set_value test es value) number → Has es number
   set_has test [] value number has = absurd has.among
   set_has test (e ∷ es) value number has = by_test (test e.0) (set_has test es value number) has
     where

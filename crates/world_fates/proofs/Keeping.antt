@@ -241,7 +241,8 @@ silent_keeps Answers connected acted apart waited ungone silent = record {
   answers = λ slot error among. absurd (silent slot error among);
 }
 
-posts_keep : (Answers : Slot → Type 0) (runner : Runner) (posted : Posted) → Posts (mail_of runner) posted → Keeps Answers runner.sessions (with_posted runner posted)
+posts_keep : (Answers : Slot → Type 0) (runner : Runner) (posted : Posted) → Posts (mail_of runner) posted →
+    Keeps Answers runner.sessions (with_posted runner posted)
 posts_keep Answers runner posted it =
     silent_keeps Answers runner.sessions (with_posted runner posted) it.apart it.waited it.ungone (λ slot error among. among)
 
@@ -426,10 +427,10 @@ pub record IsAnswerIn (frames : List (List ℕ)) (connected : List (ℕ × Sessi
   pub waits : WaitsOn connected number slot sequence
 
 -- what serving a session leaves
-record IsServed (Answers : Slot → Type 0) (number : ℕ) (session : Session) (served : Served) : Type 0 where
-  fewer : IsFewer session served.next.session
-  gone : (other : ℕ) → In (Gone other) served.prints → (other ≡ number) × (is_gone served.next.session.state ≡ true)
-  answers : (slot : Slot) (error : ℕ) → In (Response slot (Concluded Delivered error)) served.inputs → Answers slot
+pub record IsServed (Answers : Slot → Type 0) (number : ℕ) (session : Session) (served : Served) : Type 0 where
+  pub fewer : IsFewer session served.next.session
+  pub gone : (other : ℕ) → In (Gone other) served.prints → (other ≡ number) × (is_gone served.next.session.state ≡ true)
+  pub answers : (slot : Slot) (error : ℕ) → In (Response slot (Concluded Delivered error)) served.inputs → Answers slot
 
 module _ (Answers : Slot → Type 0) (number : ℕ) (node : Node) where
   refusal_ungone : (requested : Requested) (sequence : ℕ) (refused : Option ℕ) (other : ℕ) →
@@ -527,15 +528,16 @@ module _ (Answers : Slot → Type 0) (number : ℕ) (node : Node) where
   reaction_served settings came before session reactions.Nothing comes tells = unasked_served before session [] comes.fewer (λ other among. among)
 
 -- no PDU came, so no answer
-faults_served : (Answers : Slot → Type 0) (settings : Settings) (number : ℕ) (node : Node) (session : Session) (done : Done) → ComesOf session done →
+pub faults_served : (Answers : Slot → Type 0) (settings : Settings) (number : ℕ) (node : Node) (session : Session) (done : Done) → ComesOf session done →
     IsServed Answers number session (on_done settings number node nothing_came done)
 faults_served Answers settings number node session done comes =
-    reaction_served Answers number node settings nothing_came session done.next done.reaction comes (λ pushed among slot error attempt told. absurd (never error told))
+    reaction_served Answers number node settings nothing_came session done.next done.reaction comes
+    (λ pushed among slot error attempt told. absurd (never error told))
   where
     never : (error : ℕ) → None ≡ Some (Concluded Delivered error) → ⊥
     never error is = cc
 
-read_served : (settings : Settings) (number : ℕ) (node : Node) (connected : List (ℕ × Session)) (octets : List ℕ) (read : Result Pdu PduFault) →
+pub read_served : (settings : Settings) (number : ℕ) (node : Node) (connected : List (ℕ × Session)) (octets : List ℕ) (read : Result Pdu PduFault) →
     read_pdu octets ≡ read → IsServed (IsAnswerIn (octets ∷ []) connected number) number (session_in connected number)
     (on_read settings number node (session_in connected number) octets read)
 read_served settings number node connected octets (Ok pdu) reads =
@@ -573,7 +575,7 @@ put_waited connected number next fewer other slot sequence waits =
       }
     ]
 
-put_apart : (connected : List (ℕ × Session)) (number : ℕ) (next : Session) → AreApart connected → AreApart (put_at connected number next)
+pub put_apart : (connected : List (ℕ × Session)) (number : ℕ) (next : Session) → AreApart connected → AreApart (put_at connected number next)
 put_apart connected number next apart =
     insert_apart (remove_entry (is_at (nat_cmp number)) connected) number next (none_left number connected apart)
     (remove_apart (is_at (nat_cmp number)) connected apart)
@@ -628,7 +630,7 @@ serves_keeps Answers runner number served apart it =
 
 -- ---- the octets of a session
 
-frame_keeps : (settings : Settings) (number : ℕ) (runner : Runner) (octets : List ℕ) → AreApart runner.sessions →
+pub frame_keeps : (settings : Settings) (number : ℕ) (runner : Runner) (octets : List ℕ) → AreApart runner.sessions →
     Keeps (IsAnswerIn (octets ∷ []) runner.sessions number) runner.sessions (on_frame settings number runner octets)
 unfolding on_frame
 frame_keeps settings number runner octets apart =

@@ -44,6 +44,7 @@ use Rattle.sessions.specs.declared.request.OpenRequest.{OpenRequest}
 use Rattle.sessions.specs.declared.requested.Requested.{Requested}
 use Rattle.desk.specs.Admissions.{admitted}
 use Rattle.desk.specs.Arrivals.{door_at, judged_as, next_id}
+use Rattle.desk.specs.declared.door.Door.{Door}
 use Rattle.desk.specs.declared.request.Request.{Request}
 use Rattle.script_text.specs.Left.{followed_by, rests}
 use Rattle.script_text.specs.Attempts.{Went, all_given_up, concluded, delivered_so, given_up, submission_at, unanswered, went}
@@ -56,7 +57,7 @@ use Rattle.script_text.specs.Runner.{Acted, Came, Runner, Served, answered_by, c
 use Rattle.script_text.specs.Runner.{granted, granted_unless, held_in, holds, in_window, last_incarnation, mail_of, makes_room, no_incarnation}
 use Rattle.script_text.specs.Runner.{nothing_came, on_delivery, on_done, on_frame, on_frames, on_grant, on_octets, on_reaction, on_read, on_request}
 use Rattle.script_text.specs.Runner.{on_rest, on_restart, on_tick, opened_at, posts, posts_for, posts_for_all, pushes, put_at, refusal_prints}
-use Rattle.script_text.specs.Runner.{reports_by, restarted, sent, sent_to, served_at, serves, session_in, ticked, unasked, with_posted}
+use Rattle.script_text.specs.Runner.{reports_by, request_of, restarted, sent, sent_to, served_at, serves, session_in, ticked, unasked, with_posted}
 use Rattle.script_text.specs.Settings.{Settings}
 use Rattle.world_fates.proofs.node.Behind.{behind, behind_both, came_to, happened_before, input_to}
 use Rattle.world_fates.proofs.node.StepsOut.{step_now}
@@ -133,6 +134,16 @@ module _ (cluster : Cluster) (m : ℕ) (first : List NodeInput) where
     lives = λ lost among. elim among [ inl same ↦ never lost same | inr later ↦ it.lives lost later ];
   }
 
+  -- it came on a session, on which it was asked for with this sequence_number
+  pub record CameOn (Asked : ℕ → ℕ → Waited → Type 0) (past : List NodeInput) (number : ℕ) (waits : OpenRequest) : Type 0 where
+    pub since : CameSince past waits.ticket
+    pub asked : Asked number waits.sequence since.request
+
+  pub on_later : (Asked : ℕ → ℕ → Waited → Type 0) (past : List NodeInput) (next : NodeInput) → ((lost : ℕ) → comes_to m (Restart lost) ≡ next → ⊥) →
+      (number : ℕ) (waits : OpenRequest) → CameOn Asked past number waits → CameOn Asked (next ∷ past) number waits
+  unfolding since_later
+  on_later Asked past next never number waits it = record { since = since_later past next never waits.ticket it.since; asked = it.asked }
+
   -- the node of a script keeps what the node of the cluster keeps
   pub record IsNode (past : List NodeInput) (node : Node) : Type 0 where
     pub front : List NodeInput
@@ -196,21 +207,35 @@ module _ (cluster : Cluster) (m : ℕ) (first : List NodeInput) where
 
   -- ---- acts
 
-  module _ (Before : ℕ → OpenRequest → Type 0) (Says : Reply → Type 0)
-      (says : (past : List NodeInput) (input : Input) (ticket : ℕ) → CameSince past ticket → MayHappen cluster (input_to m input ∷ past) → (reply : Reply) →
-      ticket ≡ reply.ticket → In reply (step_now cluster (input_to m input) past).outputs.replies → Says reply) where
+  module _ (Before : ℕ → OpenRequest → Type 0) (Asked : ℕ → ℕ → Waited → Type 0) (Says : ℕ → OpenRequest → Reply → Type 0)
+      (says : (front past : List NodeInput) → past ≡ front ++ first → (input : Input) (number : ℕ) (waits : OpenRequest) →
+      Before number waits ⊎ CameOn Asked past number waits → MayHappen cluster (input_to m input ∷ past) → (reply : Reply) →
+      waits.ticket ≡ reply.ticket → In reply (step_now cluster (input_to m input) past).outputs.replies → Says number waits reply) where
+    abbrev pub CameBeforeOrSince : List NodeInput → ℕ → OpenRequest → Type 0
+    CameBeforeOrSince past number waits = Before number waits ⊎ CameOn Asked past number waits
+
+    -- what was asked for on a session with a sequence_number waits as that which was asked for
+    abbrev pub AsksBy : ℕ → ℕ → Option Request → Type 0
+    AsksBy number sequence wish =
+        (asked : Request) → wish ≡ Some asked → (door : Door) (next : ℕ) (account : List ℕ) (request : Waited) →
+        admitted door next account asked ≡ Ok request → Asked number sequence request
+
+    abbrev pub FrameAsks : Settings → ℕ → List ℕ → Type 0
+    FrameAsks settings number octets = (pdu : Pdu) → read_pdu octets ≡ Ok pdu → AsksBy number pdu.sequence (request_of settings.routes pdu.body)
+
     -- each request that waits came since, or before
     abbrev pub AllCame : List NodeInput → List (ℕ × Session) → Type 0
     AllCame past connected =
-        (number : ℕ) (request : OpenRequest) → AsksOn connected number request → Before number request ⊎ CameSince past request.ticket
+        (number : ℕ) (request : OpenRequest) → AsksOn connected number request → CameBeforeOrSince past number request
 
-    -- a print answers a request that came before, or says what it may
+    -- a print answers a request so
     pub record IsAnswer (print : Print) : Type 0 where
       pub number : ℕ
       pub request : OpenRequest
       pub reply : Reply
       pub print_is : print ≡ Late number reply.id (reply_pdu request.requested request.sequence reply.id reply.answer)
-      pub so : Before number request ⊎ Says reply
+      pub ticket_is : request.ticket ≡ reply.ticket
+      pub so : Says number request reply
 
     abbrev pub IsFine : Print → Type 0
     IsFine print = IsAside print ⊎ IsAnswer print
@@ -231,7 +256,7 @@ module _ (cluster : Cluster) (m : ℕ) (first : List NodeInput) where
         AllCame past connected → AllCame (next ∷ past) connected
     came_next past connected next never came number request asks = elim (came number request asks) [
       | inl before ↦ inl before
-      | inr since ↦ inr (since_later past next never request.ticket since)
+      | inr on ↦ inr (on_later Asked past next never number request on)
     ]
 
     came_through : (inputs : List Input) (past : List NodeInput) (connected : List (ℕ × Session)) → IsPlain inputs → AllCame past connected →
@@ -275,12 +300,9 @@ module _ (cluster : Cluster) (m : ℕ) (first : List NodeInput) where
                 request = it.request;
                 reply = it.reply;
                 print_is = it.print_is;
-                so = elim (came it.number it.request it.asks) [
-                  | inl before ↦ inl before
-                  | inr since ↦
-                      inr (says past input it.request.ticket since may it.reply it.ticket_is
-                      (subst (λ (s : NodeStep). In it.reply s.outputs.replies) (same_step past node is input) it.among))
-                ];
+                ticket_is = it.ticket_is;
+                so = says is.front past is.front_is input it.number it.request (came it.number it.request it.asks) may it.reply it.ticket_is
+                    (subst (λ (s : NodeStep). In it.reply s.outputs.replies) (same_step past node is input) it.among);
               });
         }
 
@@ -374,10 +396,10 @@ module _ (cluster : Cluster) (m : ℕ) (first : List NodeInput) where
 
     -- ---- a frame
 
-    record ServedWell (past : List NodeInput) (before : Session) (served : Served) : Type 0 where
+    record ServedWell (past : List NodeInput) (number : ℕ) (before : Session) (served : Served) : Type 0 where
       node : IsNode (came_to m served.inputs past) served.next.node
       came : (request : OpenRequest) → In request served.next.session.requests →
-          In request before.requests ⊎ CameSince (came_to m served.inputs past) request.ticket
+          In request before.requests ⊎ CameOn Asked (came_to m served.inputs past) number request
       plain : IsPlain served.inputs
       aside : (print : Print) → In print served.prints → IsAside print
 
@@ -386,7 +408,7 @@ module _ (cluster : Cluster) (m : ℕ) (first : List NodeInput) where
       at_once_aside {pdu} print mute same = subst IsAside (sym same) (mute_aside (AtOnce number pdu) mute not_late)
 
       unasked_well : (before session : Session) (prints : List Print) → ((request : OpenRequest) → In request session.requests → In request before.requests) →
-          ((print : Print) → In print prints → IsAside print) → ServedWell past before (unasked node session prints)
+          ((print : Print) → In print prints → IsAside print) → ServedWell past number before (unasked node session prints)
       unasked_well before session prints less aside = record {
         node = is;
         came = λ request among. inl (less request among);
@@ -394,22 +416,25 @@ module _ (cluster : Cluster) (m : ℕ) (first : List NodeInput) where
         aside = aside;
       }
 
-      asked_since : (judged : Result Waited Status) (ticket : ℕ) → (step_at node (judged_as judged)).outputs.ticket ≡ Some ticket →
-          CameSince (input_to m (judged_as judged) ∷ past) ticket
-      asked_since (Ok request) ticket given = record {
-        middle = [];
-        front = is.front;
-        request = request;
-        past_is = ap (λ (inputs : List NodeInput). comes_to m (Arrival request) ∷ inputs) is.front_is;
-        given = subst (λ (inputs : List NodeInput). (outputs_at cluster inputs (comes_to m (Arrival request))).ticket ≡ Some ticket) is.front_is
-            (ap (λ (s : NodeStep). s.outputs.ticket) (sym (same_step past node is (Arrival request))) ∙ given);
-        lives = λ lost among. among;
+      asked_since : (judged : Result Waited Status) (waits : OpenRequest) → ((request : Waited) → judged ≡ Ok request → Asked number waits.sequence request) →
+          (step_at node (judged_as judged)).outputs.ticket ≡ Some waits.ticket → CameOn Asked (input_to m (judged_as judged) ∷ past) number waits
+      asked_since (Ok request) waits asked given = record {
+        since = record {
+          middle = [];
+          front = is.front;
+          request = request;
+          past_is = ap (λ (inputs : List NodeInput). comes_to m (Arrival request) ∷ inputs) is.front_is;
+          given = subst (λ (inputs : List NodeInput). (outputs_at cluster inputs (comes_to m (Arrival request))).ticket ≡ Some waits.ticket) is.front_is
+              (ap (λ (s : NodeStep). s.outputs.ticket) (sym (same_step past node is (Arrival request))) ∙ given);
+          lives = λ lost among. among;
+        };
+        asked = asked request refl;
       }
-      asked_since (Err status) ticket given = absurd (by_up node.kept.up given)
+      asked_since (Err status) waits asked given = absurd (by_up node.kept.up given)
         where
           by_up : (up : Bool) →
               (if up then stepped_up node.setup node.kept (Refusal (status_code status))
-              else stepped_down node.setup node.kept (Refusal (status_code status))).outputs.ticket ≡ Some ticket → ⊥
+              else stepped_down node.setup node.kept (Refusal (status_code status))).outputs.ticket ≡ Some waits.ticket → ⊥
           by_up true given = cc
           by_up false given = cc
 
@@ -419,8 +444,9 @@ module _ (cluster : Cluster) (m : ℕ) (first : List NodeInput) where
 
       window_came : (before session : Session) (requested : Requested) (sequence : ℕ) (input : Input) →
           ((request : OpenRequest) → In request session.requests → In request before.requests) → (ticket : Option ℕ) →
-          ((given : ℕ) → ticket ≡ Some given → CameSince (input_to m input ∷ past) given) → (request : OpenRequest) →
-          In request (in_window session requested sequence ticket).requests → In request before.requests ⊎ CameSince (input_to m input ∷ past) request.ticket
+          ((waits : OpenRequest) → waits.sequence ≡ sequence → ticket ≡ Some waits.ticket → CameOn Asked (input_to m input ∷ past) number waits) →
+          (request : OpenRequest) → In request (in_window session requested sequence ticket).requests →
+          In request before.requests ⊎ CameOn Asked (input_to m input ∷ past) number request
       window_came before session requested sequence input less None since request among = inl (less request among)
       window_came before session requested sequence input less (Some ticket) since request among = by_test (can_wait session) among
         where
@@ -428,11 +454,10 @@ module _ (cluster : Cluster) (m : ℕ) (first : List NodeInput) where
           new = record { ticket = ticket; requested = requested; sequence = sequence }
 
           by_test : (can : Bool) → In request (if can then record session { requests = session.requests ++ new ∷ [] } else session).requests →
-              In request before.requests ⊎ CameSince (input_to m input ∷ past) request.ticket
+              In request before.requests ⊎ CameOn Asked (input_to m input ∷ past) number request
           by_test true among = elim (in_two request session.requests new among) [
             | inl old ↦ inl (less request old)
-            | inr same ↦
-                inr (subst (CameSince (input_to m input ∷ past)) (ap (λ (r : OpenRequest). r.ticket) (sym same)) (since ticket refl))
+            | inr same ↦ inr (subst (CameOn Asked (input_to m input ∷ past) number) (sym same) (since new refl refl))
           ]
           by_test false among = inl (less request among)
 
@@ -443,32 +468,36 @@ module _ (cluster : Cluster) (m : ℕ) (first : List NodeInput) where
       refusal_aside requested sequence (Some status) print (inr none) = absurd none
 
       request_well : (before session : Session) (requested : Requested) (sequence : ℕ) (account : Option (List ℕ)) (request : Option Request) →
-          ((waits : OpenRequest) → In waits session.requests → In waits before.requests) →
-          ServedWell past before (on_request number node session requested sequence account request)
-      request_well before session requested sequence None request less = unasked_well before session [] less (λ print among. absurd among)
-      request_well before session requested sequence (Some account) None less = unasked_well before session [] less (λ print among. absurd among)
-      request_well before session requested sequence (Some account) (Some request) less =
+          ((waits : OpenRequest) → In waits session.requests → In waits before.requests) → AsksBy number sequence request →
+          ServedWell past number before (on_request number node session requested sequence account request)
+      request_well before session requested sequence None request less asks = unasked_well before session [] less (λ print among. absurd among)
+      request_well before session requested sequence (Some account) None less asks = unasked_well before session [] less (λ print among. absurd among)
+      request_well before session requested sequence (Some account) (Some request) less asks =
           let judged = admitted (door_at node.setup node.kept) (next_id node.setup node.kept) account request in
           let input = judged_as judged in
           let step = step_at node input in
           record {
             node = node_then past node is input;
-            came = window_came before session requested sequence input less step.outputs.ticket (asked_since judged);
+            came = window_came before session requested sequence input less step.outputs.ticket
+                (λ waits same given. asked_since judged waits
+                (λ waited is. subst (λ (n : ℕ). Asked number n waited) (sym same)
+                (asks request refl (door_at node.setup node.kept) (next_id node.setup node.kept) account waited is)) given);
             plain = judged_plain judged;
             aside = refusal_aside requested sequence step.outputs.refused;
           }
 
       reaction_well : (settings : Settings) (came : Came) (before session : Session) (reaction : Reaction) →
-          ComesOf before (record { next = session; reaction = reaction }) → ServedWell past before (on_reaction settings number node came session reaction)
-      reaction_well settings came before session (reactions.Ask requested) comes =
-          request_well before session requested came.sequence session.account came.request comes.less
-      reaction_well settings came before session (reactions.Answered pushed) comes = record {
+          ComesOf before (record { next = session; reaction = reaction }) → AsksBy number came.sequence came.request →
+          ServedWell past number before (on_reaction settings number node came session reaction)
+      reaction_well settings came before session (reactions.Ask requested) comes asks =
+          request_well before session requested came.sequence session.account came.request comes.less asks
+      reaction_well settings came before session (reactions.Answered pushed) comes asks = record {
         node = delivered_well past node is pushed.delivery (came.outcome pushed.sequence);
         came = λ request among. inl (comes.less request among);
         plain = delivered_plain node pushed.delivery (came.outcome pushed.sequence);
         aside = λ print among. absurd among;
       }
-      reaction_well settings came before session (reactions.Leave outgoing abandoned) comes = record {
+      reaction_well settings came before session (reactions.Leave outgoing abandoned) comes asks = record {
         node = all_well past node is abandoned;
         came = λ request among. inl (comes.less request among);
         plain = all_plain node abandoned;
@@ -478,32 +507,37 @@ module _ (cluster : Cluster) (m : ℕ) (first : List NodeInput) where
           | inr (inr none) ↦ absurd none
         ];
       }
-      reaction_well settings came before session (reactions.Respond outgoing) comes =
+      reaction_well settings came before session (reactions.Respond outgoing) comes asks =
           unasked_well before session _ comes.less (λ print among. elim among [
             | inl same ↦ at_once_aside print (response_is_mute number settings.system_id outgoing) same
             | inr none ↦ absurd none
           ])
-      reaction_well settings came before session reactions.Nothing comes = unasked_well before session [] comes.less (λ print among. absurd among)
+      reaction_well settings came before session reactions.Nothing comes asks = unasked_well before session [] comes.less (λ print among. absurd among)
+
+      nothing_asks : AsksBy number nothing_came.sequence nothing_came.request
+      nothing_asks asked is = absurd cc
 
       read_well : (settings : Settings) (session : Session) (octets : List ℕ) (read : Result Pdu PduFault) →
-          ServedWell past session (on_read settings number node session octets read)
-      read_well settings session octets (Ok pdu) =
+          ((pdu : Pdu) → read ≡ Ok pdu → AsksBy number pdu.sequence (request_of settings.routes pdu.body)) →
+          ServedWell past number session (on_read settings number node session octets read)
+      read_well settings session octets (Ok pdu) asks =
           let done = on_pdu settings.accounts session pdu in
-          reaction_well settings (came_by settings pdu) session done.next done.reaction (pdu_so settings.accounts session pdu)
-      read_well settings session octets (Err fault) =
+          reaction_well settings (came_by settings pdu) session done.next done.reaction (pdu_so settings.accounts session pdu) (asks pdu refl)
+      read_well settings session octets (Err fault) asks =
           let done = on_fault session fault (requested_by (command_of (word_at 4 octets))) (word_at 12 octets) in
           reaction_well settings nothing_came session done.next done.reaction
-          (fault_so session fault (requested_by (command_of (word_at 4 octets))) (word_at 12 octets))
+          (fault_so session fault (requested_by (command_of (word_at 4 octets))) (word_at 12 octets)) nothing_asks
 
       wrong_length_well : (settings : Settings) (session : Session) →
-          ServedWell past session (on_done settings number node nothing_came (on_wrong_length session))
+          ServedWell past number session (on_done settings number node nothing_came (on_wrong_length session))
       wrong_length_well settings session =
           reaction_well settings nothing_came session (on_wrong_length session).next (on_wrong_length session).reaction (wrong_length_so session)
+          nothing_asks
 
     -- ---- a session is served
 
     served_well : (past : List NodeInput) (runner : Runner) (number : ℕ) (served : Served) → ServesWell past runner →
-        ServedWell past (session_in runner.sessions number) served → ActsWell past (served_at runner number served)
+        ServedWell past number (session_in runner.sessions number) served → ActsWell past (served_at runner number served)
     served_well past runner number served s it = by_test (is_gone served.next.session.state)
       where
         next : Runner
@@ -519,20 +553,20 @@ module _ (cluster : Cluster) (m : ℕ) (first : List NodeInput) where
         old_came = came_through served.inputs past runner.sessions it.plain s.came
 
         left_came : (other : ℕ) (request : OpenRequest) (session : Session) → In (other, session) without → In request session.requests →
-            Before other request ⊎ CameSince now request.ticket
+            CameBeforeOrSince now other request
         left_came other request session there among =
             old_came other request
             (record { session = session; there = removed_in (is_at (nat_cmp number)) runner.sessions (other, session) there; among = among })
 
-        put_came : (other : ℕ) (request : OpenRequest) (session : Session) → (◌≡◌ {A = ℕ × Session} (other, session) (number, served.next.session)) ⊎ In (other, session) without →
-            In request session.requests → Before other request ⊎ CameSince now request.ticket
+        put_came : (other : ℕ) (request : OpenRequest) (session : Session) →
+            (◌≡◌ {A = ℕ × Session} (other, session) (number, served.next.session)) ⊎ In (other, session) without → In request session.requests →
+            CameBeforeOrSince now other request
         put_came other request session (inl new) among =
-            elim (it.came request (subst (λ (x : Session). In request x.requests) (ap (λ (x : ℕ × Session). x.1) new) among)) [
-              | inl old ↦
-                  subst (λ (n : ℕ). Before n request ⊎ CameSince now request.ticket) (sym (ap (λ (x : ℕ × Session). x.0) new))
-                  (old_came number request (in_session runner.sessions number request old))
-              | inr since ↦ inr since
-            ]
+            subst (λ (n : ℕ). CameBeforeOrSince now n request) (sym (ap (λ (x : ℕ × Session). x.0) new))
+            (elim (it.came request (subst (λ (x : Session). In request x.requests) (ap (λ (x : ℕ × Session). x.1) new) among)) [
+              | inl old ↦ old_came number request (in_session runner.sessions number request old)
+              | inr on ↦ inr on
+            ])
         put_came other request session (inr old) among = left_came other request session old among
 
         by_test : (gone : Bool) → ActsWell past (record {
@@ -553,7 +587,7 @@ module _ (cluster : Cluster) (m : ℕ) (first : List NodeInput) where
         }
 
     serves_well : (past : List NodeInput) (runner : Runner) (number : ℕ) (served : Served) → ServesWell past runner →
-        ServedWell past (session_in runner.sessions number) served → ActsWell past (serves runner number served)
+        ServedWell past number (session_in runner.sessions number) served → ActsWell past (serves runner number served)
     serves_well past runner number served s it =
         let one = served_at runner number served in
         let here = served_well past runner number served s it in
@@ -561,11 +595,12 @@ module _ (cluster : Cluster) (m : ℕ) (first : List NodeInput) where
         (posts_well (came_to m one.inputs past) one.next _ (then_serves past one here)
         (posted_for_any_posts one.next.node.kept.clock (mail_of one.next) served.next.session.account))
 
-    frame_well : (settings : Settings) (number : ℕ) (past : List NodeInput) (runner : Runner) (octets : List ℕ) → ServesWell past runner →
-        ActsWell past (on_frame settings number runner octets)
+    frame_well : (settings : Settings) (number : ℕ) (past : List NodeInput) (runner : Runner) (octets : List ℕ) → FrameAsks settings number octets →
+        ServesWell past runner → ActsWell past (on_frame settings number runner octets)
     unfolding on_frame
-    frame_well settings number past runner octets s =
-        serves_well past runner number _ s (read_well past runner.node s.node number settings (session_in runner.sessions number) octets (read_pdu octets))
+    frame_well settings number past runner octets asks s =
+        serves_well past runner number _ s
+        (read_well past runner.node s.node number settings (session_in runner.sessions number) octets (read_pdu octets) asks)
 
     rest_well : (settings : Settings) (number : ℕ) (past : List NodeInput) (runner : Runner) (rest : List ℕ) → ServesWell past runner →
         ActsWell past (on_rest settings number runner rest)
@@ -576,18 +611,20 @@ module _ (cluster : Cluster) (m : ℕ) (first : List NodeInput) where
         by_test false = record { node = s.node; came = s.came; fine = λ print among. absurd among }
 
     frames_well : (settings : Settings) (number : ℕ) (past : List NodeInput) (runner : Runner) (frames : List (List ℕ)) (rest : List ℕ) →
-        ServesWell past runner → ActsWell past (on_frames settings number runner frames rest)
+        ((frame : List ℕ) → In frame frames → FrameAsks settings number frame) → ServesWell past runner →
+        ActsWell past (on_frames settings number runner frames rest)
     unfolding on_frames
-    frames_well settings number past runner [] rest s = rest_well settings number past runner rest s
-    frames_well settings number past runner (frame ∷ frames) rest s =
+    frames_well settings number past runner [] rest asks s = rest_well settings number past runner rest s
+    frames_well settings number past runner (frame ∷ frames) rest asks s =
         by_test (is_none (session_at one.next.sessions number))
-        (frames_well settings number (came_to m one.inputs past) one.next frames rest (then_serves past one here))
+        (frames_well settings number (came_to m one.inputs past) one.next frames rest (λ other among. asks other (inr among))
+        (then_serves past one here))
       where
         one : Acted
         one = on_frame settings number runner frame
 
         here : ActsWell past one
-        here = frame_well settings number past runner frame s
+        here = frame_well settings number past runner frame (asks frame (inl refl)) s
 
         other : Acted
         other = on_frames settings number one.next frames rest
@@ -596,18 +633,20 @@ module _ (cluster : Cluster) (m : ℕ) (first : List NodeInput) where
         by_test true later = here
         by_test false later = acts_then past one other here later
 
-    pub octets_well : (settings : Settings) (past : List NodeInput) (runner : Runner) (number : ℕ) (octets : List ℕ) → ServesWell past runner →
+    pub octets_well : (settings : Settings) (past : List NodeInput) (runner : Runner) (number : ℕ) (octets : List ℕ) →
+        ((frame : List ℕ) → In frame (cut (held_in runner.streams number ++ octets)).frames → FrameAsks settings number frame) → ServesWell past runner →
         ActsWell past (on_octets settings runner number octets)
     unfolding on_octets
-    octets_well settings past runner number octets s =
+    octets_well settings past runner number octets asks s =
         let stream : Cut = cut (held_in runner.streams number ++ octets) in
-        frames_well settings number past (opened_at runner number) stream.frames stream.rest (record { node = s.node; came = opened_came })
+        frames_well settings number past (opened_at runner number) stream.frames stream.rest asks (record { node = s.node; came = opened_came })
       where
         opened_came : AllCame past (opened_at runner number).sessions
         opened_came other request asks =
-            elim (inserted_in (remove_entry (is_at (nat_cmp number)) runner.sessions) number (session_in runner.sessions number) (other, asks.session) asks.there) [
+            elim (inserted_in (remove_entry (is_at (nat_cmp number)) runner.sessions) number (session_in runner.sessions number) (other, asks.session)
+            asks.there) [
               | inl new ↦
-                  subst (λ (n : ℕ). Before n request ⊎ CameSince past request.ticket) (sym (ap (λ (x : ℕ × Session). x.0) new))
+                  subst (λ (n : ℕ). CameBeforeOrSince past n request) (sym (ap (λ (x : ℕ × Session). x.0) new))
                   (s.came number request (in_session runner.sessions number request
                   (subst (λ (x : Session). In request x.requests) (ap (λ (x : ℕ × Session). x.1) new) asks.among)))
               | inr old ↦
@@ -632,7 +671,8 @@ module _ (cluster : Cluster) (m : ℕ) (first : List NodeInput) where
       pushes_well slot taken number None = record { node = s.node; came = s.came; fine = λ print among. absurd among }
       pushes_well slot taken number (Some session) = record {
         node = s.node;
-        came = λ other request asks. s.came other request (push_asked runner.sessions number runner.node.kept.clock (deliveries.Attempt slot) other request asks);
+        came = λ other request asks.
+            s.came other request (push_asked runner.sessions number runner.node.kept.clock (deliveries.Attempt slot) other request asks);
         fine = λ print among. elim among [ inl same ↦ inl (subst IsAside (sym same) aside) | inr none ↦ absurd none ];
       }
         where

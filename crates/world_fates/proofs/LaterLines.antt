@@ -7,16 +7,20 @@ use Rattle.std.proofs.lemmas.List.{map-append}
 use Rattle.mc_model.specs.synod.Lists.{In}
 use Rattle.mc_model.specs.synod.Packet.{Packet}
 use Rattle.mc_model.specs.node.Input.{Crash as Stops, Delivery, Input}
+use Rattle.mc_model.specs.node.Actor.{Request}
 use Rattle.mc_model.specs.node.Outputs.{Reply}
 use Rattle.mc_model.specs.cluster.Steps.{Cluster}
 use Rattle.mc_parts.proofs.Membership.{in_either}
 use Rattle.node_laws.specs.Clusters.{MayHappen, NodeInput}
+use Rattle.pdu_bodies.specs.declared.pdu.Pdu.{Pdu}
+use Rattle.pdu_frames.specs.Frames.{cut}
 use Rattle.script_lines.specs.Said.{Said, Skipped, Nodes, Octets, Deliver, Crash, Tick, Grant, Settle, Restart, Replay, said_within}
 use Rattle.script_lines.proofs.SaidLemmas.{spells_within}
 use Rattle.sessions.specs.declared.request.OpenRequest.{OpenRequest}
 use Rattle.script_text.specs.Left.{followed_by, rests}
 use Rattle.script_text.specs.Prints.{Print}
 use Rattle.script_text.specs.Runner.{Acted, Runner, given_out, on_delivery, on_grant, on_octets, on_restart, on_tick}
+use Rattle.script_text.specs.Runner.{held_in, request_of}
 use Rattle.script_text.specs.Settings.{Settings}
 use Rattle.script_text.specs.Prints.{At, Refuses, StopsSettling, WorldPrint}
 use Rattle.script_text.specs.Script.{Joins, Stage, Stepped, moved_by, step_by, step_of, stepped}
@@ -27,11 +31,12 @@ use Rattle.script_text.specs.World.{node_numbers, on_replay, on_settle, packet_o
 use Rattle.script_text.specs.World.{ticks, unsettled, up_or_refuses}
 use Rattle.world_fates.proofs.node.Behind.{behind, behind_both, came_to, happened_before, input_to}
 use Rattle.world_fates.proofs.node.StepsOut.{step_now}
+use Rattle.world_fates.specs.Requests.{ComesBy, EndsIn}
 use Rattle.world_fates.proofs.Places.{row_least, set_cases}
 use Rattle.world_fates.proofs.Worlds.{due_least, kept_apart}
 use Rattle.world_fates.proofs.Lines.{one_node, printed_at}
-use Rattle.world_fates.proofs.Later.{ActsWell, CameSince, IsFine, ServesWell, delivery_well, ended_well, grant_well, octets_well, restart_well, since_later}
-use Rattle.world_fates.proofs.Later.{tick_well}
+use Rattle.world_fates.proofs.Later.{ActsWell, AsksBy, CameOn, FrameAsks, IsFine, ServesWell, delivery_well, ended_well, grant_well, octets_well, on_later}
+use Rattle.world_fates.proofs.Later.{restart_well, tick_well}
 use Rattle.world_fates.proofs.Asking.{AsksOn}
 
 lines_front : (cluster : Cluster) (one other : List NodeInput) (past : List NodeInput) → MayHappen cluster (behind (one ++ other) past) →
@@ -53,17 +58,22 @@ still_behind first [] past it = it
 still_behind first (next ∷ inputs) past it =
     still_behind first inputs (next ∷ past) (record { front = next ∷ it.front; is = ap (λ (i : List NodeInput). next ∷ i) it.is })
 
-module _ (cluster : Cluster) (m : ℕ) (least_m : 1 ≤ m) (first : List NodeInput) (Before : ℕ → OpenRequest → Type 0) (Says : Reply → Type 0)
-    (says : (past : List NodeInput) (input : Input) (ticket : ℕ) → CameSince cluster m first past ticket → MayHappen cluster (input_to m input ∷ past) →
-    (reply : Reply) → ticket ≡ reply.ticket → In reply (step_now cluster (input_to m input) past).outputs.replies → Says reply) where
+module _ (cluster : Cluster) (m : ℕ) (least_m : 1 ≤ m) (first : List NodeInput) (Before : ℕ → OpenRequest → Type 0)
+    (Asked : ℕ → ℕ → Request → Type 0) (Says : ℕ → OpenRequest → Reply → Type 0)
+    (says : (front past : List NodeInput) → past ≡ front ++ first → (input : Input) (number : ℕ) (waits : OpenRequest) →
+    Before number waits ⊎ CameOn cluster m first Asked past number waits → MayHappen cluster (input_to m input ∷ past) → (reply : Reply) →
+    waits.ticket ≡ reply.ticket → In reply (step_now cluster (input_to m input) past).outputs.replies → Says number waits reply) where
   abbrev Fine : Print → Type 0
-  Fine print = IsFine cluster m first Before Says says print
+  Fine print = IsFine cluster m first Before Asked Says says print
 
   abbrev Serves : List NodeInput → Runner → Type 0
-  Serves past runner = ServesWell cluster m first Before Says says past runner
+  Serves past runner = ServesWell cluster m first Before Asked Says says past runner
+
+  abbrev Asks : Settings → ℕ → List ℕ → Type 0
+  Asks settings session frame = FrameAsks cluster m first Before Asked Says says settings session frame
 
   abbrev Acts : List NodeInput → Acted → Type 0
-  Acts past acted = ActsWell cluster m first Before Says says past acted
+  Acts past acted = ActsWell cluster m first Before Asked Says says past acted
 
   abbrev pub WorldWell : List NodeInput → World → Type 0
   WorldWell past world = (runner : Runner) → runner_at world m ≡ Some runner → Serves past runner
@@ -117,15 +127,16 @@ module _ (cluster : Cluster) (m : ℕ) (least_m : 1 ≤ m) (first : List NodeInp
         }
       where
         came_apart : (inputs : List Input) (past : List NodeInput) →
-            ((number : ℕ) (request : OpenRequest) → AsksOn runner.sessions number request → Before number request ⊎ CameSince cluster m first past request.ticket) →
+            ((number : ℕ) (request : OpenRequest) → AsksOn runner.sessions number request →
+            Before number request ⊎ CameOn cluster m first Asked past number request) →
             (number : ℕ) (request : OpenRequest) → AsksOn runner.sessions number request →
-            Before number request ⊎ CameSince cluster m first (came_to node inputs past) request.ticket
+            Before number request ⊎ CameOn cluster m first Asked (came_to node inputs past) number request
         came_apart [] past came = came
         came_apart (input ∷ inputs) past came =
             came_apart inputs (input_to node input ∷ past) (λ number request asks. elim (came number request asks) [
               | inl before ↦ inl before
-              | inr since ↦
-                  inr (since_later cluster m first past (input_to node input) (λ lost same. apart (ap (λ (n : NodeInput). n.node) same)) request.ticket since)
+              | inr on ↦
+                  inr (on_later cluster m first Asked past (input_to node input) (λ lost same. apart (ap (λ (n : NodeInput). n.node) same)) number request on)
             ])
 
     shared_well : (acted : Acted) → (node ≡ m → Acts past acted) → MovesWell past (shared world node acted)
@@ -171,24 +182,26 @@ module _ (cluster : Cluster) (m : ℕ) (least_m : 1 ≤ m) (first : List NodeInp
     the_runner : (runner : Runner) → runner_at world node ≡ Some runner → node ≡ m → Serves past runner
     the_runner runner is same = well runner (ap (λ (n : ℕ). runner_at world n) (sym same) ∙ is)
 
-    hears_well : (settings : Settings) (session : ℕ) (octets : List ℕ) → May past (hears settings world node session octets) →
+    hears_well : (settings : Settings) (session : ℕ) (octets : List ℕ) →
+        (node ≡ m → (runner : Runner) → runner_at world node ≡ Some runner → (frame : List ℕ) →
+        In frame (cut (held_in runner.streams session ++ octets)).frames → Asks settings session frame) → May past (hears settings world node session octets) →
         MovesWell past (hears settings world node session octets)
-    hears_well settings session octets =
+    hears_well settings session octets asks =
         if_up_well (λ runner. shared world node (on_octets settings runner session octets))
         (λ runner is may. shared_well (on_octets settings runner session octets)
-        (λ same. octets_well cluster m first Before Says says settings past runner session octets (the_runner runner is same)))
+        (λ same. octets_well cluster m first Before Asked Says says settings past runner session octets (asks same runner is) (the_runner runner is same)))
 
     ticks_well : (moment : ℕ) → May past (ticks world node moment) → MovesWell past (ticks world node moment)
     ticks_well moment =
         if_up_well (λ runner. shared world node (on_tick runner moment))
         (λ runner is may. shared_well (on_tick runner moment)
-        (λ same. tick_well cluster m first Before Says says past runner moment (the_runner runner is same) (shared_may (on_tick runner moment) same may)))
+        (λ same. tick_well cluster m first Before Asked Says says past runner moment (the_runner runner is same) (shared_may (on_tick runner moment) same may)))
 
     grants_well : (id : ℕ) → May past (grants world node id) → MovesWell past (grants world node id)
     grants_well id =
         if_up_well (λ runner. shared world node (on_grant runner id))
         (λ runner is may. shared_well (on_grant runner id)
-        (λ same. grant_well cluster m first Before Says says past runner id (the_runner runner is same)))
+        (λ same. grant_well cluster m first Before Asked Says says past runner id (the_runner runner is same)))
 
     restarts_well : MovesWell past (restarts world node)
     restarts_well = by_runner (runner_at world node) refl
@@ -196,7 +209,7 @@ module _ (cluster : Cluster) (m : ℕ) (least_m : 1 ≤ m) (first : List NodeInp
         by_runner : (found : Option Runner) → runner_at world node ≡ found → MovesWell past (restarts_if world node found)
         by_runner None is = refuses_well past world no_node well
         by_runner (Some runner) is =
-            shared_well (on_restart runner) (λ same. restart_well cluster m first Before Says says past runner (the_runner runner is same))
+            shared_well (on_restart runner) (λ same. restart_well cluster m first Before Asked Says says past runner (the_runner runner is same))
 
     crashes_well : (number : ℕ) (after : Bool) → May past (crashes world node number after) → MovesWell past (crashes world node number after)
     crashes_well number after may = by_packet (packet_of world.packets number) may
@@ -206,7 +219,7 @@ module _ (cluster : Cluster) (m : ℕ) (least_m : 1 ≤ m) (first : List NodeInp
         by_packet (Some packet) may =
             if_up_well (λ runner. shared world node (crashed packet after runner))
             (λ runner is happens. shared_well (crashed packet after runner)
-            (λ same. ended_well cluster m first Before Says says past runner (Stops packet after) (the_runner runner is same).node
+            (λ same. ended_well cluster m first Before Asked Says says past runner (Stops packet after) (the_runner runner is same).node
             (crashed packet after runner) refl)) may
 
   comes_well : (past : List NodeInput) (world : World) → WorldWell past world → (number node : ℕ) → 1 ≤ node → May past (comes world number node) →
@@ -222,7 +235,7 @@ module _ (cluster : Cluster) (m : ℕ) (least_m : 1 ≤ m) (first : List NodeInp
       by_packet (Some packet) may =
           if_up_well past world well node least (λ runner. shared (marked world number node) node (on_delivery runner packet))
           (λ runner is happens. shared_well past (marked world number node) well node least (on_delivery runner packet)
-          (λ same. delivery_well cluster m first Before Says says past runner packet (the_runner past world well node least runner is same)
+          (λ same. delivery_well cluster m first Before Asked Says says past runner packet (the_runner past world well node least runner is same)
           (delivery_may runner packet (shared_may past (marked world number node) well node least (on_delivery runner packet) same happens)))) may
 
   comes_again_well : (past : List NodeInput) (world : World) → WorldWell past world → (number node : ℕ) → 1 ≤ node →
@@ -292,13 +305,20 @@ module _ (cluster : Cluster) (m : ℕ) (least_m : 1 ≤ m) (first : List NodeInp
   -- ---- lines
 
   -- what a line leaves
-  record LineWell (past : List NodeInput) (done : Stepped) : Type 0 where
-    next : World
-    stage_is : done.next ≡ Some next
-    well : WorldWell (behind done.inputs past) next
-    fine : (print : Print) → In (At m print) done.prints → Fine print
+  pub record LineWell (past : List NodeInput) (done : Stepped) : Type 0 where
+    pub next : World
+    pub stage_is : done.next ≡ Some next
+    pub well : WorldWell (behind done.inputs past) next
+    pub fine : (print : Print) → In (At m print) done.prints → Fine print
 
-  module _ (settings : Settings) (past : List NodeInput) (world : World) (well : WorldWell past world) (line : List ℕ) where
+  -- what comes by a line on a session of the node asks so
+  abbrev pub LineAsks : Settings → World → List ℕ → Type 0
+  LineAsks settings world line =
+      (session : ℕ) (pdu : Pdu) → EndsIn world line m session pdu →
+      AsksBy cluster m first Before Asked Says says session pdu.sequence (request_of settings.routes pdu.body)
+
+  module _ (settings : Settings) (past : List NodeInput) (world : World) (well : WorldWell past world) (line : List ℕ)
+      (asks : LineAsks settings world line) where
     abbrev MayDo : Stepped → Type 0
     MayDo done = MayHappen cluster (behind done.inputs past)
 
@@ -317,7 +337,18 @@ module _ (cluster : Cluster) (m : ℕ) (least_m : 1 ≤ m) (first : List NodeInp
     said_well (Nodes count serial) done says is = absurd cc
     said_well (Octets node session octets) done says is =
         let least = (spells_within (length world.runners) line (Octets node session octets) says).wording.0.least in
-        does_well (hears settings world node session octets) done is (hears_well past world well node least settings session octets)
+        does_well (hears settings world node session octets) done is
+        (hears_well past world well node least settings session octets (λ same runner there frame ends pdu reads. asks session pdu (record {
+          frame = frame;
+          ends = record {
+            octets = octets;
+            says = says ∙ ap (λ (n : ℕ). Some (Octets n session octets)) same;
+            runner = runner;
+            there = ap (λ (n : ℕ). runner_at world n) (sym same) ∙ there;
+            ends = ends;
+          };
+          reads = reads;
+        })))
     said_well (Deliver number node) done says is =
         let least = (spells_within (length world.runners) line (Deliver number node) says).wording.1.least in
         does_well (comes world number node) done is (comes_well past world well number node least)
@@ -338,7 +369,7 @@ module _ (cluster : Cluster) (m : ℕ) (least_m : 1 ≤ m) (first : List NodeInp
     said_well (Replay count) done says is =
         does_well (on_replay world count) done is (replays_well count (length world.packets) past world well)
 
-    line_well : (done : Stepped) → step_of settings (Some world) line ≡ Some done → MayDo done → LineWell past done
+    pub line_well : (done : Stepped) → step_of settings (Some world) line ≡ Some done → MayDo done → LineWell past done
     unfolding step_of
     line_well done is = by_said (said_within (length world.runners) line) refl is
       where
@@ -347,20 +378,56 @@ module _ (cluster : Cluster) (m : ℕ) (least_m : 1 ≤ m) (first : List NodeInp
         by_said None says is = absurd cc
         by_said (Some said) says is = said_well said done says is
 
+  -- what comes by these lines asks so
+  abbrev pub AllAsk : Settings → World → List (List ℕ) → Type 0
+  AllAsk settings world lines =
+      (session : ℕ) (pdu : Pdu) → ComesBy settings world lines (λ w line. EndsIn w line m session pdu) →
+      AsksBy cluster m first Before Asked Says says session pdu.sequence (request_of settings.routes pdu.body)
+
   -- what these lines print at the node is fine
-  pub lines_fine : (settings : Settings) (lines : List (List ℕ)) (past : List NodeInput) (world : World) → WorldWell past world → (inputs : List NodeInput)
-      (prints : List WorldPrint) (stage : Stage) → Joins settings (Some world) lines inputs prints stage →
+  pub lines_fine : (settings : Settings) (lines : List (List ℕ)) (past : List NodeInput) (world : World) → WorldWell past world → AllAsk settings world lines →
+      (inputs : List NodeInput) (prints : List WorldPrint) (stage : Stage) → Joins settings (Some world) lines inputs prints stage →
       MayHappen cluster (behind inputs past) → (print : Print) → In (At m print) prints → Fine print
   unfolding Joins
-  lines_fine settings [] past world well inputs prints stage joins may print among = absurd (subst (In (At m print)) joins.1 among)
-  lines_fine settings (line ∷ lines) past world well inputs prints stage joins may print among =
+  lines_fine settings [] past world well asks inputs prints stage joins may print among = absurd (subst (In (At m print)) joins.1 among)
+  lines_fine settings (line ∷ lines) past world well asks inputs prints stage joins may print among =
       let done = joins.0 in
       let happens = subst (λ (came : List NodeInput). MayHappen cluster (behind came past)) joins.4 may in
-      let one = line_well settings past world well line done joins.3 (lines_front cluster done.inputs joins.1 past happens) in
+      let one = line_well settings past world well line
+      (λ session pdu ends. asks session pdu (record {
+        before = [];
+        line = line;
+        later = lines;
+        lines_are = refl;
+        world = world;
+        came = [];
+        prints = [];
+        joins = (refl, refl, refl);
+        ends = ends;
+      })) done joins.3 (lines_front cluster done.inputs joins.1 past happens) in
       elim (in_either (At m print) done.prints joins.2 (subst (In (At m print)) joins.5 among)) [
         | inl here ↦ one.fine print here
         | inr there ↦
-            lines_fine settings lines (behind done.inputs past) one.next one.well joins.1 joins.2 stage
+            lines_fine settings lines (behind done.inputs past) one.next one.well
+            (λ session pdu comes. asks session pdu (record {
+              before = line ∷ comes.before;
+              line = comes.line;
+              later = comes.later;
+              lines_are = ap (λ (others : List (List ℕ)). line ∷ others) comes.lines_are;
+              world = comes.world;
+              came = done.inputs ++ comes.came;
+              prints = done.prints ++ comes.prints;
+              joins = (
+                done,
+                comes.came,
+                comes.prints,
+                joins.3,
+                refl,
+                refl,
+                subst (λ (middle : Stage). Joins settings middle comes.before comes.came comes.prints (Some comes.world)) (sym one.stage_is) comes.joins,
+              );
+              ends = comes.ends;
+            })) joins.1 joins.2 stage
             (subst (λ (middle : Stage). Joins settings middle lines joins.1 joins.2 stage) one.stage_is joins.6)
             (lines_back cluster done.inputs joins.1 past happens) print there
       ]

@@ -5,7 +5,6 @@ pub mod Printing
 pub mod Standing
 pub mod Fates
 pub mod Given
-pub mod Reaching
 pub mod Granting
 pub mod Example
 pub mod Delivering
@@ -17,8 +16,17 @@ pub mod Answering
 pub mod Delivered
 pub mod AtOnce
 pub mod Asking
+pub mod Holding
 pub mod Later
+pub mod Older
+pub mod Ids
 pub mod LaterLines
 pub mod Named
 pub mod Fresh
 pub mod Accepting
+pub mod Sequences
+pub mod Ending
+pub mod LineEnds
+pub mod Responding
+pub mod Coming
+pub mod KnownAtOnce

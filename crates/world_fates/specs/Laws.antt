@@ -1,21 +1,18 @@
 -- Laws of the texts of scripts over several nodes.
-use Rattle.std.specs.Prelude.{◌≡◌, ◌≢◌, ℕ, ◌≤◌, List, [], ◌∷◌, ◌++◌, length, Option, Some, None}
+use Rattle.std.specs.Prelude.{◌≡◌, ◌≢◌, ℕ, List, [], ◌∷◌, ◌++◌, length, Option, Some, None}
 use Rattle.std.specs.Fmt.{decimal}
 use Rattle.mc_model.specs.message.Ids.{IsId}
 use Rattle.mc_model.specs.synod.Lists.{In}
 use Rattle.mc_model.specs.synod.Packet.{Slot}
 use Rattle.mc_model.specs.node.Input.{Grant as Grants}
-use Rattle.node_model.specs.Kept.{Held}
-use Rattle.node_model.specs.Requests.{id_of}
 use Rattle.pdu_bodies.specs.declared.pdu.Pdu.{Pdu}
 use Rattle.script_lines.specs.Said.{Grant, Said, said_within}
 use Rattle.script_text.specs.Laws.{StatesFate, TellsState}
 use Rattle.script_text.specs.Prints.{Print, Delivers}
-use Rattle.script_text.specs.Runner.{Runner}
 use Rattle.script_text.specs.Settings.{Settings}
 use Rattle.script_text.specs.Prints.{At, WorldPrint}
 use Rattle.script_text.specs.Script.{Joins, Stage, Stepped, nodes_of, prints_of, step_of}
-use Rattle.script_text.specs.World.{NodeInput, World, runner_at}
+use Rattle.script_text.specs.World.{NodeInput, World}
 
 -- Two final states that a script prints for one message are equal, at whatever nodes they are printed.
 abbrev pub OneFateIsPrintedByAllNodes : Type 0
@@ -34,27 +31,6 @@ PrintedFatesStay =
     (script : List ℕ) (before later : List WorldPrint) (node : ℕ) (first query : Print) (message_id : List ℕ) (one other : ℕ)
     → prints_of script ≡ before ++ At node first ∷ later
     → In (At node query) later
-    → StatesFate first message_id one
-    → TellsState query message_id other
-    → other ≡ one
-
--- no request about a message waits at a node
-abbrev pub NothingWaitsFor : Runner → List ℕ → Type 0
-NothingWaitsFor runner message_id = (h : Held) → In h runner.node.kept.held → decimal (id_of h) ≢ message_id
-
--- After lines have printed a final state of a message, at whatever node, no query_sm of the message that comes to a node later and is
--- answered ESME_ROK tells another state: so it is at each node at which no request about the message waits then.
-abbrev pub PrintedFatesAreToldByAllNodes : Type 0
-PrintedFatesAreToldByAllNodes =
-    (settings : Settings) (before later : List (List ℕ)) (came coming : List NodeInput) (prints others : List WorldPrint) (world : World) (last : Stage)
-    (here there : ℕ) (runner : Runner) (first query : Print) (message_id : List ℕ) (one other : ℕ)
-    → Joins settings None before came prints (Some world)
-    → Joins settings (Some world) later coming others last
-    → 1 ≤ there
-    → runner_at world there ≡ Some runner
-    → NothingWaitsFor runner message_id
-    → In (At here first) prints
-    → In (At there query) others
     → StatesFate first message_id one
     → TellsState query message_id other
     → other ≡ one

@@ -2,5 +2,6 @@ pub mod Laws
 pub mod Deliveries
 pub mod Refusals
 pub mod Questions
+pub mod Requests
 pub mod Runs
 pub mod Example

@@ -11,7 +11,6 @@ ghost use Rattle.world_fates.specs.Laws.{
   DeliveriesComeBeforeFates,
   NoAttemptIsGrantedAfterAFate,
   OneFateIsPrintedByAllNodes,
-  PrintedFatesAreToldByAllNodes,
   PrintedFatesStay,
 };
 ghost use Rattle.world_fates.specs.Questions.{
@@ -19,6 +18,13 @@ ghost use Rattle.world_fates.specs.Questions.{
   LaterRequestsAreOfKnownMessages,
 };
 ghost use Rattle.world_fates.specs.Refusals.{IdsAreNotRefusedAtOnce};
+ghost use Rattle.world_fates.specs.Requests.{
+  AcceptedIdsAreNotRefusedAtOnce,
+  LaterQueriesAreToldTheFate,
+  LaterRequestsAreNotRefusedAsUnknown,
+  LaterRequestsAreNotRefusedAtOnce,
+  RequestsThatWaitCameInOctets,
+};
 ghost use Rattle.world_fates.specs.Runs.{AScriptIsARun};
 
 /// A script is a run of the model: its lines lead a cluster to where its nodes and their packets stand, by what came to the nodes.
@@ -37,20 +43,45 @@ pub fn printed_fates_stay()
     ensures { PrintedFatesStay }
 {}
 
-/// And so does each node at which no request about the message waits then, of every query_sm that comes later.
-pub fn printed_fates_are_told_by_all_nodes()
-    ensures { PrintedFatesAreToldByAllNodes }
-{}
-
 /// And so does each query_sm that comes later, to whatever node: each query_sm_resp (SMPP 3.4, 4.8.2) that is printed afterwards tells that state,
-/// unless it answers a query_sm that had come before.
+/// unless it answers a query_sm of the message that had come before: one that waits on that session with that sequence_number then (SMPP 3.4, 5.1.4), and
+/// that its node holds.
 pub fn later_queries_tell_the_fate()
     ensures { LaterQueriesTellTheFate }
 {}
 
-/// After ESME_ROK to a submit_sm (SMPP 3.4, 4.4.2) no request that comes later, and waits, is refused as one for a message that there is not.
+/// After ESME_ROK to a submit_sm (SMPP 3.4, 4.4.2) no query_sm or cancel_sm of the message that comes later, and waits, is refused as one for a message
+/// that there is not (SMPP 3.4, 5.1.3).
 pub fn later_requests_are_of_known_messages()
     ensures { LaterRequestsAreOfKnownMessages }
+{}
+
+/// By lines: after a print of a final state each query_sm of the message (SMPP 3.4, 4.8.1) that comes with a sequence_number of its own, on whatever session
+/// of whatever node, is told that state if it is answered ESME_ROK (SMPP 3.4, 4.8.2).
+pub fn later_queries_are_told_the_fate()
+    ensures { LaterQueriesAreToldTheFate }
+{}
+
+/// And after ESME_ROK to a submit_sm no query_sm or cancel_sm of its message that comes so, and waits, is refused as one for a message that there is not
+/// (SMPP 3.4, 4.8, 4.9 and 5.1.3).
+pub fn later_requests_are_not_refused_as_unknown()
+    ensures { LaterRequestsAreNotRefusedAsUnknown }
+{}
+
+/// And none that comes so is refused at once, if each frame with that sequence_number reads as a PDU (SMPP 3.4, 3.2 and 5.1.3).
+pub fn later_requests_are_not_refused_at_once()
+    ensures { LaterRequestsAreNotRefusedAtOnce }
+{}
+
+/// Nor is any frame that reads as such a request, whatever is at hand.
+pub fn accepted_ids_are_not_refused_at_once()
+    ensures { AcceptedIdsAreNotRefusedAtOnce }
+{}
+
+/// Whether a sequence_number is free on a session is told by octets: what waits there came in the octets of an earlier line on that session, which was not
+/// gone meanwhile, as a submit_sm, a query_sm or a cancel_sm with its sequence_number (SMPP 3.4, 4.4.1, 4.8.1, 4.9.1 and 5.1.4).
+pub fn requests_that_wait_came_in_octets()
+    ensures { RequestsThatWaitCameInOctets }
 {}
 
 /// And no node grants an attempt of it any more.
