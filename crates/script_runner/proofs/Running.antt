@@ -597,4 +597,4 @@ module _ {R W : Type 0} (remaining : R → Option (List ℕ)) (contents : W → 
         fits = omega (arith, p.fits, shorter);
         few = omega (arith, p.few, shorter);
       } in
-      record { next = next_stage; stands = w.stands; progress = progress; goes_on = goes_on_on old mid now going on }
+      record { stage = next_stage; stands = w.stands; progress = progress; goes_on = goes_on_on old mid now going on }

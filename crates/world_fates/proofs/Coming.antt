@@ -89,7 +89,7 @@ module _ (settings : Settings) (before : List (List ℕ)) (came : List NodeInput
     ends = it.ends;
     request = it.request;
     sequence_is = it.sequence_is;
-    stays = stays_more settings it.done.stage it.later world node session it.stays line done does next stage ungone;
+    stays = stays_more settings it.done.next it.later world node session it.stays line done does next stage ungone;
   }
 
   came_now : (next : World) → done.next ≡ Some next → (node session sequence : ℕ) → ComesNow world line node session sequence →
