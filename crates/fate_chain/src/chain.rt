@@ -274,4 +274,9 @@ impl Chain {
     {
         &self.decrees
     }
+
+    /// What a proof takes of it: it is a permitted one. The call does nothing.
+    pub fn bounds(&self)
+        ensures { IsPermitted self.now.id self.now.decrees }
+    {}
 }
