@@ -102,7 +102,6 @@ impl Kept {
     fn file(&mut self, stored: Record) -> Result<(), AllocError>
         ensures { OnOk result (IsFiled self.old stored self.new) }
     {
-        // What the proof takes of the record; the call does nothing.
         stored.promises();
         let id = stored.slot().id;
         let mut message = self.taken(id)?;
@@ -398,8 +397,7 @@ impl Kept {
         ensures value { option_copied result ≡ value_at self.now.messages.entries id }
         ensures named { IsId id }
     {
-        // For the proof alone: the number is an id.
-        id.number();
+        id.bounds();
         self.messages.get(id)
     }
 
