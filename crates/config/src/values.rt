@@ -12,20 +12,30 @@ use crate::listen::read_listen;
 use crate::rows::{as_number, number_in, rows, text_in};
 use toml::Value;
 
-/// The most nodes that there may be.
+/// The most nodes that there may be (own).
 pub(crate) const MOST_NODES: u64 = 9;
+/// The most octets of a system_id, the zero at its end not counted (SMPP 3.4, section 5.2.1).
+const MOST_SYSTEM_ID: usize = 15;
+/// The most octets of a password, the zero at its end not counted (section 5.2.2).
+const MOST_PASSWORD: usize = 8;
+/// The most octets of the beginning of a destination_addr, the zero at its end not counted (section 5.2.9).
+const MOST_PREFIX: usize = 20;
+/// The longest time for which a message is kept that asks for none, in seconds: a year (own).
+const MOST_VALIDITY: u64 = 31_536_000;
+/// The last serial of a message (own).
+const LAST_SERIAL: u64 = 99_999;
 
 /// Whether a key may have a value in a document.
 pub(crate) fn admits(document: &Value, key: Key, value: &Value) -> bool
     ensures { IsTrue result ↔ spec.Admits (view document.now) key (view value.now) }
 {
     match key {
-        Key::SystemId | Key::AccountSystemId => is_text(value, 1, 15),
-        Key::AccountPassword => is_text(value, 0, 8),
-        Key::RoutePrefix => is_text(value, 0, 20),
+        Key::SystemId | Key::AccountSystemId => is_text(value, 1, MOST_SYSTEM_ID),
+        Key::AccountPassword => is_text(value, 0, MOST_PASSWORD),
+        Key::RoutePrefix => is_text(value, 0, MOST_PREFIX),
         Key::NodeStore => is_path(value),
-        Key::DefaultValidity => is_number(value, 1, 31_536_000),
-        Key::FirstSerial => is_number(value, 1, 99_999),
+        Key::DefaultValidity => is_number(value, 1, MOST_VALIDITY),
+        Key::FirstSerial => is_number(value, 1, LAST_SERIAL),
         Key::StopAfter => as_number(value).is_some(),
         Key::AccountTransmit | Key::AccountReceive => value.is_bool(),
         Key::Node => are_nodes(value),

@@ -1,5 +1,5 @@
 -- The checks of a submit_sm, what is taken of it, and what a query_sm shows of a chain.
-use Rattle.std.specs.Prelude.{ℕ, Bool, ◌%◌, min, nat_lt, ◌==◌, ◌&&◌, ◌||◌, not, List, [], ◌∷◌, filter, Option, Some, None, Result, Ok, Err, if◌then◌else◌}
+use Rattle.std.specs.Prelude.{ℕ, Bool, ◌%◌, min, nat_lt, ◌==◌, ◌||◌, not, List, [], ◌∷◌, filter, Option, Some, None, Result, Ok, Err, if◌then◌else◌}
 use Rattle.std.specs.Str.{bytes_eq}
 use Rattle.std.specs.Option.{option_map}
 use Rattle.mc_model.specs.message.Ids.{most_serial}

@@ -9,13 +9,11 @@ ghost use Rattle.desk.specs.Admissions.{MayWait, about, admitted, asked_as, subm
 use crate::request::Request;
 use crate::times::Times;
 use fate_chain::Submission;
-use mc_types::{Moment, MsgId};
+use mc_types::{LAST_SERIAL, Moment, MsgId};
 use pdu_codec::{AddressDigits, Cancel, Message, MessageIdText, Query, SystemId};
 use pdu_tables::Status;
 use std::alloc::AllocError;
 
-/// The greatest serial of a message in an incarnation.
-const MOST_SERIAL: u32 = 99999;
 /// The tags of the optional parameters that are passed on: user_message_reference, sar_msg_ref_num,
 /// sar_total_segments and sar_segment_seqnum.
 const PASSED: [u16; 4] = [0x0204, 0x020c, 0x020e, 0x020f];
@@ -186,7 +184,7 @@ impl Door {
         ensures times { IfOk result (λ left. left ≡ times) }
         ensures room { OnOk result ((self.now.serial ≤ 99999) × (self.now.busy ≡ false)) }
     {
-        if self.serial > MOST_SERIAL {
+        if self.serial > LAST_SERIAL {
             return Err(Status::MessageQueueFull);
         }
         if self.busy {

@@ -1,34 +1,15 @@
 -- The report of a chain of which a receipt was asked.
-use Rattle.std.proofs.Common.{◌≡◌, ◌⊎◌, ℕ, Bool, true, List, [], ◌∷◌, Option, Some, refl, sym, ap, ◌∙◌, inl, inr}
-use Rattle.std.specs.Prelude.{◌==◌, ◌||◌, ◌%◌, slice_get, option_map}
-use Rattle.std.proofs.lemmas.Bool.{eq-eqb, or_left, or_right}
+use Rattle.std.proofs.Common.{◌≡◌, ℕ, Bool, true, List, [], ◌∷◌, Option, Some, refl, sym, ap, ◌∙◌}
+use Rattle.std.specs.Prelude.{slice_get, option_map}
 use Rattle.mc_model.specs.message.Chain.{Chain, taken_in}
-use Rattle.mc_model.specs.message.Decree.{Decree, Deleted, Delivered, Expired, Fate, Final, Kind, Rejected, Undeliverable}
+use Rattle.mc_model.specs.message.Decree.{Decree, Fate, Kind}
 use Rattle.mc_model.specs.message.Submission.{Submission}
 use Rattle.mc_model.specs.node.Phases.{AsksReceipt}
 use Rattle.node_model.specs.Answers.{is_asked}
+use Rattle.node_model.proofs.Receipts.{asked_decides}
 use Rattle.receipts.specs.Receipts.{Reports}
 use Rattle.receipts.specs.Texts.{Report}
 use Rattle.esme_service.specs.Reports.{began_at, report_if, reported_as, reported_on}
-
-either : (one other : Bool) → (one ≡ true) ⊎ (other ≡ true) → (one || other) ≡ true
-either one other (inl is) = or_left one other is
-either one other (inr is) = or_right one other is
-
-often : (taken : Submission) → (taken.registered_delivery % 4 ≡ 1) ⊎ (taken.registered_delivery % 4 ≡ 2)
-    → ((taken.registered_delivery % 4 == 1) || (taken.registered_delivery % 4 == 2)) ≡ true
-often taken asks = either (taken.registered_delivery % 4 == 1) (taken.registered_delivery % 4 == 2)
-    (elim asks [ inl always ↦ inl (eq-eqb (taken.registered_delivery % 4) 1 always) | inr failure ↦ inr (eq-eqb (taken.registered_delivery % 4) 2 failure) ])
-
-some_way : (final : Final) (taken : Submission) → AsksReceipt final taken → (taken.registered_delivery % 4 ≡ 1) ⊎ (taken.registered_delivery % 4 ≡ 2)
-some_way final taken asks = elim asks [ inl always ↦ inl always | inr failure ↦ inr failure.0 ]
-
-asked_so : (final : Final) (taken : Submission) → AsksReceipt final taken → is_asked final taken ≡ true
-asked_so Delivered taken asks = elim asks [ inl always ↦ eq-eqb (taken.registered_delivery % 4) 1 always | inr failure ↦ absurd (failure.1 refl) ]
-asked_so Expired taken asks = often taken (some_way Expired taken asks)
-asked_so Deleted taken asks = often taken (some_way Deleted taken asks)
-asked_so Undeliverable taken asks = often taken (some_way Undeliverable taken asks)
-asked_so Rejected taken asks = often taken (some_way Rejected taken asks)
 
 reported_first : (id : ℕ) (newest : Decree) (older : List Decree) (report : Report) (began : Option ℕ) (taken : Option Submission) (kind : Kind)
     → began ≡ Some report.began → taken ≡ Some report.taken → kind ≡ Fate report.final report.error → report.id ≡ id → report.ended ≡ newest.moment
@@ -53,4 +34,4 @@ reported_so chain report reports asks = by_chain chain.decrees refl
         sym (ap began_at is) ∙ ap (option_map (λ (d : Decree). d.moment)) reports.first in
         reported_first chain.id newest older report (began_at (newest ∷ older)) (taken_in (newest ∷ older)) newest.kind
         (first ∙ ap Some (sym reports.began)) (sym (ap taken_in is) ∙ reports.taken) (ap (λ (d : Decree). d.kind) same ∙ reports.fate) reports.id
-        (reports.ended ∙ ap (λ (d : Decree). d.moment) (sym same)) (asked_so report.final report.taken asks)
+        (reports.ended ∙ ap (λ (d : Decree). d.moment) (sym same)) ((asked_decides report.final report.taken).1 asks)

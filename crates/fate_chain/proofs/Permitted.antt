@@ -27,6 +27,21 @@ pub taken-extended : (message : Option Submission) (older : Decree) (oldest : Li
 taken-extended None older oldest newest may taken = absurd may
 taken-extended (Some message) older oldest newest may taken = taken-followed message _ _ _ _ _ _ newest.kind may.1 taken
 
+-- a permitted chain begins with what was taken
+begins_so : (id : ℕ) (author : Author) (moment : ℕ) (kind : Kind) → MayBegin id author moment kind →
+    (message : Submission) × (taken_by kind None ≡ Some message)
+begins_so id author moment (Taken message) may = (message, refl)
+begins_so id author moment (Attempt number) may = absurd may
+begins_so id author moment (Failed error) may = absurd may
+begins_so id author moment (Fate final error) may = absurd may
+
+pub has_taken : (id : ℕ) (decrees : List Decree) → IsPermitted id decrees → (message : Submission) × (taken_in decrees ≡ Some message)
+has_taken id [] permitted = absurd permitted
+has_taken id (only ∷ []) permitted = begins_so id only.author only.moment only.kind permitted
+has_taken id (newest ∷ older ∷ oldest) permitted =
+    let before = has_taken id (older ∷ oldest) permitted.0 in
+    (before.0, taken-extended _ older oldest newest permitted.1 _ ∙ before.1)
+
 -- so it is the first decree that says what was taken
 taken-first : (id : ℕ) (later : List Decree) (first : Decree) → IsPermitted id (later ++ first ∷ []) → taken_in (later ++ first ∷ []) ≡ taken_by first.kind None
 taken-first id [] first permitted = refl

@@ -3,6 +3,7 @@
 ghost use Rattle.std.specs.Prelude.{◌≡◌, ◌<◌, ◌≤◌, ◌↔◌, ◌∷◌, [], Some, length, pred, reverse, slice_get, IfOk, IsErrOf, IsTrue, option_map};
 ghost use Rattle.mc_model.specs.message.Ids.{node_of, incarnation_of};
 ghost use Rattle.mc_model.specs.message.Decree.{Taken};
+ghost use Rattle.mc_model.specs.message.Submission.{Submission as SubmissionValue};
 ghost use Rattle.mc_model.specs.message.Chain.{Chain as ChainValue, IsPermitted, MayExtend, taken_in, attempts_in, final_in, error_in};
 ghost use Rattle.fate_chain.specs.Bytes.{chain_octets, read_chain, Fits, IsSpelled, Judges};
 ghost use Rattle.fate_chain.specs.Kinds.{final_of};
@@ -273,5 +274,14 @@ impl Chain {
         ensures permitted { IsPermitted self.now.id self.now.decrees }
     {
         &self.decrees
+    }
+
+    /// What a proof takes of it: it is a permitted one, stands at one of 18 places, and begins with what was taken. The call does nothing.
+    pub fn bounds(&self)
+        ensures permitted { IsPermitted self.now.id self.now.decrees }
+        ensures place { pred (length self.now.decrees) < 18 }
+        ensures taken { (taken : SubmissionValue) × (taken_in self.now.decrees ≡ Some taken) }
+    {
+        let _id = self.id;
     }
 }

@@ -1,9 +1,12 @@
 //! What was taken.
 
 ghost use Rattle.std.specs.Prelude.{◌≡◌, ◌↔◌, IsTrue};
+ghost use Rattle.mc_model.specs.node.Phases.{AsksReceipt};
+ghost use Rattle.fate_chain.specs.Kinds.{final_of};
 ghost use Rattle.fate_chain.specs.Submissions.{address_of};
 ghost use Rattle.fate_chain.specs.Same.{SameHandling, SameParties};
 
+use crate::decree::Final;
 use crate::marks::Term;
 use mc_types::Moment;
 use pdu_codec::{Address, ServiceType, ShortMessage, SystemId, Tlvs};
@@ -66,6 +69,17 @@ impl Submission {
         Term {
             schedule: self.schedule,
             expiry: self.expiry,
+        }
+    }
+
+    /// Whether it asked for a receipt of this final state: of every one, or of every one but DELIVERED (SMPP 3.4, section 5.2.17).
+    pub fn asks_receipt(&self, last: Final) -> bool
+        ensures { IsTrue result ↔ AsksReceipt (final_of last) self.now }
+    {
+        match self.registered_delivery % 4 {
+            1 => true,
+            2 => last != Final::Delivered,
+            _ => false,
         }
     }
 

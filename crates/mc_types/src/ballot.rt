@@ -5,7 +5,7 @@ ghost use Rattle.mc_model.specs.synod.Ballot.{IsBallot, IsBefore, IsRound, ballo
 ghost use Rattle.mc_types.specs.declared.fault.TypeFault.TheVariants.{OutOfRange};
 
 use crate::fault::TypeFault;
-use crate::number::{Incarnation, NodeNo};
+use crate::number::{Incarnation, LAST_INCARNATION, MOST_NODES, NodeNo};
 use std::marker::Model;
 
 /// A ballot, which orders what is proposed in one slot (Paxos Made Simple, sections 2.2 and 2.5): a round, 1 to
@@ -71,6 +71,11 @@ impl Ballot {
         self.number
     }
 
+    /// What a proof takes of it: its number is one of a ballot. The call does nothing.
+    pub fn bounds(self)
+        ensures { IsBallot self }
+    {}
+
     /// Its round, 1 to 2^32 - 1.
     pub fn round(self) -> u32
         ensures value { result ≡ round_in self }
@@ -115,7 +120,7 @@ fn is_ballot(number: u64) -> bool
     1 <= round
         && round <= u32::MAX as u64
         && 1 <= incarnation
-        && incarnation <= 9999
+        && incarnation <= LAST_INCARNATION as u64
         && 1 <= node
-        && node <= 9
+        && node <= MOST_NODES as u64
 }

@@ -104,6 +104,11 @@ impl MsgId {
         self.number
     }
 
+    /// What a proof takes of it: its number is one of an id. The call does nothing.
+    pub fn bounds(self)
+        ensures { IsId self }
+    {}
+
     /// The node that took the message.
     pub fn node(self) -> NodeNo
         ensures { result ≡ node_of self }

@@ -11,6 +11,10 @@ use std::marker::Model;
 pub const MOST_NODES: u8 = 9;
 /// The last incarnation of a node.
 pub const LAST_INCARNATION: u16 = 9999;
+/// The least moment, the start of 2000, in seconds since 1970.
+const LEAST_MOMENT: u32 = 946684800;
+/// The greatest moment, the end of 2099, in seconds since 1970.
+const GREATEST_MOMENT: u32 = 4102444799;
 
 /// The number of a node, 1 to 9.
 #[derive(Clone, Copy, Debug, PartialEq, Eq, PartialOrd, Ord)]
@@ -56,6 +60,11 @@ impl NodeNo {
     {
         self.number
     }
+
+    /// What a proof takes of it: it is 1 to 9. The call does nothing.
+    pub fn bounds(self)
+        ensures { IsNode self }
+    {}
 }
 
 /// How often a node has started, 1 to 9999.
@@ -102,6 +111,11 @@ impl Incarnation {
     {
         self.starts
     }
+
+    /// What a proof takes of it: it is 1 to 9999. The call does nothing.
+    pub fn bounds(self)
+        ensures { IsIncarnation self }
+    {}
 }
 
 /// A moment in whole seconds since 1970-01-01T00:00:00Z, from 946684800 (the start of 2000) to 4102444799 (the end
@@ -126,7 +140,9 @@ impl Moment {
     pub fn least() -> Moment
         ensures { result ≡ 946684800 }
     {
-        Moment { seconds: 946684800 }
+        Moment {
+            seconds: LEAST_MOMENT,
+        }
     }
 
     /// The moment of so many seconds; OutOfRange if they are none.
@@ -135,7 +151,7 @@ impl Moment {
         ensures value { IfOk result (λ moment. moment ≡ seconds) }
         ensures fault { IfErr result (λ fault. fault ≡ OutOfRange) }
     {
-        if seconds < 946684800 || seconds > 4102444799 {
+        if seconds < LEAST_MOMENT || seconds > GREATEST_MOMENT {
             return Err(TypeFault::OutOfRange);
         }
         Ok(Moment { seconds })
@@ -154,7 +170,7 @@ impl Moment {
         ensures { result ≡ min (self + seconds) 4102444799 }
     {
         Moment {
-            seconds: self.seconds.saturating_add(seconds).min(4102444799),
+            seconds: self.seconds.saturating_add(seconds).min(GREATEST_MOMENT),
         }
     }
 }

@@ -1,5 +1,7 @@
 //! Slots.
 
+ghost use Rattle.std.specs.Prelude.{◌<◌};
+
 use crate::id::MsgId;
 use std::marker::Model;
 
@@ -19,4 +21,11 @@ impl Model for Slot {
     ghost view = { λ slot. slot_at slot.id slot.place };
 
     ghost inverse = { λ slot. record { id = slot.id; place = slot.place } };
+}
+
+impl Slot {
+    /// What a proof takes of it: its place is a number below 256. The call does nothing.
+    pub fn bounds(self)
+        ensures { self.place < 256 }
+    {}
 }

@@ -243,7 +243,7 @@ impl<S: StableStore> Node<S> {
         ensures serial { 1 ≤ self.now.kept.serial }
     {
         self.kept.setup().bounds();
-        self.kept.incarnation().number();
+        self.kept.incarnation().bounds();
     }
 
     /// The store, once the node is done with: it is the one that the node has, as its last save left it.

@@ -5,8 +5,6 @@ ghost use Rattle.std.specs.Option.{option_copied};
 ghost use Rattle.mc_model.specs.node.Setup.{Setup as SetupValue};
 ghost use Rattle.mc_model.specs.synod.Acceptor.{Records};
 ghost use Rattle.node_model.specs.Acceptor.{told_of};
-ghost use Rattle.fate_chain.specs.Kinds.{final_of};
-ghost use Rattle.node_model.specs.Answers.{is_asked};
 ghost use Rattle.node_model.specs.Outputs.{leaves};
 ghost use Rattle.mc_model.specs.message.Ids.{IsId};
 ghost use Rattle.mc_model.specs.node.Room.{is_busy, last_ticket};
@@ -32,7 +30,7 @@ ghost use Rattle.node_model.specs.Reported.{receipt_of};
 use crate::queue_change::QueueChange;
 use crate::setup::Setup;
 use crate::step::{Foreseen, Next, Put, Step};
-use fate_chain::{Author, Chain, Final, Submission};
+use fate_chain::{Author, Chain};
 use mc_types::{Ballot, Incarnation, Moment, MsgId, NodeNo, Slot};
 use node_parts::{Input, Message, MessageShelf, Outputs, StepFault, sender};
 use pdu_codec::SystemId;
@@ -102,7 +100,6 @@ impl Kept {
     fn file(&mut self, stored: Record) -> Result<(), AllocError>
         ensures { OnOk result (IsFiled self.old stored self.new) }
     {
-        // What the proof takes of the record; the call does nothing.
         stored.promises();
         let id = stored.slot().id;
         let mut message = self.taken(id)?;
@@ -349,7 +346,7 @@ impl Kept {
         let Some(last) = chain.fate() else {
             return Ok(None);
         };
-        if chain.id().node() != self.node() || !is_asked(last, chain.submission()) {
+        if chain.id().node() != self.node() || !chain.submission().asks_receipt(last) {
             return Ok(None);
         }
         Ok(Some(chain.copy()?))
@@ -398,8 +395,7 @@ impl Kept {
         ensures value { option_copied result ≡ value_at self.now.messages.entries id }
         ensures named { IsId id }
     {
-        // For the proof alone: the number is an id.
-        id.number();
+        id.bounds();
         self.messages.get(id)
     }
 
@@ -576,16 +572,5 @@ fn put_each(kept: &mut MessageShelf, mut messages: Vec<Put>)
 {
     while let Some(put) = messages.pop() {
         kept.put(put.id, put.message);
-    }
-}
-
-/// Whether a receipt of this final state was asked for: of every one, or of every one but DELIVERED (SMPP 3.4, section 5.2.17).
-fn is_asked(last: Final, taken: &Submission) -> bool
-    ensures { result ≡ is_asked (final_of last) taken.now }
-{
-    match taken.registered_delivery % 4 {
-        1 => true,
-        2 => last != Final::Delivered,
-        _ => false,
     }
 }

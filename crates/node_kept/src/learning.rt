@@ -29,8 +29,7 @@ impl Kept {
         ensures { IfOk result (λ step. (m : MessageValue) → IsAs self.now chain.now.id message (known_then m chain.now.decrees) →
             had_fate ≡ had_final m.known → IsStep self.now (on_known self.now.setup (kept_of self.now) chain.now.id m chain.now.decrees) step) }
     {
-        // For the proof alone: a chain begins with what was taken.
-        let _ = chain.submission();
+        chain.bounds();
         let cancelled = self.queue.cancels_then(self.nodes(), chain);
         let next = self.deletion(chain, cancelled)?;
         let packet = message.start_for(next);

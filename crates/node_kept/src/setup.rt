@@ -76,6 +76,6 @@ impl Setup {
         ensures node { IsNode self.node }
         ensures setup { IsSetup self }
     {
-        self.node.number();
+        self.node.bounds();
     }
 }

@@ -122,7 +122,6 @@ impl Kept {
             author: self.author(),
             clock,
         };
-        // For the proof alone: the ids ascend.
         self.messages.ascends();
         let mut turns = TurnList::empty(self.alloc);
         let mut walk = Walk {

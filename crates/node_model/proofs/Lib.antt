@@ -8,3 +8,4 @@ pub mod Recorded
 pub mod Keys
 pub mod Stops
 pub mod Decisions
+pub mod Receipts

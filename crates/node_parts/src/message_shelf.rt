@@ -76,7 +76,7 @@ impl MessageShelf {
     pub fn ascends(&self)
         ensures { IsStrictlySortedBy nat_cmp (keys_of self.now.entries) }
     {
-        self.shelf.at(0);
+        self.shelf.ascends();
     }
 
     /// The id of the next message that is live, from this number on; none if there is none. It takes no memory.
@@ -117,8 +117,7 @@ impl MessageShelf {
         ensures listings { self.old.listings ≤ self.new.listings + 1 }
     {
         self.shelf.put(id.number(), message);
-        // For the proof alone: the ids ascend.
-        self.shelf.at(0);
+        self.shelf.ascends();
         enlist(&mut self.live, id);
     }
 

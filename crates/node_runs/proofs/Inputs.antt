@@ -1,16 +1,12 @@
 -- What comes to a node of the code may come to it.
-use Rattle.std.proofs.Common.{◌≡◌, ◌↔◌, ◌⊎◌, ℕ, ◌<◌, ◌≤◌, pred, Bool, true, false, List, length, Option, Some, None, Result, Ok, Err, refl}
-use Rattle.std.proofs.Common.{sym, subst, inl, inr, arith, true≢false}
+use Rattle.std.proofs.Common.{◌≡◌, ◌↔◌, ◌⊎◌, ℕ, ◌≤◌, Bool, true, false, Option, Some, None, Result, Ok, Err, refl}
+use Rattle.std.proofs.Common.{sym, subst, inl, inr, true≢false}
 use Rattle.std.specs.Prelude.{IfErr, IsErrOf, option_map, if◌then◌else◌}
-use Rattle.mc_model.specs.message.Chain.{IsPermitted}
-use Rattle.mc_model.specs.message.Decree.{Decree}
 use Rattle.mc_model.specs.message.Ids.{IsIncarnation, IsNode}
 use Rattle.mc_model.specs.synod.Packet.{Slot}
 use Rattle.mc_model.specs.node.Grant.{GrantRefusal}
 use Rattle.mc_model.specs.node.Outcome.{IsOutcome, Outcome}
 use Rattle.mc_model.specs.node.Setup.{Setup}
-use Rattle.mc_parts.proofs.Lengths.{most_decrees}
-use Rattle.node_model.specs.Message.{most_places}
 use Rattle.node_model.specs.Attempts.{grant_refusal}
 use Rattle.node_model.specs.Kept.{Kept}
 use Rattle.node_model.specs.Granted.{is_open, known_slot}
@@ -57,12 +53,6 @@ comes node (given.Request account request) is_node lives begun sound free =
 comes node (given.Grant id) is_node lives begun sound free = grantable node.kept.setup (kept_of node.kept) id free
 comes node (given.Answered slot outcome) is_node lives begun sound free = open_so (kept_of node.kept) slot (outcome_kept outcome) sound free
 comes node (given.Tick moment up) is_node lives begun sound free = tt
-
--- ---- packets
-
--- a permitted chain has a place
-pub has_place : (id : ℕ) (decrees : List Decree) → IsPermitted id decrees → pred (length decrees) < most_places
-has_place id decrees permitted = let short : length decrees ≤ 18 = most_decrees id decrees permitted in omega (arith, short)
 
 -- ---- a step that is not taken
 

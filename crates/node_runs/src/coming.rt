@@ -1,8 +1,6 @@
 //! What comes to a node.
 
-ghost use Rattle.std.specs.Prelude.{◌≡◌, ◌↔◌, ◌⊎◌, ◌<◌, length, pred, true, None, IfErr, IfOk, IsErrOf};
-ghost use Rattle.mc_model.specs.message.Chain.{IsPermitted};
-ghost use Rattle.node_model.specs.Message.{most_places};
+ghost use Rattle.std.specs.Prelude.{◌≡◌, ◌↔◌, ◌⊎◌, true, None, IfErr, IfOk, IsErrOf};
 ghost use Rattle.node_laws.specs.Steps.{IsWellMade};
 ghost use Rattle.synod_acceptor.specs.Packets.{packet_of};
 ghost use Rattle.node_core.specs.StepFault.TheVariants.{Broken, Device, Memory};
@@ -12,7 +10,6 @@ ghost use Rattle.node_core.specs.Nodes.{fault_in, seen};
 ghost use Rattle.node_runs.specs.Runs.{Happens, IsLeftBy, IsSound, Takes, may_come_to};
 
 use delivery::outcomes_are_possible;
-use fate_chain::Chain;
 use node_core::{Input, Node, Outputs, StepFault};
 use stable_store::StableStore;
 use synod_acceptor::Packet;
@@ -55,10 +52,10 @@ pub fn is_well_made(packet: &Packet)
     ensures { IsWellMade (packet_of packet.now) }
 {
     match packet {
-        Packet::Propose { vote, .. } | Packet::Voted { vote, .. } => is_permitted(&vote.chain),
+        Packet::Propose { vote, .. } | Packet::Voted { vote, .. } => vote.chain.bounds(),
         Packet::Tell { told, .. } => {
             if let Some(vote) = told {
-                is_permitted(&vote.chain);
+                vote.chain.bounds();
             }
         }
         Packet::Prepare { .. }
@@ -66,12 +63,4 @@ pub fn is_well_made(packet: &Packet)
         | Packet::Refused { .. }
         | Packet::Ask { .. } => {}
     }
-}
-
-/// What a proof takes of a chain: it is a permitted one, and has a place.
-fn is_permitted(chain: &Chain)
-    ensures permitted { IsPermitted chain.now.id chain.now.decrees }
-    ensures place { pred (length chain.now.decrees) < most_places }
-{
-    chain.decrees();
 }

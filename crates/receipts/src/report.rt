@@ -1,8 +1,7 @@
 //! What a receipt tells.
 
-ghost use Rattle.std.specs.Prelude.{◌≡◌, ◌↔◌, IfOk, IsErrOf, IsTrue};
+ghost use Rattle.std.specs.Prelude.{◌≡◌, ◌↔◌, IfOk, IsErrOf};
 ghost use Rattle.mc_model.specs.node.Phases.{AsksReceipt};
-ghost use Rattle.fate_chain.specs.Kinds.{final_of};
 ghost use Rattle.receipts.specs.Receipts.{HasFate, IsAsked, Reports};
 ghost use Rattle.receipts.specs.Told.{report_of};
 ghost use Rattle.receipts.specs.declared.fault.ReceiptFault.TheVariants.{Memory, NoFate, NotAsked};
@@ -36,7 +35,7 @@ impl Report<'_> {
             return Err(ReceiptFault::NoFate);
         };
         let taken = chain.submission();
-        if !asks_receipt(taken, last) {
+        if !taken.asks_receipt(last) {
             return Err(ReceiptFault::NotAsked);
         }
         let first = &chain.decrees()[0];
@@ -48,16 +47,5 @@ impl Report<'_> {
             error,
             ended: newest.moment,
         })
-    }
-}
-
-/// Whether a receipt of this final state was asked for: of every one, or of every one but DELIVERED (SMPP 3.4, section 5.2.17).
-fn asks_receipt(taken: &Submission, last: Final) -> bool
-    ensures { IsTrue result ↔ AsksReceipt (final_of last) taken.now }
-{
-    match taken.registered_delivery % 4 {
-        1 => true,
-        2 => last != Final::Delivered,
-        _ => false,
     }
 }

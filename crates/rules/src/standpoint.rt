@@ -59,8 +59,7 @@ impl Standpoint {
         ensures may { IfSome result (MayBeDue self.now chain.now.decrees) }
     {
         let newest = chain.newest();
-        // For the proof alone: a decree may follow only if something was taken.
-        let _ = chain.submission();
+        chain.bounds();
         if cancelled && is_idle(newest) {
             Some(Due::Delete)
         } else {
@@ -75,8 +74,7 @@ impl Standpoint {
         ensures may { IfSome result (MayBeDue self.now chain.now.decrees) }
     {
         let newest = chain.newest();
-        // For the proof alone: a decree may follow only if something was taken.
-        let _ = chain.submission();
+        chain.bounds();
         if self.is_attempt(newest) && newest.author.incarnation == self.author.incarnation {
             Some(Due::Close(closing))
         } else {

@@ -31,15 +31,12 @@ ghost use Rattle.script_lines.specs.Said.{
 ghost use Rattle.script_lines.specs.Said as spec;
 
 use crate::octets::place_of;
-use mc_types::{Moment, MsgId, NodeNo, NodeSet};
+use mc_types::{LAST_SERIAL, MOST_NODES, Moment, MsgId, NodeNo, NodeSet};
 use std::alloc::{AllocError, Global};
 use std::str;
 
 /// The most octets that a line may have, its line feed not counted.
 pub const MOST_OCTETS: usize = 20_000;
-
-/// The highest serial that a script may begin at.
-const MOST_SERIAL: u64 = 99_999;
 
 /// The highest number of a session.
 const MOST_SESSION: u64 = 99;
@@ -119,7 +116,7 @@ impl Line {
 fn all_within(nodes: NodeSet, most: usize) -> bool
     ensures { result ≡ list_all (λ node. nat_le node most) (nodes_with (has nodes)) }
 {
-    for number in 1..10 {
+    for number in 1..=MOST_NODES {
         if most < number as usize && nodes.has(NodeNo::of(number)) {
             return false;
         }
@@ -195,7 +192,7 @@ fn nodes_of(words: &[u8]) -> Option<Line>
     if rest.is_empty() {
         return Some(Line::Nodes { count, serial: 1 });
     }
-    let (serial, rest) = number_at(1, MOST_SERIAL, rest)?;
+    let (serial, rest) = number_at(1, LAST_SERIAL as u64, rest)?;
     if !rest.is_empty() {
         return None;
     }

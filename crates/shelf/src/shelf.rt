@@ -109,6 +109,13 @@ impl<V> Shelf<V> {
         Some((*key, value))
     }
 
+    /// What a proof takes of the keys: they ascend. The call does nothing.
+    pub fn ascends(&self)
+        ensures { IsStrictlySortedBy nat_cmp (keys_of self.now.entries) }
+    {
+        let _len = self.entries.len();
+    }
+
     /// Room for so many more entries, to be handed to `make_room`. It takes memory only if the shelf has no room for them; then
     /// there is room for all entries, and for twice as many as there are. It changes nothing.
     pub fn room(&self, alloc: Global, more: usize) -> Result<Room<V>, AllocError>

@@ -95,7 +95,7 @@ fn chain_of(alloc: Global, slot: Slot, octets: &[u8]) -> Result<Chain, ReadFault
     if stands != slot {
         return Err(ReadFault::Damaged);
     }
-    chain.decrees();
+    chain.bounds();
     Ok(chain)
 }
 
@@ -154,7 +154,7 @@ fn vote_columns(alloc: Global, report: &Report) -> Result<(i64, Vec<u8>), AllocE
         Report::Nothing(_) => Ok((0, Vec::new(alloc))),
         Report::Held(vote) => {
             let chain = vote.chain.bytes()?;
-            vote.chain.decrees();
+            vote.chain.bounds();
             Ok((vote.ballot.number() as i64, chain))
         }
     }

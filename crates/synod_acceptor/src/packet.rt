@@ -2,6 +2,7 @@
 
 ghost use Rattle.std.specs.Prelude.{◌≡◌, ◌&&◌, ◌==◌, IfOk, IsSome, OnErr};
 ghost use Rattle.synod_acceptor.specs.Packets.{CarriesVote, packet_of};
+ghost use Rattle.synod_acceptor.specs.declared.packet.Packet.TheVariants as packets;
 
 use crate::vote::{Report, Vote};
 use mc_types::{Ballot, Incarnation, MsgId, NodeNo, Slot};
@@ -98,19 +99,9 @@ impl Packet {
                 from,
                 ballot,
                 report,
-            } => Ok(Packet::Promise {
-                from: *from,
-                ballot: *ballot,
-                report: report.copy()?,
-            }),
-            Packet::Propose { from, vote } => Ok(Packet::Propose {
-                from: *from,
-                vote: vote.copy()?,
-            }),
-            Packet::Voted { from, vote } => Ok(Packet::Voted {
-                from: *from,
-                vote: vote.copy()?,
-            }),
+            } => promise_copied(*from, *ballot, report),
+            Packet::Propose { from, vote } => propose_copied(*from, vote),
+            Packet::Voted { from, vote } => voted_copied(*from, vote),
             Packet::Refused {
                 from,
                 slot,
@@ -127,13 +118,53 @@ impl Packet {
                 id: *id,
                 name: *name,
             }),
-            Packet::Tell { from, name, told } => Ok(Packet::Tell {
-                from: *from,
-                name: *name,
-                told: told_copied(told)?,
-            }),
+            Packet::Tell { from, name, told } => tell_copied(*from, *name, told),
         }
     }
+}
+
+/// The same Promise once more.
+fn promise_copied(from: NodeNo, ballot: Ballot, report: &Report) -> Result<Packet, AllocError>
+    ensures copy { IfOk result (λ copy. copy ≡ packets.Promise from ballot report.now) }
+    ensures memory { OnErr result (CarriesVote (packet_of (packets.Promise from ballot report.now))) }
+{
+    Ok(Packet::Promise {
+        from,
+        ballot,
+        report: report.copy()?,
+    })
+}
+
+/// The same Propose once more.
+fn propose_copied(from: NodeNo, vote: &Vote) -> Result<Packet, AllocError>
+    ensures { IfOk result (λ copy. copy ≡ packets.Propose from vote.now) }
+{
+    Ok(Packet::Propose {
+        from,
+        vote: vote.copy()?,
+    })
+}
+
+/// The same Voted once more.
+fn voted_copied(from: NodeNo, vote: &Vote) -> Result<Packet, AllocError>
+    ensures { IfOk result (λ copy. copy ≡ packets.Voted from vote.now) }
+{
+    Ok(Packet::Voted {
+        from,
+        vote: vote.copy()?,
+    })
+}
+
+/// The same Tell once more.
+fn tell_copied(from: NodeNo, name: Name, told: &Option<Vote>) -> Result<Packet, AllocError>
+    ensures copy { IfOk result (λ copy. copy ≡ packets.Tell from name told.now) }
+    ensures memory { OnErr result (CarriesVote (packet_of (packets.Tell from name told.now))) }
+{
+    Ok(Packet::Tell {
+        from,
+        name,
+        told: told_copied(told)?,
+    })
 }
 
 /// The same vote once more, if there is one.

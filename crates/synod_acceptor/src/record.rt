@@ -107,8 +107,8 @@ impl Record {
         ensures ordered { IsInOrder (record_of self.now) }
         ensures place { (slot_recorded self.now).place < named_places }
     {
-        self.promised.number();
-        self.slot();
+        self.promised.bounds();
+        self.report.bounds();
     }
 
     /// Whether it is the record that this vote leaves.

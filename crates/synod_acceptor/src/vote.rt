@@ -2,6 +2,7 @@
 
 ghost use Rattle.std.specs.Prelude.{◌≡◌, ◌<◌, ◌⊎◌, ◌↔◌, None, false, IfOk, IsSome, IsTrue, OnErr};
 ghost use Rattle.node_model.specs.Message.{most_places};
+ghost use Rattle.node_model.specs.Recorded.{named_places};
 ghost use Rattle.synod_acceptor.specs.Votes.{IsInOrder, report_of, slot_in, slot_reported};
 
 use fate_chain::Chain;
@@ -61,6 +62,16 @@ impl Report {
         match self {
             Report::Nothing(slot) => *slot,
             Report::Held(vote) => vote.slot(),
+        }
+    }
+
+    /// What a proof takes of it: its slot names a place. The call does nothing.
+    pub(crate) fn bounds(&self)
+        ensures { (slot_reported self.now).place < named_places }
+    {
+        match self {
+            Report::Nothing(slot) => slot.bounds(),
+            Report::Held(vote) => vote.chain.bounds(),
         }
     }
 

@@ -137,7 +137,7 @@ impl World {
     pub fn stands(&self)
         ensures { IsSomewhere self.now }
     {
-        self.members.len();
+        let _fresh = self.fresh;
     }
 
     /// Takes a step. Of several refusals the one with the lowest number is told, but that a node is down before why an attempt is not granted;

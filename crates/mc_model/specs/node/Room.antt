@@ -19,10 +19,10 @@ is_busy waiting ticket = nat_le most_waiting waiting || nat_lt last_ticket ticke
 
 -- ESME_RTHROTTLED and ESME_RMSGQFUL (SMPP 3.4, 5.1.3), with which a request is refused for want of room, and of a serial
 abbrev pub throttled : ℕ
-throttled = 88
+throttled = 0x58
 
 abbrev pub queue_full : ℕ
-queue_full = 20
+queue_full = 0x14
 
 -- a submit_sm gets the next id, and its message may be taken
 pub record IsNumbered (node : ℕ) (a : Actor) (id : ℕ) (message : Submission) : Type 0 where

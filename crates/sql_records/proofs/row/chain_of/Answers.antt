@@ -19,6 +19,6 @@ returns-clause-ok c =
     let found = slots_same (slot_at c.id.result c.place.result) c.args.slot (not_false _ c.if-ne.ensures) in
     record {
       spelled = c.in-Ok.ensures.read;
-      permitted = c.decrees.ensures.permitted;
+      permitted = c.bounds.ensures.permitted;
       stands = (λ i. slot_at (sym c.id.ensures i) (sym c.place.ensures.place i)) ∙ found;
     }

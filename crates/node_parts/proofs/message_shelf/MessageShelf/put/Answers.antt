@@ -18,7 +18,7 @@ enlist-requires-clause-room c =
     let more : 0 < cap - length entries = rw (← c.self.view_is) at c.requires.listings in
     let put : c.put.new.self.entries ≡ with_value entries c.args.id (box_value c.args.message) = rw c.number.ensures.value at c.put.ensures.entries in
     room_to_list entries c.self.inside.live.items cap c.args.id (box_value c.args.message) c.self.invariant more
-    (subst (λ (es : List (ℕ × Filed)). IsStrictlySortedBy nat_cmp (keys_of es)) put c.at.ensures.ascends)
+    (subst (λ (es : List (ℕ × Filed)). IsStrictlySortedBy nat_cmp (keys_of es)) put c.ascends.ensures)
 
 pub invariant_of-self : goal.invariant_of-self
 invariant_of-self c =
