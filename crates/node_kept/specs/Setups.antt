@@ -3,8 +3,8 @@ use Rattle.std.specs.Prelude.{ℕ, ◌≤◌}
 use Rattle.mc_model.specs.message.Ids.{IsSerial}
 use Rattle.mc_model.specs.node.Setup.{Setup}
 
-abbrev pub setup_of : ℕ → ℕ → ℕ → ℕ → Setup
-setup_of node nodes first_serial default_validity =
+abbrev pub setup_with : ℕ → ℕ → ℕ → ℕ → Setup
+setup_with node nodes first_serial default_validity =
     record { node = node; nodes = nodes; first_serial = first_serial; default_validity = default_validity }
 
 -- the node is one of nine at most, and there is such a serial

@@ -3,7 +3,7 @@
 ghost use Rattle.std.specs.Prelude.{◌≡◌, ◌↔◌, IfErr, IfOk, IsOk};
 ghost use Rattle.mc_model.specs.message.Ids.{IsNode};
 ghost use Rattle.mc_types.specs.declared.fault.TypeFault.TheVariants.{OutOfRange};
-ghost use Rattle.node_kept.specs.Setups.{IsSetup, setup_of};
+ghost use Rattle.node_kept.specs.Setups.{IsSetup, setup_with};
 
 use mc_types::{LAST_SERIAL, MOST_NODES, NodeNo, TypeFault};
 use std::marker::Model;
@@ -19,13 +19,13 @@ pub struct Setup {
 
 impl Model for Setup {
     ghost use Rattle.mc_model.specs.node.Setup.{Setup};
-    ghost use Rattle.node_kept.specs.Setups.{IsSetup, setup_of};
+    ghost use Rattle.node_kept.specs.Setups.{IsSetup, setup_with};
 
     ghost Value = { Setup };
 
-    ghost view = { λ s. setup_of s.node s.nodes s.first_serial s.default_validity };
+    ghost view = { λ s. setup_with s.node s.nodes s.first_serial s.default_validity };
 
-    ghost invariant = { λ s. IsSetup (setup_of s.node s.nodes s.first_serial s.default_validity) };
+    ghost invariant = { λ s. IsSetup (setup_with s.node s.nodes s.first_serial s.default_validity) };
 
     ghost inverse = { λ s. record {
       node = s.node;
@@ -45,8 +45,8 @@ impl Setup {
         first_serial: u32,
         default_validity: u32,
     ) -> Result<Setup, TypeFault>
-        ensures made { IsOk result ↔ IsSetup (setup_of node nodes first_serial default_validity) }
-        ensures value { IfOk result (λ setup. setup ≡ setup_of node nodes first_serial default_validity) }
+        ensures made { IsOk result ↔ IsSetup (setup_with node nodes first_serial default_validity) }
+        ensures value { IfOk result (λ setup. setup ≡ setup_with node nodes first_serial default_validity) }
         ensures fault { IfErr result (λ fault. fault ≡ OutOfRange) }
     {
         if node.number() > nodes

@@ -2,7 +2,7 @@
 use Rattle.std.proofs.Common.{◌≡◌, ℕ, zero, suc, ◌+◌, true, List, [], ◌∷◌, ◌++◌, Some, refl, sym, ap, subst, ◌∙◌, inl, inr, arith, length-append}
 use Rattle.std.specs.Prelude.{Bool, map, reverse}
 use Rattle.mc_model.specs.node.Setup.{Setup}
-use Rattle.mc_model.specs.cluster.Steps.{setup_of as numbers}
+use Rattle.mc_model.specs.cluster.Steps.{setup_of}
 use Rattle.mc_model.specs.synod.Packet.{Slot}
 use Rattle.mc_model.specs.synod.Acceptor.{SlotRecord}
 use Rattle.node_model.specs.Stepped.{opened_new}
@@ -11,7 +11,7 @@ use Rattle.synod_acceptor.specs.Packets.{packet_of}
 use Rattle.synod_acceptor.specs.Records.{record_at}
 use Rattle.synod_acceptor.specs.declared.packet.Packet.{Packet}
 use Rattle.node_core.specs.Keeping.{kept_of}
-use Rattle.node_core.specs.Setups.{setup_of}
+use Rattle.node_core.specs.Setups.{setup_with}
 use Rattle.node_core.specs.declared.life.Life.{Life}
 use Rattle.node_core.specs.Nodes.{HasOpened}
 use Rattle.sim_net.proofs.Growing.{get_push}
@@ -35,14 +35,14 @@ is_opened setup entries started m life new never up opened = record {
 }
 
 pub pushed : (nodes serial validity count : ℕ) (members : List Placed) (m : Placed) (after : List Placed) → AreOpened nodes serial validity count members →
-    IsOpened (setup_of (count + 1) nodes serial validity) m → after ≡ members ++ m ∷ [] → AreOpened nodes serial validity (count + 1) after
+    IsOpened (setup_with (count + 1) nodes serial validity) m → after ≡ members ++ m ∷ [] → AreOpened nodes serial validity (count + 1) after
 pushed nodes serial validity count members m after are is same =
     subst (AreOpened nodes serial validity (count + 1)) (sym same) (record {
       count_is = let longer = length-append members (m ∷ []) in let was = are.count_is in omega arith;
       each = λ place other found. elim (get_push members place m other found) [
         | inl both ↦
-            subst (λ (p : Placed). IsOpened (setup_of (place + 1) nodes serial validity) p) (sym both.1)
-            (subst (λ (n : ℕ). IsOpened (setup_of (n + 1) nodes serial validity) m) (sym (both.0 ∙ are.count_is)) is)
+            subst (λ (p : Placed). IsOpened (setup_with (place + 1) nodes serial validity) p) (sym both.1)
+            (subst (λ (n : ℕ). IsOpened (setup_with (n + 1) nodes serial validity) m) (sym (both.0 ∙ are.count_is)) is)
         | inr before ↦ are.each place other before
       ];
     })
@@ -58,16 +58,16 @@ starts nodes serial validity w are none = record {
 }
   where
     member : (node : ℕ) (m : Placed) → numbered w.members node ≡ Some m
-        → IsMember (numbers (cluster_with nodes serial validity) node) (opened_new (numbers (cluster_with nodes serial validity) node)) m
+        → IsMember (setup_of (cluster_with nodes serial validity) node) (opened_new (setup_of (cluster_with nodes serial validity) node)) m
     member zero m is = absurd cc
     member (suc place) m is =
         let it = are.each place m is in
         let number : place + 1 ≡ suc place = omega arith in
-        let kept : kept_of m.node.kept ≡ opened_new (setup_of (suc place) nodes serial validity) =
-        it.kept ∙ ap (λ (n : ℕ). opened_new (setup_of n nodes serial validity)) number in
+        let kept : kept_of m.node.kept ≡ opened_new (setup_with (suc place) nodes serial validity) =
+        it.kept ∙ ap (λ (n : ℕ). opened_new (setup_with n nodes serial validity)) number in
         record {
-          setup_is = it.setup_is ∙ ap (λ (n : ℕ). setup_of n nodes serial validity) number;
-          stands = subst (λ (up : Bool). StandsAs (opened_new (setup_of (suc place) nodes serial validity)) up m.node) (sym it.up) kept;
+          setup_is = it.setup_is ∙ ap (λ (n : ℕ). setup_with n nodes serial validity) number;
+          stands = subst (λ (up : Bool). StandsAs (opened_new (setup_with (suc place) nodes serial validity)) up m.node) (sym it.up) kept;
         }
 
 pub starts_somewhere : (nodes serial validity : ℕ) (w : Scene) → AreOpened nodes serial validity nodes w.members → w.packets ≡ [] → IsSomewhere w

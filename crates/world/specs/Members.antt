@@ -22,7 +22,7 @@ use Rattle.node_core.specs.Input.{Input}
 use Rattle.node_core.specs.Input.TheVariants as inputs
 use Rattle.node_core.specs.Keeping.{kept_of}
 use Rattle.node_core.specs.Listing.{ListsRecorded}
-use Rattle.node_core.specs.Setups.{setup_of}
+use Rattle.node_core.specs.Setups.{setup_with}
 use Rattle.node_core.specs.Steps.{GrantsKnown, IsFault as IsStepFault, input_of, refused_by}
 use Rattle.node_core.specs.declared.life.Life.{Life}
 use Rattle.node_core.specs.Nodes.{IsLifeOf, Standing}
@@ -241,4 +241,4 @@ pub record HasForgotten (old new : Scene) : Type 0 where
 -- the first of so many nodes opened, each over a new store
 pub record AreOpened (nodes serial validity count : ℕ) (members : List Placed) : Type 0 where
   pub count_is : length members ≡ count
-  pub each : (place : ℕ) (m : Placed) → slice_get members place ≡ Some m → IsOpened (setup_of (place + 1) nodes serial validity) m
+  pub each : (place : ℕ) (m : Placed) → slice_get members place ≡ Some m → IsOpened (setup_with (place + 1) nodes serial validity) m
