@@ -28,9 +28,9 @@ use Rattle.node_model.specs.Packets.{tell_held, tells_about, told_to, vote_conce
 use Rattle.node_model.specs.Stepped.{stepped, stepped_down, stepped_up}
 use Rattle.node_model.specs.Ticks.{ids_of, is_late, late_reply, ruled_each, ticked, waits_too}
 use Rattle.node_laws.specs.Runs.{IsUpFor}
-use Rattle.node_laws.proofs.Orders.{in_mapped}
-use Rattle.node_laws.proofs.Told.{found_at}
-use Rattle.node_laws.proofs.Busy.{same_id}
+use Rattle.node_laws.proofs.invariant.Orders.{in_mapped}
+use Rattle.node_laws.proofs.invariant.Told.{found_at}
+use Rattle.node_laws.proofs.step.Busy.{same_id}
 use Rattle.arrival_laws.proofs.Comings.{ComesAbout, IsPlain}
 use Rattle.arrival_laws.proofs.Answering.{IsAsked, asked_by, asked_later, reply_asked}
 use Rattle.arrival_laws.proofs.Lasting.{Lasts, lasts_still, lasts_then, message_lasts, rules_last, start_lasts}

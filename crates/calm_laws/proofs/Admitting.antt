@@ -8,9 +8,9 @@ use Rattle.mc_model.specs.node.Actor.{Cancel, Query, Request, Submit}
 use Rattle.mc_model.specs.node.Room.{is_busy, last_ticket}
 use Rattle.mc_types.specs.Texts.{id_in}
 use Rattle.node_model.specs.Kept.{Held, Kept}
-use Rattle.alone_laws.specs.Alone.{alone}
-use Rattle.alone_laws.specs.Resting.{IsResting}
-use Rattle.alone_laws.specs.Tables.{MayCome, TableNode}
+use Rattle.table_laws.specs.Alone.{alone}
+use Rattle.table_laws.specs.Resting.{IsResting}
+use Rattle.table_laws.specs.Tables.{MayCome, TableNode}
 use Rattle.pdu_tables.specs.declared.status.Status.{Status}
 use Rattle.pdu_tables.specs.declared.status.Status.TheVariants as statuses
 use Rattle.pdu_bodies.specs.declared.pdu.Message.{Message}

@@ -13,13 +13,13 @@ use Rattle.node_model.specs.Outputs.{Stepped}
 use Rattle.node_model.specs.Starts.{is_idle}
 use Rattle.node_model.specs.Stepped.{stepped}
 use Rattle.node_model.specs.Stepped as steps
-use Rattle.alone_laws.specs.Alone.{alone}
-use Rattle.alone_laws.specs.Resting.{IsResting}
-use Rattle.alone_laws.specs.Tables.{MayCome, TableNode, chain_at, decree_by, decreed, extended, is_deleted, is_meant, receipts_by}
-use Rattle.alone_laws.specs.Tables.{reply_to, requested, table_by}
-use Rattle.alone_laws.proofs.AnyRequest.{request_settles, ticket_given}
-use Rattle.alone_laws.proofs.Frames.{eqb_self}
-use Rattle.alone_laws.proofs.Submits.{none_if_not_given}
+use Rattle.table_laws.specs.Alone.{alone}
+use Rattle.table_laws.specs.Resting.{IsResting}
+use Rattle.table_laws.specs.Tables.{MayCome, TableNode, chain_at, decree_by, decreed, extended, is_deleted, is_meant, receipts_by}
+use Rattle.table_laws.specs.Tables.{reply_to, requested, table_by}
+use Rattle.table_laws.proofs.AnyRequest.{request_settles, ticket_given}
+use Rattle.table_laws.proofs.Frames.{eqb_self}
+use Rattle.table_laws.proofs.Submits.{none_if_not_given}
 use Rattle.pdu_tables.specs.StatusCodes.{status_code}
 use Rattle.pdu_tables.specs.declared.status.Status.{Status}
 use Rattle.sessions.specs.Session.{Session}

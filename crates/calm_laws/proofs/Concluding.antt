@@ -9,12 +9,12 @@ use Rattle.mc_model.specs.synod.Packet.{Slot}
 use Rattle.node_model.specs.Granted.{is_open}
 use Rattle.node_model.specs.Kept.{Kept, message_at}
 use Rattle.node_model.specs.Stepped.{stepped}
-use Rattle.alone_laws.specs.Alone.{alone}
-use Rattle.alone_laws.specs.Attempts.{concluded_at, newest_slot, receipts_on}
-use Rattle.alone_laws.specs.Resting.{IsAtRest, IsResting}
-use Rattle.alone_laws.specs.Settling.{SettlesOn}
-use Rattle.alone_laws.specs.Tables.{Entry, TableNode, chain_at, decree_by, entry_at, extended}
-use Rattle.alone_laws.proofs.Granting.{response_settles}
+use Rattle.table_laws.specs.Alone.{alone}
+use Rattle.table_laws.specs.Attempts.{concluded_at, newest_slot, receipts_on}
+use Rattle.table_laws.specs.Resting.{IsAtRest, IsResting}
+use Rattle.table_laws.specs.Settling.{SettlesOn}
+use Rattle.table_laws.specs.Tables.{Entry, TableNode, chain_at, decree_by, entry_at, extended}
+use Rattle.table_laws.proofs.Granting.{response_settles}
 use Rattle.script_text.specs.Left.{rests}
 use Rattle.script_text.specs.Settings.{Settings}
 use Rattle.script_text.specs.Attempts.{concluded, went}

@@ -1,8 +1,8 @@
 -- A settle of a calm script: one reply goes out at most, then the receipts that are due, and the runner and the one node stay alike.
 use Rattle.std.proofs.Common.{◌≡◌, ℕ, suc, ◌≤◌, ◌<◌, Bool, true, List, [], ◌++◌, length, None, Some, refl, sym, ◌∙◌, ap, subst, arith}
 use Rattle.node_model.specs.Kept.{Kept}
-use Rattle.alone_laws.specs.Settling.{delivered}
-use Rattle.alone_laws.proofs.Leading.{settling}
+use Rattle.table_laws.specs.Settling.{delivered}
+use Rattle.table_laws.proofs.Leading.{settling}
 use Rattle.script_text.specs.Settings.{Settings}
 use Rattle.script_text.specs.Prints.{Print}
 use Rattle.script_text.specs.Receipts.{Mail, Posted, all_posted}

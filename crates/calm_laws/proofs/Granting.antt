@@ -16,13 +16,13 @@ use Rattle.node_model.specs.Kept.{Kept}
 use Rattle.node_model.specs.Outputs.{Stepped}
 use Rattle.node_model.specs.Starts.{is_idle}
 use Rattle.node_model.specs.Stepped.{stepped}
-use Rattle.alone_laws.specs.Alone.{alone}
-use Rattle.alone_laws.specs.Attempts.{attempt_refusal, chain_refusal, granted_at, newest_refusal, newest_slot, refusal_at}
-use Rattle.alone_laws.specs.Resting.{IsResting}
-use Rattle.alone_laws.specs.Settling.{SettlesOn}
-use Rattle.alone_laws.specs.Tables.{Entry, TableNode, entry_at, known_as}
-use Rattle.alone_laws.proofs.Frames.{entry_here}
-use Rattle.alone_laws.proofs.Granting.{grant_refused, grant_settles}
+use Rattle.table_laws.specs.Alone.{alone}
+use Rattle.table_laws.specs.Attempts.{attempt_refusal, chain_refusal, granted_at, newest_refusal, newest_slot, refusal_at}
+use Rattle.table_laws.specs.Resting.{IsResting}
+use Rattle.table_laws.specs.Settling.{SettlesOn}
+use Rattle.table_laws.specs.Tables.{Entry, TableNode, entry_at, known_as}
+use Rattle.table_laws.proofs.Frames.{entry_here}
+use Rattle.table_laws.proofs.Granting.{grant_refused, grant_settles}
 use Rattle.sessions.specs.Session.{Session}
 use Rattle.sessions.specs.declared.pushed.Delivery.TheVariants as deliveries
 use Rattle.script_text.specs.Left.{followed_by}

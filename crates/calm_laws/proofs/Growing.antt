@@ -11,9 +11,9 @@ use Rattle.mc_model.specs.message.Submission.{Submission}
 use Rattle.mc_model.specs.node.Actor.{Cancel, Query, Request, Submit}
 use Rattle.mc_model.specs.node.Grant.{GrantRefusal}
 use Rattle.mc_model.specs.node.Outcome.{Outcome, decree_of}
-use Rattle.alone_laws.specs.Attempts.{granted_at, refusal_at}
-use Rattle.alone_laws.specs.Tables.{Entry, Table, TableNode, chain_at, decree_by, decreed, entry_at, extended, is_deleted, table_by}
-use Rattle.alone_laws.specs.Ticks.{at_clock, entry_then}
+use Rattle.table_laws.specs.Attempts.{granted_at, refusal_at}
+use Rattle.table_laws.specs.Tables.{Entry, Table, TableNode, chain_at, decree_by, decreed, entry_at, extended, is_deleted, table_by}
+use Rattle.table_laws.specs.Ticks.{at_clock, entry_then}
 use Rattle.pdu_tables.specs.CommandCodes.{command_of}
 use Rattle.pdu_tables.specs.declared.status.Status.{Status}
 use Rattle.pdu_codec.specs.Grammar.{word_at}

@@ -7,9 +7,9 @@ use Rattle.std.specs.Ordering.{nat_cmp}
 use Rattle.std.specs.BTreeMap.{insert_entry}
 use Rattle.std.proofs.lemmas.Bool.{and_parts}
 use Rattle.std.proofs.lemmas.List.{map-append}
-use Rattle.alone_laws.specs.Attempts.{refusal_at}
-use Rattle.alone_laws.specs.Ticks.{ticked}
-use Rattle.alone_laws.proofs.Opening.{new_rests}
+use Rattle.table_laws.specs.Attempts.{refusal_at}
+use Rattle.table_laws.specs.Ticks.{ticked}
+use Rattle.table_laws.proofs.Opening.{new_rests}
 use Rattle.pdu_frames.specs.Frames.{Cut, begins_wrong, cut}
 use Rattle.script_lines.specs.Lines.{lines_of}
 use Rattle.script_lines.specs.Said.{Said, Skipped, Nodes, Octets, Deliver, Crash, Tick, Grant, Settle, Restart, Replay, said_within}

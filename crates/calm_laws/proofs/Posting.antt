@@ -6,7 +6,7 @@ use Rattle.std.specs.Map.{set_value}
 use Rattle.std.specs.BTreeMap.{is_at}
 use Rattle.std.proofs.lemmas.Bool.{cases_eq}
 use Rattle.mc_model.specs.node.Outputs.{Receipt}
-use Rattle.alone_laws.specs.Tables.{TableNode}
+use Rattle.table_laws.specs.Tables.{TableNode}
 use Rattle.receipts.specs.Texts.{Report}
 use Rattle.sessions.specs.Session.{Session}
 use Rattle.sessions.specs.Steps.{on_push}

@@ -8,7 +8,7 @@ use Rattle.std.specs.BTreeMap.{is_at}
 use Rattle.std.proofs.Math.Path.{fun_ext}
 use Rattle.std.proofs.lemmas.Bool.{and_parts}
 use Rattle.mc_model.specs.synod.Packet.{Slot}
-use Rattle.alone_laws.specs.Tables.{TableNode, entry_at}
+use Rattle.table_laws.specs.Tables.{TableNode, entry_at}
 use Rattle.pdu_codec.proofs.PduSpelling.{find-passes}
 use Rattle.sessions.specs.Session.{Session}
 use Rattle.sessions.specs.Steps.{on_push, push_refusal, pushed_unless}

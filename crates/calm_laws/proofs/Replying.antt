@@ -7,7 +7,7 @@ use Rattle.std.specs.Map.{lookup}
 use Rattle.std.specs.BTreeMap.{is_at}
 use Rattle.std.proofs.lemmas.Bool.{cases_eq, ne_eqb}
 use Rattle.mc_model.specs.node.Outputs.{Reply}
-use Rattle.alone_laws.proofs.Frames.{eqb_self}
+use Rattle.table_laws.proofs.Frames.{eqb_self}
 use Rattle.sessions.specs.Session.{Session}
 use Rattle.sessions.specs.Steps.{on_reply}
 use Rattle.sessions.specs.declared.request.OpenRequest.{OpenRequest}

@@ -28,7 +28,7 @@ use Rattle.node_model.specs.Rules.{Fitting, first_rule}
 use Rattle.node_model.specs.Starts.{delete_for, take_for}
 use Rattle.node_model.specs.Stepped.{sender_of, stepped, stepped_down, stepped_up}
 use Rattle.node_model.specs.Ticks.{asked_again, given_up, ids_of, question, ruled, ruled_each, ticked, waits_too}
-use Rattle.node_laws.proofs.Orders.{in_mapped}
+use Rattle.node_laws.proofs.invariant.Orders.{in_mapped}
 
 -- each of these packets was sent by a node
 abbrev pub AreSentBy : ℕ → List Packet → Type 0

@@ -8,9 +8,9 @@ use Rattle.mc_model.specs.node.Setup.{Setup}
 use Rattle.node_model.specs.Kept.{Kept}
 use Rattle.node_model.specs.Outputs.{Stepped}
 use Rattle.node_model.specs.Stepped.{stepped}
-use Rattle.alone_laws.specs.Settling.{IsOrderly, Settling, delivered}
-use Rattle.alone_laws.proofs.Leading.{settling}
-use Rattle.alone_laws.proofs.Unmoved.{delivery_unmoved}
+use Rattle.table_laws.specs.Settling.{IsOrderly, Settling, delivered}
+use Rattle.table_laws.proofs.Leading.{settling}
+use Rattle.table_laws.proofs.Unmoved.{delivery_unmoved}
 use Rattle.sessions.specs.Session.{Session}
 use Rattle.script_text.specs.Left.{followed_by, in_front, rests}
 use Rattle.script_text.specs.Prints.{Print}

@@ -7,12 +7,12 @@ use Rattle.mc_model.specs.node.Outputs.{Receipt, Reply}
 use Rattle.mc_model.specs.node.Setup.{Setup}
 use Rattle.node_model.specs.Kept.{Kept}
 use Rattle.node_model.specs.Outputs.{Stepped}
-use Rattle.alone_laws.specs.Alone.{alone}
-use Rattle.alone_laws.specs.Resting.{IsResting}
-use Rattle.alone_laws.specs.Settling.{IsOrderly, Settling, SettlesOn, begins_with, delivered, most_deliveries}
-use Rattle.alone_laws.specs.Tables.{TableNode}
-use Rattle.alone_laws.proofs.Leading.{nothing_more, settling}
-use Rattle.alone_laws.proofs.Unmoved.{delivered_unmoved}
+use Rattle.table_laws.specs.Alone.{alone}
+use Rattle.table_laws.specs.Resting.{IsResting}
+use Rattle.table_laws.specs.Settling.{IsOrderly, Settling, SettlesOn, begins_with, delivered, most_deliveries}
+use Rattle.table_laws.specs.Tables.{TableNode}
+use Rattle.table_laws.proofs.Leading.{nothing_more, settling}
+use Rattle.table_laws.proofs.Unmoved.{delivered_unmoved}
 use Rattle.sessions.specs.Session.{Session}
 use Rattle.sessions.specs.declared.request.OpenRequest.{OpenRequest}
 use Rattle.script_text.specs.Settings.{Settings}

@@ -9,11 +9,11 @@ use Rattle.mc_model.specs.node.Outputs.{Receipt}
 use Rattle.mc_model.specs.node.Setup.{Setup}
 use Rattle.node_model.specs.Outputs.{Stepped}
 use Rattle.node_model.specs.Stepped.{stepped}
-use Rattle.alone_laws.specs.Alone.{alone}
-use Rattle.alone_laws.specs.Settling.{SettlesOn}
-use Rattle.alone_laws.specs.Tables.{Table, TableNode}
-use Rattle.alone_laws.specs.Ticks.{receipts_between, ticked}
-use Rattle.alone_laws.proofs.Clocked.{tick_settles}
+use Rattle.table_laws.specs.Alone.{alone}
+use Rattle.table_laws.specs.Settling.{SettlesOn}
+use Rattle.table_laws.specs.Tables.{Table, TableNode}
+use Rattle.table_laws.specs.Ticks.{receipts_between, ticked}
+use Rattle.table_laws.proofs.Clocked.{tick_settles}
 use Rattle.sessions.specs.Session.{Session}
 use Rattle.sessions.specs.Steps.{on_tick as timely}
 use Rattle.sessions.specs.Windows.{is_overdue}

@@ -7,8 +7,8 @@ use Rattle.std.proofs.lemmas.Bool.{ne_eqb}
 use Rattle.mc_model.specs.message.Decree.{Decree}
 use Rattle.mc_model.specs.synod.Packet.{Slot}
 use Rattle.node_model.specs.Starts.{is_idle}
-use Rattle.alone_laws.specs.Tables.{Entry, Table, chain_at, entry_at, with_entry}
-use Rattle.alone_laws.proofs.Frames.{entry_elsewhere, eqb_self}
+use Rattle.table_laws.specs.Tables.{Entry, Table, chain_at, entry_at, with_entry}
+use Rattle.table_laws.proofs.Frames.{entry_elsewhere, eqb_self}
 use Rattle.sessions.specs.Session.{Session}
 use Rattle.sessions.specs.Windows.{without_first}
 use Rattle.sessions.specs.declared.pushed.Delivery.{Delivery}

@@ -5,7 +5,7 @@ use Rattle.mc_model.specs.message.Submission.{Submission}
 use Rattle.pdu_codec.specs.Pdu.{octets_of}
 use Rattle.delivery.specs.Deliveries.{EndsInAttempt, delivered_message}
 use Rattle.receipts.specs.Texts.{Report}
-use Rattle.requests.specs.Replying.{answer_given}
+use Rattle.waiting_requests.specs.Replying.{answer_given}
 use Rattle.esme_service.specs.Pushes.{deliver_sm}
 use Rattle.esme_service.specs.Reports.{report_pdu, reported_on}
 use Rattle.esme_service.specs.Responses.{reply_pdu}

@@ -1,6 +1,6 @@
 -- The node's replies, as they go out.
 use Rattle.std.specs.Prelude.{Option, Some, None}
-use Rattle.requests.specs.declared.answer.Reply.{Reply}
+use Rattle.waiting_requests.specs.declared.answer.Reply.{Reply}
 use Rattle.esme_service.specs.Replies.{Owned}
 use Rattle.esme_service.specs.declared.owner.Owner.{Owner}
 use Rattle.esme_service.specs.declared.sending.Sending.{Sending}

@@ -3,13 +3,13 @@
 ghost use Rattle.std.specs.Prelude.{◌≡◌, IfOk};
 ghost use Rattle.pdu_codec.specs.Pdu.{octets_of};
 ghost use Rattle.esme_service.specs.Responses.{answer_pdu, final_date_of, refusal_pdu, reply_pdu};
-ghost use Rattle.requests.specs.Replying.{answer_given};
+ghost use Rattle.waiting_requests.specs.Replying.{answer_given};
 
 use desk::{Answer, shown};
 use mc_types::{Moment, MsgId};
 use pdu_codec::{Body, MessageIdText, Pdu, QueryAnswer, Text, TimeText};
 use pdu_tables::{State, Status};
-use requests::{Answer as Given, Reply};
+use waiting_requests::{Answer as Given, Reply};
 use sessions::{OpenRequest, encoded, pdu_with};
 use smpp_time::{times_fit_their_field, write_time};
 use std::alloc::{AllocError, Global};

@@ -7,7 +7,7 @@ use crate::owner::Owner;
 use crate::pushed_on::PushedOn;
 use crate::response::reply_octets;
 use fate_chain::Chain;
-use requests::Reply;
+use waiting_requests::Reply;
 use std::alloc::{AllocError, Global};
 
 /// What goes out on a session by what the node gave out. It takes no memory; its octets do.

@@ -17,7 +17,7 @@ use config::Config;
 use fate_chain::Chain;
 use mc_types::{Moment, Slot};
 use pdu_codec::SystemId;
-use requests::Reply;
+use waiting_requests::Reply;
 use sessions::{Delivery, OpenRequest, Pushed, Session};
 use std::alloc::{AllocError, AllocFailed, Global};
 use std::collections::BTreeMap;

@@ -4,7 +4,7 @@ use crate::inputs::numbers;
 use desk::shown;
 use fate_chain::Chain;
 use node_core::{Outputs, StepFault};
-use requests::Reply;
+use waiting_requests::Reply;
 use synod_acceptor::Packet;
 
 /// What a node answers to what comes: a word, and numbers behind it. If it gives out more than one thing, the word is `Other`.
@@ -41,14 +41,14 @@ fn with_state(word: &'static str, number: u64, chain: &Chain) -> Answer {
 /// A reply, with its ticket: behind that `Accepted` has the id of the message, and `Shown` its state.
 fn replied(reply: &Reply) -> Answer {
     match &reply.answer {
-        requests::Answer::Accepted => ("Accepted", [reply.ticket, reply.id.number(), 0, 0]),
-        requests::Answer::Shown(chain) => with_state("Shown", reply.ticket, chain),
-        requests::Answer::Removed(_) => with_number("Removed", reply.ticket),
-        requests::Answer::Kept(_) => with_number("Kept", reply.ticket),
-        requests::Answer::NotOwner => with_number("NotOwner", reply.ticket),
-        requests::Answer::NotMatched(_) => with_number("NotMatched", reply.ticket),
-        requests::Answer::Unknown => with_number("Unknown", reply.ticket),
-        requests::Answer::TooLate => with_number("TooLate", reply.ticket),
+        waiting_requests::Answer::Accepted => ("Accepted", [reply.ticket, reply.id.number(), 0, 0]),
+        waiting_requests::Answer::Shown(chain) => with_state("Shown", reply.ticket, chain),
+        waiting_requests::Answer::Removed(_) => with_number("Removed", reply.ticket),
+        waiting_requests::Answer::Kept(_) => with_number("Kept", reply.ticket),
+        waiting_requests::Answer::NotOwner => with_number("NotOwner", reply.ticket),
+        waiting_requests::Answer::NotMatched(_) => with_number("NotMatched", reply.ticket),
+        waiting_requests::Answer::Unknown => with_number("Unknown", reply.ticket),
+        waiting_requests::Answer::TooLate => with_number("TooLate", reply.ticket),
     }
 }
 

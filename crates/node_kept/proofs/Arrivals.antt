@@ -16,8 +16,8 @@ use Rattle.node_model.specs.Proposer.{Prepared, Start, highest_round, is_free, p
 use Rattle.node_model.specs.Requests.{asks, begun, ticket_of}
 use Rattle.node_model.specs.Starts.{take_for}
 use Rattle.node_model.specs.Ticks.{begun_with, on_arrival, question, waits_too}
-use Rattle.requests.specs.Submits.{IsNumberedBy}
-use Rattle.requests.specs.Waiting.{Waits, held_in, held_of}
+use Rattle.waiting_requests.specs.Submits.{IsNumberedBy}
+use Rattle.waiting_requests.specs.Waiting.{Waits, held_in, held_of}
 use Rattle.synod_acceptor.specs.Packets.{packet_of}
 use Rattle.synod_acceptor.specs.declared.packet.Packet.{Packet as Cast}
 use Rattle.node_parts.specs.declared.outputs.Outputs.{Outputs as Sent}

@@ -9,7 +9,7 @@ use Rattle.mc_model.specs.node.Setup.{Setup}
 use Rattle.node_model.specs.Message.{Message}
 use Rattle.node_model.specs.Recorded.{AreRecorded}
 use Rattle.fate_chain.specs.declared.decree.Author.{Author}
-use Rattle.requests.specs.Waiting.{held_in}
+use Rattle.waiting_requests.specs.Waiting.{held_in}
 use Rattle.shelf.specs.Shelved.{value_at}
 use Rattle.shelf.proofs.Visited.{same_keys, value_visited, visited}
 use Rattle.synod_acceptor.specs.Records.{record_at}

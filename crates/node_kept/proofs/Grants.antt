@@ -15,9 +15,9 @@ use Rattle.node_model.specs.Outputs.{Stepped, nothing}
 use Rattle.node_model.specs.Rules.{is_attempt_by}
 use Rattle.node_model.specs.Granted.{known_place, known_slot}
 use Rattle.pdu_tables.specs.StatusCodes.{status_code}
-use Rattle.requests.specs.Replying.{reply_given}
-use Rattle.rules.specs.Standpoints.{kept_of as kept_for, setup_of}
-use Rattle.rules.specs.declared.standpoint.Standpoint.{Standpoint}
+use Rattle.waiting_requests.specs.Replying.{reply_given}
+use Rattle.tick_rules.specs.Standpoints.{kept_of as kept_for, setup_of}
+use Rattle.tick_rules.specs.declared.standpoint.Standpoint.{Standpoint}
 use Rattle.synod_acceptor.specs.Packets.{packet_of}
 use Rattle.synod_acceptor.specs.Records.{record_at}
 use Rattle.synod_acceptor.specs.declared.packet.Packet.{Packet as Sent}

@@ -16,7 +16,7 @@ use Rattle.node_model.specs.Kept.{Held, Kept}
 use Rattle.node_model.specs.Message.{Message}
 use Rattle.node_model.specs.Outputs.{Stepped, leaves}
 use Rattle.node_model.specs.Ticks.{is_late, late_reply, on_tick, tick_then, ticked, without_round}
-use Rattle.requests.specs.Queues.{timely}
+use Rattle.waiting_requests.specs.Queues.{timely}
 
 pub none_passes : (test : Held → Bool) (held : List Held) → ((h : Held) → In h held → test h ≡ false) → list_any test held ≡ false
 none_passes test [] none = refl

@@ -15,7 +15,7 @@ use Rattle.node_model.specs.Outputs.{Stepped, nothing, sends}
 use Rattle.node_model.specs.Packets.{answered_then, known_then, on_known, settled_for}
 use Rattle.node_model.specs.Proposer.{Start, started}
 use Rattle.node_model.specs.Starts.{cancels, delete_for}
-use Rattle.requests.specs.Waiting.{held_in}
+use Rattle.waiting_requests.specs.Waiting.{held_in}
 use Rattle.synod_acceptor.specs.Packets.{packet_of}
 use Rattle.synod_acceptor.specs.Records.{record_at}
 use Rattle.synod_acceptor.specs.declared.packet.Packet.{Packet as Cast}

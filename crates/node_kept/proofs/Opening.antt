@@ -18,7 +18,7 @@ use Rattle.mc_model.specs.node.Setup.{Setup}
 use Rattle.mc_parts.proofs.Membership.{slots_same}
 use Rattle.node_model.specs.Message.{unseen}
 use Rattle.node_model.specs.Recorded.{AreRecorded, named_places}
-use Rattle.requests.specs.Waiting.{held_in}
+use Rattle.waiting_requests.specs.Waiting.{held_in}
 use Rattle.shelf.specs.Shelved.{with_value}
 use Rattle.synod_acceptor.proofs.Slots.{is_same}
 use Rattle.synod_acceptor.specs.Records.{entries_of, entry_of, held_at, record_at}

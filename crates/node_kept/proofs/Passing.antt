@@ -4,10 +4,10 @@ use Rattle.std.specs.Prelude.{filter, nat_le}
 use Rattle.std.proofs.lemmas.Bool.Decides.{nat_tests}
 use Rattle.mc_model.specs.synod.Lists.{In}
 use Rattle.node_model.specs.Ticks.{ids_of, ruled, ticked}
-use Rattle.requests.specs.Queues.{timely}
-use Rattle.requests.specs.Waiting.{held_in}
+use Rattle.waiting_requests.specs.Queues.{timely}
+use Rattle.waiting_requests.specs.Waiting.{held_in}
 use Rattle.fate_chain.specs.declared.decree.Author.{Author}
-use Rattle.rules.specs.declared.standpoint.Standpoint.{Standpoint}
+use Rattle.tick_rules.specs.declared.standpoint.Standpoint.{Standpoint}
 use Rattle.node_parts.specs.Living.{AreRising}
 use Rattle.node_parts.proofs.Decided.{no_rule}
 use Rattle.node_parts.proofs.Rising.{each}

@@ -11,8 +11,8 @@ use Rattle.mc_model.specs.synod.Packet.{TopVote}
 use Rattle.mc_model.specs.node.Replies.{Answer}
 use Rattle.mc_model.specs.node.Setup.{Setup}
 use Rattle.node_model.specs.Kept.{Held, Kept}
-use Rattle.requests.specs.Queues.{IsAbove}
-use Rattle.requests.specs.Waiting.{Waits, held_in, held_of}
+use Rattle.waiting_requests.specs.Queues.{IsAbove}
+use Rattle.waiting_requests.specs.Waiting.{Waits, held_in, held_of}
 use Rattle.node_parts.specs.declared.outputs.Outputs.{Outputs as Sent}
 use Rattle.node_parts.proofs.Told.{higher_told}
 use Rattle.node_kept.specs.declared.kept.Kept.{Kept as Holding}

@@ -19,14 +19,14 @@ use Rattle.node_model.specs.Packets.{answer_told, is_own_name, on_tell, tell_hel
 use Rattle.node_model.specs.Proposer.{Prepared, Start, highest_round, is_free, prepared_at, started, started_at}
 use Rattle.node_model.specs.Requests.{held_at, id_of, settled_by, settles, told_by, with_held}
 use Rattle.node_model.specs.Starts.{cancels, delete_for, delete_of, is_idle, start_behind}
-use Rattle.requests.specs.Replying.{reply_given}
-use Rattle.requests.specs.Waiting.{held_in}
-use Rattle.requests.specs.declared.answer.Reply.{Reply}
-use Rattle.rules.specs.Dues.{IsBehind, IsDeletion, start_for}
-use Rattle.rules.specs.Standpoints.{start_of}
-use Rattle.rules.specs.declared.due.Due.{Due}
-use Rattle.rules.specs.declared.due.Due.TheVariants as dues
-use Rattle.rules.specs.declared.standpoint.Standpoint.{Standpoint}
+use Rattle.waiting_requests.specs.Replying.{reply_given}
+use Rattle.waiting_requests.specs.Waiting.{held_in}
+use Rattle.waiting_requests.specs.declared.answer.Reply.{Reply}
+use Rattle.tick_rules.specs.Dues.{IsBehind, IsDeletion, start_for}
+use Rattle.tick_rules.specs.Standpoints.{start_of}
+use Rattle.tick_rules.specs.declared.due.Due.{Due}
+use Rattle.tick_rules.specs.declared.due.Due.TheVariants as dues
+use Rattle.tick_rules.specs.declared.standpoint.Standpoint.{Standpoint}
 use Rattle.synod_acceptor.specs.Packets.{packet_of}
 use Rattle.synod_acceptor.specs.Records.{record_at}
 use Rattle.synod_acceptor.specs.declared.packet.Packet.{Packet as Cast}
@@ -40,7 +40,7 @@ use Rattle.node_kept.specs.declared.kept.Kept.{Kept as Holding}
 use Rattle.node_kept.specs.declared.queue_change.QueueChange.{QueueChange}
 use Rattle.node_kept.specs.declared.step.Step.{Step}
 use Rattle.node_model.specs.Sets.{is_majority}
-use Rattle.requests.specs.Tops.{told_by_most}
+use Rattle.waiting_requests.specs.Tops.{told_by_most}
 use Rattle.node_kept.specs.Deleting.{deletion_if}
 use Rattle.node_kept.specs.Keeping.{AreOwn, IsTaken, kept_of}
 use Rattle.node_kept.specs.Queueing.{AreAsked, IsSound, requeued}

@@ -8,10 +8,10 @@ use Rattle.node_model.specs.Kept.{Held}
 use Rattle.node_model.specs.Outputs.{leaves, nothing}
 use Rattle.node_model.specs.Proposer.{Prepared}
 use Rattle.node_model.specs.Ticks.{asked_again, ids_of, is_late, late_reply, on_tick, rules_then, ticked}
-use Rattle.requests.specs.Queues.{timely}
+use Rattle.waiting_requests.specs.Queues.{timely}
 use Rattle.pdu_tables.specs.StatusCodes.{status_code}
-use Rattle.requests.specs.Replying.{reply_given}
-use Rattle.requests.specs.Waiting.{held_in}
+use Rattle.waiting_requests.specs.Replying.{reply_given}
+use Rattle.waiting_requests.specs.Waiting.{held_in}
 use Rattle.synod_acceptor.specs.declared.record.Change.{Change}
 use Rattle.node_parts.specs.declared.message.Message.{Message as Filed}
 use Rattle.node_parts.specs.Messages.{changed_by, rested_entry}

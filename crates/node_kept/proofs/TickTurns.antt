@@ -15,10 +15,10 @@ use Rattle.node_model.specs.Proposer.{Prepared}
 use Rattle.node_model.specs.Rules.{first_rule}
 use Rattle.node_model.specs.Ticks.{and_then, ids_of, is_late, ruled, ruled_each, ticked, without_round}
 use Rattle.node_model.proofs.Places.{elsewhere}
-use Rattle.requests.specs.Queues.{timely}
-use Rattle.requests.specs.Waiting.{held_in}
+use Rattle.waiting_requests.specs.Queues.{timely}
+use Rattle.waiting_requests.specs.Waiting.{held_in}
 use Rattle.fate_chain.specs.declared.decree.Author.{Author}
-use Rattle.rules.specs.declared.standpoint.Standpoint.{Standpoint}
+use Rattle.tick_rules.specs.declared.standpoint.Standpoint.{Standpoint}
 use Rattle.shelf.specs.Shelved.{value_at, with_value}
 use Rattle.shelf.proofs.Apart.{put_apart}
 use Rattle.shelf.proofs.Visited.{value_visited}

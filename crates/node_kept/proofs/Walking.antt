@@ -14,9 +14,9 @@ use Rattle.mc_model.specs.synod.Lists.{In}
 use Rattle.node_model.specs.Kept.{Held}
 use Rattle.node_model.specs.Requests.{id_of}
 use Rattle.node_model.specs.Ticks.{ids_of, ids_with, ticked}
-use Rattle.requests.specs.Numbers.{IsLeastFrom, ids_in}
-use Rattle.requests.specs.Queues.{timely}
-use Rattle.requests.specs.Waiting.{held_in}
+use Rattle.waiting_requests.specs.Numbers.{IsLeastFrom, ids_in}
+use Rattle.waiting_requests.specs.Queues.{timely}
+use Rattle.waiting_requests.specs.Waiting.{held_in}
 use Rattle.shelf.specs.Shelved.{value_at}
 use Rattle.node_parts.specs.declared.message.Message.{Message as Filed}
 use Rattle.node_parts.specs.Living.{AreRising, IsNextLive, IsSettled}

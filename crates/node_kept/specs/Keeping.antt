@@ -8,7 +8,7 @@ use Rattle.mc_model.specs.node.Setup.{Setup}
 use Rattle.node_model.specs.Message.{Message, unseen}
 use Rattle.node_model.specs.Kept.{Kept, message_at}
 use Rattle.node_model.specs.Recorded.{AreRecorded}
-use Rattle.requests.specs.Waiting.{held_in}
+use Rattle.waiting_requests.specs.Waiting.{held_in}
 use Rattle.shelf.specs.Shelved.{value_at}
 use Rattle.synod_acceptor.specs.Records.{record_at}
 use Rattle.synod_acceptor.specs.Votes.{Record, record_of, slot_recorded}

@@ -1,6 +1,6 @@
 pub use Rattle.desk.specs.Admissions
 pub use Rattle.desk.specs.Arrivals
-pub use Rattle.requests.specs.Waiting
+pub use Rattle.waiting_requests.specs.Waiting
 pub mod Setups
 pub mod Queueing
 pub mod Deleting

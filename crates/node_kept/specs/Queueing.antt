@@ -6,9 +6,9 @@ use Rattle.node_model.specs.Answers.{still_waits}
 use Rattle.node_model.specs.Kept.{Held}
 use Rattle.node_model.specs.Packets.{settled_for}
 use Rattle.node_model.specs.Requests.{ticket_of, with_held}
-use Rattle.requests.specs.Queues.{IsAbove, timely}
-use Rattle.requests.specs.Submits.{AreNumberedBy, IsNumberedBy}
-use Rattle.requests.specs.Waiting.{Waits, held_in, held_of}
+use Rattle.waiting_requests.specs.Queues.{IsAbove, timely}
+use Rattle.waiting_requests.specs.Submits.{AreNumberedBy, IsNumberedBy}
+use Rattle.waiting_requests.specs.Waiting.{Waits, held_in, held_of}
 use Rattle.node_parts.specs.Told.{AreToldOf, IsToldOf}
 use Rattle.node_kept.specs.declared.queue_change.QueueChange.{QueueChange}
 use Rattle.node_kept.specs.declared.queue_change.QueueChange.TheVariants as changes

@@ -18,8 +18,8 @@ use Rattle.delivery.specs.Kept.{outcome_kept}
 use Rattle.desk.specs.Arrivals.{requested}
 use Rattle.pdu_tables.specs.StatusCodes.{status_code}
 use Rattle.delivery.specs.Targets.{is_up}
-use Rattle.requests.specs.Replying.{reply_given}
-use Rattle.requests.specs.Waiting.{held_in}
+use Rattle.waiting_requests.specs.Replying.{reply_given}
+use Rattle.waiting_requests.specs.Waiting.{held_in}
 use Rattle.shelf.specs.Shelved.{with_value}
 use Rattle.synod_acceptor.specs.Packets.{packet_of}
 use Rattle.synod_acceptor.specs.Votes.{record_of, slot_recorded}

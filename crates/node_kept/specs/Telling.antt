@@ -12,9 +12,9 @@ use Rattle.node_model.specs.Packets.{is_own_name}
 use Rattle.node_model.specs.Proposer.{Prepared, Start}
 use Rattle.node_model.specs.Requests.{held_at, id_of, ticket_of, with_held}
 use Rattle.node_model.specs.Starts.{delete_for, follow_told}
-use Rattle.requests.specs.Replying.{reply_given}
-use Rattle.requests.specs.Waiting.{Waits}
-use Rattle.requests.specs.declared.answer.Reply.{Reply}
+use Rattle.waiting_requests.specs.Replying.{reply_given}
+use Rattle.waiting_requests.specs.Waiting.{Waits}
+use Rattle.waiting_requests.specs.declared.answer.Reply.{Reply}
 use Rattle.node_kept.specs.declared.queue_change.QueueChange.{QueueChange}
 use Rattle.node_kept.specs.Queueing.{HasPlace, requeued}
 

@@ -2,9 +2,9 @@
 use Rattle.std.specs.Prelude.{ℕ, nat_le, nat_lt, List, filter, Option, Some, None, if◌then◌else◌}
 use Rattle.mc_model.specs.synod.Lists.{In}
 use Rattle.node_model.specs.Ticks.{ids_of, ticked}
-use Rattle.requests.specs.Numbers.{IsLeastFrom, ids_in}
-use Rattle.requests.specs.Queues.{timely}
-use Rattle.requests.specs.Waiting.{held_in}
+use Rattle.waiting_requests.specs.Numbers.{IsLeastFrom, ids_in}
+use Rattle.waiting_requests.specs.Queues.{timely}
+use Rattle.waiting_requests.specs.Waiting.{held_in}
 use Rattle.node_parts.specs.Living.{IsNextLive}
 use Rattle.node_kept.specs.declared.kept.Kept.{Kept as Holding}
 use Rattle.node_kept.specs.declared.walk.Walk.{Walk}

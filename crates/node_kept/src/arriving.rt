@@ -4,8 +4,8 @@ ghost use Rattle.std.specs.Prelude.{◌≡◌, false, suc, length, IfOk};
 ghost use Rattle.mc_model.specs.node.Room.{is_busy};
 ghost use Rattle.mc_model.specs.node.Effect.{next_serial};
 ghost use Rattle.node_model.specs.Ticks.{on_arrival};
-ghost use Rattle.requests.specs.Submits.{IsNumberedBy};
-ghost use Rattle.requests.specs.Waiting.{IsSince, request_of};
+ghost use Rattle.waiting_requests.specs.Submits.{IsNumberedBy};
+ghost use Rattle.waiting_requests.specs.Waiting.{IsSince, request_of};
 ghost use Rattle.node_kept.specs.Arriving.{HasSerial};
 ghost use Rattle.node_kept.specs.Keeping.{AreOwn, kept_of};
 ghost use Rattle.node_kept.specs.Steps.{IsStep};
@@ -13,7 +13,7 @@ ghost use Rattle.node_kept.specs.Steps.{IsStep};
 use crate::kept::Kept;
 use crate::queue_change::QueueChange;
 use crate::step::Step;
-use requests::{Held, Request};
+use waiting_requests::{Held, Request};
 use std::alloc::AllocError;
 
 impl Kept {

@@ -21,7 +21,7 @@ ghost use Rattle.node_kept.specs.Keeping.{AreOwn, IsFiled, IsOpen, IsTaken, kept
 ghost use Rattle.node_kept.specs.Listing.{ListsRecorded};
 ghost use Rattle.node_kept.specs.Queueing.{HasPlace, requeued};
 ghost use Rattle.node_kept.specs.declared.queue_change.QueueChange.TheVariants.{Same};
-ghost use Rattle.requests.specs.Waiting.{held_in};
+ghost use Rattle.waiting_requests.specs.Waiting.{held_in};
 ghost use Rattle.node_kept.specs.Voting.{id_concerns, receipt_if, voted_in};
 ghost use Rattle.node_kept.specs.Preparing.{IsPrepared};
 ghost use Rattle.node_kept.specs.Steps.{HasRoom, IsAnswer, IsFault, IsInstalled, IsLeft, IsNext, IsStep, entries_after, giving, refused_by, rested_if};
@@ -34,8 +34,8 @@ use fate_chain::{Author, Chain};
 use mc_types::{Ballot, Incarnation, Moment, MsgId, NodeNo, Slot};
 use node_parts::{Input, Message, MessageShelf, Outputs, StepFault, sender};
 use pdu_codec::SystemId;
-use requests::Queue;
-use rules::Standpoint;
+use waiting_requests::Queue;
+use tick_rules::Standpoint;
 use std::alloc::{AllocError, Global};
 use synod_acceptor::{Name, Packet, Record, Report, Verdict, Vote};
 

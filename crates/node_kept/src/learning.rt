@@ -4,7 +4,7 @@ ghost use Rattle.std.specs.Prelude.{◌≡◌, ℕ, IfOk, IfSome, option_map};
 ghost use Rattle.node_model.specs.Answers.{had_fate as had_final};
 ghost use Rattle.node_model.specs.Message.{Message as MessageValue};
 ghost use Rattle.node_model.specs.Packets.{known_then, on_known};
-ghost use Rattle.rules.specs.Standpoints.{start_of};
+ghost use Rattle.tick_rules.specs.Standpoints.{start_of};
 ghost use Rattle.node_kept.specs.Deleting.{deletion_if};
 ghost use Rattle.node_kept.specs.Keeping.{AreOwn, IsAs, kept_of};
 ghost use Rattle.node_kept.specs.Steps.{IsStep};

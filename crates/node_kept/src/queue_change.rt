@@ -2,7 +2,7 @@
 
 use fate_chain::Chain;
 use mc_types::Moment;
-use requests::Held;
+use waiting_requests::Held;
 
 /// What a step makes of the requests that wait.
 #[derive(Drop)]

@@ -5,8 +5,8 @@ ghost use Rattle.mc_model.specs.message.Ids.{incarnation_of, node_of};
 ghost use Rattle.node_model.specs.Stepped.{refused_with, stepped_up};
 ghost use Rattle.pdu_tables.specs.StatusCodes.{status_code};
 ghost use Rattle.desk.specs.Admissions.{MayWait, asked_of};
-ghost use Rattle.requests.specs.Submits.{IsNumberedBy};
-ghost use Rattle.requests.specs.Waiting.{IsSince, request_of};
+ghost use Rattle.waiting_requests.specs.Submits.{IsNumberedBy};
+ghost use Rattle.waiting_requests.specs.Waiting.{IsSince, request_of};
 ghost use Rattle.node_kept.specs.Arriving.{HasSerial};
 ghost use Rattle.node_kept.specs.Keeping.{AreOwn, kept_of};
 ghost use Rattle.desk.specs.Arrivals.{door_at, next_id, requested};
@@ -19,7 +19,7 @@ use fate_chain::{ChainFault, Submission};
 use mc_types::MsgId;
 use pdu_codec::SystemId;
 use pdu_tables::Status;
-use requests::{Request, Taken};
+use waiting_requests::{Request, Taken};
 use std::alloc::AllocError;
 
 impl Kept {

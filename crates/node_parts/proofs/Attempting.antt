@@ -18,14 +18,14 @@ use Rattle.synod_learner.specs.Counts.{Learned}
 use Rattle.synod_learner.specs.Hearing.{message_in}
 use Rattle.synod_proposer.specs.Proposing.{Proposing}
 use Rattle.synod_acceptor.proofs.Slots.{is_same}
-use Rattle.rules.specs.Dues.{IsBehind, IsEnd, MayBeDue, decree_for, start_for}
-use Rattle.rules.specs.Standpoints.{kept_of, setup_of, start_of}
-use Rattle.rules.specs.declared.due.Due.{Due}
-use Rattle.rules.specs.declared.due.Due.TheVariants as dues
-use Rattle.rules.specs.declared.standpoint.Standpoint.{Standpoint}
-use Rattle.rules.specs.Attempts.{closed_as}
-use Rattle.rules.specs.declared.attempted.Attempted.{Attempted}
-use Rattle.rules.specs.declared.attempted.Closing.{Closing}
+use Rattle.tick_rules.specs.Dues.{IsBehind, IsEnd, MayBeDue, decree_for, start_for}
+use Rattle.tick_rules.specs.Standpoints.{kept_of, setup_of, start_of}
+use Rattle.tick_rules.specs.declared.due.Due.{Due}
+use Rattle.tick_rules.specs.declared.due.Due.TheVariants as dues
+use Rattle.tick_rules.specs.declared.standpoint.Standpoint.{Standpoint}
+use Rattle.tick_rules.specs.Attempts.{closed_as}
+use Rattle.tick_rules.specs.declared.attempted.Attempted.{Attempted}
+use Rattle.tick_rules.specs.declared.attempted.Closing.{Closing}
 use Rattle.node_parts.specs.declared.attempts.Attempts.{Attempts}
 use Rattle.node_parts.specs.declared.message.Message.{Message as Filed}
 use Rattle.node_parts.specs.Attempting.{IsBacked, attempted_in, closed_in, granted_in}

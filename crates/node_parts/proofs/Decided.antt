@@ -18,8 +18,8 @@ use Rattle.node_model.specs.Requests.{id_of}
 use Rattle.node_model.specs.Rules.{attempt_rule, expiring, first_rule, fitting, idle_rule, if_so, is_attempt_by, known_rule, own_rule}
 use Rattle.node_model.specs.Rules.{shown_to, taken_for, tried, undelivered}
 use Rattle.node_model.specs.Starts.{delete_of, follow}
-use Rattle.requests.specs.Numbers.{ids_in}
-use Rattle.rules.specs.declared.standpoint.Standpoint.{Standpoint}
+use Rattle.waiting_requests.specs.Numbers.{ids_in}
+use Rattle.tick_rules.specs.declared.standpoint.Standpoint.{Standpoint}
 use Rattle.synod_acceptor.specs.Records.{record_at}
 use Rattle.node_parts.specs.declared.message.Message.{Message as Filed}
 use Rattle.node_parts.specs.Living.{is_decided}

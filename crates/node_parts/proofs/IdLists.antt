@@ -10,7 +10,7 @@ use Rattle.std.specs.declared.cmp.Ordering.TheVariants.{Less, Equal, Greater}
 use Rattle.std.proofs.lemmas.Bool.Decides.{nat_tests}
 use Rattle.std.proofs.lemmas.Cmp.{ranked}
 use Rattle.mc_model.specs.synod.Lists.{In}
-use Rattle.requests.specs.Numbers.{IsLeastFrom}
+use Rattle.waiting_requests.specs.Numbers.{IsLeastFrom}
 use Rattle.node_parts.specs.Living.{AreRising, IsPlaceOf}
 use Rattle.node_parts.proofs.Rising.{each}
 

@@ -13,7 +13,7 @@ use Rattle.std.proofs.lemmas.Bool.{cases_Bool}
 use Rattle.fate_chain.specs.declared.decree.Author.{Author}
 use Rattle.mc_model.specs.synod.Lists.{In}
 use Rattle.node_model.proofs.Places.{elsewhere}
-use Rattle.requests.specs.Numbers.{IsLeastFrom}
+use Rattle.waiting_requests.specs.Numbers.{IsLeastFrom}
 use Rattle.shelf.specs.Shelved.{value_at, with_value}
 use Rattle.shelf.proofs.Visited.{same_keys, value_visited}
 use Rattle.node_parts.specs.declared.message.Message.{Message as Filed}

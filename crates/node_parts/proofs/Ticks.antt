@@ -19,12 +19,12 @@ use Rattle.node_model.specs.Proposer.{Start}
 use Rattle.node_model.specs.Rules.{Fitting, first_rule, fitting, known_rule, own_rule, shown_to, taken_for}
 use Rattle.node_model.specs.Requests.{higher_top, id_of}
 use Rattle.node_model.specs.Starts.{cancels, follow}
-use Rattle.rules.proofs.Ticked.{rule_seen}
-use Rattle.rules.specs.Dues.{IsBehind, IsDueBehind, MayBeDue, decree_for, fitting_for, rule_of, start_for}
-use Rattle.rules.specs.Seen.{IsSeen}
-use Rattle.rules.specs.Standpoints.{start_of}
-use Rattle.rules.specs.declared.due.Due.{Due}
-use Rattle.rules.specs.declared.standpoint.Standpoint.{Standpoint}
+use Rattle.tick_rules.proofs.Ticked.{rule_seen}
+use Rattle.tick_rules.specs.Dues.{IsBehind, IsDueBehind, MayBeDue, decree_for, fitting_for, rule_of, start_for}
+use Rattle.tick_rules.specs.Seen.{IsSeen}
+use Rattle.tick_rules.specs.Standpoints.{start_of}
+use Rattle.tick_rules.specs.declared.due.Due.{Due}
+use Rattle.tick_rules.specs.declared.standpoint.Standpoint.{Standpoint}
 use Rattle.synod_acceptor.specs.Records.{record_at}
 use Rattle.node_parts.specs.declared.message.Message.{Message as Filed}
 use Rattle.node_parts.specs.Attempting.{attempted_in}

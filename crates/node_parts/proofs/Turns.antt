@@ -12,8 +12,8 @@ use Rattle.node_model.specs.Message.{Message}
 use Rattle.node_model.specs.Proposer.{Prepared, Start, started, started_at}
 use Rattle.node_model.specs.Rules.{Fitting, first_rule}
 use Rattle.node_model.specs.Ticks.{abandoned, given_up, ruled}
-use Rattle.rules.specs.Standpoints.{start_of}
-use Rattle.rules.specs.declared.standpoint.Standpoint.{Standpoint}
+use Rattle.tick_rules.specs.Standpoints.{start_of}
+use Rattle.tick_rules.specs.declared.standpoint.Standpoint.{Standpoint}
 use Rattle.synod_acceptor.specs.Packets.{packet_of}
 use Rattle.synod_acceptor.specs.Records.{record_at}
 use Rattle.synod_acceptor.specs.declared.packet.Packet.{Packet as Sent}

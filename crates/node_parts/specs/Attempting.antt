@@ -8,8 +8,8 @@ use Rattle.node_model.specs.Message.{Message}
 use Rattle.node_model.specs.Kept.{Kept}
 use Rattle.node_model.specs.Rules.{is_attempt_by}
 use Rattle.fate_chain.specs.declared.decree.Author.{Author}
-use Rattle.rules.specs.Attempts.{closed_as}
-use Rattle.rules.specs.declared.attempted.Attempted.{Attempted}
+use Rattle.tick_rules.specs.Attempts.{closed_as}
+use Rattle.tick_rules.specs.declared.attempted.Attempted.{Attempted}
 use Rattle.node_parts.specs.declared.attempts.Attempts.{Attempts}
 use Rattle.node_parts.specs.declared.grant_refusal.GrantRefusal.{GrantRefusal as Reason}
 use Rattle.node_parts.specs.declared.grant_refusal.GrantRefusal.TheVariants as reasons

@@ -9,7 +9,7 @@ use Rattle.mc_model.specs.synod.Lists.{In}
 use Rattle.node_model.specs.Acceptor.{told_of}
 use Rattle.node_model.specs.Answers.{had_fate}
 use Rattle.node_model.specs.Starts.{follow}
-use Rattle.requests.specs.Numbers.{IsLeastFrom}
+use Rattle.waiting_requests.specs.Numbers.{IsLeastFrom}
 use Rattle.shelf.specs.Shelved.{value_at}
 use Rattle.synod_acceptor.specs.Records.{record_at}
 use Rattle.node_parts.specs.declared.message.Message.{Message as Filed}

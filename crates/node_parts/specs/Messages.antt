@@ -23,8 +23,8 @@ use Rattle.synod_acceptor.specs.Votes.{record_of, slot_recorded, vote_of}
 use Rattle.synod_acceptor.specs.declared.vote.Vote.{Vote as Cast}
 use Rattle.synod_learner.specs.Hearing.{known_if, message_in}
 use Rattle.synod_proposer.specs.Proposing.{counted_in, is_own, message_of as message_proposed, proposed_in}
-use Rattle.rules.specs.Standpoints.{kept_of, setup_of}
-use Rattle.rules.specs.declared.standpoint.Standpoint.{Standpoint}
+use Rattle.tick_rules.specs.Standpoints.{kept_of, setup_of}
+use Rattle.tick_rules.specs.declared.standpoint.Standpoint.{Standpoint}
 use Rattle.node_parts.specs.declared.message.Message.{Message as Filed}
 use Rattle.node_parts.specs.Attempting.{IsBacked, closed_in, granted_in}
 

@@ -6,9 +6,9 @@ use Rattle.mc_model.specs.node.Setup.{Setup}
 use Rattle.node_model.specs.Kept.{Held, Kept, message_at, with_message}
 use Rattle.node_model.specs.Proposer.{Prepared, Start}
 use Rattle.node_model.specs.Rules.{Fitting}
-use Rattle.requests.specs.Submits.{AreNumberedBy}
-use Rattle.rules.specs.Standpoints.{start_of}
-use Rattle.rules.specs.declared.standpoint.Standpoint.{Standpoint}
+use Rattle.waiting_requests.specs.Submits.{AreNumberedBy}
+use Rattle.tick_rules.specs.Standpoints.{start_of}
+use Rattle.tick_rules.specs.declared.standpoint.Standpoint.{Standpoint}
 use Rattle.synod_acceptor.specs.Packets.{packet_of}
 use Rattle.synod_acceptor.specs.Records.{record_at}
 use Rattle.node_parts.specs.declared.message.Message.{Message as Filed}

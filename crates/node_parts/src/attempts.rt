@@ -4,7 +4,7 @@ ghost use Rattle.std.specs.Prelude.{◌≡◌, ◌≤◌, ◌==◌, ℕ, true, i
 ghost use Rattle.node_parts.specs.Attempting.{attempted_in, untried};
 
 use fate_chain::MOST_DECREES;
-use rules::Attempted;
+use tick_rules::Attempted;
 
 /// What a node did, in its incarnation, with its attempts on one message, by their places in the chain, 0 to 17.
 #[derive(Clone, Copy, Debug)]

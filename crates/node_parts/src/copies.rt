@@ -3,7 +3,7 @@
 ghost use Rattle.std.specs.Prelude.{◌≡◌, IfOk};
 
 use fate_chain::Chain;
-use requests::{Answer, Reply};
+use waiting_requests::{Answer, Reply};
 use std::alloc::AllocError;
 use synod_acceptor::Packet;
 

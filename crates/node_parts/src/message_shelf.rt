@@ -10,7 +10,7 @@ ghost use Rattle.std.specs.Option.{option_copied};
 ghost use Rattle.std.specs.Ordering.{nat_cmp};
 ghost use Rattle.std.specs.Vec.{vec_capacity};
 ghost use Rattle.mc_model.specs.synod.Lists.{In};
-ghost use Rattle.requests.specs.Numbers.{IsLeastFrom};
+ghost use Rattle.waiting_requests.specs.Numbers.{IsLeastFrom};
 ghost use Rattle.shelf.specs.Shelved.{Serves, value_at, with_value};
 ghost use Rattle.node_parts.specs.Living.{AreRising, IsNextLive, IsPlaceOf, is_live};
 ghost use Rattle.node_parts.specs.Renewal.{renewed};

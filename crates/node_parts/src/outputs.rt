@@ -7,7 +7,7 @@ ghost use Rattle.node_parts.specs.Lists.{listed};
 use crate::copies::{chains_copied, packets_copied, replies_copied};
 use fate_chain::Chain;
 use pdu_tables::Status;
-use requests::Reply;
+use waiting_requests::Reply;
 use std::alloc::{AllocError, Global};
 use synod_acceptor::Packet;
 

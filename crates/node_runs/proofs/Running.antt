@@ -14,8 +14,8 @@ use Rattle.node_model.specs.Outputs.{Stepped, leaves, nothing}
 use Rattle.node_model.specs.Stepped.{opened_new, opened_over, restarted, stepped, stopped}
 use Rattle.node_model.proofs.Stops.{saved_so}
 use Rattle.node_laws.specs.Runs.{IsOneOf, IsUpFor, MayAllCome, MayCome, kept_after, kept_outputs}
-use Rattle.node_laws.proofs.Opening.{new_stands}
-use Rattle.node_laws.proofs.WholeSteps.{whole_runs}
+use Rattle.node_laws.proofs.step.Opening.{new_stands}
+use Rattle.node_laws.proofs.step.WholeSteps.{whole_runs}
 use Rattle.stable_store.specs.Stored.{AreSame}
 use Rattle.synod_acceptor.specs.Packets.{packet_of}
 use Rattle.synod_acceptor.specs.declared.packet.Packet.{Packet}

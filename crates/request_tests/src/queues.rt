@@ -3,7 +3,7 @@
 use crate::same::assert_same;
 use crate::values::{Begins, Known, after, asking, held, said};
 use crate::waits::{Wait, alone, assert_waits, replies_at, tell_at};
-use requests::{Queue, Reply};
+use waiting_requests::{Queue, Reply};
 use std::alloc::Global;
 use std::process::Abort;
 

@@ -2,7 +2,7 @@
 
 use crate::same::assert_same;
 use crate::values::{Known, chain, id, message, said, tell, vote_for};
-use requests::Held;
+use waiting_requests::Held;
 use std::alloc::Global;
 use std::process::Abort;
 

@@ -2,7 +2,7 @@
 
 use crate::same::assert_same;
 use crate::values::{Known, after, chain, first, id, message, node, said, taken, tell, vote_for};
-use requests::{Held, Queue, Reply};
+use waiting_requests::{Held, Queue, Reply};
 use std::alloc::Global;
 use std::process::Abort;
 

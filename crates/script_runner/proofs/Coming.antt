@@ -14,7 +14,7 @@ use Rattle.node_core.specs.Stops.{is_after}
 use Rattle.node_laws.specs.Clusters.{KeptCluster, NodeInput, comes_to as cluster_comes, kept_reached}
 use Rattle.node_model.specs.Kept.{Kept}
 use Rattle.node_model.specs.Reported.{receipt_of}
-use Rattle.requests.specs.Replying.{reply_given}
+use Rattle.waiting_requests.specs.Replying.{reply_given}
 use Rattle.sim_net.specs.Network.{numbered}
 use Rattle.sim_net.proofs.Numbers.{none_given, some_given}
 use Rattle.world.specs.Runs.{Comes, IsFault, IsGiven, Leads, away, or_else, refusal_of, unsent}

@@ -9,7 +9,7 @@ use Rattle.mc_model.specs.synod.Packet.{Packet}
 use Rattle.node_laws.specs.Clusters.{kept_reached}
 use Rattle.node_model.specs.Kept.{Kept}
 use Rattle.node_model.specs.Reported.{receipt_of}
-use Rattle.requests.specs.Replying.{reply_given}
+use Rattle.waiting_requests.specs.Replying.{reply_given}
 use Rattle.sim_net.proofs.Numbers.{set_get}
 use Rattle.world.specs.Scenes.{Placed, Scene, is_up, is_up_in}
 use Rattle.world.specs.declared.given.Given.{Given}

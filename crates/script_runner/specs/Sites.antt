@@ -1,7 +1,7 @@
 -- What stands beside one node of the centre.
 use Rattle.std.specs.Prelude.{◌≡◌, ℕ, List, ◌++◌, map, slice_get, slice_set, Some}
 use Rattle.node_model.specs.Reported.{receipt_of}
-use Rattle.requests.specs.Replying.{reply_given}
+use Rattle.waiting_requests.specs.Replying.{reply_given}
 use Rattle.world.specs.Runs.{fault_number}
 use Rattle.world.specs.declared.fault.WorldFault.{WorldFault}
 use Rattle.world.specs.declared.fault.WorldFault.TheVariants.{Memory}

@@ -5,8 +5,8 @@ use Rattle.std.proofs.lemmas.List.{append-nil}
 use Rattle.std.specs.Prelude.{OnOk}
 use Rattle.std.specs.declared.alloc.AllocError.{AllocError}
 use Rattle.mc_model.specs.node.Outputs.{Reply as Given}
-use Rattle.requests.specs.Replying.{reply_given}
-use Rattle.requests.specs.declared.answer.Reply.{Reply as Sent}
+use Rattle.waiting_requests.specs.Replying.{reply_given}
+use Rattle.waiting_requests.specs.declared.answer.Reply.{Reply as Sent}
 use Rattle.sessions.specs.Session.{Session}
 use Rattle.script_text.specs.Left.{in_front, rests}
 use Rattle.script_text.specs.Prints.{Print, line_at, text_at}

@@ -7,7 +7,7 @@ use Rattle.std.proofs.lemmas.List.{reverse-append}
 use Rattle.mc_model.specs.node.Input.{Grant, Input, Response}
 use Rattle.mc_model.specs.node.Actor.{opening_clock}
 use Rattle.mc_model.specs.cluster.Steps.{Cluster}
-use Rattle.mc_laws.proofs.Growth.{changed_cases, changed_here}
+use Rattle.mc_laws.proofs.invariant.Growth.{changed_cases, changed_here}
 use Rattle.node_model.specs.Granted.{known_slot}
 use Rattle.node_model.specs.Kept.{Kept}
 use Rattle.node_model.specs.Outputs.{Stepped}

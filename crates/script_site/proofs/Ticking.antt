@@ -5,7 +5,7 @@ use Rattle.std.specs.Global.{Vec}
 use Rattle.std.specs.Prelude.{OnOk}
 use Rattle.std.specs.declared.alloc.AllocError.{AllocError}
 use Rattle.mc_model.specs.node.Outputs.{Outputs}
-use Rattle.requests.specs.Replying.{reply_given}
+use Rattle.waiting_requests.specs.Replying.{reply_given}
 use Rattle.sessions.specs.Session.{Session}
 use Rattle.sessions.specs.declared.pushed.Pushed.{Pushed}
 use Rattle.world.specs.Scenes.{Scene, clock_in}

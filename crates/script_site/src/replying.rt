@@ -2,7 +2,7 @@
 
 ghost use Rattle.std.specs.Prelude.{◌≡◌, ◌++◌, map, OnOk};
 ghost use Rattle.esme_service.specs.Replies.{owner_of, replied};
-ghost use Rattle.requests.specs.Replying.{reply_given};
+ghost use Rattle.waiting_requests.specs.Replying.{reply_given};
 ghost use Rattle.script_text.specs.Prints.{text_at};
 ghost use Rattle.script_text.specs.Runner.{reply_prints, told};
 ghost use Rattle.script_site.specs.Told.{AreTold};
@@ -10,7 +10,7 @@ ghost use Rattle.script_site.specs.Told.{AreTold};
 use crate::output::write_sending;
 use esme_service::Service;
 use mc_types::NodeNo;
-use requests::Reply;
+use waiting_requests::Reply;
 use std::alloc::AllocError;
 
 /// Adds the lines of replies to requests that waited, one after another.

@@ -34,7 +34,7 @@ pub struct Site {
 
 impl Site {
     ghost use Rattle.node_model.specs.Reported.{receipt_of};
-    ghost use Rattle.requests.specs.Replying.{reply_given};
+    ghost use Rattle.waiting_requests.specs.Replying.{reply_given};
     ghost use Rattle.script_site.specs.Asking.{HasAsked};
     ghost use Rattle.script_site.specs.Heeding.{heeded};
     ghost use Rattle.script_site.specs.Sites.{Acts, tells};

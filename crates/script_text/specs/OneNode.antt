@@ -10,9 +10,9 @@ use Rattle.mc_model.specs.node.Grant.{GrantRefusal, refusal_number}
 use Rattle.mc_model.specs.node.Input.{Input}
 use Rattle.mc_model.specs.node.Outcome.{Outcome}
 use Rattle.mc_model.specs.node.Outputs.{Receipt, Reply}
-use Rattle.alone_laws.specs.Attempts.{concluded_at, granted_at, newest_slot, receipts_on, refusal_at}
-use Rattle.alone_laws.specs.Tables.{TableNode, chain_at, new_table, receipts_by, reply_to, requested}
-use Rattle.alone_laws.specs.Ticks.{receipts_between, ticked}
+use Rattle.table_laws.specs.Attempts.{concluded_at, granted_at, newest_slot, receipts_on, refusal_at}
+use Rattle.table_laws.specs.Tables.{TableNode, chain_at, new_table, receipts_by, reply_to, requested}
+use Rattle.table_laws.specs.Ticks.{receipts_between, ticked}
 use Rattle.pdu_tables.specs.CommandCodes.{command_of}
 use Rattle.pdu_tables.specs.declared.status.Status.{Status}
 use Rattle.pdu_codec.specs.Grammar.{word_at}

@@ -15,7 +15,7 @@ use Rattle.node_model.specs.Outputs.{Stepped}
 use Rattle.node_model.specs.Stepped.{stepped}
 use Rattle.node_laws.specs.Clusters.{KeptCluster, NodeInput, WasSentBefore, comes_to, kept_reached, step_at}
 use Rattle.node_laws.specs.Runs.{IsOneOf, MayCome}
-use Rattle.node_laws.proofs.Orders.{mapped_in, reverse_in}
+use Rattle.node_laws.proofs.invariant.Orders.{mapped_in, reverse_in}
 use Rattle.pdu_tables.specs.declared.status.Status.{Status}
 use Rattle.desk.specs.Admissions.{admitted}
 use Rattle.desk.specs.Arrivals.{door_at, judged_as, next_id}

@@ -17,7 +17,7 @@ use Rattle.delivery.specs.Targets.{is_up}
 use Rattle.desk.specs.Arrivals.{requested}
 use Rattle.fate_chain.specs.declared.chain.Chain.{Chain}
 use Rattle.pdu_tables.specs.StatusCodes.{status_code}
-use Rattle.requests.specs.Replying.{reply_given}
+use Rattle.waiting_requests.specs.Replying.{reply_given}
 use Rattle.stable_store.specs.Stored.{AreSame, Listed}
 use Rattle.synod_acceptor.specs.Packets.{packet_of}
 use Rattle.synod_acceptor.specs.Records.{record_at}

@@ -8,7 +8,7 @@ ghost use Rattle.world.specs.Runs.{IsGiven};
 use fate_chain::Chain;
 use node_core::Outputs;
 use pdu_tables::Status;
-use requests::Reply;
+use waiting_requests::Reply;
 use sim_net::Packets;
 use std::alloc::Global;
 

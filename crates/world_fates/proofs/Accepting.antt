@@ -10,7 +10,7 @@ use Rattle.mc_model.specs.node.Outputs.{Outputs, Reply}
 use Rattle.mc_model.specs.node.Replies.{Accepted, Answer, Kept as Keeps, NotMatched, NotOwner, Removed, Shown, TooLate, Unknown}
 use Rattle.mc_model.specs.cluster.Steps.{Cluster}
 use Rattle.node_laws.specs.Clusters.{MayHappen, NodeInput, cluster_outputs, comes_to, outputs_at}
-use Rattle.node_laws.proofs.Fresh.{never_unknown}
+use Rattle.node_laws.proofs.cluster.Fresh.{never_unknown}
 use Rattle.pdu_bodies.specs.declared.pdu.Body.TheVariants.{SubmitSmResp}
 use Rattle.pdu_bodies.specs.declared.pdu.Pdu.{Pdu}
 use Rattle.pdu_tables.specs.StatusCodes.{status_code}

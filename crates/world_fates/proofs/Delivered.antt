@@ -9,7 +9,7 @@ use Rattle.mc_model.specs.node.Outputs.{Outputs}
 use Rattle.mc_model.specs.cluster.Steps.{Cluster}
 use Rattle.mc_parts.proofs.Membership.{in_either}
 use Rattle.node_laws.specs.Clusters.{CameInOneLife, IsDeliveredBy, MayHappen, NodeInput, StatesFinal, cluster_outputs, comes_to, outputs_at}
-use Rattle.node_laws.proofs.Delivered.{delivered}
+use Rattle.node_laws.proofs.cluster.Delivered.{delivered}
 use Rattle.pdu_tables.specs.StateCodes.{state_code}
 use Rattle.pdu_tables.specs.declared.state.State.TheVariants as states
 use Rattle.fate_chain.specs.States.{state_of}

@@ -6,7 +6,7 @@ use Rattle.mc_model.specs.synod.Lists.{In}
 use Rattle.mc_model.specs.node.Outputs.{Reply}
 use Rattle.mc_model.specs.cluster.Steps.{Cluster}
 use Rattle.node_laws.specs.Clusters.{NodeInput}
-use Rattle.node_laws.proofs.Orders.{in_mapped}
+use Rattle.node_laws.proofs.invariant.Orders.{in_mapped}
 use Rattle.pdu_bodies.specs.declared.pdu.Pdu.{Pdu}
 use Rattle.script_lines.specs.Said.{Said, Skipped, Nodes, Octets, Deliver, Crash, Tick, Grant, Settle, Restart, Replay, said_within}
 use Rattle.sessions.specs.Session.{Session}

@@ -13,7 +13,7 @@ use Rattle.mc_model.specs.node.Outputs.{Reply}
 use Rattle.mc_parts.proofs.Membership.{in_either}
 use Rattle.node_model.specs.Attempts.{grant_refusal}
 use Rattle.node_model.specs.Granted.{known_slot}
-use Rattle.node_laws.proofs.Orders.{in_append, in_mapped}
+use Rattle.node_laws.proofs.invariant.Orders.{in_append, in_mapped}
 use Rattle.pdu_bodies.specs.declared.pdu.Pdu.{Pdu}
 use Rattle.pdu_codec.specs.Grammar.{word_at}
 use Rattle.pdu_codec.specs.Pdu.{read_pdu}

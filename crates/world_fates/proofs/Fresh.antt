@@ -13,7 +13,7 @@ use Rattle.mc_model.specs.node.Replies.{Accepted, Answer, Kept as Keeps, NotMatc
 use Rattle.mc_model.specs.cluster.Steps.{Cluster}
 use Rattle.node_model.specs.Kept.{Kept}
 use Rattle.node_laws.specs.Clusters.{MayHappen, NodeInput, StatesFinal, cluster_outputs, comes_to, kept_reached, outputs_at}
-use Rattle.node_laws.proofs.Fresh.{fresh}
+use Rattle.node_laws.proofs.cluster.Fresh.{fresh}
 use Rattle.pdu_bodies.specs.declared.pdu.Pdu.{Pdu}
 use Rattle.pdu_tables.specs.StateCodes.{state_code}
 use Rattle.fate_chain.specs.States.{state_of}

@@ -29,8 +29,8 @@ use Rattle.node_model.specs.Packets.{on_refused, on_tell, on_voted, promised_in,
 use Rattle.node_model.specs.Packets.{tell_held, tells_about, told_to, vote_concerns}
 use Rattle.node_model.specs.Stepped.{saved_by, sender_of, stepped, stepped_down, stepped_up, stopped}
 use Rattle.node_model.specs.Ticks.{ids_of, is_late, late_reply, ticked, waits_too}
-use Rattle.node_laws.proofs.Orders.{in_mapped}
-use Rattle.node_laws.proofs.Told.{found_at}
+use Rattle.node_laws.proofs.invariant.Orders.{in_mapped}
+use Rattle.node_laws.proofs.invariant.Told.{found_at}
 use Rattle.arrival_laws.proofs.Lasting.{Lasts, lasts_then, message_lasts, rules_last, start_lasts}
 use Rattle.world_fates.specs.Questions.{HoldsUnder}
 

@@ -12,7 +12,7 @@ use Rattle.mc_model.specs.cluster.Steps.{Cluster, setup_of}
 use Rattle.node_model.specs.Kept.{Held, Kept}
 use Rattle.node_laws.specs.Clusters.{MayHappen, NodeInput, kept_reached, step_at}
 use Rattle.node_laws.specs.Runs.{IsFitToCome, IsNextMessage, IsOneOf, MayCome}
-use Rattle.node_laws.proofs.Clustered.{clustered}
+use Rattle.node_laws.proofs.cluster.Clustered.{clustered}
 use Rattle.world_fates.proofs.node.StepsOut.{step_now}
 use Rattle.world_fates.proofs.Holding.{MayAnswer, holds_on, request_of}
 

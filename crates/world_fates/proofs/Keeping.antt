@@ -18,7 +18,7 @@ use Rattle.mc_parts.proofs.Membership.{in_either, in_filter}
 use Rattle.node_model.specs.Attempts.{grant_refusal}
 use Rattle.node_model.specs.Granted.{is_open, known_slot}
 use Rattle.node_model.specs.Outputs.{Stepped as NodeStep}
-use Rattle.node_laws.proofs.Orders.{in_mapped}
+use Rattle.node_laws.proofs.invariant.Orders.{in_mapped}
 use Rattle.pdu_tables.specs.CommandCodes.{command_of}
 use Rattle.pdu_tables.specs.declared.status.Status.{Status}
 use Rattle.pdu_codec.specs.Grammar.{word_at}

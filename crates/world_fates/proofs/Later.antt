@@ -16,13 +16,13 @@ use Rattle.mc_model.specs.node.Outcome.{Outcome}
 use Rattle.mc_model.specs.node.Outputs.{Reply}
 use Rattle.mc_model.specs.cluster.Steps.{Cluster, setup_of}
 use Rattle.mc_parts.proofs.Membership.{in_either, in_two}
-use Rattle.mc_laws.proofs.Growth.{changed_here}
+use Rattle.mc_laws.proofs.invariant.Growth.{changed_here}
 use Rattle.node_model.specs.Attempts.{grant_refusal}
 use Rattle.node_model.specs.Granted.{is_open, known_slot}
 use Rattle.node_model.specs.Outputs.{Stepped as NodeStep}
 use Rattle.node_model.specs.Stepped.{stepped, stepped_down, stepped_up}
 use Rattle.node_laws.specs.Clusters.{LivesOn, MayHappen, NodeInput, comes_to, kept_reached, outputs_at}
-use Rattle.node_laws.proofs.Orders.{in_mapped}
+use Rattle.node_laws.proofs.invariant.Orders.{in_mapped}
 use Rattle.pdu_tables.specs.CommandCodes.{command_of}
 use Rattle.pdu_tables.specs.StatusCodes.{status_code}
 use Rattle.pdu_tables.specs.declared.status.Status.{Status}

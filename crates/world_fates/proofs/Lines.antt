@@ -10,7 +10,7 @@ use Rattle.mc_model.specs.synod.Packet.{Packet, Slot}
 use Rattle.mc_model.specs.node.Input.{Grant as Grants, Input, Response}
 use Rattle.mc_model.specs.node.Outcome.{Concluded}
 use Rattle.mc_parts.proofs.Membership.{in_either}
-use Rattle.node_laws.proofs.Orders.{in_mapped}
+use Rattle.node_laws.proofs.invariant.Orders.{in_mapped}
 use Rattle.pdu_frames.specs.Frames.{cut}
 use Rattle.script_lines.specs.Said.{Said, Skipped, Nodes, Octets, Deliver, Crash, Tick, Grant, Settle, Restart, Replay, said_within}
 use Rattle.script_lines.proofs.SaidLemmas.{spells_within}

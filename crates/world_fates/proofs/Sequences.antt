@@ -17,7 +17,7 @@ use Rattle.mc_model.specs.cluster.Steps.{Cluster}
 use Rattle.mc_types.specs.Texts.{id_in as id_in_text}
 use Rattle.mc_types.proofs.Texts.{ids_and_texts}
 use Rattle.node_laws.specs.Clusters.{MayHappen, NodeInput, comes_to, outputs_at}
-use Rattle.node_laws.proofs.Fresh.{about_asked}
+use Rattle.node_laws.proofs.cluster.Fresh.{about_asked}
 use Rattle.accounts.specs.declared.route.Route.{Route}
 use Rattle.pdu_tables.specs.StateCodes.{state_code}
 use Rattle.pdu_tables.specs.StatusCodes.{status_code}

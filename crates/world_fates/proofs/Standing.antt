@@ -11,7 +11,7 @@ use Rattle.mc_model.specs.synod.Lists.{In}
 use Rattle.mc_model.specs.synod.Packet.{Packet}
 use Rattle.mc_model.specs.node.Input.{Crash, Input}
 use Rattle.mc_model.specs.cluster.Steps.{Cluster, setup_of as cluster_setup}
-use Rattle.mc_laws.proofs.Growth.{changed_here}
+use Rattle.mc_laws.proofs.invariant.Growth.{changed_here}
 use Rattle.node_model.specs.Outputs.{Stepped as NodeStep}
 use Rattle.node_model.specs.Stepped.{stepped as node_stepped}
 use Rattle.node_laws.specs.Clusters.{MayHappen, NodeInput, cluster_with, kept_reached}

@@ -10,7 +10,7 @@ use Rattle.mc_model.specs.synod.Packet.{Packet}
 use Rattle.mc_model.specs.node.Input.{Input}
 use Rattle.mc_model.specs.cluster.Steps.{Cluster, setup_of}
 use Rattle.mc_parts.proofs.Membership.{at_place, in_either}
-use Rattle.mc_laws.proofs.Growth.{changed_cases}
+use Rattle.mc_laws.proofs.invariant.Growth.{changed_cases}
 use Rattle.node_model.specs.Kept.{Kept}
 use Rattle.node_model.specs.Stepped.{sender_of}
 use Rattle.node_laws.specs.Clusters.{NodeInput, kept_reached, step_at}

@@ -9,8 +9,8 @@ use Rattle.mc_model.specs.node.Outputs.{Outputs, Reply}
 use Rattle.mc_model.specs.node.Replies.{Accepted, Answer as Told, Shown, Unknown}
 use Rattle.mc_model.specs.cluster.Steps.{Cluster}
 use Rattle.node_laws.specs.Clusters.{LivesOn as LivesIn, MayHappen, NodeInput, StatesFinal, comes_to, kept_reached, outputs_at}
-use Rattle.node_laws.proofs.Fresh.{fresh, never_unknown}
-use Rattle.node_laws.proofs.Sources.{may_until}
+use Rattle.node_laws.proofs.cluster.Fresh.{fresh, never_unknown}
+use Rattle.node_laws.proofs.cluster.Sources.{may_until}
 use Rattle.desk.specs.declared.request.Request.{Request as Asked}
 use Rattle.world.specs.declared.given.Given.{Given}
 use Rattle.world.specs.declared.step.Step.{Step}

@@ -13,9 +13,9 @@ use Rattle.mc_model.specs.node.Outputs.{Outputs}
 use Rattle.node_model.specs.Stepped.{restarted}
 use Rattle.node_laws.specs.Chosen.{WasVotedFor}
 use Rattle.node_laws.specs.Clusters.{KeptCluster, MayHappen, NodeInput, StatesFinal, comes_to, kept_reached, outputs_at, step_at}
-use Rattle.node_laws.proofs.Chosen.{learned_more}
-use Rattle.node_laws.proofs.Orders.{reverse_in}
-use Rattle.node_laws.proofs.Sources.{may_until}
+use Rattle.node_laws.proofs.cluster.Chosen.{learned_more}
+use Rattle.node_laws.proofs.invariant.Orders.{reverse_in}
+use Rattle.node_laws.proofs.cluster.Sources.{may_until}
 use Rattle.world.specs.declared.step.Step.{Step}
 use Rattle.world.specs.Runs.{begin_anew}
 use Rattle.world.proofs.Ending.{gives_nothing}

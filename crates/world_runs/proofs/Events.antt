@@ -10,7 +10,7 @@ use Rattle.mc_model.specs.node.Input.{Restart}
 use Rattle.mc_model.specs.node.Outputs.{Outputs}
 use Rattle.mc_parts.proofs.Membership.{in_either, in_left, in_right, of_only}
 use Rattle.node_laws.specs.Clusters.{NodeInput, cluster_outputs, comes_to, kept_reached, outputs_at, step_at}
-use Rattle.node_laws.proofs.Sources.{cut_at}
+use Rattle.node_laws.proofs.cluster.Sources.{cut_at}
 use Rattle.world.specs.declared.given.Given.{Given}
 use Rattle.world.specs.declared.step.Step.{Step}
 use Rattle.world.specs.Runs.{Comes, IsGiven, begin_anew}

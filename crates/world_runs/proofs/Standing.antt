@@ -11,8 +11,8 @@ use Rattle.mc_model.specs.cluster.Steps.{Cluster, setup_of}
 use Rattle.node_model.specs.Stepped.{stepped_down, stepped_up}
 use Rattle.node_laws.specs.Clusters.{IsDeliveredBy, KeptCluster, LivesOn as LivesIn, MayHappen, NodeInput, StatesFinal, comes_to, kept_reached, step_at}
 use Rattle.node_laws.specs.Runs.{IsOneOf}
-use Rattle.node_laws.proofs.Delivered.{delivered}
-use Rattle.node_laws.proofs.Sources.{may_until}
+use Rattle.node_laws.proofs.cluster.Delivered.{delivered}
+use Rattle.node_laws.proofs.cluster.Sources.{may_until}
 use Rattle.world.specs.declared.given.Given.{Given}
 use Rattle.world.specs.declared.step.Step.{Step}
 use Rattle.world.specs.Runs.{Comes, IsGiven, begin_anew, given_out}

@@ -12,7 +12,7 @@ use Rattle.mc_model.specs.cluster.Fate.{shown_by}
 use Rattle.mc_model.specs.node.Outputs.{Outputs}
 use Rattle.mc_parts.proofs.Membership.{at_place, in_either}
 use Rattle.node_laws.specs.Clusters.{RepliesWith, StatesFinal}
-use Rattle.node_laws.proofs.Orders.{in_append}
+use Rattle.node_laws.proofs.invariant.Orders.{in_append}
 use Rattle.world.specs.declared.given.Given.{Given}
 use Rattle.world_runs.specs.Statements.{AreTold, Agree, IsTold, Statement, TellsBy, stated_at, stated_by, stated_of, stated_received}
 use Rattle.world_runs.specs.Statements.{stated_replied, stated_shown, statements_of, with_state}

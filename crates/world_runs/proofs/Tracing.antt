@@ -6,8 +6,8 @@ use Rattle.mc_model.specs.node.Outputs.{Outputs}
 use Rattle.mc_model.specs.cluster.Steps.{Cluster}
 use Rattle.node_model.specs.Outputs.{nothing}
 use Rattle.node_laws.specs.Clusters.{GrantsOut, MayHappen, NodeInput, StatesFinal, cluster_outputs, outputs_at}
-use Rattle.node_laws.proofs.NoGrant.{no_grant}
-use Rattle.node_laws.proofs.Stated.{one_final}
+use Rattle.node_laws.proofs.cluster.NoGrant.{no_grant}
+use Rattle.node_laws.proofs.cluster.Stated.{one_final}
 use Rattle.world.specs.declared.given.Given.{Given}
 use Rattle.world.specs.declared.step.Step.{Step}
 use Rattle.world.specs.Runs.{IsGiven, given_out}

@@ -14,16 +14,16 @@ use Rattle.mc_model.specs.node.Outputs.{Outputs}
 use Rattle.mc_model.specs.cluster.Fate.{TellsOf}
 use Rattle.mc_model.specs.cluster.Steps.{AreSteps, CameTo, Cluster, IsStep, Step, acts_in, by_node, setup_of}
 use Rattle.mc_model.specs.cluster.World.{IsRun, World, reached, start}
-use Rattle.mc_laws.proofs.Answers.{runs_to}
-use Rattle.mc_laws.proofs.Behind.{reached_on, run_on, steps_run}
-use Rattle.mc_laws.proofs.Fated.{tells_known}
-use Rattle.mc_laws.proofs.Growth.{changed_here, nodes_same}
-use Rattle.mc_laws.proofs.Reached.{Holds, holds}
+use Rattle.mc_laws.proofs.invariant.Answers.{runs_to}
+use Rattle.mc_laws.proofs.step.Behind.{reached_on, run_on, steps_run}
+use Rattle.mc_laws.proofs.invariant.Fated.{tells_known}
+use Rattle.mc_laws.proofs.invariant.Growth.{changed_here, nodes_same}
+use Rattle.mc_laws.proofs.invariant.Reached.{Holds, holds}
 use Rattle.node_laws.specs.Chosen.{WasVotedFor}
 use Rattle.node_laws.specs.Clusters.{MayHappen, NodeInput, StatesFinal, kept_reached, outputs_at, world_at}
-use Rattle.node_laws.proofs.Chosen.{learned_more}
-use Rattle.node_laws.proofs.Clustered.{clustered, one_more}
-use Rattle.node_laws.proofs.Sources.{IsCutAt, IsStepOf, came_by, cut_at, in_older, step_of, told_by}
+use Rattle.node_laws.proofs.cluster.Chosen.{learned_more}
+use Rattle.node_laws.proofs.cluster.Clustered.{clustered, one_more}
+use Rattle.node_laws.proofs.cluster.Sources.{IsCutAt, IsStepOf, came_by, cut_at, in_older, step_of, told_by}
 use Rattle.world_runs.proofs.Receiving.{ComesWith, exact_receives}
 
 none_mapped : (steps : List Step) → map came_by steps ≡ [] → steps ≡ []

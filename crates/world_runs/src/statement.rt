@@ -2,13 +2,13 @@
 
 ghost use Rattle.std.specs.Prelude.{◌≡◌, ◌++◌, flat_map, map, OnOk};
 ghost use Rattle.node_model.specs.Reported.{receipt_of};
-ghost use Rattle.requests.specs.Replying.{reply_given};
+ghost use Rattle.waiting_requests.specs.Replying.{reply_given};
 ghost use Rattle.world.specs.Runs.{given_out};
 ghost use Rattle.world_runs.specs.Statements.{stated_at, stated_of, stated_received, stated_replied};
 
 use fate_chain::{Chain, Final};
 use mc_types::MsgId;
-use requests::{Answer, Reply};
+use waiting_requests::{Answer, Reply};
 use std::alloc::AllocError;
 use std::marker::Model;
 use world::Given;

@@ -7,7 +7,7 @@ use lines_of_tests::{account, first_id, request};
 use mc_types::{Moment, NodeNo, Slot};
 use node_core::Found;
 use pdu_codec::SystemId;
-use requests::Reply;
+use waiting_requests::Reply;
 use std::alloc::Global;
 use std::process::Abort;
 use world::{Given, Step, World, WorldFault};
@@ -58,9 +58,9 @@ pub type Row = (Comes, Answer);
 
 fn word_of(reply: &Reply) -> Said {
     match &reply.answer {
-        requests::Answer::Accepted => Said::Accepted,
-        requests::Answer::Shown(_) => Said::Shown,
-        requests::Answer::Removed(_) => Said::Removed,
+        waiting_requests::Answer::Accepted => Said::Accepted,
+        waiting_requests::Answer::Shown(_) => Said::Shown,
+        waiting_requests::Answer::Removed(_) => Said::Removed,
         _ => Said::Other,
     }
 }

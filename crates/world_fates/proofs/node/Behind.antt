@@ -7,11 +7,11 @@ use Rattle.mc_model.specs.node.Input.{Input}
 use Rattle.mc_model.specs.node.Outputs.{Outputs}
 use Rattle.mc_model.specs.cluster.Steps.{AreSteps, Cluster, acts_in, by_node}
 use Rattle.mc_model.specs.cluster.World.{IsRun, World, reached, start}
-use Rattle.mc_laws.proofs.Behind.{reached_on}
-use Rattle.mc_laws.proofs.Reached.{Holds}
+use Rattle.mc_laws.proofs.step.Behind.{reached_on}
+use Rattle.mc_laws.proofs.invariant.Reached.{Holds}
 use Rattle.node_laws.specs.Clusters.{MayHappen, NodeInput, cluster_outputs, kept_reached, world_at}
-use Rattle.node_laws.proofs.Clustered.{clustered, one_more}
-use Rattle.node_laws.proofs.Orders.{in_append}
+use Rattle.node_laws.proofs.cluster.Clustered.{clustered, one_more}
+use Rattle.node_laws.proofs.invariant.Orders.{in_append}
 use Rattle.world_fates.proofs.node.Decided.{IsDecided, decided_after}
 use Rattle.world_fates.proofs.node.Replying.{Grows, holds_then}
 use Rattle.world_fates.proofs.node.WellMade.{world, world_holds}

@@ -11,10 +11,10 @@ use Rattle.mc_model.specs.node.Act.{Act}
 use Rattle.mc_model.specs.node.Knowledge.{IsLearned, Knows}
 use Rattle.mc_model.specs.node.Replies.{MayReply, Shown}
 use Rattle.mc_model.specs.cluster.World.{IsChosenIn, May, World, after, cast}
-use Rattle.mc_laws.proofs.Agreement.{Chosen, known_chosen, learned_chosen, not_empty}
-use Rattle.mc_laws.proofs.Answers.{IsSeen, covered, shown_settled}
-use Rattle.mc_laws.proofs.Growth.{actors_after, grows, remembers}
-use Rattle.mc_laws.proofs.Reached.{Holds, chosen_fates_same, fate_longest}
+use Rattle.mc_laws.proofs.invariant.Agreement.{Chosen, known_chosen, learned_chosen, not_empty}
+use Rattle.mc_laws.proofs.invariant.Answers.{IsSeen, covered, shown_settled}
+use Rattle.mc_laws.proofs.invariant.Growth.{actors_after, grows, remembers}
+use Rattle.mc_laws.proofs.invariant.Reached.{Holds, chosen_fates_same, fate_longest}
 use Rattle.world_fates.proofs.node.Since.{AllSince, nobody_waits, since_after}
 
 -- the node learned a chain with a final state, or each of its requests about the message came since that was chosen

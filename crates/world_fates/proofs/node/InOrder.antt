@@ -7,7 +7,7 @@ use Rattle.mc_model.specs.synod.Lists.{In}
 use Rattle.mc_model.specs.node.Outputs.{Reply}
 use Rattle.mc_model.specs.cluster.Steps.{Cluster}
 use Rattle.mc_model.specs.cluster.World.{World}
-use Rattle.mc_laws.proofs.Reached.{Holds}
+use Rattle.mc_laws.proofs.invariant.Reached.{Holds}
 use Rattle.node_laws.specs.Clusters.{MayHappen, NodeInput}
 use Rattle.pdu_tables.specs.StateCodes.{state_code}
 use Rattle.fate_chain.specs.States.{state_of}

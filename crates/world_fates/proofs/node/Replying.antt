@@ -9,9 +9,9 @@ use Rattle.mc_model.specs.node.Outputs.{Reply, replies_in}
 use Rattle.mc_model.specs.node.Replies.{Answer, Removed, Shown}
 use Rattle.mc_model.specs.cluster.Steps.{by_node}
 use Rattle.mc_model.specs.cluster.World.{IsRun, May, World, after, reached}
-use Rattle.mc_laws.proofs.Fated.{tells_known}
-use Rattle.mc_laws.proofs.Reached.{Holds, holds_after}
-use Rattle.mc_laws.proofs.Deeds.{removed_deleted}
+use Rattle.mc_laws.proofs.invariant.Fated.{tells_known}
+use Rattle.mc_laws.proofs.invariant.Reached.{Holds, holds_after}
+use Rattle.mc_laws.proofs.invariant.Deeds.{removed_deleted}
 use Rattle.world_fates.proofs.node.Decided.{IsDecided, decided_after, shown_so, told_decides}
 
 -- what is decided at any node in one world is so in another

@@ -8,7 +8,7 @@ use Rattle.mc_model.specs.node.Act.{Act, Reports}
 use Rattle.mc_model.specs.node.Outputs.{Receipt, receipts_in}
 use Rattle.mc_model.specs.cluster.Steps.{by_node}
 use Rattle.mc_model.specs.cluster.World.{IsRun, May, World, after, reached}
-use Rattle.mc_laws.proofs.Reached.{Holds}
+use Rattle.mc_laws.proofs.invariant.Reached.{Holds}
 use Rattle.world_fates.proofs.node.Decided.{IsDecided, decided_after, told_decides}
 use Rattle.world_fates.proofs.node.Replying.{Grows, holds_then}
 

@@ -8,9 +8,9 @@ use Rattle.mc_model.specs.node.Act.{Act, Begins, Replies, Restarts, Settles}
 use Rattle.mc_model.specs.node.Effect.{actor_by, settle}
 use Rattle.mc_model.specs.cluster.World.{Cast, IsChosenIn, May, World, after}
 use Rattle.mc_parts.proofs.Membership.{in_either, in_filter, in_map, of_only}
-use Rattle.mc_laws.proofs.Freshness.{Fresh, fresh_after, fresh_begun}
-use Rattle.mc_laws.proofs.Growth.{StartsAnew, actors_after, grows, remembers}
-use Rattle.mc_laws.proofs.Reached.{Holds}
+use Rattle.mc_laws.proofs.invariant.Freshness.{Fresh, fresh_after, fresh_begun}
+use Rattle.mc_laws.proofs.invariant.Growth.{StartsAnew, actors_after, grows, remembers}
+use Rattle.mc_laws.proofs.invariant.Reached.{Holds}
 
 -- a vote was chosen in a world, and each request about its message that waits at a node came later
 pub record AllSince (node : ℕ) (slot : Slot) (vote : Vote) (w : World) : Type 0 where

@@ -11,7 +11,7 @@ use Rattle.mc_model.specs.node.Outputs.{Reply}
 use Rattle.mc_model.specs.node.Setup.{Setup}
 use Rattle.mc_model.specs.cluster.Steps.{Cluster, setup_of}
 use Rattle.mc_parts.proofs.Membership.{in_either}
-use Rattle.mc_laws.proofs.Growth.{changed_cases, changed_here}
+use Rattle.mc_laws.proofs.invariant.Growth.{changed_cases, changed_here}
 use Rattle.node_model.specs.Attempts.{grant_refusal}
 use Rattle.node_model.specs.Granted.{is_open, known_slot}
 use Rattle.node_model.specs.Kept.{Held, Kept}
@@ -21,8 +21,8 @@ use Rattle.node_model.specs.Requests.{id_of}
 use Rattle.node_model.specs.Stepped.{restarted, saved_by, sender_of, stepped, stepped_down, stepped_up, stopped}
 use Rattle.node_laws.specs.Clusters.{MayHappen, NodeInput, WasSentBefore, kept_reached}
 use Rattle.node_laws.specs.Runs.{IsOneOf, IsUpFor, MayCome}
-use Rattle.node_laws.proofs.Clustered.{clustered}
-use Rattle.node_laws.proofs.Orders.{in_append, reverse_in}
+use Rattle.node_laws.proofs.cluster.Clustered.{clustered}
+use Rattle.node_laws.proofs.invariant.Orders.{in_append, reverse_in}
 use Rattle.desk.specs.declared.request.Request.{Request}
 use Rattle.arrival_laws.proofs.Asking.{request_comes}
 use Rattle.arrival_laws.proofs.Attempts.{grant_comes, outcome_comes}

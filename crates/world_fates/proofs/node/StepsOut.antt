@@ -11,12 +11,12 @@ use Rattle.mc_model.specs.cluster.Steps.{Cluster, by_node}
 use Rattle.mc_model.specs.cluster.World.{IsRun, May, World, reached}
 use Rattle.node_model.specs.Outputs.{Stepped}
 use Rattle.node_laws.specs.Clusters.{MayHappen, NodeInput, kept_reached, step_at, step_outputs}
-use Rattle.node_laws.proofs.Clustered.{clustered, one_more}
-use Rattle.node_laws.proofs.Orders.{in_reverse}
+use Rattle.node_laws.proofs.cluster.Clustered.{clustered, one_more}
+use Rattle.node_laws.proofs.invariant.Orders.{in_reverse}
 use Rattle.world_fates.proofs.node.Reports.{named_small}
 use Rattle.world_fates.proofs.node.Reporting.{AreDue, IsDue, receipts_due}
 use Rattle.world_fates.proofs.node.Behind.{after_holds, next_acts, next_run, next_world, world_after}
-use Rattle.mc_laws.proofs.Deeds.{removed_deleted}
+use Rattle.mc_laws.proofs.invariant.Deeds.{removed_deleted}
 use Rattle.world_fates.proofs.node.ReceiptsOut.{AreReceiptsOut}
 
 -- ESME_ROK to a cancel_sm tells of a deletion

@@ -23,17 +23,17 @@ use Rattle.mc_model.specs.cluster.Fate.{TellsOf}
 use Rattle.mc_model.specs.cluster.Steps.{AreSteps, Cluster, Step, acts_in, by_node, setup_of}
 use Rattle.mc_model.specs.cluster.World.{Deed, IsChosenIn, IsRun, World, reached, start}
 use Rattle.mc_parts.proofs.Membership.{in_either}
-use Rattle.mc_laws.proofs.Agreement.{Chosen, known_chosen}
-use Rattle.mc_laws.proofs.Behind.{steps_run}
-use Rattle.mc_laws.proofs.Proposals.{AllProposed, chosen_good, good_after}
-use Rattle.mc_laws.proofs.Growth.{nodes_same}
-use Rattle.mc_laws.proofs.Reached.{Holds, holds}
-use Rattle.mc_laws.proofs.Together.{alone}
+use Rattle.mc_laws.proofs.invariant.Agreement.{Chosen, known_chosen}
+use Rattle.mc_laws.proofs.step.Behind.{steps_run}
+use Rattle.mc_laws.proofs.invariant.Proposals.{AllProposed, chosen_good, good_after}
+use Rattle.mc_laws.proofs.invariant.Growth.{nodes_same}
+use Rattle.mc_laws.proofs.invariant.Reached.{Holds, holds}
+use Rattle.mc_laws.proofs.step.Together.{alone}
 use Rattle.node_model.specs.Kept.{message_at}
 use Rattle.node_laws.specs.Clusters.{MayHappen, NodeInput, cluster_outputs, kept_reached}
-use Rattle.node_laws.proofs.Clustered.{clustered}
-use Rattle.node_laws.proofs.Orders.{in_mapped, in_reverse}
-use Rattle.node_laws.proofs.Stated.{given_by, receipt_act}
+use Rattle.node_laws.proofs.cluster.Clustered.{clustered}
+use Rattle.node_laws.proofs.invariant.Orders.{in_mapped, in_reverse}
+use Rattle.node_laws.proofs.cluster.Stated.{given_by, receipt_act}
 use Rattle.world_fates.proofs.node.Behind.{after_holds, behind, input_to, world_after}
 
 -- ---- a request begins only if it arrives

@@ -7,9 +7,9 @@ use Rattle.mc_model.specs.synod.Packet.{Ask, Packet, Prepare, Promise, Propose, 
 use Rattle.mc_model.specs.cluster.Steps.{Cluster, acts_in}
 use Rattle.mc_model.specs.cluster.World.{Cast, World, cast, start}
 use Rattle.mc_parts.proofs.Lengths.{most_decrees}
-use Rattle.mc_laws.proofs.Behind.{steps_run}
-use Rattle.mc_laws.proofs.Links.{Standing}
-use Rattle.mc_laws.proofs.Reached.{Holds, holds}
+use Rattle.mc_laws.proofs.step.Behind.{steps_run}
+use Rattle.mc_laws.proofs.invariant.Links.{Standing}
+use Rattle.mc_laws.proofs.invariant.Reached.{Holds, holds}
 use Rattle.node_model.specs.Message.{most_places}
 use Rattle.node_laws.specs.Clusters.{NodeInput, RunsTogether, kept_reached, world_at}
 use Rattle.node_laws.specs.Steps.{IsWellMade}

@@ -1,5 +1,5 @@
 use Rattle.mc_model.specs.cluster.World.{start}
-use Rattle.mc_laws.proofs.Loosening.{run_loosely}
+use Rattle.mc_laws.proofs.invariant.Loosening.{run_loosely}
 use Rattle.mc_laws.proofs.promises.each_run_is_loose.Goals as goal
 
 pub returns : goal.returns

@@ -1,5 +1,5 @@
 use Rattle.mc_model.specs.cluster.Loose.{end_of}
-use Rattle.mc_laws.proofs.LooseRuns.{delivery_behind, holds_at_end, none_granted_after, one_fate_stated}
+use Rattle.mc_laws.proofs.invariant.LooseRuns.{delivery_behind, holds_at_end, none_granted_after, one_fate_stated}
 use Rattle.mc_laws.proofs.promises.headline.Goals as goal
 
 pub returns-clause-one_fate : goal.returns-clause-one_fate

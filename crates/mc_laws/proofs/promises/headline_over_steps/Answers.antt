@@ -1,6 +1,6 @@
 use Rattle.mc_model.specs.cluster.Steps.{StepRun, world_after}
-use Rattle.mc_laws.proofs.Behind.{run_by}
-use Rattle.mc_laws.proofs.Reached.{Holds, holds, one_fate, no_grant_after, stands_on_delivery}
+use Rattle.mc_laws.proofs.step.Behind.{run_by}
+use Rattle.mc_laws.proofs.invariant.Reached.{Holds, holds, one_fate, no_grant_after, stands_on_delivery}
 use Rattle.mc_laws.proofs.promises.headline_over_steps.Goals as goal
 
 reached_so : (run : StepRun) → Holds (world_after run)

@@ -1,4 +1,4 @@
-use Rattle.mc_laws.proofs.LooseRuns.{holds_at_end}
+use Rattle.mc_laws.proofs.invariant.LooseRuns.{holds_at_end}
 use Rattle.mc_laws.proofs.promises.what_is_stated_is_chosen.Goals as goal
 
 pub returns : goal.returns

@@ -1,5 +1,5 @@
 use Rattle.mc_model.specs.node.Replies.{Shown, Unknown}
-use Rattle.mc_laws.proofs.Answers.{answered, fresh_query, never_unknown}
+use Rattle.mc_laws.proofs.invariant.Answers.{answered, fresh_query, never_unknown}
 use Rattle.mc_laws.proofs.replies.answers_are_fresh.Goals as goal
 
 pub returns-clause-told : goal.returns-clause-told

@@ -1,6 +1,6 @@
 use Rattle.mc_model.specs.node.Replies.{Shown, Unknown}
-use Rattle.mc_laws.proofs.Behind.{run_by}
-use Rattle.mc_laws.proofs.Answers.{answered, fresh_query, never_unknown}
+use Rattle.mc_laws.proofs.step.Behind.{run_by}
+use Rattle.mc_laws.proofs.invariant.Answers.{answered, fresh_query, never_unknown}
 use Rattle.mc_laws.proofs.replies.answers_are_fresh_over_steps.Goals as goal
 
 pub returns-clause-told : goal.returns-clause-told

@@ -1,4 +1,4 @@
-use Rattle.mc_laws.proofs.Answers.{tellers_meet}
+use Rattle.mc_laws.proofs.invariant.Answers.{tellers_meet}
 use Rattle.mc_laws.proofs.replies.tellers_meet_a_choice.Goals as goal
 
 pub returns : goal.returns

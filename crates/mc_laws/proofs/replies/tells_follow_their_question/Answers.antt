@@ -1,4 +1,4 @@
-use Rattle.mc_laws.proofs.Answers.{tells_follow}
+use Rattle.mc_laws.proofs.invariant.Answers.{tells_follow}
 use Rattle.mc_laws.proofs.replies.tells_follow_their_question.Goals as goal
 
 pub returns : goal.returns

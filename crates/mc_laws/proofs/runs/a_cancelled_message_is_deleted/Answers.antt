@@ -1,4 +1,4 @@
-use Rattle.mc_laws.proofs.Deeds.{removes}
+use Rattle.mc_laws.proofs.invariant.Deeds.{removes}
 use Rattle.mc_laws.proofs.runs.a_cancelled_message_is_deleted.Goals as goal
 
 pub returns : goal.returns

@@ -1,4 +1,4 @@
-use Rattle.mc_laws.proofs.Reached.{holds}
+use Rattle.mc_laws.proofs.invariant.Reached.{holds}
 use Rattle.mc_laws.proofs.runs.a_full_desk_takes_no_request.Goals as goal
 
 pub returns : goal.returns

@@ -1,5 +1,5 @@
 use Rattle.mc_model.specs.cluster.Loose.{end_of}
-use Rattle.mc_laws.proofs.LooseRuns.{holds_at_end, chains_agree}
+use Rattle.mc_laws.proofs.invariant.LooseRuns.{holds_at_end, chains_agree}
 use Rattle.mc_laws.proofs.runs.chosen_chains_agree.Goals as goal
 
 pub returns : goal.returns

@@ -1,7 +1,7 @@
 use Rattle.mc_model.specs.cluster.World.{world_of}
-use Rattle.mc_laws.proofs.Permitted.{PermittedIn}
-use Rattle.mc_laws.proofs.Proposals.{chosen_good}
-use Rattle.mc_laws.proofs.Reached.{holds}
+use Rattle.mc_laws.proofs.invariant.Permitted.{PermittedIn}
+use Rattle.mc_laws.proofs.invariant.Proposals.{chosen_good}
+use Rattle.mc_laws.proofs.invariant.Reached.{holds}
 use Rattle.mc_laws.proofs.runs.chosen_chains_are_permitted.Goals as goal
 
 pub returns : goal.returns

@@ -1,4 +1,4 @@
-use Rattle.mc_laws.proofs.Reached.{holds}
+use Rattle.mc_laws.proofs.invariant.Reached.{holds}
 use Rattle.mc_laws.proofs.runs.decrees_have_their_errors.Goals as goal
 
 pub returns : goal.returns

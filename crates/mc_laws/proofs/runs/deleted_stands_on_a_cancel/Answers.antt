@@ -1,4 +1,4 @@
-use Rattle.mc_laws.proofs.Answers.{stands_on_cancel}
+use Rattle.mc_laws.proofs.invariant.Answers.{stands_on_cancel}
 use Rattle.mc_laws.proofs.runs.deleted_stands_on_a_cancel.Goals as goal
 
 pub returns : goal.returns

@@ -1,9 +1,9 @@
 use Rattle.std.proofs.Common.{ℕ, subst}
 use Rattle.mc_model.specs.node.Concerns.{Concerns}
 use Rattle.mc_model.specs.cluster.World.{start, world_of}
-use Rattle.mc_laws.proofs.Growth.{nodes_same}
-use Rattle.mc_laws.proofs.Honest.{all_concern}
-use Rattle.mc_laws.proofs.Reached.{holds}
+use Rattle.mc_laws.proofs.invariant.Growth.{nodes_same}
+use Rattle.mc_laws.proofs.invariant.Honest.{all_concern}
+use Rattle.mc_laws.proofs.invariant.Reached.{holds}
 use Rattle.mc_laws.proofs.runs.every_packet_concerns_every_node.Goals as goal
 
 pub returns : goal.returns

@@ -1,4 +1,4 @@
-use Rattle.mc_laws.proofs.Reached.{holds}
+use Rattle.mc_laws.proofs.invariant.Reached.{holds}
 use Rattle.mc_laws.proofs.runs.no_decree_is_ahead_of_the_clock.Goals as goal
 
 pub returns : goal.returns

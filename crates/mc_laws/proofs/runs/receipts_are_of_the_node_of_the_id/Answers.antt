@@ -1,4 +1,4 @@
-use Rattle.mc_laws.proofs.Deeds.{reports}
+use Rattle.mc_laws.proofs.invariant.Deeds.{reports}
 use Rattle.mc_laws.proofs.runs.receipts_are_of_the_node_of_the_id.Goals as goal
 
 pub returns : goal.returns

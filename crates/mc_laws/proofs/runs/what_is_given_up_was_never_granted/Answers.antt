@@ -1,4 +1,4 @@
-use Rattle.mc_laws.proofs.Reached.{holds}
+use Rattle.mc_laws.proofs.invariant.Reached.{holds}
 use Rattle.mc_laws.proofs.runs.what_is_given_up_was_never_granted.Goals as goal
 
 pub returns : goal.returns

@@ -1,7 +1,7 @@
 use Rattle.mc_model.specs.cluster.World.{start}
 use Rattle.mc_model.specs.cluster.Steps.{acts_in}
-use Rattle.mc_laws.proofs.Behind.{steps_run}
-use Rattle.mc_laws.proofs.Assembly.{step_together}
+use Rattle.mc_laws.proofs.step.Behind.{steps_run}
+use Rattle.mc_laws.proofs.step.Assembly.{step_together}
 use Rattle.mc_laws.proofs.steps.a_run_of_steps_goes_on.Goals as goal
 
 pub returns : goal.returns

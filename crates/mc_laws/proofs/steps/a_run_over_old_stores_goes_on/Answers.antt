@@ -1,6 +1,6 @@
 use Rattle.mc_model.specs.cluster.Steps.{acts_in}
-use Rattle.mc_laws.proofs.Behind.{steps_run}
-use Rattle.mc_laws.proofs.Openings.{over, goes_on_old, numbered_old}
+use Rattle.mc_laws.proofs.step.Behind.{steps_run}
+use Rattle.mc_laws.proofs.step.Openings.{over, goes_on_old, numbered_old}
 use Rattle.mc_laws.proofs.steps.a_run_over_old_stores_goes_on.Goals as goal
 
 pub returns-clause-run : goal.returns-clause-run

@@ -1,4 +1,4 @@
-use Rattle.mc_laws.proofs.Behind.{actor_so, records_so, packets_so}
+use Rattle.mc_laws.proofs.step.Behind.{actor_so, records_so, packets_so}
 use Rattle.mc_laws.proofs.steps.acts_leave_what_the_node_says.Goals as goal
 
 pub returns-clause-actor : goal.returns-clause-actor

@@ -1,4 +1,4 @@
-use Rattle.mc_laws.proofs.Together.{put_together}
+use Rattle.mc_laws.proofs.step.Together.{put_together}
 use Rattle.mc_laws.proofs.steps.nodes_make_a_run.Goals as goal
 
 pub returns : goal.returns

@@ -1,4 +1,4 @@
-use Rattle.mc_laws.proofs.Assembly.{steps_together}
+use Rattle.mc_laws.proofs.step.Assembly.{steps_together}
 use Rattle.mc_laws.proofs.steps.nodes_make_a_run_of_steps.Goals as goal
 
 pub returns : goal.returns

@@ -1,4 +1,4 @@
-use Rattle.mc_laws.proofs.Decided.{settles_once, asks_once, abandons_once, late_once, replies_once, reports_once}
+use Rattle.mc_laws.proofs.step.Decided.{settles_once, asks_once, abandons_once, late_once, replies_once, reports_once}
 use Rattle.mc_laws.proofs.steps.replies_are_decided.Goals as goal
 
 pub returns-clause-settles : goal.returns-clause-settles

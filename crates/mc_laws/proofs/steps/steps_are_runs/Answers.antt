@@ -1,5 +1,5 @@
 use Rattle.mc_model.specs.cluster.World.{start}
-use Rattle.mc_laws.proofs.Behind.{steps_run}
+use Rattle.mc_laws.proofs.step.Behind.{steps_run}
 use Rattle.mc_laws.proofs.steps.steps_are_runs.Goals as goal
 
 pub returns : goal.returns

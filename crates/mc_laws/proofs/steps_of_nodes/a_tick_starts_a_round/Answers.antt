@@ -1,5 +1,5 @@
-use Rattle.mc_laws.proofs.Ticks.{try_step, expire_step, undeliver_step, close_step, lose_step, give_up_step}
-use Rattle.mc_laws.proofs.Retrying.{take_step, follow_step, delete_step}
+use Rattle.mc_laws.proofs.story.Ticks.{try_step, expire_step, undeliver_step, close_step, lose_step, give_up_step}
+use Rattle.mc_laws.proofs.story.Retrying.{take_step, follow_step, delete_step}
 use Rattle.mc_laws.proofs.steps_of_nodes.a_tick_starts_a_round.Goals as goal
 
 pub returns-clause-attempt : goal.returns-clause-attempt

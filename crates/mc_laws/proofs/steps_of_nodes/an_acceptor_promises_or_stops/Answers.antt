@@ -1,4 +1,4 @@
-use Rattle.mc_laws.proofs.Idle.{promises, stops}
+use Rattle.mc_laws.proofs.story.Idle.{promises, stops}
 use Rattle.mc_laws.proofs.steps_of_nodes.an_acceptor_promises_or_stops.Goals as goal
 
 pub returns-clause-promises : goal.returns-clause-promises

@@ -1,4 +1,4 @@
-use Rattle.mc_laws.proofs.Idle.{grants, concludes}
+use Rattle.mc_laws.proofs.story.Idle.{grants, concludes}
 use Rattle.mc_laws.proofs.steps_of_nodes.an_attempt_is_granted_and_concluded.Goals as goal
 
 pub returns-clause-granted : goal.returns-clause-granted

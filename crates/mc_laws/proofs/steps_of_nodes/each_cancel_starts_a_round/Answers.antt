@@ -1,4 +1,4 @@
-use Rattle.mc_laws.proofs.Cancels.{again}
+use Rattle.mc_laws.proofs.story.Cancels.{again}
 use Rattle.mc_laws.proofs.steps_of_nodes.each_cancel_starts_a_round.Goals as goal
 
 pub returns : goal.returns

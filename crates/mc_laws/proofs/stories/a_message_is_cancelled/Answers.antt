@@ -1,6 +1,6 @@
 use Rattle.std.proofs.Common.{refl, inl}
 use Rattle.mc_laws.specs.Stories.{deleted_chain}
-use Rattle.mc_laws.proofs.Questions.{cancel_run}
+use Rattle.mc_laws.proofs.story.Questions.{cancel_run}
 use Rattle.mc_laws.proofs.stories.a_message_is_cancelled.Goals as goal
 
 pub returns-clause-run : goal.returns-clause-run

@@ -1,6 +1,6 @@
 use Rattle.std.proofs.Common.{refl, inl}
 use Rattle.mc_laws.specs.Stories.{delivered_chain}
-use Rattle.mc_laws.proofs.Delivery.{delivery_run}
+use Rattle.mc_laws.proofs.story.Delivery.{delivery_run}
 use Rattle.mc_laws.proofs.stories.a_message_is_delivered.Goals as goal
 
 pub returns-clause-run : goal.returns-clause-run

@@ -1,5 +1,5 @@
 use Rattle.std.proofs.Common.{refl, inl}
-use Rattle.mc_laws.proofs.Restarts.{chosen_anew, restart_run, unknown_anew}
+use Rattle.mc_laws.proofs.story.Restarts.{chosen_anew, restart_run, unknown_anew}
 use Rattle.mc_laws.proofs.stories.a_node_stops_after_a_save.Goals as goal
 
 pub returns-clause-run : goal.returns-clause-run

@@ -1,6 +1,6 @@
 use Rattle.std.proofs.Common.{refl, inl}
 use Rattle.mc_laws.specs.Stories.{delivered_chain}
-use Rattle.mc_laws.proofs.Questions.{query_run}
+use Rattle.mc_laws.proofs.story.Questions.{query_run}
 use Rattle.mc_laws.proofs.stories.a_query_is_answered.Goals as goal
 
 pub returns-clause-run : goal.returns-clause-run

@@ -1,4 +1,4 @@
-use Rattle.mc_laws.proofs.FirstStep.{first_exact}
+use Rattle.mc_laws.proofs.story.FirstStep.{first_exact}
 use Rattle.mc_laws.proofs.stories.a_submit_starts_a_round.Goals as goal
 
 pub returns : goal.returns

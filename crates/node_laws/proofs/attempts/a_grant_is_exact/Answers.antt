@@ -1,4 +1,4 @@
-use Rattle.node_laws.proofs.Granting.{grant_steps}
+use Rattle.node_laws.proofs.step.Granting.{grant_steps}
 use Rattle.node_laws.proofs.attempts.a_grant_is_exact.Goals as goal
 
 pub returns : goal.returns

@@ -1,5 +1,5 @@
 use Rattle.std.proofs.Common.{subst}
-use Rattle.node_laws.proofs.Judging.{Judged, grant_judged}
+use Rattle.node_laws.proofs.invariant.Judging.{Judged, grant_judged}
 use Rattle.node_model.specs.Kept.{message_at}
 use Rattle.node_laws.proofs.attempts.a_grant_is_judged.Goals as goal
 

@@ -1,4 +1,4 @@
-use Rattle.node_laws.proofs.Responding.{response_steps}
+use Rattle.node_laws.proofs.step.Responding.{response_steps}
 use Rattle.node_laws.proofs.attempts.a_response_is_exact.Goals as goal
 
 pub returns : goal.returns

@@ -1,4 +1,4 @@
-use Rattle.node_laws.proofs.Fresh.{fresh}
+use Rattle.node_laws.proofs.cluster.Fresh.{fresh}
 use Rattle.node_laws.proofs.clusters.a_later_query_is_told_the_fate.Goals as goal
 
 pub returns : goal.returns

@@ -1,4 +1,4 @@
-use Rattle.node_laws.proofs.Fresh.{never_unknown}
+use Rattle.node_laws.proofs.cluster.Fresh.{never_unknown}
 use Rattle.node_laws.proofs.clusters.a_later_request_is_of_a_known_message.Goals as goal
 
 pub returns : goal.returns

@@ -1,7 +1,7 @@
 use Rattle.mc_model.specs.node.Alone.{opened_new as node_new}
 use Rattle.node_model.specs.Stepped.{opened_new}
-use Rattle.node_laws.proofs.Opening.{new_stands}
-use Rattle.node_laws.proofs.WholeSteps.{whole_runs}
+use Rattle.node_laws.proofs.step.Opening.{new_stands}
+use Rattle.node_laws.proofs.step.WholeSteps.{whole_runs}
 use Rattle.node_laws.proofs.inputs.a_run_is_exact.Goals as goal
 
 pub returns : goal.returns

@@ -1,4 +1,4 @@
-use Rattle.node_laws.proofs.WholeSteps.{whole_steps}
+use Rattle.node_laws.proofs.step.WholeSteps.{whole_steps}
 use Rattle.node_laws.proofs.inputs.a_step_is_exact.Goals as goal
 
 pub returns : goal.returns

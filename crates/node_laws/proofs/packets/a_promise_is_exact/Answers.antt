@@ -1,4 +1,4 @@
-use Rattle.node_laws.proofs.Promising.{promise_steps}
+use Rattle.node_laws.proofs.step.Promising.{promise_steps}
 use Rattle.node_laws.proofs.packets.a_promise_is_exact.Goals as goal
 
 pub returns : goal.returns

@@ -1,4 +1,4 @@
-use Rattle.node_laws.proofs.Refusing.{refused_steps}
+use Rattle.node_laws.proofs.step.Refusing.{refused_steps}
 use Rattle.node_laws.proofs.packets.a_refused_ballot_is_exact.Goals as goal
 
 pub returns : goal.returns

@@ -1,4 +1,4 @@
-use Rattle.node_laws.proofs.Telling.{tell_steps}
+use Rattle.node_laws.proofs.step.Telling.{tell_steps}
 use Rattle.node_laws.proofs.packets.a_tell_is_exact.Goals as goal
 
 pub returns : goal.returns

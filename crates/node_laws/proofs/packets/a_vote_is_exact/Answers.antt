@@ -1,4 +1,4 @@
-use Rattle.node_laws.proofs.Voting.{voted_steps}
+use Rattle.node_laws.proofs.step.Voting.{voted_steps}
 use Rattle.node_laws.proofs.packets.a_vote_is_exact.Goals as goal
 
 pub returns : goal.returns

@@ -1,4 +1,4 @@
-use Rattle.node_laws.proofs.ArrivalSteps.{arrival_steps}
+use Rattle.node_laws.proofs.step.ArrivalSteps.{arrival_steps}
 use Rattle.node_laws.proofs.requests.an_arrival_is_exact.Goals as goal
 
 pub returns : goal.returns

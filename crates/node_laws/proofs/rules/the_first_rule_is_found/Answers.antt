@@ -1,4 +1,4 @@
-use Rattle.node_laws.proofs.FirstRule.{agrees_on, is_first, none_fits}
+use Rattle.node_laws.proofs.step.FirstRule.{agrees_on, is_first, none_fits}
 use Rattle.node_laws.proofs.rules.the_first_rule_is_found.Goals as goal
 
 pub returns-clause-found : goal.returns-clause-found

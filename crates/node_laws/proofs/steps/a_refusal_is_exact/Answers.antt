@@ -1,4 +1,4 @@
-use Rattle.node_laws.proofs.AsideSteps.{refusal_steps}
+use Rattle.node_laws.proofs.step.AsideSteps.{refusal_steps}
 use Rattle.node_laws.proofs.steps.a_refusal_is_exact.Goals as goal
 
 pub returns : goal.returns

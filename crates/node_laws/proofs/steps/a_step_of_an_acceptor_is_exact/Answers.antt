@@ -1,4 +1,4 @@
-use Rattle.node_laws.proofs.AcceptorSteps.{ask_steps, prepare_steps, propose_steps}
+use Rattle.node_laws.proofs.step.AcceptorSteps.{ask_steps, prepare_steps, propose_steps}
 use Rattle.node_laws.proofs.steps.a_step_of_an_acceptor_is_exact.Goals as goal
 
 pub returns-clause-prepare : goal.returns-clause-prepare

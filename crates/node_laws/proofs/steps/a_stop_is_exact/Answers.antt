@@ -1,4 +1,4 @@
-use Rattle.node_laws.proofs.Crashing.{crash_steps}
+use Rattle.node_laws.proofs.step.Crashing.{crash_steps}
 use Rattle.node_laws.proofs.steps.a_stop_is_exact.Goals as goal
 
 pub returns : goal.returns

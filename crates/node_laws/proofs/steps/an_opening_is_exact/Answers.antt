@@ -1,4 +1,4 @@
-use Rattle.node_laws.proofs.Opening.{new_stands, restart_steps}
+use Rattle.node_laws.proofs.step.Opening.{new_stands, restart_steps}
 use Rattle.node_laws.proofs.steps.an_opening_is_exact.Goals as goal
 
 pub returns-clause-new : goal.returns-clause-new

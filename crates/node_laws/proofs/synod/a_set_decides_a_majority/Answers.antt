@@ -3,7 +3,7 @@ use Rattle.mc_model.specs.synod.Lists.{In}
 use Rattle.mc_model.specs.synod.OneSlot.{Vote}
 use Rattle.mc_model.specs.synod.Packet.{Promise, Voted}
 use Rattle.mc_model.specs.node.Settling.{HasTold}
-use Rattle.node_laws.proofs.Learning.{majority_decides}
+use Rattle.node_laws.proofs.invariant.Learning.{majority_decides}
 use Rattle.node_laws.proofs.synod.a_set_decides_a_majority.Goals as goal
 
 pub returns-clause-votes : goal.returns-clause-votes

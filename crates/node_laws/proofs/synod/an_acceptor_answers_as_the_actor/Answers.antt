@@ -1,5 +1,5 @@
 use Rattle.node_model.proofs.Told.{told_is}
-use Rattle.node_laws.proofs.Accepting.{prepare_answered, propose_answered}
+use Rattle.node_laws.proofs.invariant.Accepting.{prepare_answered, propose_answered}
 use Rattle.node_laws.proofs.synod.an_acceptor_answers_as_the_actor.Goals as goal
 
 pub returns-clause-prepare : goal.returns-clause-prepare

@@ -1,4 +1,4 @@
-use Rattle.node_laws.proofs.Learning.{heard_still, known_before, known_more, nothing_heard}
+use Rattle.node_laws.proofs.invariant.Learning.{heard_still, known_before, known_more, nothing_heard}
 use Rattle.node_laws.proofs.synod.what_is_heard_is_known.Goals as goal
 
 pub returns-clause-nothing : goal.returns-clause-nothing

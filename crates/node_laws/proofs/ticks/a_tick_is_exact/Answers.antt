@@ -1,4 +1,4 @@
-use Rattle.node_laws.proofs.TickSteps.{tick_steps}
+use Rattle.node_laws.proofs.step.TickSteps.{tick_steps}
 use Rattle.node_laws.proofs.ticks.a_tick_is_exact.Goals as goal
 
 pub returns : goal.returns

@@ -2,8 +2,8 @@ use Rattle.std.proofs.Common.{◌≡◌, ◌∙◌, Some, sym, ap, subst, List, 
 use Rattle.mc_model.specs.message.Decree.{Decree}
 use Rattle.mc_model.specs.synod.Packet.{Slot}
 use Rattle.node_model.specs.Attempts.{concluded}
-use Rattle.rules.specs.Attempts.{closed_as}
-use Rattle.rules.specs.Standpoints.{kept_of, setup_of, start_of}
+use Rattle.tick_rules.specs.Attempts.{closed_as}
+use Rattle.tick_rules.specs.Standpoints.{kept_of, setup_of, start_of}
 use Rattle.synod_learner.specs.Counts.{known_in}
 use Rattle.node_parts.specs.Attempting.{IsBacked}
 use Rattle.node_parts.proofs.Attempting.{next_concludes}

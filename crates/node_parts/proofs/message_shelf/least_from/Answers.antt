@@ -1,6 +1,6 @@
 use Rattle.std.proofs.Common.{sym, subst}
 use Rattle.mc_model.specs.synod.Lists.{In}
-use Rattle.requests.specs.Numbers.{IsLeastFrom}
+use Rattle.waiting_requests.specs.Numbers.{IsLeastFrom}
 use Rattle.node_parts.proofs.message_shelf.least_from.Goals as goal
 
 pub returns-in-Ok : goal.returns-in-Ok

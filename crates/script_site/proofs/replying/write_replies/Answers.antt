@@ -1,6 +1,6 @@
 use Rattle.std.proofs.Common.{arith, map, ap, ◌∙◌}
 use Rattle.std.proofs.lemmas.Grind.{common_steps}
-use Rattle.requests.specs.Replying.{reply_given}
+use Rattle.waiting_requests.specs.Replying.{reply_given}
 use Rattle.esme_service.specs.Service.{Service}
 use Rattle.script_text.specs.Runner.{told}
 use Rattle.script_site.proofs.Replies.{all_told, one_told}

@@ -1,5 +1,5 @@
 use Rattle.std.proofs.Common.{◌≡◌, map}
-use Rattle.requests.specs.Replying.{reply_given}
+use Rattle.waiting_requests.specs.Replying.{reply_given}
 use Rattle.script_text.specs.Runner.{told}
 use Rattle.script_site.proofs.Replies.{AreLeft}
 use Rattle.script_site.proofs.replying.write_replies.Given as goal

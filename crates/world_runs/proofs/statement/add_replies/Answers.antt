@@ -1,4 +1,4 @@
-use Rattle.requests.specs.Replying.{reply_given}
+use Rattle.waiting_requests.specs.Replying.{reply_given}
 use Rattle.world_runs.specs.Statements.{stated_replied}
 use Rattle.world_runs.proofs.Stating.{all_told}
 use Rattle.world_runs.proofs.statement.add_replies.Goals as goal

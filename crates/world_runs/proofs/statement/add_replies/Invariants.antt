@@ -1,5 +1,5 @@
 use Rattle.std.proofs.Common.{◌≡◌, ◌++◌, flat_map, take}
-use Rattle.requests.specs.Replying.{reply_given}
+use Rattle.waiting_requests.specs.Replying.{reply_given}
 use Rattle.world_runs.specs.Statements.{stated_replied}
 use Rattle.world_runs.proofs.statement.add_replies.Given as goal
 

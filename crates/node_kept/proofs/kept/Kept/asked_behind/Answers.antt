@@ -1,8 +1,8 @@
 use Rattle.std.proofs.Common.{◌≡◌, ◌+◌, ℕ, suc, subst, arith}
 use Rattle.mc_model.specs.synod.Lists.{In}
-use Rattle.requests.specs.Numbers.{IsLeastFrom, ids_in}
-use Rattle.requests.specs.Queues.{timely}
-use Rattle.requests.specs.Waiting.{held_in}
+use Rattle.waiting_requests.specs.Numbers.{IsLeastFrom, ids_in}
+use Rattle.waiting_requests.specs.Queues.{timely}
+use Rattle.waiting_requests.specs.Waiting.{held_in}
 use Rattle.node_kept.proofs.kept.Kept.asked_behind.Goals as goal
 
 pub returns-in-Some-clause-next : goal.returns-in-Some-clause-next

@@ -1,6 +1,6 @@
 use Rattle.std.proofs.Common.{List, ap, option_map}
 use Rattle.mc_model.specs.node.Outputs.{Reply}
-use Rattle.rules.specs.Standpoints.{start_of}
+use Rattle.tick_rules.specs.Standpoints.{start_of}
 use Rattle.node_parts.specs.declared.outputs.Outputs.{Outputs}
 use Rattle.node_kept.specs.Steps.{outputs_of}
 use Rattle.node_kept.proofs.Knowing.{learned_so}

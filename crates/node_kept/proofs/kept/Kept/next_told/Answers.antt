@@ -1,7 +1,7 @@
 use Rattle.std.proofs.Common.{IfSome, Option, ap, sym, subst, ◌∙◌, ◌≡◌}
 use Rattle.mc_model.specs.message.Chain.{Chain}
 use Rattle.mc_model.specs.synod.Packet.{TopVote}
-use Rattle.requests.specs.Waiting.{held_of}
+use Rattle.waiting_requests.specs.Waiting.{held_of}
 use Rattle.node_model.specs.Requests.{id_of}
 use Rattle.node_kept.proofs.Tells.{most_told}
 use Rattle.node_kept.proofs.kept.Kept.next_told.Goals as goal

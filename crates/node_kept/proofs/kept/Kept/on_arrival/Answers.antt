@@ -6,17 +6,17 @@ use Rattle.mc_model.specs.node.Actor.{id_in}
 use Rattle.node_model.specs.Requests.{asks, begun, id_of}
 use Rattle.node_model.specs.Starts.{take_for}
 use Rattle.node_model.specs.Ticks.{on_arrival, question}
-use Rattle.requests.specs.Questions.{question_by}
+use Rattle.waiting_requests.specs.Questions.{question_by}
 use Rattle.synod_acceptor.specs.Packets.{packet_of}
 use Rattle.node_parts.specs.Lists.{listed}
 use Rattle.node_parts.specs.declared.outputs.Outputs.{Outputs}
 use Rattle.node_model.specs.Reported.{receipt_of}
 use Rattle.mc_model.specs.node.Effect.{next_serial}
-use Rattle.requests.specs.Replying.{reply_given}
+use Rattle.waiting_requests.specs.Replying.{reply_given}
 use Rattle.pdu_tables.specs.StatusCodes.{status_code}
-use Rattle.requests.specs.Submits.{IsNumberedBy}
-use Rattle.requests.specs.Waiting.{held_of, request_of}
-use Rattle.rules.specs.Standpoints.{start_of}
+use Rattle.waiting_requests.specs.Submits.{IsNumberedBy}
+use Rattle.waiting_requests.specs.Waiting.{held_of, request_of}
+use Rattle.tick_rules.specs.Standpoints.{start_of}
 use Rattle.node_kept.specs.Steps.{IsStep, granted_of, outputs_of}
 use Rattle.node_kept.specs.declared.queue_change.QueueChange.TheVariants as changes
 use Rattle.node_kept.specs.Keeping.{kept_of}

@@ -5,7 +5,7 @@ use Rattle.node_model.specs.Kept.{Held, message_at}
 use Rattle.node_model.specs.Outputs.{Stepped}
 use Rattle.node_model.specs.Packets.{tells_about, told_to}
 use Rattle.node_model.specs.Requests.{id_of}
-use Rattle.requests.specs.Waiting.{held_of}
+use Rattle.waiting_requests.specs.Waiting.{held_of}
 use Rattle.synod_acceptor.specs.Votes.{told_vote}
 use Rattle.node_kept.specs.Keeping.{kept_of}
 use Rattle.node_kept.specs.Queueing.{IsSound}

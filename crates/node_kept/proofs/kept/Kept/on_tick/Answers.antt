@@ -4,9 +4,9 @@ use Rattle.std.specs.List.{list_any}
 use Rattle.std.specs.Vec.{vec_capacity}
 use Rattle.node_model.specs.Requests.{is_untold}
 use Rattle.node_model.specs.Ticks.{is_late}
-use Rattle.requests.specs.Queues.{timely}
-use Rattle.requests.specs.Waiting.{held_in}
-use Rattle.requests.specs.Replying.{reply_given}
+use Rattle.waiting_requests.specs.Queues.{timely}
+use Rattle.waiting_requests.specs.Waiting.{held_in}
+use Rattle.waiting_requests.specs.Replying.{reply_given}
 use Rattle.delivery.specs.Targets.{is_up}
 use Rattle.synod_acceptor.specs.Packets.{packet_of}
 use Rattle.node_kept.specs.Idling.{NoneFits}

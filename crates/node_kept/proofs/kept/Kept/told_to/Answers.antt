@@ -2,8 +2,8 @@ use Rattle.std.proofs.Common.{◌≡◌, ◌∙◌, option_map, refl}
 use Rattle.node_model.specs.Kept.{message_at}
 use Rattle.std.specs.Option.{option_copied}
 use Rattle.node_model.specs.Requests.{id_of, settled_by, settles}
-use Rattle.requests.specs.Waiting.{held_of, known_of}
-use Rattle.rules.specs.Standpoints.{start_of}
+use Rattle.waiting_requests.specs.Waiting.{held_of, known_of}
+use Rattle.tick_rules.specs.Standpoints.{start_of}
 use Rattle.node_parts.specs.declared.outputs.Outputs.{Outputs}
 use Rattle.node_kept.specs.Keeping.{kept_of}
 use Rattle.node_kept.specs.Telling.{next_told}

@@ -1,6 +1,6 @@
 use Rattle.std.proofs.Common.{◌≡◌, ap}
 use Rattle.mc_model.specs.synod.Packet.{Slot}
-use Rattle.rules.specs.declared.attempted.Closing.TheVariants as closings
+use Rattle.tick_rules.specs.declared.attempted.Closing.TheVariants as closings
 use Rattle.node_parts.proofs.Attempting.{concludes, concludes_alone}
 use Rattle.node_parts.proofs.message.Message.conclude.Goals as goal
 

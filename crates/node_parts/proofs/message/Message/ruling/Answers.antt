@@ -4,8 +4,8 @@ use Rattle.mc_model.specs.message.Chain.{Chain}
 use Rattle.mc_model.specs.synod.Packet.{TopVote}
 use Rattle.node_model.specs.Acceptor.{told_of}
 use Rattle.node_model.specs.Rules.{shown_to}
-use Rattle.requests.specs.Queues.{timely}
-use Rattle.requests.specs.Waiting.{held_in}
+use Rattle.waiting_requests.specs.Queues.{timely}
+use Rattle.waiting_requests.specs.Waiting.{held_in}
 use Rattle.synod_acceptor.specs.Records.{record_at}
 use Rattle.node_parts.proofs.Ticks.{shown_named, told_of_named}
 use Rattle.node_parts.proofs.message.Message.ruling.Goals as goal

@@ -3,11 +3,11 @@ use Rattle.std.specs.List.{list_any}
 use Rattle.mc_model.specs.message.Submission.{Submission}
 use Rattle.mc_model.specs.message.Chain.{taken_in}
 use Rattle.node_model.specs.Starts.{cancels}
-use Rattle.requests.specs.Queues.{timely}
-use Rattle.requests.specs.Waiting.{held_in}
-use Rattle.rules.specs.Dues.{IsDueBehind}
+use Rattle.waiting_requests.specs.Queues.{timely}
+use Rattle.waiting_requests.specs.Waiting.{held_in}
+use Rattle.tick_rules.specs.Dues.{IsDueBehind}
 use Rattle.delivery.specs.Targets.{is_up}
-use Rattle.rules.specs.declared.attempted.Attempted.{Attempted}
+use Rattle.tick_rules.specs.declared.attempted.Attempted.{Attempted}
 use Rattle.node_parts.proofs.Ticks.{ruled_behind}
 use Rattle.node_parts.proofs.message.Message.ruling_behind.Goals as goal
 

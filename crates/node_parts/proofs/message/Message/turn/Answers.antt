@@ -1,9 +1,9 @@
 use Rattle.std.proofs.Common.{◌≡◌, ◌∙◌, Some, None, Option, ℕ, refl, sym, ap}
 use Rattle.node_parts.specs.Messages.{rested}
-use Rattle.requests.specs.Queues.{timely}
-use Rattle.requests.specs.Waiting.{held_in}
+use Rattle.waiting_requests.specs.Queues.{timely}
+use Rattle.waiting_requests.specs.Waiting.{held_in}
 use Rattle.delivery.specs.Targets.{is_up}
-use Rattle.rules.specs.Standpoints.{start_of}
+use Rattle.tick_rules.specs.Standpoints.{start_of}
 use Rattle.node_parts.specs.Turning.{turned}
 use Rattle.node_parts.proofs.Turns.{by_given, given_same, ruling_is, turned_begun, turned_given, turned_not, turned_same}
 use Rattle.node_parts.proofs.message.Message.turn.Goals as goal

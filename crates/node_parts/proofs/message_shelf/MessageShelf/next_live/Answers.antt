@@ -1,7 +1,7 @@
 use Rattle.std.proofs.Common.{ℕ, List, subst}
 use Rattle.std.specs.Vec.{vec_capacity}
 use Rattle.mc_model.specs.synod.Lists.{In}
-use Rattle.requests.specs.Numbers.{IsLeastFrom}
+use Rattle.waiting_requests.specs.Numbers.{IsLeastFrom}
 use Rattle.node_parts.proofs.Living.{next_live_is}
 use Rattle.node_parts.proofs.message_shelf.MessageShelf.next_live.Goals as goal
 

@@ -1,5 +1,5 @@
 use Rattle.std.proofs.Common.{map}
-use Rattle.requests.specs.Replying.{reply_given}
+use Rattle.waiting_requests.specs.Replying.{reply_given}
 use Rattle.node_model.specs.Reported.{receipt_of}
 use Rattle.script_site.proofs.Acting.{told_acts}
 use Rattle.script_site.proofs.site.Site.tell.Goals as goal

@@ -1,5 +1,0 @@
-use Rattle.alone_laws.proofs.Granting.{response_settles}
-use Rattle.alone_laws.proofs.attempts.a_response_settles.Goals as goal
-
-pub returns : goal.returns
-returns c first validity k t resting id some outcome = response_settles first validity k t id resting some outcome

@@ -1,5 +1,0 @@
-use Rattle.alone_laws.proofs.Leading.{one_end}
-use Rattle.alone_laws.proofs.settling.a_settle_has_one_end.Goals as goal
-
-pub returns : goal.returns
-returns c setup s n m left also = one_end setup s n m left also

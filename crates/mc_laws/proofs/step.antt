@@ -1,0 +1,5 @@
+pub mod Together
+pub mod Behind
+pub mod Decided
+pub mod Assembly
+pub mod Openings

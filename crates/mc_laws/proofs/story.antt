@@ -1,0 +1,13 @@
+pub mod Rounds
+pub mod Delivery
+pub mod FirstStep
+pub mod Restarts
+pub mod Questions
+pub mod Ticks
+pub mod Following
+pub mod Idle
+pub mod Cancels
+pub mod Carrying
+pub mod Retrying
+pub mod Settled
+pub mod TakingSteps

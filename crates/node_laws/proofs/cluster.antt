@@ -1,0 +1,10 @@
+pub mod Runs
+pub mod Clustered
+pub mod Stated
+pub mod NoGrant
+pub mod Causing
+pub mod Sources
+pub mod Lives
+pub mod Delivered
+pub mod Fresh
+pub mod Chosen
