@@ -5,3 +5,5 @@ pub mod Receipts
 pub mod Printed
 pub mod Fates
 pub mod Example
+pub mod Holding
+pub mod Streams
