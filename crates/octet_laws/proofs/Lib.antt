@@ -7,3 +7,4 @@ pub mod Fates
 pub mod Example
 pub mod Holding
 pub mod Streams
+pub mod Ties
