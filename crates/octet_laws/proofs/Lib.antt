@@ -8,3 +8,5 @@ pub mod Example
 pub mod Holding
 pub mod Streams
 pub mod Ties
+pub mod Numbered
+pub mod Hearing

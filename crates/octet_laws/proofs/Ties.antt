@@ -52,7 +52,7 @@ use Rattle.script_text.specs.Runner.{Acted, Owned, Runner, Told, answered_by, fa
 use Rattle.script_text.specs.Runner.{mail_of, makes_room, on_delivery, on_grant, on_tick, owner_of, posts, posts_for, posts_for_all, pushes, replied}
 use Rattle.script_text.specs.Runner.{replied_at, reports_by, sent, sent_to, ticked, told, with_posted}
 use Rattle.fate_laws.proofs.Posting.{left_in}
-use Rattle.world_fates.proofs.Entries.{Has, found_entry, set_in}
+use Rattle.world_fates.proofs.Entries.{AreApart, Has, found_entry, map_apart, set_apart, set_in}
 use Rattle.world_fates.proofs.Asking.{AsksOn, replies_tell}
 use Rattle.world_fates.proofs.Fresh.{reply_sequence}
 use Rattle.octet_laws.proofs.Holding.{IsAmong, IsNew, StepSo, stepped_so}
@@ -84,11 +84,16 @@ pub record IsSound (number : ℕ) (stream : List ℕ) (kept : Kept) (connected :
   pub given : (h : Held) → In h kept.held → ticket_of h < kept.ticket
   pub there : (stream ≡ []) ⊎ Has connected number
   pub each : (session : Session) → In (number, session) connected → IsSoundSession stream kept session
+  pub apart : AreApart connected
 
--- and what has not come whole is held
+-- what has not come whole is held
+pub record Holds (number : ℕ) (stream : List ℕ) (streams : List (ℕ × List ℕ)) : Type 0 where
+  pub rest : held_in streams number ≡ (cut stream).rest
+  pub apart : AreApart streams
+
 pub record Hears (number : ℕ) (stream : List ℕ) (runner : Runner) : Type 0 where
   pub sound : IsSound number stream runner.node.kept runner.sessions
-  pub held : held_in runner.streams number ≡ (cut stream).rest
+  pub held : Holds number stream runner.streams
 
 -- ---- the node goes on
 
@@ -154,6 +159,7 @@ sound_on number stream before after connected on sound = record {
   each = λ session among.
       let one = sound.each session among in
       record { open_still = one.open_still; tied = λ request waits. tied_on stream before after request on (one.tied request waits) };
+  apart = sound.apart;
 }
 
 -- ---- sessions that change
@@ -168,12 +174,13 @@ pub record IsLess (number : ℕ) (before : List (ℕ × Session)) (session : Ses
 pub record Lessens (number : ℕ) (before after : List (ℕ × Session)) : Type 0 where
   pub less : (session : Session) → In (number, session) after → IsLess number before session
   pub has : Has before number → Has after number
+  pub apart : AreApart before → AreApart after
 
 the_same : (number : ℕ) (connected : List (ℕ × Session)) (session : Session) → In (number, session) connected → IsLess number connected session
 the_same number connected session there = record { old = session; there = there; state = refl; requests = λ request among. among }
 
 same_lessens : (number : ℕ) (connected : List (ℕ × Session)) → Lessens number connected connected
-same_lessens number connected = record { less = the_same number connected; has = λ has. has }
+same_lessens number connected = record { less = the_same number connected; has = λ has. has; apart = λ apart. apart }
 
 less_then : (number : ℕ) (one two three : List (ℕ × Session)) → Lessens number one two → Lessens number two three → Lessens number one three
 less_then number one two three first last = record {
@@ -187,6 +194,7 @@ less_then number one two three first last = record {
         requests = λ request waits. early.requests request (late.requests request waits);
       };
   has = λ has. last.has (first.has has);
+  apart = λ apart. last.apart (first.apart apart);
 }
 
 pub sound_less : (number : ℕ) (stream : List ℕ) (kept : Kept) (before after : List (ℕ × Session)) → Lessens number before after →
@@ -198,6 +206,7 @@ sound_less number stream kept before after lessens sound = record {
       let it = lessens.less session among in
       let one = sound.each it.old it.there in
       record { open_still = ap is_gone it.state ∙ one.open_still; tied = λ request waits. one.tied request (it.requests request waits) };
+  apart = lessens.apart sound.apart;
 }
 
 set_has : {X : Type 0} (test : ℕ → Bool) (es : List (ℕ × X)) (value : X) (number : ℕ) → Has es number → Has (set_value test es value) number
@@ -228,6 +237,7 @@ set_lessens number at connected session next found state requests = record {
     | inr old ↦ the_same number connected other old
   ];
   has = set_has (is_at (nat_cmp at)) connected next number;
+  apart = set_apart (is_at (nat_cmp at)) connected next;
 }
 
 push_lessens : (number : ℕ) (connected : List (ℕ × Session)) (at now : ℕ) (delivery : Delivery) → Lessens number connected (with_push connected at now delivery)
@@ -273,6 +283,7 @@ moment_lessens number connected now = record {
         requests = λ request waits. subst (λ (s : Session). In request s.requests) is waits;
       };
   has = timely_has connected;
+  apart = map_apart (λ (session : Session). on_moment session now) connected;
 }
   where
     timely_has : (connected : List (ℕ × Session)) → Has connected number → Has (timely_in connected now) number
@@ -440,7 +451,7 @@ named body (Cancel id account source destination) is names = names
 
 -- a step of the node, whose replies go out
 answered_keep : (number : ℕ) (stream : List ℕ) (runner : Runner) (node : Node) (input : Input) → IsSound number stream node.kept runner.sessions →
-    held_in runner.streams number ≡ (cut stream).rest → ((lost : ℕ) → Restart lost ≡ input → ⊥) →
+    Holds number stream runner.streams → ((lost : ℕ) → Restart lost ≡ input → ⊥) →
     Keeps number stream (answered_by runner node input (step_at node input))
 answered_keep number stream runner node input sound held plain = record {
   hears = record {
