@@ -176,29 +176,28 @@ admits routes body door next account (asked.Cancel cancel) waited brings is = by
 -- ---- a frame is served
 
 -- it came in this frame, and waits under the next ticket
-record IsBegun (frame : List ℕ) (kept next : Kept) (request : OpenRequest) : Type 0 where
-  below : request.ticket < next.ticket
-  pdu : Pdu
-  reads : read_pdu frame ≡ Ok pdu
-  sequence_is : pdu.sequence ≡ request.sequence
-  names : (h : Held) → In h next.held → ticket_of h ≡ request.ticket → Names pdu.body h.waiting.request
+pub record IsBegun (frame : List ℕ) (kept next : Kept) (request : OpenRequest) : Type 0 where
+  pub below : request.ticket < next.ticket
+  pub pdu : Pdu
+  pub reads : read_pdu frame ≡ Ok pdu
+  pub sequence_is : pdu.sequence ≡ request.sequence
+  pub names : (h : Held) → In h next.held → ticket_of h ≡ request.ticket → Names pdu.body h.waiting.request
 
-record ServedSo (frame : List ℕ) (node : Node) (before : Session) (at : ℕ) (served : Served) : Type 0 where
-  on : GoesOn node.kept served.node.kept
-  requests : (request : OpenRequest) → In request served.session.requests →
+pub record ServedSo (frame : List ℕ) (node : Node) (before : Session) (at : ℕ) (served : Served) : Type 0 where
+  pub on : GoesOn node.kept served.node.kept
+  pub requests : (request : OpenRequest) → In request served.session.requests →
       In request before.requests ⊎ IsBegun frame node.kept served.node.kept request
-  gone : is_gone served.session.state ≡ true → In (Gone at) served.prints
-  prints : (print : Print) → In print served.prints → IsPlain print ⊎ ((print ≡ Gone at) × (is_gone served.session.state ≡ true))
+  pub gone : is_gone before.state ≡ false → is_gone served.session.state ≡ true → In (Gone at) served.prints
+  pub prints : (print : Print) → In print served.prints → IsPlain print ⊎ ((print ≡ Gone at) × (is_gone served.session.state ≡ true))
 
-module _ (frame : List ℕ) (node : Node) (given : (h : Held) → In h node.kept.held → ticket_of h < node.kept.ticket) (at : ℕ) (before : Session)
-    (stands : is_gone before.state ≡ false) where
+module _ (frame : List ℕ) (node : Node) (given : (h : Held) → In h node.kept.held → ticket_of h < node.kept.ticket) (at : ℕ) (before : Session) where
   unasked_so : (done : Done) → ((request : OpenRequest) → In request done.next.requests → In request before.requests) → GoesSo before done →
       (IsLeaving done.reaction → ⊥) → (prints : List Print) → ((print : Print) → In print prints → IsPlain print) →
       ServedSo frame node before at (unasked node done.next prints)
   unasked_so done less goes stay prints plain = record {
     on = on_same node.kept;
     requests = λ request among. inl (less request among);
-    gone = λ is. absurd (stay (goes stands is));
+    gone = λ stands is. absurd (stay (goes stands is));
     prints = λ print among. inl (plain print among);
   }
 
@@ -276,17 +275,18 @@ module _ (frame : List ℕ) (node : Node) (given : (h : Held) → In h node.kept
         by_test false = refl
 
     asked_so : (session : Session) → ((waits : OpenRequest) → In waits session.requests → In waits before.requests) →
-        is_gone session.state ≡ false → ServedSo frame node before at (on_request at node session requested pdu.sequence (Some account) (Some request))
+        (is_gone before.state ≡ false → is_gone session.state ≡ false) → ServedSo frame node before at (on_request at node session requested pdu.sequence (Some account) (Some request))
     asked_so session less stays_here = record {
       on = step_on (judged_as judged) node.kept step so;
       requests = window_so session less step.outputs.ticket refl;
-      gone = λ is. not_both (is_gone session.state) stays_here (ap is_gone (sym (window_state session step.outputs.ticket)) ∙ is);
+      gone = λ stands is. not_both (is_gone session.state) (stays_here stands) (ap is_gone (sym (window_state session step.outputs.ticket)) ∙ is);
       prints = λ print among. inl (refusal_plain requested pdu.sequence step.outputs.refused print among);
     }
 
   reaction_so : (settings : Settings) (came : Came) (done : Done) → ((request : OpenRequest) → In request done.next.requests → In request before.requests) →
       GoesSo before done → ((outgoing : Outgoing) (abandoned : List Pushed) → done.reaction ≡ reactions.Leave outgoing abandoned → is_gone done.next.state ≡ true) →
-      ((requested : Requested) (account : List ℕ) (request : Request) → came.request ≡ Some request → is_gone done.next.state ≡ false →
+      ((requested : Requested) (account : List ℕ) (request : Request) → came.request ≡ Some request →
+      (is_gone before.state ≡ false → is_gone done.next.state ≡ false) →
       ServedSo frame node before at (on_request at node done.next requested came.sequence (Some account) (Some request))) →
       (reaction : Reaction) → done.reaction ≡ reaction → ServedSo frame node before at (on_reaction settings at node came done.next reaction)
   reaction_so settings came done less goes leaves asks reactions.Nothing is =
@@ -296,8 +296,8 @@ module _ (frame : List ℕ) (node : Node) (given : (h : Held) → In h node.kept
       (λ print among. elim among [ inl same ↦ subst IsPlain (sym same) tt | inr none ↦ absurd none ])
   reaction_so settings came done less goes leaves asks (reactions.Ask requested) is = by_both done.next.account came.request refl
     where
-      stay : is_gone done.next.state ≡ false
-      stay = by_test (is_gone done.next.state) refl
+      stay : is_gone before.state ≡ false → is_gone done.next.state ≡ false
+      stay stands = by_test (is_gone done.next.state) refl
         where
           by_test : (test : Bool) → is_gone done.next.state ≡ test → test ≡ false
           by_test true gone = absurd (subst IsLeaving is (goes stands gone))
@@ -314,13 +314,13 @@ module _ (frame : List ℕ) (node : Node) (given : (h : Held) → In h node.kept
   reaction_so settings came done less goes leaves asks (reactions.Answered pushed) is = record {
     on = delivered_on node pushed.delivery (came.outcome pushed.sequence);
     requests = λ request among. inl (less request among);
-    gone = λ gone. absurd (subst IsLeaving is (goes stands gone));
+    gone = λ stands gone. absurd (subst IsLeaving is (goes stands gone));
     prints = λ print among. absurd among;
   }
   reaction_so settings came done less goes leaves asks (reactions.Leave outgoing abandoned) is = record {
     on = all_on node abandoned;
     requests = λ request among. inl (less request among);
-    gone = λ gone. inr (inl refl);
+    gone = λ stands gone. inr (inl refl);
     prints = λ print among. elim among [
       | inl same ↦ inl (subst IsPlain (sym same) tt)
       | inr (inl same) ↦ inr (same, leaves outgoing abandoned is)
@@ -336,10 +336,10 @@ module _ (frame : List ℕ) (node : Node) (given : (h : Held) → In h node.kept
       never : (request : Request) → None ≡ Some request → ⊥
       never request is = cc
 
-  length_so : (settings : Settings) → ServedSo frame node before at (on_done settings at node nothing_came (on_wrong_length before))
+  pub length_so : (settings : Settings) → ServedSo frame node before at (on_done settings at node nothing_came (on_wrong_length before))
   length_so settings = faults_so settings (on_wrong_length before) (wrong_length_so before) (length_goes before)
 
-  read_so : (settings : Settings) (read : Result Pdu PduFault) → read_pdu frame ≡ read →
+  pub read_so : (settings : Settings) (read : Result Pdu PduFault) → read_pdu frame ≡ read →
       ServedSo frame node before at (on_read settings at node before frame read)
   read_so settings (Ok pdu) is =
       let done = on_pdu settings.accounts before pdu in
@@ -350,3 +350,13 @@ module _ (frame : List ℕ) (node : Node) (given : (h : Held) → In h node.kept
       let requested = requested_by (command_of (word_at 4 frame)) in
       let sequence = word_at 12 frame in
       faults_so settings (on_fault before fault requested sequence) (fault_so before fault requested sequence) (fault_goes before fault requested sequence)
+
+-- a wrong length ends a session, and that is told
+pub length_told : (node : Node) (at : ℕ) (settings : Settings) (before : Session) → is_gone before.state ≡ false →
+    In (Gone at) (on_done settings at node nothing_came (on_wrong_length before)).prints
+length_told node at settings before stands = by_test (is_gone before.state) stands
+  where
+    by_test : (test : Bool) → test ≡ false → In (Gone at) (on_done settings at node nothing_came
+        (if test then stays before reactions.Nothing else leaves before 0 (Nack statuses.InvalidCommandLength))).prints
+    by_test true is = absurd cc
+    by_test false is = inr (inl refl)

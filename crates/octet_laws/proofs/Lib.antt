@@ -10,3 +10,4 @@ pub mod Streams
 pub mod Ties
 pub mod Numbered
 pub mod Hearing
+pub mod Octets

@@ -345,9 +345,9 @@ keeps_then number stream one other first last = record {
 
 -- ---- receipts go out
 
-record Posts (number : ℕ) (mail : Mail) (posted : Posted) : Type 0 where
-  lessens : Lessens number mail.sessions posted.mail.sessions
-  plain : (print : Print) → In print posted.prints → IsPlain print
+pub record Posts (number : ℕ) (mail : Mail) (posted : Posted) : Type 0 where
+  pub lessens : Lessens number mail.sessions posted.mail.sessions
+  pub plain : (print : Print) → In print posted.prints → IsPlain print
 
 stays_posted : (number : ℕ) (mail : Mail) → Posts number mail (stays mail)
 stays_posted number mail = record { lessens = same_lessens number mail.sessions; plain = λ print among. absurd among }
@@ -389,7 +389,7 @@ goes_out_up_to_posts number (suc more) now account mail =
 posted_for_posts : (number now : ℕ) (mail : Mail) (account : List ℕ) → Posts number mail (posted_for now mail account)
 posted_for_posts number now mail account = goes_out_up_to_posts number (length mail.waiting) now account mail
 
-posted_for_any_posts : (number now : ℕ) (mail : Mail) (account : Option (List ℕ)) → Posts number mail (posted_for_any now mail account)
+pub posted_for_any_posts : (number now : ℕ) (mail : Mail) (account : Option (List ℕ)) → Posts number mail (posted_for_any now mail account)
 posted_for_any_posts number now mail None = stays_posted number mail
 posted_for_any_posts number now mail (Some account) = posted_for_posts number now mail account
 
