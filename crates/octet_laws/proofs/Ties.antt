@@ -296,16 +296,16 @@ moment_lessens number connected now = record {
 
 -- ---- what is printed
 
--- it neither answers a request that waited nor tells that a session is gone
+-- it is of a PDU, and answers no request that waited
 abbrev pub IsPlain : Print → Type 0
 IsPlain (AtOnce session pdu) = Unit {0}
 IsPlain (Late session id pdu) = ⊥
 IsPlain (Delivers session pdu) = Unit {0}
 IsPlain (Reports session sequence optional report) = Unit {0}
 IsPlain (Gone session) = ⊥
-IsPlain Unsettled = Unit {0}
-IsPlain (Declined number) = Unit {0}
-IsPlain (Ungranted reason) = Unit {0}
+IsPlain Unsettled = ⊥
+IsPlain (Declined number) = ⊥
+IsPlain (Ungranted reason) = ⊥
 
 -- the cancel_sm of this sequence_number came in the stream, and names the message
 pub record IsAnswer (stream : List ℕ) (sequence id : ℕ) : Type 0 where
@@ -610,5 +610,11 @@ grant_keep number stream runner id hears = by_refusal (grant_refusal runner.node
         (sent_so (submission_at runner.node id))
     by_refusal (Some refusal) = record {
       hears = hears;
-      fine = λ print among. elim among [ inl same ↦ plain_fine number stream print (subst IsPlain (sym same) tt) | inr none ↦ absurd none ];
+      fine = λ print among. elim among [ inl same ↦ record { ungone = λ is. ungone (sym same ∙ is); late = λ id pdu is. absurd (unlate id pdu (sym same ∙ is)) } | inr none ↦ absurd none ];
     }
+      where
+        ungone : Ungranted (refusal_number refusal) ≡ Gone number → ⊥
+        ungone is = cc
+
+        unlate : (id : ℕ) (pdu : Pdu) → Ungranted (refusal_number refusal) ≡ Late number id pdu → ⊥
+        unlate id pdu is = cc
