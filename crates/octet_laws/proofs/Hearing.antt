@@ -86,7 +86,7 @@ IsLeaving (reactions.Answered pushed) = ⊥
 abbrev GoesSo : Session → Done → Type 0
 GoesSo session done = is_gone session.state ≡ false → is_gone done.next.state ≡ true → IsLeaving done.reaction
 
-not_both : {A : Type 0} (test : Bool) → test ≡ false → test ≡ true → A
+pub not_both : {A : Type 0} (test : Bool) → test ≡ false → test ≡ true → A
 not_both test is also = absurd (let both : false ≡ true = sym is ∙ also in cc)
 
 role_stays : (role : Role) → is_gone (bound_as role) ≡ false

@@ -11,3 +11,5 @@ pub mod Ties
 pub mod Numbered
 pub mod Hearing
 pub mod Octets
+pub mod Quiet
+pub mod Walks

@@ -393,7 +393,7 @@ pub posted_for_any_posts : (number now : ℕ) (mail : Mail) (account : Option (L
 posted_for_any_posts number now mail None = stays_posted number mail
 posted_for_any_posts number now mail (Some account) = posted_for_posts number now mail account
 
-posted_for_all_posts : (number now : ℕ) (mail : Mail) (accounts : List (List ℕ)) → Posts number mail (posted_for_all now mail accounts)
+pub posted_for_all_posts : (number now : ℕ) (mail : Mail) (accounts : List (List ℕ)) → Posts number mail (posted_for_all now mail accounts)
 unfolding posted_for_all
 posted_for_all_posts number now mail [] = stays_posted number mail
 posted_for_all_posts number now mail (account ∷ others) =
@@ -407,7 +407,7 @@ posted_to_posts number now mail receipt (Some account) =
     let it = posted_for_posts number now (record mail { waiting = waits_for account mail.waiting receipt }) account in
     record { lessens = it.lessens; plain = it.plain }
 
-all_posted_posts : (number now : ℕ) (mail : Mail) (receipts : List Receipt) → Posts number mail (all_posted now mail receipts)
+pub all_posted_posts : (number now : ℕ) (mail : Mail) (receipts : List Receipt) → Posts number mail (all_posted now mail receipts)
 unfolding all_posted
 all_posted_posts number now mail [] = stays_posted number mail
 all_posted_posts number now mail (receipt ∷ others) =
