@@ -30,7 +30,7 @@ use Rattle.script_lines.specs.Said.{Said, Skipped, Nodes, Octets, Deliver, Crash
 use Rattle.script_lines.proofs.SaidLemmas.{spells_within}
 use Rattle.script_text.specs.Node.{Node, step_at}
 use Rattle.script_text.specs.Prints.{Declined, Gone, Late, Print}
-use Rattle.script_text.specs.Runner.{Acted, Runner, declined, given_out, gone_prints, last_incarnation, most_deliveries, no_incarnation, on_delivery, on_grant}
+use Rattle.script_text.specs.Runner.{Acted, Runner, declined, given_out, gone_prints, held_in, last_incarnation, most_deliveries, no_incarnation, on_delivery, on_grant}
 use Rattle.script_text.specs.Runner.{on_octets, on_restart, on_tick, restarted}
 use Rattle.script_text.specs.Settings.{Settings}
 use Rattle.script_world.specs.Prints.{At, Refuses, StopsSettling, WorldPrint, world_text}
@@ -38,7 +38,7 @@ use Rattle.script_world.specs.Script.{Stepped, moved_by, step_by, step_of, stepp
 use Rattle.script_world.specs.World.{Due, Moved, World, all_come, comes, comes_again, comes_if, comes_to, crashed, crashes, crashes_if, due, grants, hears, if_due}
 use Rattle.script_world.specs.World.{if_up, is_down, is_up, is_up_at, marked, no_node, no_packet, node_numbers, on_replay, on_settle, packet_of, refuses, replays}
 use Rattle.script_world.specs.World.{restarts, restarts_if, runner_at, settles, shared, stays, then_moved, ticks, unsettled, up_or_refuses}
-use Rattle.world_fates.proofs.Entries.{Has}
+use Rattle.world_fates.proofs.Entries.{AreApart, Has}
 use Rattle.world_fates.proofs.Lines.{one_node, printed_at}
 use Rattle.world_fates.proofs.Places.{row_least, set_cases}
 use Rattle.world_fates.proofs.Worlds.{due_least}
@@ -478,3 +478,196 @@ module _ (m number : ℕ) (least_m : 1 ≤ m) where
               LineSo stream says (done_by (up_or_refuses world (λ runner. shared world node (on_octets settings runner at octets)) found))
           by_runner None there = none_line there
           by_runner (Some runner) there = by_up runner there (is_up runner)
+
+    -- ---- a stop, and a start
+
+    module _ (node : ℕ) (least : 1 ≤ node) (most : node ≤ 9) (said : Said) (none : (written : List (List ℕ)) → brought m number (Some said) written ≡ []) where
+      -- each session of the node goes
+      all_gone : (runner : Runner) → runner_at world node ≡ Some runner → (acted : Acted) → acted.next.sessions ≡ [] → acted.next.streams ≡ [] →
+          acted.prints ≡ gone_prints runner.sessions →
+          (Hears number stream runner → (h : Held) → In h acted.next.node.kept.held → ticket_of h < acted.next.node.kept.ticket) →
+          LineSo stream said (done_by (shared world node acted))
+      unfolding cut_within
+      all_gone runner there acted sessions streams prints given =
+          brings_none stream said moved (none (written_in moved.prints)) short
+          (λ among next is. elim (set_cases world.runners (pred node) (given_out acted.next) (pred m) next is) [
+            | inl now ↦ subst (Hears number []) (sym now.1) (begins_anew (one_node node m least least_m now.0))
+            | inr elsewhere ↦
+                let it = gone_told moved.prints m number among in
+                let here = printed_at node it.other acted.prints (Gone it.number) it.among in
+                elim short [
+                  | inl nothing ↦ subst (λ (s : List ℕ). Hears number s next) nothing (heard next elsewhere.0)
+                  | inr small ↦
+                      absurd (elsewhere.1 (ap pred (sym (decimal_injective node m (omega (arith, most)) small.0 (ap decimal (sym here.0) ∙ it.node_is)))))
+                ]
+          ])
+          (λ ungone next is. elim (set_cases world.runners (pred node) (given_out acted.next) (pred m) next is) [
+            | inl now ↦
+                let same = one_node node m least least_m now.0 in
+                subst (Hears number stream) (sym now.1) (elim (before same).sound.there [
+                  | inl nothing ↦ subst (λ (s : List ℕ). Hears number s (given_out acted.next)) (sym nothing) (begins_anew same)
+                  | inr has ↦
+                      absurd (ungone (gone_written moved.prints m number (subst (λ (n : ℕ). In (At n (Gone number)) moved.prints) (sym same)
+                      (in_printed node (Gone number) acted.prints (subst (In (Gone number)) (sym prints) (gone_of runner.sessions has))))))
+                ])
+            | inr elsewhere ↦ heard next elsewhere.0
+          ])
+          (λ id pdu among.
+              let it = printed_at node m acted.prints (Late number id pdu) among in
+              let from = in_mapped (λ (entry : ℕ × Session). Gone entry.0) runner.sessions (Late number id pdu) (subst (In (Late number id pdu)) prints it.1) in
+              absurd (not_late from.from.0 id pdu from.is))
+        where
+          moved : Moved
+          moved = shared world node acted
+
+          not_late : (session id : ℕ) (pdu : Pdu) → Late number id pdu ≡ Gone session → ⊥
+          not_late session id pdu is = cc
+
+          before : m ≡ node → Hears number stream runner
+          before same = heard runner (ap (λ (n : ℕ). runner_at world n) same ∙ there)
+
+          gone_of : (connected : List (ℕ × Session)) → Has connected number → In (Gone number) (gone_prints connected)
+          gone_of [] has = absurd has.among
+          gone_of (e ∷ es) has = elim has.among [
+            | inl same ↦ inl (ap (λ (x : ℕ × Session). Gone x.0) same)
+            | inr later ↦ inr (gone_of es (record { value = has.value; among = later }))
+          ]
+
+          begins_anew : m ≡ node → Hears number [] (given_out acted.next)
+          begins_anew same = record {
+            sound = record {
+              given = given (before same);
+              there = inl refl;
+              each = λ session among. absurd (subst (In (number, session)) sessions among);
+              apart = subst (λ (es : List (ℕ × Session)). AreApart es) (sym sessions) tt;
+            };
+            held = record {
+              rest = ap (λ (es : List (ℕ × List ℕ)). held_in es number) streams;
+              apart = subst (λ (es : List (ℕ × List ℕ)). AreApart es) (sym streams) tt;
+            };
+          }
+
+      calm_there : (moved : Moved) → MovesSo stream moved → LineSo stream said (done_by moved)
+      calm_there moved moves = calm_line stream said moved (none (written_in moved.prints)) short moves
+
+    crash_line : (node packet : ℕ) (after : Bool) → 1 ≤ node → node ≤ 9 → LineSo stream (Crash node packet after) (done_by (crashes world node packet after))
+    crash_line node packet after least most = by_packet (packet_of world.packets packet)
+      where
+        said : Said
+        said = Crash node packet after
+
+        calm : (moved : Moved) → MovesSo stream moved → LineSo stream said (done_by moved)
+        calm = calm_there node least most said (λ written. refl)
+
+        stops : (one : Packet) (runner : Runner) → runner_at world node ≡ Some runner → LineSo stream said (done_by (shared world node (crashed one after runner)))
+        stops one runner there =
+            all_gone node least most said (λ written. refl) runner there (crashed one after runner) refl refl refl
+            (λ hears. (sound_on number stream runner.node.kept _ runner.sessions (step_on (Stops one after) runner.node.kept _
+            (stepped_so runner.node.setup runner.node.kept (Stops one after) (λ lost is. cc))) hears.sound).given)
+
+        by_up : (one : Packet) (runner : Runner) → runner_at world node ≡ Some runner → (up : Bool) →
+            LineSo stream said (done_by (if up then shared world node (crashed one after runner) else refuses world is_down))
+        by_up one runner there true = stops one runner there
+        by_up one runner there false = calm (refuses world is_down) (refuses_so stream world is_down heard)
+
+        by_runner : (one : Packet) (found : Option Runner) → runner_at world node ≡ found →
+            LineSo stream said (done_by (up_or_refuses world (λ runner. shared world node (crashed one after runner)) found))
+        by_runner one None there = calm (refuses world no_node) (refuses_so stream world no_node heard)
+        by_runner one (Some runner) there = by_up one runner there (is_up runner)
+
+        by_packet : (found : Option Packet) → LineSo stream said (done_by (crashes_if world node after found))
+        by_packet None = calm (refuses world no_packet) (refuses_so stream world no_packet heard)
+        by_packet (Some one) = by_runner one (runner_at world node) refl
+
+    restart_line : (node : ℕ) → 1 ≤ node → node ≤ 9 → LineSo stream (Restart node) (done_by (restarts world node))
+    restart_line node least most = by_runner (runner_at world node) refl
+      where
+        calm : (moved : Moved) → MovesSo stream moved → LineSo stream (Restart node) (done_by moved)
+        calm = calm_there node least most (Restart node) (λ written. refl)
+
+        -- nothing waits at a node that starts
+        given_none : (runner : Runner) (up : Bool) (h : Held) →
+            In h (if up then stepped_up runner.node.setup runner.node.kept (Starts 0) else stepped_down runner.node.setup runner.node.kept (Starts 0)).kept.held → ⊥
+        given_none runner true h among = among
+        given_none runner false h among = among
+
+        declines : (runner : Runner) → runner_at world node ≡ Some runner → MovesSo stream (shared world node (declined runner no_incarnation))
+        declines runner there =
+            shared_so stream world heard node least (declined runner no_incarnation)
+            (λ same. record {
+              hears = the_runner stream world heard node least runner there same;
+              fine = λ print among. elim among [
+                | inl is ↦ record { ungone = λ gone. not_gone number (sym is ∙ gone); late = λ id pdu late. absurd (not_late id pdu (sym is ∙ late)) }
+                | inr none ↦ absurd none
+              ];
+            })
+            (λ session among. elim among [ inl is ↦ not_gone session (sym is) | inr none ↦ none ])
+          where
+            not_gone : (session : ℕ) → Declined no_incarnation ≡ Gone session → ⊥
+            not_gone session is = cc
+
+            not_late : (id : ℕ) (pdu : Pdu) → Declined no_incarnation ≡ Late number id pdu → ⊥
+            not_late id pdu is = cc
+
+        by_left : (runner : Runner) → runner_at world node ≡ Some runner → (left : Bool) →
+            LineSo stream (Restart node) (done_by (shared world node (if left then restarted runner else declined runner no_incarnation)))
+        by_left runner there true =
+            all_gone node least most (Restart node) (λ written. refl) runner there (restarted runner) refl refl refl
+            (λ hears h among. absurd (given_none runner runner.node.kept.up h among))
+        by_left runner there false = calm (shared world node (declined runner no_incarnation)) (declines runner there)
+
+        by_runner : (found : Option Runner) → runner_at world node ≡ found → LineSo stream (Restart node) (done_by (restarts_if world node found))
+        by_runner None there = calm (refuses world no_node) (refuses_so stream world no_node heard)
+        by_runner (Some runner) there = by_left runner there (nat_lt runner.node.kept.incarnation last_incarnation)
+
+    -- ---- each line
+
+    module _ (line : List ℕ) where
+      moved_so : (said : Said) (moved : Moved) (done : Stepped) → does moved ≡ Some done → LineSo stream said (done_by moved) → LineSo stream said done
+      moved_so said moved done is so = subst (LineSo stream said) (same (done_by moved) done is) so
+        where
+          same : (one other : Stepped) → Some one ≡ Some other → one ≡ other
+          same one other is = cc
+
+      said_so : (said : Said) (done : Stepped) → said_within (length world.runners) line ≡ Some said → moved_by settings world said ≡ Some done →
+          LineSo stream said done
+      said_so Skipped done says is = moved_so Skipped (stays world) done is (calm_line stream Skipped (stays world) refl short (stays_so stream world heard))
+      said_so (Nodes count serial) done says is = absurd cc
+      said_so (Octets node at octets) done says is =
+          let wording = (spells_within (length world.runners) line (Octets node at octets) says).wording in
+          moved_so (Octets node at octets) (hears settings world node at octets) done is
+          (octets_line node at octets wording.0.least wording.0.most wording.1.most)
+      said_so (Deliver packet node) done says is =
+          let least = (spells_within (length world.runners) line (Deliver packet node) says).wording.1.least in
+          moved_so (Deliver packet node) (comes world packet node) done is
+          (calm_line stream (Deliver packet node) (comes world packet node) refl short (comes_so stream world heard packet node least))
+      said_so (Crash node packet after) done says is =
+          let wording = (spells_within (length world.runners) line (Crash node packet after) says).wording in
+          moved_so (Crash node packet after) (crashes world node packet after) done is (crash_line node packet after wording.0.least wording.0.most)
+      said_so (Tick node moment) done says is =
+          let least = (spells_within (length world.runners) line (Tick node moment) says).wording.0.least in
+          moved_so (Tick node moment) (ticks world node moment) done is
+          (calm_line stream (Tick node moment) (ticks world node moment) refl short (ticks_so stream world heard node least moment))
+      said_so (Grant node id) done says is =
+          let least = (spells_within (length world.runners) line (Grant node id) says).wording.0.least in
+          moved_so (Grant node id) (grants world node id) done is
+          (calm_line stream (Grant node id) (grants world node id) refl short (grants_so stream world heard node least id))
+      said_so (Settle nodes) done says is =
+          moved_so (Settle nodes) (on_settle world nodes) done is
+          (calm_line stream (Settle nodes) (on_settle world nodes) refl short (settles_so stream most_deliveries nodes world heard))
+      said_so (Restart node) done says is =
+          let wording = (spells_within (length world.runners) line (Restart node) says).wording in
+          moved_so (Restart node) (restarts world node) done is (restart_line node wording.0.least wording.0.most)
+      said_so (Replay count) done says is =
+          moved_so (Replay count) (on_replay world count) done is
+          (calm_line stream (Replay count) (on_replay world count) refl short (replays_so stream count (length world.packets) world heard))
+
+      pub line_so : (done : Stepped) → step_of settings (Some world) line ≡ Some done →
+          (said : Said) × (said_within (length world.runners) line ≡ Some said) × LineSo stream said done
+      unfolding step_of
+      line_so done is = by_said (said_within (length world.runners) line) refl is
+        where
+          by_said : (found : Option Said) → said_within (length world.runners) line ≡ found → step_by settings (Some world) found ≡ Some done →
+              (said : Said) × (said_within (length world.runners) line ≡ Some said) × LineSo stream said done
+          by_said None says is = absurd cc
+          by_said (Some said) says is = (said, says, said_so said done says is)
