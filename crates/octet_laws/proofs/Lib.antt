@@ -13,3 +13,4 @@ pub mod Hearing
 pub mod Octets
 pub mod Quiet
 pub mod Walks
+pub mod AtOnce
