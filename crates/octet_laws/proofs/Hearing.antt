@@ -43,7 +43,7 @@ use Rattle.sessions.specs.Faults.{told_of}
 use Rattle.sessions.specs.Session.{Session}
 use Rattle.sessions.specs.States.{bound_as, is_gone}
 use Rattle.sessions.specs.Responses.{requested_by}
-use Rattle.sessions.specs.Steps.{Done, bind_in, binds_by, binds_unless, can_wait, on_cell, on_fault, on_pdu, leaves, on_wrong_length, stays}
+use Rattle.sessions.specs.Steps.{Done, bind_in, request_in, binds_by, binds_unless, can_wait, on_cell, on_fault, on_pdu, leaves, on_wrong_length, stays}
 use Rattle.sessions.specs.Table.{Answers, Asks, Binds, Cell, Drops, Links, NotServed, Refuses, Unbinds, cell_of}
 use Rattle.sessions.specs.declared.pushed.Pushed.{Pushed}
 use Rattle.sessions.specs.declared.reaction.Reaction.{Reaction}
@@ -62,12 +62,14 @@ use Rattle.script_text.specs.Attempts.{all_given_up, delivered_so}
 use Rattle.script_text.specs.Node.{Node, request_at, step_at}
 use Rattle.script_text.specs.Prints.{AtOnce, Gone, Late, Print}
 use Rattle.script_text.specs.Pushes.{session_at}
+use Rattle.script_text.specs.Responses.{refused_with}
 use Rattle.script_text.specs.Runner.{Acted, Came, Runner, Served, came_by, ends, followed_by, held_in, holds, in_window, nothing_came, on_done, on_frame}
 use Rattle.script_text.specs.Runner.{on_frames, on_octets, on_reaction, on_read, on_request, on_rest, opened_at, or_nothing, posts_for, put_at, reaction_prints}
 use Rattle.script_text.specs.Runner.{refusal_prints, request_of, served_at, serves, session_in, session_or_opened, unasked}
 use Rattle.script_text.specs.Settings.{Settings}
 use Rattle.world_fates.proofs.Entries.{AreApart, Has, found_entry, insert_apart, inserted_in, none_left, remove_apart, removed_in}
 use Rattle.world_fates.proofs.Windows.{ComesOf, fault_so, pdu_so, wrong_length_so}
+use Rattle.octet_laws.proofs.AtOnce.{IsNoDeletion, SaysNone, asked_for, fault_none, length_none, pdu_none, request_none}
 use Rattle.octet_laws.proofs.Holding.{StepSo, stepped_so}
 use Rattle.octet_laws.proofs.Numbered.{insert_has, insert_here, none_there, remove_elsewhere, remove_has, removed_there, some_there}
 use Rattle.octet_laws.proofs.Streams.{cut_more}
@@ -181,7 +183,8 @@ pub record IsBegun (frame : List ℕ) (kept next : Kept) (request : OpenRequest)
   pub pdu : Pdu
   pub reads : read_pdu frame ≡ Ok pdu
   pub sequence_is : pdu.sequence ≡ request.sequence
-  pub names : (h : Held) → In h next.held → ticket_of h ≡ request.ticket → Names pdu.body h.waiting.request
+  pub names : ((h : Held) → In h kept.held → ticket_of h < kept.ticket) → (h : Held) → In h next.held → ticket_of h ≡ request.ticket →
+      Names pdu.body h.waiting.request
 
 pub record ServedSo (frame : List ℕ) (node : Node) (before : Session) (at : ℕ) (served : Served) : Type 0 where
   pub on : GoesOn node.kept served.node.kept
@@ -190,7 +193,7 @@ pub record ServedSo (frame : List ℕ) (node : Node) (before : Session) (at : �
   pub gone : is_gone before.state ≡ false → is_gone served.session.state ≡ true → In (Gone at) served.prints
   pub prints : (print : Print) → In print served.prints → IsPlain print ⊎ ((print ≡ Gone at) × (is_gone served.session.state ≡ true))
 
-module _ (frame : List ℕ) (node : Node) (given : (h : Held) → In h node.kept.held → ticket_of h < node.kept.ticket) (at : ℕ) (before : Session) where
+module _ (frame : List ℕ) (node : Node) (at : ℕ) (before : Session) where
   unasked_so : (done : Done) → ((request : OpenRequest) → In request done.next.requests → In request before.requests) → GoesSo before done →
       (IsLeaving done.reaction → ⊥) → (prints : List Print) → ((print : Print) → In print prints → IsPlain print) →
       ServedSo frame node before at (unasked node done.next prints)
@@ -212,15 +215,16 @@ module _ (frame : List ℕ) (node : Node) (given : (h : Held) → In h node.kept
       same request is = cc
   arrives (Err status) waited is = absurd cc
 
-  refusal_plain : (requested : Requested) (sequence : ℕ) (refused : Option ℕ) (print : Print) → In print (refusal_prints at requested sequence refused) →
-      IsPlain print
-  refusal_plain requested sequence None print among = absurd among
-  refusal_plain requested sequence (Some status) print (inl same) = subst IsPlain (sym same) tt
-  refusal_plain requested sequence (Some status) print (inr none) = absurd none
+  refusal_plain : (requested : Requested) (sequence : ℕ) (refused : Option ℕ) →
+      ((status : ℕ) → refused ≡ Some status → IsNoDeletion (refused_with requested sequence status)) → (print : Print) →
+      In print (refusal_prints at requested sequence refused) → IsPlain print
+  refusal_plain requested sequence None none print among = absurd among
+  refusal_plain requested sequence (Some status) none print (inl same) = subst IsPlain (sym same) (none status refl)
+  refusal_plain requested sequence (Some status) none print (inr nothing) = absurd nothing
 
   -- a request waits at the node
   module _ (settings : Settings) (pdu : Pdu) (reads : read_pdu frame ≡ Ok pdu) (requested : Requested) (account : List ℕ) (request : Request)
-      (brings : request_of settings.routes pdu.body ≡ Some request) where
+      (brings : request_of settings.routes pdu.body ≡ Some request) (asks : request_in pdu ≡ Some requested) where
     abbrev judged : Result Waited Status
     judged = admitted (door_at node.setup node.kept) (next_id node.setup node.kept) account request
 
@@ -239,7 +243,7 @@ module _ (frame : List ℕ) (node : Node) (given : (h : Held) → In h node.kept
           pdu = pdu;
           reads = reads;
           sequence_is = refl;
-          names = λ h among same. elim (so.held h among) [
+          names = λ given h among same. elim (so.held h among) [
             | inl old ↦
                 absurd (let below = given old.from old.among in let first = old.ticket in let next = it.ticket_is in omega (arith, same, below, first, next))
             | inr new ↦
@@ -280,21 +284,24 @@ module _ (frame : List ℕ) (node : Node) (given : (h : Held) → In h node.kept
       on = step_on (judged_as judged) node.kept step so;
       requests = window_so session less step.outputs.ticket refl;
       gone = λ stands is. not_both (is_gone session.state) (stays_here stands) (ap is_gone (sym (window_state session step.outputs.ticket)) ∙ is);
-      prints = λ print among. inl (refusal_plain requested pdu.sequence step.outputs.refused print among);
+      prints = λ print among.
+          inl (refusal_plain requested pdu.sequence step.outputs.refused
+          (λ status. request_none settings.routes pdu node requested _ _ account request brings asks status pdu.sequence) print among);
     }
 
   reaction_so : (settings : Settings) (came : Came) (done : Done) → ((request : OpenRequest) → In request done.next.requests → In request before.requests) →
       GoesSo before done → ((outgoing : Outgoing) (abandoned : List Pushed) → done.reaction ≡ reactions.Leave outgoing abandoned → is_gone done.next.state ≡ true) →
-      ((requested : Requested) (account : List ℕ) (request : Request) → came.request ≡ Some request →
+      SaysNone settings.system_id done.reaction →
+      ((requested : Requested) (account : List ℕ) (request : Request) → came.request ≡ Some request → done.reaction ≡ reactions.Ask requested →
       (is_gone before.state ≡ false → is_gone done.next.state ≡ false) →
       ServedSo frame node before at (on_request at node done.next requested came.sequence (Some account) (Some request))) →
       (reaction : Reaction) → done.reaction ≡ reaction → ServedSo frame node before at (on_reaction settings at node came done.next reaction)
-  reaction_so settings came done less goes leaves asks reactions.Nothing is =
+  reaction_so settings came done less goes leaves says asks reactions.Nothing is =
       unasked_so done less goes (λ leaving. subst IsLeaving is leaving) [] (λ print among. absurd among)
-  reaction_so settings came done less goes leaves asks (reactions.Respond outgoing) is =
+  reaction_so settings came done less goes leaves says asks (reactions.Respond outgoing) is =
       unasked_so done less goes (λ leaving. subst IsLeaving is leaving) _
-      (λ print among. elim among [ inl same ↦ subst IsPlain (sym same) tt | inr none ↦ absurd none ])
-  reaction_so settings came done less goes leaves asks (reactions.Ask requested) is = by_both done.next.account came.request refl
+      (λ print among. elim among [ inl same ↦ subst IsPlain (sym same) (subst (SaysNone settings.system_id) is says) | inr none ↦ absurd none ])
+  reaction_so settings came done less goes leaves says asks (reactions.Ask requested) is = by_both done.next.account came.request refl
     where
       stay : is_gone before.state ≡ false → is_gone done.next.state ≡ false
       stay stands = by_test (is_gone done.next.state) refl
@@ -310,34 +317,34 @@ module _ (frame : List ℕ) (node : Node) (given : (h : Held) → In h node.kept
           ServedSo frame node before at (on_request at node done.next requested came.sequence account request)
       by_both None request same = unasked_so done less goes (λ leaving. subst IsLeaving is leaving) [] none
       by_both (Some account) None same = unasked_so done less goes (λ leaving. subst IsLeaving is leaving) [] none
-      by_both (Some account) (Some request) same = asks requested account request same stay
-  reaction_so settings came done less goes leaves asks (reactions.Answered pushed) is = record {
+      by_both (Some account) (Some request) same = asks requested account request same is stay
+  reaction_so settings came done less goes leaves says asks (reactions.Answered pushed) is = record {
     on = delivered_on node pushed.delivery (came.outcome pushed.sequence);
     requests = λ request among. inl (less request among);
     gone = λ stands gone. absurd (subst IsLeaving is (goes stands gone));
     prints = λ print among. absurd among;
   }
-  reaction_so settings came done less goes leaves asks (reactions.Leave outgoing abandoned) is = record {
+  reaction_so settings came done less goes leaves says asks (reactions.Leave outgoing abandoned) is = record {
     on = all_on node abandoned;
     requests = λ request among. inl (less request among);
     gone = λ stands gone. inr (inl refl);
     prints = λ print among. elim among [
-      | inl same ↦ inl (subst IsPlain (sym same) tt)
+      | inl same ↦ inl (subst IsPlain (sym same) (subst (SaysNone settings.system_id) is says))
       | inr (inl same) ↦ inr (same, leaves outgoing abandoned is)
       | inr (inr none) ↦ absurd none
     ];
   }
 
-  faults_so : (settings : Settings) (done : Done) → ComesOf before done → GoesSo before done →
+  faults_so : (settings : Settings) (done : Done) → ComesOf before done → GoesSo before done → SaysNone settings.system_id done.reaction →
       ServedSo frame node before at (on_done settings at node nothing_came done)
-  faults_so settings done comes goes =
-      reaction_so settings nothing_came done comes.less goes comes.leaves (λ requested account request is. absurd (never request is)) done.reaction refl
+  faults_so settings done comes goes says =
+      reaction_so settings nothing_came done comes.less goes comes.leaves says (λ requested account request is. absurd (never request is)) done.reaction refl
     where
       never : (request : Request) → None ≡ Some request → ⊥
       never request is = cc
 
   pub length_so : (settings : Settings) → ServedSo frame node before at (on_done settings at node nothing_came (on_wrong_length before))
-  length_so settings = faults_so settings (on_wrong_length before) (wrong_length_so before) (length_goes before)
+  length_so settings = faults_so settings (on_wrong_length before) (wrong_length_so before) (length_goes before) (length_none settings.system_id before)
 
   pub read_so : (settings : Settings) (read : Result Pdu PduFault) → read_pdu frame ≡ read →
       ServedSo frame node before at (on_read settings at node before frame read)
@@ -345,11 +352,15 @@ module _ (frame : List ℕ) (node : Node) (given : (h : Held) → In h node.kept
       let done = on_pdu settings.accounts before pdu in
       let comes = pdu_so settings.accounts before pdu in
       reaction_so settings (came_by settings pdu) done comes.less (cell_goes settings.accounts before pdu (cell_of (command_in pdu.body) before.state)) comes.leaves
-      (λ requested account request brings stay. asked_so settings pdu is requested account request brings done.next comes.less stay) done.reaction refl
+      (pdu_none settings.system_id settings.accounts before pdu)
+      (λ requested account request brings asks stay.
+      asked_so settings pdu is requested account request brings (asked_for settings.accounts before pdu requested asks) done.next comes.less stay)
+      done.reaction refl
   read_so settings (Err fault) is =
       let requested = requested_by (command_of (word_at 4 frame)) in
       let sequence = word_at 12 frame in
       faults_so settings (on_fault before fault requested sequence) (fault_so before fault requested sequence) (fault_goes before fault requested sequence)
+      (fault_none settings.system_id before fault requested sequence)
 
 -- a wrong length ends a session, and that is told
 pub length_told : (node : Node) (at : ℕ) (settings : Settings) (before : Session) → is_gone before.state ≡ false →

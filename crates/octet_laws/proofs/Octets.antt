@@ -28,7 +28,7 @@ use Rattle.world_fates.proofs.Entries.{AreApart, Has, found_entry, insert_apart,
 use Rattle.octet_laws.proofs.Hearing.{IsBegun, ServedSo, length_so, length_told, read_so}
 use Rattle.octet_laws.proofs.Numbered.{insert_has, insert_here, none_there, remove_elsewhere, remove_has, removed_there, some_there}
 use Rattle.octet_laws.proofs.Streams.{cut_more}
-use Rattle.octet_laws.proofs.Ties.{GoesOn, Hears, Holds, IsFine, IsLess, IsPlain, IsSound, IsSoundSession, IsTied, Keeps, Lessens, Posts, keeps_then}
+use Rattle.octet_laws.proofs.Ties.{GoesOn, Hears, Holds, IsFine, IsLess, IsPlain, IsRight, IsSound, IsSoundSession, IsTied, Keeps, Lessens, Posts, keeps_then}
 use Rattle.octet_laws.proofs.Ties.{plain_fine, posted_for_any_posts, posts_for_keep, sound_less, sound_on, tied_on}
 
 -- a session is put in its place
@@ -92,15 +92,12 @@ module _ (number : ℕ) (stream : List ℕ) (settings : Settings) (at : ℕ) (ot
       never : Gone at ≡ Gone number → at ≡ number
       never is = cc
 
-      not_late : (id : ℕ) (pdu : Pdu) → Gone at ≡ Late number id pdu → ⊥
-      not_late id pdu is = cc
-
       fine : (print : Print) → In print served.prints → IsFine number stream print
       fine print among = elim (so.prints print among) [
         | inl plain ↦ plain_fine number stream print plain
         | inr gone ↦ record {
           ungone = λ is. other (never (sym gone.0 ∙ is));
-          late = λ id pdu is. absurd (not_late id pdu (sym gone.0 ∙ is));
+          right = subst (IsRight number stream) (sym gone.0) tt;
         }
       ]
 
@@ -140,7 +137,7 @@ module _ (number : ℕ) (stream : List ℕ) (settings : Settings) (at : ℕ) (ot
       by_test : (wrong : Bool) → Keeps number stream (cond {A = Acted} wrong (ends settings at runner) (holds runner at rest))
       by_test true =
           let before = session_in runner.sessions at in
-          serves_other [] before runner _ (length_so [] runner.node hears.sound.given at before settings) hears
+          serves_other [] before runner _ (length_so [] runner.node at before settings) hears
       by_test false = record {
         hears = record {
           sound = hears.sound;
@@ -171,7 +168,7 @@ module _ (number : ℕ) (stream : List ℕ) (settings : Settings) (at : ℕ) (ot
       one = serves runner at served
 
       here : Keeps number stream one
-      here = serves_other frame before runner served (read_so frame runner.node hears.sound.given at before settings (read_pdu frame) refl) hears
+      here = serves_other frame before runner served (read_so frame runner.node at before settings (read_pdu frame) refl) hears
 
       later : Acted
       later = on_frames settings at one.next frames rest
@@ -264,7 +261,7 @@ module _ (number : ℕ) (stream : List ℕ) (settings : Settings) where
         pdu = new.pdu;
         reads = new.reads;
         sequence_is = new.sequence_is;
-        names = new.names;
+        names = new.names s.sound.given;
       }
     ]
 
@@ -389,7 +386,7 @@ module _ (number : ℕ) (stream : List ℕ) (settings : Settings) where
       no_frame pdu reads = absurd cc
 
       wrong : EndsNow (ends settings number runner) ⊎ Serves (ends settings number runner)
-      wrong = serves_own runner s [] no_frame _ (length_so [] runner.node s.sound.given number (session_in runner.sessions number) settings)
+      wrong = serves_own runner s [] no_frame _ (length_so [] runner.node number (session_in runner.sessions number) settings)
 
       by_test : (test : Bool) → Ends number (cond {A = Acted} test (ends settings number runner) (holds runner number rest))
           ⊎ Lasts number stream (cond {A = Acted} test (ends settings number runner) (holds runner number rest))
@@ -426,7 +423,7 @@ module _ (number : ℕ) (stream : List ℕ) (settings : Settings) where
 
       here : EndsNow one ⊎ Serves one
       here = serves_own runner s frame (λ pdu reads. are frame (inl refl)) _
-          (read_so frame runner.node s.sound.given number before settings (read_pdu frame) refl)
+          (read_so frame runner.node number before settings (read_pdu frame) refl)
 
       later : Acted
       later = on_frames settings number one.next frames rest

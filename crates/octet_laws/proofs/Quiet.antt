@@ -36,8 +36,9 @@ use Rattle.script_text.specs.Runner.{mail_of, nothing_came, on_delivery, on_done
 use Rattle.script_text.specs.Runner.{opened_at, pushes, refusal_prints, sent, sent_to, served_at, serves, session_in, ticked, told}
 use Rattle.script_world.specs.Prints.{At}
 use Rattle.world_fates.proofs.Asking.{replies_tell}
+use Rattle.octet_laws.proofs.Hearing.{ServedSo, length_so, read_so}
 use Rattle.octet_laws.proofs.Lines.{IsRefusal}
-use Rattle.octet_laws.proofs.Ties.{IsPlain, all_posted_posts, posted_for_all_posts, posted_for_any_posts}
+use Rattle.octet_laws.proofs.Ties.{IsPlain, IsRight, all_posted_posts, plain_right, posted_for_all_posts, posted_for_any_posts}
 
 -- ---- a line among others
 
@@ -138,36 +139,8 @@ no_only at print among = absurd among
 both_only : (at : ℕ) (one other : List Print) → AreOnly at one → AreOnly at other → AreOnly at (one ++ other)
 both_only at one other first last print among = elim (in_either print one other among) [ inl here ↦ first print here | inr there ↦ last print there ]
 
-refusal_only : (at : ℕ) (requested : Requested) (sequence : ℕ) (refused : Option ℕ) → AreOnly at (refusal_prints at requested sequence refused)
-refusal_only at requested sequence None = no_only at
-refusal_only at requested sequence (Some status) = λ print among. elim among [ inl same ↦ inl (subst IsPlain (sym same) tt) | inr none ↦ absurd none ]
-
-request_only : (at : ℕ) (node : Node) (session : Session) (requested : Requested) (sequence : ℕ) (account : Option (List ℕ)) (request : Option Request) →
-    AreOnly at (on_request at node session requested sequence account request).prints
-request_only at node session requested sequence None request = no_only at
-request_only at node session requested sequence (Some account) None = no_only at
-request_only at node session requested sequence (Some account) (Some request) = refusal_only at requested sequence _
-
-reaction_only : (settings : Settings) (at : ℕ) (node : Node) (came : Came) (session : Session) (reaction : Reaction) →
-    AreOnly at (on_reaction settings at node came session reaction).prints
-reaction_only settings at node came session reactions.Nothing = no_only at
-reaction_only settings at node came session (reactions.Respond outgoing) =
-    λ print among. elim among [ inl same ↦ inl (subst IsPlain (sym same) tt) | inr none ↦ absurd none ]
-reaction_only settings at node came session (reactions.Ask requested) = request_only at node session requested came.sequence session.account came.request
-reaction_only settings at node came session (reactions.Answered pushed) = no_only at
-reaction_only settings at node came session (reactions.Leave outgoing abandoned) = λ print among. elim among [
-  | inl same ↦ inl (subst IsPlain (sym same) tt)
-  | inr (inl same) ↦ inr same
-  | inr (inr none) ↦ absurd none
-]
-
-read_only : (settings : Settings) (at : ℕ) (node : Node) (session : Session) (octets : List ℕ) (read : Result Pdu PduFault) →
-    AreOnly at (on_read settings at node session octets read).prints
-read_only settings at node session octets (Ok pdu) =
-    let done = on_pdu settings.accounts session pdu in reaction_only settings at node (came_by settings pdu) done.next done.reaction
-read_only settings at node session octets (Err fault) =
-    let done = on_fault session fault (requested_by (command_of (word_at 4 octets))) (word_at 12 octets) in
-    reaction_only settings at node nothing_came done.next done.reaction
+served_only : (frame : List ℕ) (node : Node) (before : Session) (at : ℕ) (served : Served) → ServedSo frame node before at served → AreOnly at served.prints
+served_only frame node before at served so print among = elim (so.prints print among) [ inl plain ↦ inl plain | inr gone ↦ inr gone.0 ]
 
 serves_only : (at : ℕ) (runner : Runner) (served : Served) → AreOnly at served.prints → AreOnly at (serves runner at served).prints
 serves_only at runner served only =
@@ -180,8 +153,9 @@ rest_only settings at runner rest = by_test (begins_wrong rest)
   where
     by_test : (wrong : Bool) → AreOnly at (cond {A = Acted} wrong (ends settings at runner) (holds runner at rest)).prints
     by_test true =
-        let done = on_wrong_length (session_in runner.sessions at) in
-        serves_only at runner (on_done settings at runner.node nothing_came done) (reaction_only settings at runner.node nothing_came done.next done.reaction)
+        let before = session_in runner.sessions at in
+        let served = on_done settings at runner.node nothing_came (on_wrong_length before) in
+        serves_only at runner served (served_only [] runner.node before at served (length_so [] runner.node at before settings))
     by_test false = no_only at
 
 frames_only : (settings : Settings) (at : ℕ) (frames : List (List ℕ)) (rest : List ℕ) (runner : Runner) →
@@ -196,7 +170,9 @@ frames_only settings at (frame ∷ frames) rest runner = by_test (is_none (sessi
     here : AreOnly at one.prints
     here =
         let session = session_in runner.sessions at in
-        serves_only at runner (on_read settings at runner.node session frame (read_pdu frame)) (read_only settings at runner.node session frame (read_pdu frame))
+        let served = on_read settings at runner.node session frame (read_pdu frame) in
+        serves_only at runner served
+        (served_only frame runner.node session at served (read_so frame runner.node at session settings (read_pdu frame) refl))
 
     later : Acted
     later = on_frames settings at one.next frames rest
@@ -226,3 +202,7 @@ plain_no_refusal node (Gone session) plain refusal = plain
 plain_no_refusal node Unsettled plain refusal = plain
 plain_no_refusal node (Declined number) plain refusal = plain
 plain_no_refusal node (Ungranted reason) plain refusal = plain
+
+pub only_right : (at number : ℕ) (stream : List ℕ) (print : Print) → IsOnly at print → IsRight number stream print
+only_right at number stream print (inl plain) = plain_right number stream print plain
+only_right at number stream print (inr gone) = subst (IsRight number stream) (sym gone) tt

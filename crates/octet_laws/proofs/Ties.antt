@@ -44,7 +44,7 @@ use Rattle.sessions.specs.declared.requested.Requested.{Requested}
 use Rattle.script_text.specs.Attempts.{Went, all_given_up, concluded, delivered_so, given_up, rests_at, submission_at, unanswered, went}
 use Rattle.script_text.specs.Node.{Node, awaiting, step_at, tick_at, with_step}
 use Rattle.script_text.specs.Prints.{AtOnce, Declined, Delivers, Gone, Late, Print, Reports, Ungranted, Unsettled}
-use Rattle.script_text.specs.Pushes.{accounts_up, overdue_in, pushed_on, session_at, target_in, timely_in, with_push}
+use Rattle.script_text.specs.Pushes.{accounts_up, delivery_on, overdue_in, pushed_on, session_at, target_in, timely_in, with_push}
 use Rattle.script_text.specs.Receipts.{Mail, Posted, all_posted, goes_out, goes_out_up_to, is_for, posted, posted_for, posted_for_all}
 use Rattle.script_text.specs.Receipts.{posted_for_any, posted_to, reports_on, stays, submitter_of, then_posted, waits_for, with_both}
 use Rattle.script_text.specs.Responses.{reply_pdu}
@@ -55,6 +55,7 @@ use Rattle.fate_laws.proofs.Posting.{left_in}
 use Rattle.world_fates.proofs.Entries.{AreApart, Has, found_entry, map_apart, set_apart, set_in}
 use Rattle.world_fates.proofs.Asking.{AsksOn, replies_tell}
 use Rattle.world_fates.proofs.Fresh.{reply_sequence}
+use Rattle.octet_laws.proofs.AtOnce.{IsNoDeletion}
 use Rattle.octet_laws.proofs.Holding.{IsAmong, IsNew, StepSo, stepped_so}
 
 -- ---- what is said of a session
@@ -296,11 +297,11 @@ moment_lessens number connected now = record {
 
 -- ---- what is printed
 
--- it is of a PDU, and answers no request that waited
+-- it is of a PDU that answers no request that waited, and is no cancel_sm_resp with ESME_ROK
 abbrev pub IsPlain : Print → Type 0
-IsPlain (AtOnce session pdu) = Unit {0}
+IsPlain (AtOnce session pdu) = IsNoDeletion pdu
 IsPlain (Late session id pdu) = ⊥
-IsPlain (Delivers session pdu) = Unit {0}
+IsPlain (Delivers session pdu) = IsNoDeletion pdu
 IsPlain (Reports session sequence optional report) = Unit {0}
 IsPlain (Gone session) = ⊥
 IsPlain Unsettled = ⊥
@@ -318,17 +319,35 @@ pub record IsAnswer (stream : List ℕ) (sequence id : ℕ) : Type 0 where
   pub body : pdu.body ≡ CancelSm cancel
   pub names : decimal id ≡ cancel.message_id
 
--- the session is not told to be gone, and ESME_ROK to a cancel_sm on it is so
+-- if it is a cancel_sm_resp with ESME_ROK on the session, it is so
+abbrev pub IsRight : ℕ → List ℕ → Print → Type 0
+IsRight number stream (AtOnce session pdu) = IsNoDeletion pdu
+IsRight number stream (Late session id pdu) =
+    session ≡ number → pdu.body ≡ CancelSmResp → pdu.status ≡ status_code statuses.Ok → IsAnswer stream pdu.sequence id
+IsRight number stream (Delivers session pdu) = IsNoDeletion pdu
+IsRight number stream (Reports session sequence optional report) = Unit {0}
+IsRight number stream (Gone session) = Unit {0}
+IsRight number stream Unsettled = Unit {0}
+IsRight number stream (Declined reason) = Unit {0}
+IsRight number stream (Ungranted reason) = Unit {0}
+
+-- and the session is not told to be gone
 pub record IsFine (number : ℕ) (stream : List ℕ) (print : Print) : Type 0 where
   pub ungone : print ≡ Gone number → ⊥
-  pub late : (id : ℕ) (pdu : Pdu) → print ≡ Late number id pdu → pdu.body ≡ CancelSmResp → pdu.status ≡ status_code statuses.Ok →
-      IsAnswer stream pdu.sequence id
+  pub right : IsRight number stream print
+
+pub plain_right : (number : ℕ) (stream : List ℕ) (print : Print) → IsPlain print → IsRight number stream print
+plain_right number stream (AtOnce session pdu) plain = plain
+plain_right number stream (Late session id pdu) plain = absurd plain
+plain_right number stream (Delivers session pdu) plain = plain
+plain_right number stream (Reports session sequence optional report) plain = tt
+plain_right number stream (Gone session) plain = tt
+plain_right number stream Unsettled plain = tt
+plain_right number stream (Declined reason) plain = tt
+plain_right number stream (Ungranted reason) plain = tt
 
 pub plain_fine : (number : ℕ) (stream : List ℕ) (print : Print) → IsPlain print → IsFine number stream print
-plain_fine number stream print plain = record {
-  ungone = λ is. absurd (subst IsPlain is plain);
-  late = λ id pdu is. absurd (subst IsPlain is plain);
-}
+plain_fine number stream print plain = record { ungone = λ is. absurd (subst IsPlain is plain); right = plain_right number stream print plain }
 
 -- ---- acts
 
@@ -463,10 +482,8 @@ answered_keep number stream runner node input sound held plain = record {
       let it = (replies_tell runner.sessions step.outputs.replies).prints print among in
       record {
         ungone = λ is. never it.number it.reply.id _ (sym it.print_is ∙ is);
-        late = λ id pdu is body status.
-            let same = late_same it.number it.reply.id number id _ pdu (sym it.print_is ∙ is) in
-            answers it.request it.reply
-            (subst (λ (n : ℕ). AsksOn runner.sessions n it.request) same.0 it.asks) it.among it.ticket_is id pdu same.1 same.2 body status;
+        right = subst (IsRight number stream) (sym it.print_is) (λ same.
+            answers it.request it.reply (subst (λ (n : ℕ). AsksOn runner.sessions n it.request) same it.asks) it.among it.ticket_is);
       };
 }
   where
@@ -479,16 +496,12 @@ answered_keep number stream runner node input sound held plain = record {
     never : (other id : ℕ) (pdu : Pdu) → Late other id pdu ≡ Gone number → ⊥
     never other id pdu is = cc
 
-    late_same : (one id other also : ℕ) (pdu late : Pdu) → Late one id pdu ≡ Late other also late → (one ≡ other) × (id ≡ also) × (pdu ≡ late)
-    late_same one id other also pdu late is = (cc, cc, cc)
-
     answers : (request : OpenRequest) (reply : Reply) → AsksOn runner.sessions number request → In reply step.outputs.replies →
-        request.ticket ≡ reply.ticket → (id : ℕ) (pdu : Pdu) → reply.id ≡ id →
-        reply_pdu request.requested request.sequence reply.id reply.answer ≡ pdu → pdu.body ≡ CancelSmResp → pdu.status ≡ status_code statuses.Ok →
-        IsAnswer stream pdu.sequence id
-    answers request reply asks among ticket id pdu id_is pdu_is body status =
-        let removed = removes request.requested request.sequence reply.id reply.answer (ap (λ (p : Pdu). p.body) pdu_is ∙ body)
-        (ap (λ (p : Pdu). p.status) pdu_is ∙ status) in
+        request.ticket ≡ reply.ticket → (reply_pdu request.requested request.sequence reply.id reply.answer).body ≡ CancelSmResp →
+        (reply_pdu request.requested request.sequence reply.id reply.answer).status ≡ status_code statuses.Ok →
+        IsAnswer stream (reply_pdu request.requested request.sequence reply.id reply.answer).sequence reply.id
+    answers request reply asks among ticket body status =
+        let removed = removes request.requested request.sequence reply.id reply.answer body status in
         let waited = so.replies reply among in
         let tied = (sound.each asks.session asks.there).tied request asks.among in
         let cancel = waited.removed removed.0 removed.1 in
@@ -498,10 +511,10 @@ answered_keep number stream runner node input sound held plain = record {
           among = tied.among;
           pdu = tied.pdu;
           reads = tied.reads;
-          sequence_is = tied.sequence_is ∙ reply_sequence request.requested request.sequence reply.id reply.answer ∙ ap (λ (p : Pdu). p.sequence) pdu_is;
+          sequence_is = tied.sequence_is ∙ reply_sequence request.requested request.sequence reply.id reply.answer;
           cancel = names.0;
           body = names.1;
-          names = ap decimal (sym id_is ∙ sym waited.id) ∙ names.2;
+          names = ap decimal (sym waited.id) ∙ names.2;
         }
 
 pub delivery_keep : (number : ℕ) (stream : List ℕ) (runner : Runner) (packet : Packet) (others : List Packet) → Hears number stream runner →
@@ -593,8 +606,14 @@ grant_keep number stream runner id hears = by_refusal (grant_refusal runner.node
             (push_lessens number runner.sessions at one.next.node.kept.clock (deliveries.Attempt slot)) here.sound;
         held = here.held;
       };
-      fine = λ print among. elim among [ inl same ↦ plain_fine number stream print (subst IsPlain (sym same) tt) | inr none ↦ absurd none ];
+      fine = λ print among. elim among [
+        | inl same ↦ plain_fine number stream print (subst IsPlain (sym same) (λ body is. no_answer body))
+        | inr none ↦ absurd none
+      ];
     }
+      where
+        no_answer : (delivery_on session taken).body ≡ CancelSmResp → ⊥
+        no_answer body = cc
 
     sent_to_so : (taken : Submission) (target : Option ℕ) → Keeps number stream (sent_to one.next slot taken target)
     sent_to_so taken None = fails
@@ -610,11 +629,11 @@ grant_keep number stream runner id hears = by_refusal (grant_refusal runner.node
         (sent_so (submission_at runner.node id))
     by_refusal (Some refusal) = record {
       hears = hears;
-      fine = λ print among. elim among [ inl same ↦ record { ungone = λ is. ungone (sym same ∙ is); late = λ id pdu is. absurd (unlate id pdu (sym same ∙ is)) } | inr none ↦ absurd none ];
+      fine = λ print among. elim among [
+        | inl same ↦ record { ungone = λ is. ungone (sym same ∙ is); right = subst (IsRight number stream) (sym same) tt }
+        | inr none ↦ absurd none
+      ];
     }
       where
         ungone : Ungranted (refusal_number refusal) ≡ Gone number → ⊥
         ungone is = cc
-
-        unlate : (id : ℕ) (pdu : Pdu) → Ungranted (refusal_number refusal) ≡ Late number id pdu → ⊥
-        unlate id pdu is = cc

@@ -47,8 +47,8 @@ use Rattle.octet_laws.proofs.Holding.{stepped_so}
 use Rattle.octet_laws.proofs.Lines.{IsRefusal, gone_told, gone_written, refused_told}
 use Rattle.octet_laws.proofs.Octets.{Ends, Lasts, octets_other, octets_own}
 use Rattle.octet_laws.proofs.Hearing.{not_both}
-use Rattle.octet_laws.proofs.Quiet.{IsUngone, any_in, delivery_ungone, grant_ungone, in_any, in_printed, octets_only, plain_no_refusal, tick_ungone}
-use Rattle.octet_laws.proofs.Ties.{Hears, IsAnswer, IsFine, IsPlain, Keeps, delivery_keep, grant_keep, sound_on, step_on, tick_keep}
+use Rattle.octet_laws.proofs.Quiet.{IsUngone, any_in, delivery_ungone, grant_ungone, in_any, in_printed, octets_only, only_right, plain_no_refusal, tick_ungone}
+use Rattle.octet_laws.proofs.Ties.{Hears, IsAnswer, IsFine, IsPlain, IsRight, Keeps, delivery_keep, grant_keep, sound_on, step_on, tick_keep}
 
 module _ (m number : ℕ) (least_m : 1 ≤ m) where
   -- the session of the node hears this stream
@@ -57,8 +57,7 @@ module _ (m number : ℕ) (least_m : 1 ≤ m) where
 
   -- ESME_ROK to a cancel_sm on the session is so
   abbrev pub AnswersSo : List ℕ → List WorldPrint → Type 0
-  AnswersSo stream prints = (id : ℕ) (pdu : Pdu) → In (At m (Late number id pdu)) prints → pdu.body ≡ CancelSmResp →
-      pdu.status ≡ status_code statuses.Ok → IsAnswer stream pdu.sequence id
+  AnswersSo stream prints = (print : Print) → In (At m print) prints → IsRight number stream print
 
   abbrev NoneGone : List WorldPrint → Type 0
   NoneGone prints = (node session : ℕ) → In (At node (Gone session)) prints → ⊥
@@ -72,25 +71,25 @@ module _ (m number : ℕ) (least_m : 1 ≤ m) where
       ungone : NoneGone moved.prints
 
     stays_so : (world : World) → WorldHears stream world → MovesSo (stays world)
-    stays_so world heard = record { hears = heard; answers = λ id pdu among. absurd among; ungone = λ node session among. among }
+    stays_so world heard = record { hears = heard; answers = λ print among. absurd among; ungone = λ node session among. among }
 
     refuses_so : (world : World) (reason : ℕ) → WorldHears stream world → MovesSo (refuses world reason)
-    refuses_so world reason heard = record { hears = heard; answers = λ id pdu among. absurd (late id pdu among); ungone = gone }
+    refuses_so world reason heard = record { hears = heard; answers = λ print among. absurd (none_printed print among); ungone = gone }
       where
-        late : (id : ℕ) (pdu : Pdu) → In (At m (Late number id pdu)) (Refuses reason ∷ []) → ⊥
-        late id pdu (inl same) = cc
-        late id pdu (inr none) = none
+        none_printed : (print : Print) → In (At m print) (Refuses reason ∷ []) → ⊥
+        none_printed print (inl same) = cc
+        none_printed print (inr none) = none
 
         gone : (node session : ℕ) → In (At node (Gone session)) (Refuses reason ∷ []) → ⊥
         gone node session (inl same) = cc
         gone node session (inr none) = none
 
     unsettled_so : (world : World) → WorldHears stream world → MovesSo (unsettled world)
-    unsettled_so world heard = record { hears = heard; answers = λ id pdu among. absurd (late id pdu among); ungone = gone }
+    unsettled_so world heard = record { hears = heard; answers = λ print among. absurd (none_printed print among); ungone = gone }
       where
-        late : (id : ℕ) (pdu : Pdu) → In (At m (Late number id pdu)) (StopsSettling ∷ []) → ⊥
-        late id pdu (inl same) = cc
-        late id pdu (inr none) = none
+        none_printed : (print : Print) → In (At m print) (StopsSettling ∷ []) → ⊥
+        none_printed print (inl same) = cc
+        none_printed print (inr none) = none
 
         gone : (node session : ℕ) → In (At node (Gone session)) (StopsSettling ∷ []) → ⊥
         gone node session (inl same) = cc
@@ -99,9 +98,9 @@ module _ (m number : ℕ) (least_m : 1 ≤ m) where
     then_so : (one other : Moved) → MovesSo one → MovesSo other → MovesSo (then_moved one other)
     then_so one other first last = record {
       hears = last.hears;
-      answers = λ id pdu among. elim (in_either (At m (Late number id pdu)) one.prints other.prints among) [
-        | inl here ↦ first.answers id pdu here
-        | inr there ↦ last.answers id pdu there
+      answers = λ print among. elim (in_either (At m print) one.prints other.prints among) [
+        | inl here ↦ first.answers print here
+        | inr there ↦ last.answers print there
       ];
       ungone = λ node session among. elim (in_either (At node (Gone session)) one.prints other.prints among) [
         | inl here ↦ first.ungone node session here
@@ -120,8 +119,7 @@ module _ (m number : ℕ) (least_m : 1 ≤ m) where
                   subst (Hears number stream) (sym now.1) (record { sound = it.sound; held = it.held })
               | inr other ↦ heard runner other.0
             ];
-        answers = λ id pdu among.
-            let it = printed_at node m acted.prints (Late number id pdu) among in ((keeps it.0).fine (Late number id pdu) it.1).late id pdu refl;
+        answers = λ print among. let it = printed_at node m acted.prints print among in ((keeps it.0).fine print it.1).right;
         ungone = λ other session among. ungone session (printed_at node other acted.prints (Gone session) among).1;
       }
 
@@ -339,6 +337,10 @@ module _ (m number : ℕ) (least_m : 1 ≤ m) where
         abbrev moved : Moved
         moved = shared world node acted
 
+        answers_only : AnswersSo stream moved.prints
+        answers_only print among =
+            only_right at number stream print (octets_only settings runner at octets print (printed_at node m acted.prints print among).1)
+
         -- the session that is told to be gone is the one of the octets
         gone_here : (In (gone_line m number) (written_in moved.prints)) → (stream ≡ []) ⊎ ((node ≡ m) × (at ≡ number))
         gone_here among =
@@ -361,13 +363,8 @@ module _ (m number : ℕ) (least_m : 1 ≤ m) where
               | inr own ↦ absurd (other own)
             ])
             (λ ungone. hears_still)
-            (λ id pdu among.
-                let it = printed_at node m acted.prints (Late number id pdu) among in
-                absurd (elim (octets_only settings runner at octets (Late number id pdu) it.1) [ inl plain ↦ plain | inr same ↦ not_late id pdu same ]))
+            answers_only
           where
-            not_late : (id : ℕ) (pdu : Pdu) → Late number id pdu ≡ Gone at → ⊥
-            not_late id pdu is = cc
-
             hears_still : WorldHears stream moved.next
             hears_still next is = elim (set_cases world.runners (pred node) (given_out acted.next) (pred m) next is) [
               | inl now ↦
@@ -388,9 +385,6 @@ module _ (m number : ℕ) (least_m : 1 ≤ m) where
 
             acted_is : acted ≡ own
             acted_is = ap (λ (n : ℕ). on_octets settings runner n octets) also
-
-            prints_in : (print : Print) → In (At m print) moved.prints → In print own.prints
-            prints_in print among = subst (λ (a : Acted). In print a.prints) acted_is (printed_at node m acted.prints print among).1
 
             next_is : (later : List ℕ) → Hears number later own.next → WorldHears later moved.next
             next_is later hears next is = elim (set_cases world.runners (pred node) (given_out acted.next) (pred m) next is) [
@@ -422,8 +416,7 @@ module _ (m number : ℕ) (least_m : 1 ≤ m) where
             by_result (inl ends) =
                 line_by true _ (is_true (list_any (bytes_eq (gone_line m number)) (written_in moved.prints))
                 (λ none. in_any (gone_line m number) (written_in moved.prints) (gone_written moved.prints m number gone_in) none)) refl
-                (next_is [] ends.hears)
-                (λ id pdu among. absurd (ends.late id pdu (prints_in (Late number id pdu) among)))
+                (next_is [] ends.hears) answers_only
               where
                 is_true : (test : Bool) → (test ≡ false → ⊥) → test ≡ true
                 is_true true never = refl
@@ -436,8 +429,7 @@ module _ (m number : ℕ) (least_m : 1 ≤ m) where
                 line_by false false (is_false _ (λ yes. not_gone (any_in (gone_line m number) (written_in moved.prints) yes)))
                 (is_false _ (λ yes. not_refused (any_in (codes "refused 4") (written_in moved.prints) yes)))
                 (next_is (stream ++ (if node == m && (at == number && true) then octets else []))
-                (subst (λ (more : List ℕ). Hears number (stream ++ more) own.next) (sym brings) lasts.hears))
-                (λ id pdu among. absurd (lasts.plain (Late number id pdu) (prints_in (Late number id pdu) among)))
+                (subst (λ (more : List ℕ). Hears number (stream ++ more) own.next) (sym brings) lasts.hears)) answers_only
               where
                 is_false : (test : Bool) → (test ≡ true → ⊥) → test ≡ false
                 is_false false never = refl
@@ -512,16 +504,13 @@ module _ (m number : ℕ) (least_m : 1 ≤ m) where
                 ])
             | inr elsewhere ↦ heard next elsewhere.0
           ])
-          (λ id pdu among.
-              let it = printed_at node m acted.prints (Late number id pdu) among in
-              let from = in_mapped (λ (entry : ℕ × Session). Gone entry.0) runner.sessions (Late number id pdu) (subst (In (Late number id pdu)) prints it.1) in
-              absurd (not_late from.from.0 id pdu from.is))
+          (λ print among.
+              let it = printed_at node m acted.prints print among in
+              let from = in_mapped (λ (entry : ℕ × Session). Gone entry.0) runner.sessions print (subst (In print) prints it.1) in
+              subst (IsRight number stream) (sym from.is) tt)
         where
           moved : Moved
           moved = shared world node acted
-
-          not_late : (session id : ℕ) (pdu : Pdu) → Late number id pdu ≡ Gone session → ⊥
-          not_late session id pdu is = cc
 
           before : m ≡ node → Hears number stream runner
           before same = heard runner (ap (λ (n : ℕ). runner_at world n) same ∙ there)
@@ -597,7 +586,7 @@ module _ (m number : ℕ) (least_m : 1 ≤ m) where
             (λ same. record {
               hears = the_runner stream world heard node least runner there same;
               fine = λ print among. elim among [
-                | inl is ↦ record { ungone = λ gone. not_gone number (sym is ∙ gone); late = λ id pdu late. absurd (not_late id pdu (sym is ∙ late)) }
+                | inl is ↦ record { ungone = λ gone. not_gone number (sym is ∙ gone); right = subst (IsRight number stream) (sym is) tt }
                 | inr none ↦ absurd none
               ];
             })
@@ -605,9 +594,6 @@ module _ (m number : ℕ) (least_m : 1 ≤ m) where
           where
             not_gone : (session : ℕ) → Declined no_incarnation ≡ Gone session → ⊥
             not_gone session is = cc
-
-            not_late : (id : ℕ) (pdu : Pdu) → Declined no_incarnation ≡ Late number id pdu → ⊥
-            not_late id pdu is = cc
 
         by_left : (runner : Runner) → runner_at world node ≡ Some runner → (left : Bool) →
             LineSo stream (Restart node) (done_by (shared world node (if left then restarted runner else declined runner no_incarnation)))
