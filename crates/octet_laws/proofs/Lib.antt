@@ -14,3 +14,4 @@ pub mod Octets
 pub mod Quiet
 pub mod Walks
 pub mod AtOnce
+pub mod Written

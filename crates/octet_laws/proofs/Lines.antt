@@ -1,5 +1,5 @@
 -- Each line of a written text is that of one print, and a line of octets that of a PDU.
-use Rattle.std.proofs.Common.{◌≡◌, ℕ, Bool, true, false, List, [], ◌∷◌, ◌++◌, Some, refl, sym, ap, subst, ◌∙◌, append_assoc, inl, inr, arith}
+use Rattle.std.proofs.Common.{◌≡◌, ℕ, Bool, true, false, List, [], ◌∷◌, ◌++◌, Option, Some, None, refl, sym, ap, subst, ◌∙◌, append_assoc, inl, inr, arith}
 use Rattle.std.specs.Prelude.{codes, ◌==◌, if◌then◌else◌}
 use Rattle.std.specs.Fmt.{decimal}
 use Rattle.std.proofs.lemmas.List.{append_cancel_right}
@@ -163,8 +163,14 @@ front_printed prints front later line is among =
 
 -- ---- a line of octets is that of a PDU
 
-octets_back : (node session : ℕ) (written line more octets : List ℕ) → octets_line node session written ≡ line ++ more ++ feed → IsPduLine line octets →
-    IsFrontRead written octets
+-- the line is of this node and session, and its octets are read of the front of these
+record IsBack (node session : ℕ) (written octets line : List ℕ) (said : IsPduLine line octets) : Type 0 where
+  node_is : decimal node ≡ decimal said.node
+  session_is : decimal session ≡ decimal said.session
+  front : IsFrontRead written octets
+
+octets_back : (node session : ℕ) (written line more octets : List ℕ) → octets_line node session written ≡ line ++ more ++ feed →
+    (said : IsPduLine line octets) → IsBack node session written octets line said
 octets_back node session written line more octets is said =
     let same = append_cancel_right (parted (codes "pdu ") node session ++ codes " " ++ encode_lower written) (line ++ more) feed is
     ∙ ap (λ (l : List ℕ). l ++ more) said.line_is
@@ -174,44 +180,66 @@ octets_back node session written line more octets is said =
     let first = split 32 (decimal node) (decimal said.node) _ _ (decimal_lacks 32 (omega arith) node) (decimal_lacks 32 (omega arith) said.node) behind in
     let second = split 32 (decimal session) (decimal said.session) _ _ (decimal_lacks 32 (omega arith) session)
     (decimal_lacks 32 (omega arith) said.session) first.rests in
-    decoded said.digits more written octets (sym second.rests) said.hex
+    record { node_is = first.words; session_is = second.words; front = decoded said.digits more written octets (sym second.rests) said.hex }
   where
     after_pdu : (one other : List ℕ) → 112 ∷ 100 ∷ 117 ∷ 32 ∷ one ≡ 112 ∷ 100 ∷ 117 ∷ 32 ∷ other → one ≡ other
     after_pdu one other is = cc
 
+-- the session on which a PDU goes out
+abbrev pub session_of : Print → Option ℕ
+session_of (AtOnce session pdu) = Some session
+session_of (Late session id pdu) = Some session
+session_of (Delivers session pdu) = Some session
+session_of (Reports session sequence optional report) = Some session
+session_of (Gone session) = None
+session_of Unsettled = None
+session_of (Declined number) = None
+session_of (Ungranted reason) = None
+
 -- the PDU that a print brings
-pub record BringsPdu (print : WorldPrint) (octets : List ℕ) : Type 0 where
+pub record BringsPdu (print : WorldPrint) (octets line : List ℕ) (said : IsPduLine line octets) : Type 0 where
   pub node : ℕ
   pub printed : Print
   pub pdu : Pdu
+  pub session : ℕ
   pub print_is : print ≡ At node printed
   pub pdu_is : pdu_in printed ≡ Some pdu
+  pub session_is : session_of printed ≡ Some session
   pub octets_are : IsFrontRead (octets_of pdu) octets
+  pub node_text : decimal node ≡ decimal said.node
+  pub session_text : decimal session ≡ decimal said.session
 
-pub pdu_printed : (print : WorldPrint) (line more octets : List ℕ) → world_line print ≡ line ++ more ++ feed → IsPduLine line octets → BringsPdu print octets
+pub pdu_printed : (print : WorldPrint) (line more octets : List ℕ) → world_line print ≡ line ++ more ++ feed → (said : IsPduLine line octets) →
+    BringsPdu print octets line said
 pdu_printed print line more octets is said = by_print print is
   where
-    brings : (node session : ℕ) (printed : Print) (pdu : Pdu) → pdu_in printed ≡ Some pdu → octets_line node session (octets_of pdu) ≡ line ++ more ++ feed →
-        BringsPdu (At node printed) octets
-    brings node session printed pdu pdu_is is = record {
-      node = node;
-      printed = printed;
-      pdu = pdu;
-      print_is = refl;
-      pdu_is = pdu_is;
-      octets_are = octets_back node session (octets_of pdu) line more octets is said;
-    }
+    brings : (node session : ℕ) (printed : Print) (pdu : Pdu) → pdu_in printed ≡ Some pdu → session_of printed ≡ Some session →
+        octets_line node session (octets_of pdu) ≡ line ++ more ++ feed → BringsPdu (At node printed) octets line said
+    brings node session printed pdu pdu_is session_is is =
+        let back = octets_back node session (octets_of pdu) line more octets is said in
+        record {
+          node = node;
+          printed = printed;
+          pdu = pdu;
+          session = session;
+          print_is = refl;
+          pdu_is = pdu_is;
+          session_is = session_is;
+          octets_are = back.front;
+          node_text = back.node_is;
+          session_text = back.session_is;
+        }
 
     -- a line that begins otherwise is none of octets
     begins : (first : ℕ) (text : List ℕ) → first ∷ text ≡ line ++ more ++ feed → first ≡ 112
     begins first text is = cons_first first 112 text _ (is ∙ ap (λ (l : List ℕ). l ++ more ++ feed) said.line_is)
 
-    by_print : (print : WorldPrint) → world_line print ≡ line ++ more ++ feed → BringsPdu print octets
-    by_print (At node (AtOnce session pdu)) is = brings node session (AtOnce session pdu) pdu refl is
-    by_print (At node (Late session id pdu)) is = brings node session (Late session id pdu) pdu refl is
-    by_print (At node (Delivers session pdu)) is = brings node session (Delivers session pdu) pdu refl is
+    by_print : (print : WorldPrint) → world_line print ≡ line ++ more ++ feed → BringsPdu print octets line said
+    by_print (At node (AtOnce session pdu)) is = brings node session (AtOnce session pdu) pdu refl refl is
+    by_print (At node (Late session id pdu)) is = brings node session (Late session id pdu) pdu refl refl is
+    by_print (At node (Delivers session pdu)) is = brings node session (Delivers session pdu) pdu refl refl is
     by_print (At node (Reports session sequence optional report)) is =
-        brings node session (Reports session sequence optional report) (report_pdu sequence optional report) refl is
+        brings node session (Reports session sequence optional report) (report_pdu sequence optional report) refl refl is
     by_print (At node (Gone session)) is = absurd (let same = begins 103 _ is in omega (arith, same))
     by_print (At node Unsettled) is = absurd (let same = begins 117 _ is in omega (arith, same))
     by_print (At node (Declined number)) is = absurd (let same = begins 114 _ is in omega (arith, same))
