@@ -1,5 +1,5 @@
 -- No cancel_sm_resp with ESME_ROK goes out at once.
-use Rattle.std.proofs.Common.{◌≡◌, ℕ, Bool, true, false, List, [], ◌∷◌, Option, Some, None, Result, Ok, Err, refl, sym, ◌∙◌, ap, subst, arith}
+use Rattle.std.proofs.Common.{◌≡◌, ℕ, ◌^◌, ◌%◌, Bool, true, false, List, [], ◌∷◌, Option, Some, None, Result, Ok, Err, refl, sym, ◌∙◌, ap, subst, arith}
 use Rattle.std.specs.Prelude.{◌==◌, find, if◌then◌else◌, option_map}
 use Rattle.std.specs.Str.{bytes_eq}
 use Rattle.accounts.specs.Accounts.{account_of, bind_refusal}
@@ -52,13 +52,13 @@ use Rattle.script_text.specs.Node.{Node, step_at}
 use Rattle.script_text.specs.Responses.{refused_with}
 use Rattle.script_text.specs.Runner.{request_of}
 
--- it is no cancel_sm_resp with ESME_ROK
+-- it is no cancel_sm_resp with ESME_ROK, of whose number four octets go out
 abbrev pub IsNoDeletion : Pdu → Type 0
-IsNoDeletion pdu = pdu.body ≡ bodies.CancelSmResp → pdu.status ≡ status_code statuses.Ok → ⊥
+IsNoDeletion pdu = pdu.body ≡ bodies.CancelSmResp → pdu.status % 2 ^ 32 ≡ 0 → ⊥
 
 -- the status of a refusal
 abbrev IsNotOk : Status → Type 0
-IsNotOk status = status_code status ≡ status_code statuses.Ok → ⊥
+IsNotOk status = status_code status % 2 ^ 32 ≡ 0 → ⊥
 
 -- ---- what a session answers
 

@@ -1,5 +1,5 @@
 -- The requests that wait on a session came in its stream, and what is replied to them is of the messages that they name.
-use Rattle.std.proofs.Common.{◌≡◌, ◌⊎◌, ℕ, ◌<◌, ◌≤◌, zero, suc, Bool, true, false, cond, List, [], ◌∷◌, ◌++◌, length, map, Option, Some, None, Ok, refl}
+use Rattle.std.proofs.Common.{◌≡◌, ◌⊎◌, ℕ, ◌^◌, ◌%◌, ◌<◌, ◌≤◌, zero, suc, Bool, true, false, cond, List, [], ◌∷◌, ◌++◌, length, map, Option, Some, None, Ok, refl}
 use Rattle.std.proofs.Common.{sym, ◌∙◌, ap, subst, inl, inr, arith}
 use Rattle.std.specs.Prelude.{◌==◌, find, if◌then◌else◌, nat_lt}
 use Rattle.std.specs.Fmt.{decimal}
@@ -323,7 +323,7 @@ pub record IsAnswer (stream : List ℕ) (sequence id : ℕ) : Type 0 where
 abbrev pub IsRight : ℕ → List ℕ → Print → Type 0
 IsRight number stream (AtOnce session pdu) = IsNoDeletion pdu
 IsRight number stream (Late session id pdu) =
-    session ≡ number → pdu.body ≡ CancelSmResp → pdu.status ≡ status_code statuses.Ok → IsAnswer stream pdu.sequence id
+    session ≡ number → pdu.body ≡ CancelSmResp → pdu.status % 2 ^ 32 ≡ 0 → IsAnswer stream pdu.sequence id × (pdu.status ≡ status_code statuses.Ok)
 IsRight number stream (Delivers session pdu) = IsNoDeletion pdu
 IsRight number stream (Reports session sequence optional report) = Unit {0}
 IsRight number stream (Gone session) = Unit {0}
@@ -452,7 +452,7 @@ posts_for_keep number stream runner account hears =
 -- ---- replies
 
 removes : (requested : Requested) (sequence id : ℕ) (answer : Answer) → (reply_pdu requested sequence id answer).body ≡ CancelSmResp →
-    (reply_pdu requested sequence id answer).status ≡ status_code statuses.Ok → (chain : List Decree) × (answer ≡ Removed chain)
+    (reply_pdu requested sequence id answer).status % 2 ^ 32 ≡ 0 → (chain : List Decree) × (answer ≡ Removed chain)
 removes requested sequence id Accepted body status = absurd cc
 removes requested sequence id (Shown chain) body status = absurd cc
 removes requested sequence id (Removed chain) body status = (chain, refl)
@@ -498,15 +498,16 @@ answered_keep number stream runner node input sound held plain = record {
 
     answers : (request : OpenRequest) (reply : Reply) → AsksOn runner.sessions number request → In reply step.outputs.replies →
         request.ticket ≡ reply.ticket → (reply_pdu request.requested request.sequence reply.id reply.answer).body ≡ CancelSmResp →
-        (reply_pdu request.requested request.sequence reply.id reply.answer).status ≡ status_code statuses.Ok →
+        (reply_pdu request.requested request.sequence reply.id reply.answer).status % 2 ^ 32 ≡ 0 →
         IsAnswer stream (reply_pdu request.requested request.sequence reply.id reply.answer).sequence reply.id
+        × ((reply_pdu request.requested request.sequence reply.id reply.answer).status ≡ status_code statuses.Ok)
     answers request reply asks among ticket body status =
         let removed = removes request.requested request.sequence reply.id reply.answer body status in
         let waited = so.replies reply among in
         let tied = (sound.each asks.session asks.there).tied request asks.among in
         let cancel = waited.removed removed.0 removed.1 in
         let names = named tied.pdu.body waited.from.waiting.request cancel (tied.names waited.from waited.among (waited.ticket ∙ sym ticket)) in
-        record {
+        (record {
           frame = tied.frame;
           among = tied.among;
           pdu = tied.pdu;
@@ -515,7 +516,7 @@ answered_keep number stream runner node input sound held plain = record {
           cancel = names.0;
           body = names.1;
           names = ap decimal (sym waited.id) ∙ names.2;
-        }
+        }, ap (λ (a : Answer). (reply_pdu request.requested request.sequence reply.id a).status) removed.1)
 
 pub delivery_keep : (number : ℕ) (stream : List ℕ) (runner : Runner) (packet : Packet) (others : List Packet) → Hears number stream runner →
     Keeps number stream (on_delivery runner packet others)
